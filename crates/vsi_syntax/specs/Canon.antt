@@ -1,0 +1,55 @@
+-- The canonical text of a program.
+use Rattle.std.specs.Prelude.{ℕ, suc, ◌+◌, ◌*◌, ℤ, List, [], ◌∷◌, ◌++◌, codes, replicate, Option, Some, None}
+use Rattle.std.specs.Fmt.{signed_decimal}
+use Rattle.vsi_syntax.specs.declared.operator.Op.{Op}
+use Rattle.vsi_syntax.specs.declared.operator.Op.TheVariants as o
+use Rattle.vsi_syntax.specs.Tree.{Named, Tree, Literal, Read, Round, Both, Command, Set, Choose, Loop, Local, Braces, Body, Done, Then, Declared, Whole}
+
+-- an operator has one space on each side
+abbrev pub op_text : Op → List ℕ
+op_text o.Add = codes " + "
+op_text o.Sub = codes " - "
+op_text o.Mul = codes " * "
+op_text o.Eq = codes " = "
+op_text o.Lt = codes " < "
+
+abbrev pub canon_tree : Tree → List ℕ
+canon_tree (Literal n) = signed_decimal n
+canon_tree (Read x) = x.text
+canon_tree (Round e) = codes "(" ++ (canon_tree e ++ codes ")")
+canon_tree (Both op a b) = canon_tree a ++ (op_text op ++ canon_tree b)
+
+-- two spaces for each indent
+abbrev pub spaces : ℕ → List ℕ
+spaces k = replicate (2 * k) 32
+
+abbrev pub canon_class : Option Named → List ℕ
+canon_class None = []
+canon_class (Some class) = codes " : " ++ class.text
+
+-- a command at an indent, without the spaces before it; each command of a sequence stands on its own line
+abbrev mutual
+  pub canon_command : ℕ → Command → List ℕ
+  canon_command k (Set x e) = x.text ++ (codes " := " ++ canon_tree e)
+  canon_command k (Choose e c d) = codes "if " ++ (canon_tree e ++ (codes " then " ++ (canon_command k c ++ (codes " else " ++ canon_command k d))))
+  canon_command k (Loop e c) = codes "while " ++ (canon_tree e ++ (codes " do " ++ canon_command k c))
+  canon_command k (Local x class e c) = codes "letvar " ++ (x.text ++ (canon_class class ++ (codes " := " ++ (canon_tree e ++ (codes " in " ++ canon_command k c)))))
+  canon_command k (Braces cs) = codes "{\n" ++ (canon_body (suc k) cs ++ (codes "\n" ++ (spaces k ++ codes "}")))
+
+  pub canon_body : ℕ → Body → List ℕ
+  canon_body k Done = []
+  canon_body k (Then c cs) = spaces k ++ (canon_command k c ++ canon_rest k cs)
+
+  pub canon_rest : ℕ → Body → List ℕ
+  canon_rest k Done = []
+  canon_rest k (Then c cs) = codes ";\n" ++ (spaces k ++ (canon_command k c ++ canon_rest k cs))
+
+abbrev pub canon_global : Declared → List ℕ
+canon_global g = codes "var " ++ (g.name.text ++ (codes " : " ++ (g.class.text ++ codes ";\n")))
+
+abbrev pub canon_globals : List Declared → List ℕ
+canon_globals [] = []
+canon_globals (g ∷ gs) = canon_global g ++ canon_globals gs
+
+abbrev pub canon : Whole → List ℕ
+canon p = canon_globals p.globals ++ (canon_body 0 p.body ++ codes "\n")

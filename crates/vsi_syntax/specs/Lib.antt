@@ -1,0 +1,14 @@
+pub mod Words
+pub mod Tree
+pub mod View
+pub mod Parsing
+pub mod Cut
+pub mod Programs
+pub mod Program
+pub mod Commands
+pub mod Globals
+pub mod Canon
+pub mod Spelling
+pub mod Apart
+pub mod Lines
+pub mod Operators

@@ -1,0 +1,190 @@
+-- The tree without where it lies in memory: what it writes, its levels and its depth.
+use Rattle.std.specs.Prelude.{◌≡◌, ℕ, ◌+◌, ◌≤◌, max, ℤ, List, [], ◌∷◌, ◌++◌, Option, Some, None}
+use Rattle.std.specs.Coded.{×_prop, Unit-prop, le_prop}
+use mathlib.Core.HLevel.{×₃_prop}
+use Rattle.vsi_syntax.specs.declared.token.Kind.{Kind}
+use Rattle.vsi_syntax.specs.declared.token.Kind.TheVariants as k
+use Rattle.vsi_syntax.specs.declared.token.Span.{Span}
+use Rattle.vsi_syntax.specs.declared.operator.Op.{Op}
+use Rattle.vsi_syntax.specs.declared.operator.Op.TheVariants as o
+
+-- a name, and where it stands
+pub record Named : Type 0 where
+  pub text : List ℕ
+  pub span : Span
+
+-- a word or symbol that a tree writes: a name, or anything else by its kind
+pub data Word : Type 0 where
+  Called : (name : Named) → Word
+  Sign : (kind : Kind) → Word
+
+-- an expression
+pub data Tree : Type 0 where
+  Literal : (number : ℤ) → Tree
+  Read : (name : Named) → Tree
+  Round : (inner : Tree) → Tree
+  Both : (op : Op) → (left : Tree) → (right : Tree) → Tree
+
+mutual
+  pub data Command : Type 0 where
+    Set : (name : Named) → (value : Tree) → Command
+    Choose : (guard : Tree) → (yes : Command) → (no : Command) → Command
+    Loop : (guard : Tree) → (body : Command) → Command
+    Local : (name : Named) → (class : Option Named) → (value : Tree) → (body : Command) → Command
+    Braces : (body : Body) → Command
+
+  pub data Body : Type 0 where
+    Done : Body
+    Then : (first : Command) → (rest : Body) → Body
+
+abbrev pub sign : Op → Kind
+sign o.Add = k.Plus
+sign o.Sub = k.Minus
+sign o.Mul = k.Star
+sign o.Eq = k.Equal
+sign o.Lt = k.Less
+
+-- ---- what is written
+
+abbrev pub write : Tree → List Word
+write (Literal n) = Sign (k.Number n) ∷ []
+write (Read name) = Called name ∷ []
+write (Round e) = Sign k.Open ∷ (write e ++ Sign k.Close ∷ [])
+write (Both op a b) = write a ++ Sign (sign op) ∷ write b
+
+abbrev pub write_class : Option Named → List Word
+write_class None = []
+write_class (Some class) = Sign k.Colon ∷ Called class ∷ []
+
+abbrev mutual
+  pub write_command : Command → List Word
+  write_command (Set x e) = Called x ∷ Sign k.Assign ∷ write e
+  write_command (Choose e c d) = Sign k.If ∷ (write e ++ Sign k.Then ∷ (write_command c ++ Sign k.Else ∷ write_command d))
+  write_command (Loop e c) = Sign k.While ∷ (write e ++ Sign k.Do ∷ write_command c)
+  write_command (Local x class e c) = Sign k.Letvar ∷ Called x ∷ (write_class class ++ Sign k.Assign ∷ (write e ++ Sign k.In ∷ write_command c))
+  write_command (Braces cs) = Sign k.OpenBrace ∷ (write_body cs ++ Sign k.CloseBrace ∷ [])
+
+  pub write_body : Body → List Word
+  write_body Done = []
+  write_body (Then c cs) = write_command c ++ write_rest cs
+
+  pub write_rest : Body → List Word
+  write_rest Done = []
+  write_rest (Then c cs) = Sign k.Semicolon ∷ (write_command c ++ write_rest cs)
+
+-- ---- levels: 0 where a comparison may stand, 1 a sum, 2 a term, 3 an atom
+
+abbrev pub level : Op → ℕ
+level o.Add = 1
+level o.Sub = 1
+level o.Mul = 2
+level o.Eq = 0
+level o.Lt = 0
+
+-- what may stand on the left of an operator, and on its right
+abbrev pub left_level : Op → ℕ
+left_level o.Add = 1
+left_level o.Sub = 1
+left_level o.Mul = 2
+left_level o.Eq = 1
+left_level o.Lt = 1
+
+abbrev pub right_level : Op → ℕ
+right_level o.Add = 2
+right_level o.Sub = 2
+right_level o.Mul = 3
+right_level o.Eq = 1
+right_level o.Lt = 1
+
+abbrev pub IsLevelled : ℕ → Tree → Type 0
+IsLevelled l (Literal n) = Unit {0}
+IsLevelled l (Read name) = Unit {0}
+IsLevelled l (Round e) = IsLevelled 0 e
+IsLevelled l (Both op a b) = (l ≤ level op) × IsLevelled (left_level op) a × IsLevelled (right_level op) b
+
+abbrev mutual
+  pub IsCommandLevelled : Command → Type 0
+  IsCommandLevelled (Set x e) = IsLevelled 0 e
+  IsCommandLevelled (Choose e c d) = IsLevelled 0 e × IsCommandLevelled c × IsCommandLevelled d
+  IsCommandLevelled (Loop e c) = IsLevelled 0 e × IsCommandLevelled c
+  IsCommandLevelled (Local x class e c) = IsLevelled 0 e × IsCommandLevelled c
+  IsCommandLevelled (Braces cs) = IsBodyLevelled cs
+
+  pub IsBodyLevelled : Body → Type 0
+  IsBodyLevelled Done = ⊥
+  IsBodyLevelled (Then c cs) = IsCommandLevelled c × IsRestLevelled cs
+
+  pub IsRestLevelled : Body → Type 0
+  IsRestLevelled Done = Unit {0}
+  IsRestLevelled (Then c cs) = IsCommandLevelled c × IsRestLevelled cs
+
+-- ---- depth
+
+abbrev pub depth : Tree → ℕ
+depth (Literal n) = 0
+depth (Read name) = 0
+depth (Round e) = 1 + depth e
+depth (Both op a b) = 1 + max (depth a) (depth b)
+
+abbrev mutual
+  pub command_depth : Command → ℕ
+  command_depth (Set x e) = depth e
+  command_depth (Choose e c d) = 1 + max (depth e) (max (command_depth c) (command_depth d))
+  command_depth (Loop e c) = 1 + max (depth e) (command_depth c)
+  command_depth (Local x class e c) = 1 + max (depth e) (command_depth c)
+  command_depth (Braces cs) = 1 + body_depth cs
+
+  pub body_depth : Body → ℕ
+  body_depth Done = 0
+  body_depth (Then c cs) = max (command_depth c) (body_depth cs)
+
+-- a global, and a whole program
+pub record Declared : Type 0 where
+  pub name : Named
+  pub class : Named
+
+pub record Whole : Type 0 where
+  pub globals : List Declared
+  pub body : Body
+
+abbrev pub write_globals : List Declared → List Word
+write_globals [] = []
+write_globals (g ∷ gs) = Sign k.Var ∷ Called g.name ∷ Sign k.Colon ∷ Called g.class ∷ Sign k.Semicolon ∷ write_globals gs
+
+abbrev pub write_program : Whole → List Word
+write_program p = write_globals p.globals ++ write_body p.body
+
+-- ---- the same in another place
+
+abbrev pub nowhere : Named → Named
+nowhere x = record { text = x.text; span = record { start = 0; stop = 0 } }
+
+-- what every program keeps: its sums, comparisons and atoms stand where they may, no sequence is empty, and it is not deep
+abbrev pub IsProgram : Body → Type 0
+IsProgram b = IsBodyLevelled b × (body_depth b ≤ 200)
+
+-- a fact has one proof, so that a type can keep it
+pub tree_prop : (l : ℕ) (t : Tree) → IsProp (IsLevelled l t)
+tree_prop l (Literal n) = Unit-prop
+tree_prop l (Read x) = Unit-prop
+tree_prop l (Round e) = tree_prop 0 e
+tree_prop l (Both op a b) = ×₃_prop le_prop (tree_prop (left_level op) a) (tree_prop (right_level op) b)
+
+mutual
+  pub command_prop : (c : Command) → IsProp (IsCommandLevelled c)
+  command_prop (Set x e) = tree_prop 0 e
+  command_prop (Choose e c d) = ×₃_prop (tree_prop 0 e) (command_prop c) (command_prop d)
+  command_prop (Loop e c) = ×_prop (tree_prop 0 e) (command_prop c)
+  command_prop (Local x class e c) = ×_prop (tree_prop 0 e) (command_prop c)
+  command_prop (Braces cs) = body_prop cs
+
+  pub body_prop : (cs : Body) → IsProp (IsBodyLevelled cs)
+  body_prop Done = λ a b. absurd a
+  body_prop (Then c cs) = ×_prop (command_prop c) (rest_prop cs)
+
+  pub rest_prop : (cs : Body) → IsProp (IsRestLevelled cs)
+  rest_prop Done = Unit-prop
+  rest_prop (Then c cs) = ×_prop (command_prop c) (rest_prop cs)
+
+pub program_prop : (b : Body) → IsProp (IsProgram b)
+program_prop b = ×_prop (body_prop b) le_prop

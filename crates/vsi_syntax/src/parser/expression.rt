@@ -1,0 +1,213 @@
+ghost use Rattle.std.specs.Prelude.{◌≡◌, ◌≤◌, ◌<◌, ℕ, IfOk, Some, None, option_map, ◌+◌, max};
+ghost use Rattle.vsi_syntax.specs.Tree.{level, left_level, right_level, depth, Both};
+ghost use Rattle.vsi_syntax.specs.View.{words, tree, IsMeasured};
+ghost use Rattle.vsi_syntax.specs.Parsing.{Gives};
+ghost use Rattle.vsi_syntax.specs.Parsing as spec;
+
+use super::ParseError;
+use crate::token::{Kind, Span, Token};
+use crate::operator::Op;
+use crate::tree::{Expr, Name};
+use std::alloc::Global;
+
+/// An expression with its depth and the level of its own operator.
+#[derive(Debug, Drop)]
+pub struct Measured<'a> {
+    pub expr: Expr<'a>,
+    pub depth: u8,
+    pub level: u8,
+}
+
+fn operator(kind: Kind) -> Option<Op>
+    ensures { result ≡ spec.operator kind }
+{
+    match kind {
+        Kind::Plus => Some(Op::Add),
+        Kind::Minus => Some(Op::Sub),
+        Kind::Star => Some(Op::Mul),
+        Kind::Equal => Some(Op::Eq),
+        Kind::Less => Some(Op::Lt),
+        _ => None,
+    }
+}
+
+fn level_of(op: Op) -> u8
+    ensures { result ≡ level op }
+{
+    match op {
+        Op::Eq | Op::Lt => 0,
+        Op::Add | Op::Sub => 1,
+        Op::Mul => 2,
+    }
+}
+
+fn left_level_of(op: Op) -> u8
+    ensures { result ≡ left_level op }
+{
+    match op {
+        Op::Mul => 2,
+        _ => 1,
+    }
+}
+
+fn right_level_of(op: Op) -> u8
+    ensures { result ≡ right_level op }
+{
+    match op {
+        Op::Eq | Op::Lt => 1,
+        Op::Add | Op::Sub => 2,
+        Op::Mul => 3,
+    }
+}
+
+#[tactic(auto, unfolding(crate::specs::Parsing::next))]
+fn next<'t, 'a>(
+    least: u8,
+    left: u8,
+    tokens: &'t [Token<'a>],
+) -> Option<(Op, &'t [Token<'a>])>
+    ensures { option_map (λ x. (x.0, words x.1.now)) result ≡ spec.next least left (words tokens.now) }
+{
+    let [token, rest @ ..] = tokens else {
+        return None;
+    };
+    let op = operator(token.kind)?;
+    if least <= level_of(op) && left_level_of(op) <= left {
+        Some((op, rest))
+    } else {
+        None
+    }
+}
+
+pub fn fault<'a>(tokens: &[Token<'a>], end: usize) -> Span {
+    match tokens {
+        [token, ..] => token.span,
+        [] => Span {
+            start: end,
+            stop: end,
+        },
+    }
+}
+
+fn close<'t, 'a>(
+    tokens: &'t [Token<'a>],
+    end: usize,
+) -> Result<&'t [Token<'a>], ParseError>
+    ensures { Gives (λ x. words x.now) result (spec.closing (words tokens.now)) }
+{
+    match tokens {
+        [token, rest @ ..] if matches!(token.kind, Kind::Close) => Ok(rest),
+        _ => Err(ParseError::Unexpected(fault(tokens, end))),
+    }
+}
+
+/// An atom: a number, a name or a bracket.
+#[tactic(auto, unfolding(crate::specs::Parsing::first))]
+#[cycle(expression)]
+fn atom<'t, 'a>(
+    alloc: Global,
+    tokens: &'t [Token<'a>],
+    room: u8,
+    end: usize,
+) -> Result<(Measured<'a>, &'t [Token<'a>]), ParseError>
+    requires { room ≤ 200 }
+    ensures value { Gives (λ x. (tree x.0.expr, words x.1.now)) result (spec.first (spec.inside room) (words tokens.now)) }
+    ensures measured { IfOk result (λ x. IsMeasured room x.0) }
+{
+    let [token, rest @ ..] = tokens else {
+        return Err(ParseError::Unexpected(fault(tokens, end)));
+    };
+    match token.kind {
+        Kind::Name => {
+            let name = Name {
+                text: token.text,
+                span: token.span,
+            };
+            Ok((
+                Measured {
+                    expr: Expr::Name(name),
+                    depth: 0,
+                    level: 3,
+                },
+                rest,
+            ))
+        }
+        Kind::Number(n) => Ok((
+            Measured {
+                expr: Expr::Number(n),
+                depth: 0,
+                level: 3,
+            },
+            rest,
+        )),
+        Kind::Open => {
+            if room == 0 {
+                return Err(ParseError::TooDeep(token.span));
+            }
+            let (inner, rest) = expression(alloc, rest, 0, room - 1, end)?;
+            let rest = close(rest, end)?;
+            let depth = inner.depth + 1;
+            let expr = Expr::Bracket(Box::new(alloc, inner.expr)?);
+            Ok((
+                Measured {
+                    expr,
+                    depth,
+                    level: 3,
+                },
+                rest,
+            ))
+        }
+        _ => Err(ParseError::Unexpected(token.span)),
+    }
+}
+
+/// Both sides under their operator.
+fn join<'a>(
+    alloc: Global,
+    op: Op,
+    left: Measured<'a>,
+    right: Measured<'a>,
+) -> Result<Measured<'a>, ParseError>
+    requires left_room { left.depth < 200 }
+    requires right_room { right.depth < 200 }
+    ensures expr { Gives (λ x. tree x.expr) result (Some (Both op (tree left.entry.expr) (tree right.entry.expr))) }
+    ensures depth { IfOk result (λ x. x.depth ≡ 1 + max left.entry.depth right.entry.depth) }
+    ensures level { IfOk result (λ x. x.level ≡ level op) }
+{
+    let depth = 1 + left.depth.max(right.depth);
+    let expr = Expr::Binary(
+        op,
+        Box::new(alloc, left.expr)?,
+        Box::new(alloc, right.expr)?,
+    );
+    Ok(Measured {
+        expr,
+        depth,
+        level: level_of(op),
+    })
+}
+
+/// The longest expression of this level and depth that the tokens begin with.
+#[cycle(expression)]
+pub fn expression<'t, 'a>(
+    alloc: Global,
+    tokens: &'t [Token<'a>],
+    least: u8,
+    room: u8,
+    end: usize,
+) -> Result<(Measured<'a>, &'t [Token<'a>]), ParseError>
+    requires { room ≤ 200 }
+    ensures value { Gives (λ x. (tree x.0.expr, words x.1.now)) result (spec.parse room least (words tokens.now)) }
+    ensures measured { IfOk result (λ x. IsMeasured room x.0) }
+{
+    let (mut left, mut rest) = atom(alloc, tokens, room, end)?;
+    while let Some((op, after)) = next(least, left.level, rest) {
+        if left.depth >= room {
+            return Err(ParseError::TooDeep(fault(rest, end)));
+        }
+        let (right, behind) = expression(alloc, after, right_level_of(op), room - 1, end)?;
+        left = join(alloc, op, left, right)?;
+        rest = behind;
+    }
+    Ok((left, rest))
+}

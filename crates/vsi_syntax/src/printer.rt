@@ -1,0 +1,167 @@
+//! The canonical text of a program.
+
+ghost use Rattle.std.specs.Prelude.{◌≡◌, ◌≤◌, ◌+◌, ◌++◌, IfOk, OnOk, option_map, map};
+ghost use Rattle.std.specs.Fmt.{signed_decimal};
+ghost use Rattle.vsi_syntax.specs.Tree.{command_depth, body_depth};
+ghost use Rattle.vsi_syntax.specs.View.{tree, named};
+ghost use Rattle.vsi_syntax.specs.Programs.{command, body_of, declared};
+ghost use Rattle.vsi_syntax.specs.Program.{whole};
+ghost use Rattle.vsi_syntax.specs.Canon as spec;
+
+use crate::program::Program;
+use crate::operator::Op;
+use crate::tree::{Declaration, Expr, Name, Stmt};
+use itoa::Buffer;
+use std::alloc::{AllocError, Global};
+
+/// The canonical text of a program.
+pub fn print(alloc: Global, program: &Program) -> Result<Vec<u8>, AllocError>
+    ensures { IfOk result (λ text. text.items ≡ spec.canon (whole program.now)) }
+{
+    let mut out = Vec::new(alloc);
+    print_globals(&mut out, program.globals())?;
+    print_body(&mut out, program.body(), 0)?;
+    out.extend_from_slice(b"\n")?;
+    Ok(out)
+}
+
+fn print_global(out: &mut Vec<u8>, g: &Declaration) -> Result<(), AllocError>
+    ensures { OnOk result (out.new.items ≡ out.old.items ++ spec.canon_global (declared g.now)) }
+{
+    out.extend_from_slice(b"var ")?;
+    out.extend_from_slice(g.name.text)?;
+    out.extend_from_slice(b" : ")?;
+    out.extend_from_slice(g.class.text)?;
+    out.extend_from_slice(b";\n")
+}
+
+fn print_globals(out: &mut Vec<u8>, globals: &[Declaration]) -> Result<(), AllocError>
+    ensures { OnOk result (out.new.items ≡ out.old.items ++ spec.canon_globals (map declared globals.now)) }
+{
+    for g in globals {
+        print_global(out, g)?;
+    }
+    Ok(())
+}
+
+fn print_op(out: &mut Vec<u8>, op: Op) -> Result<(), AllocError>
+    ensures { OnOk result (out.new.items ≡ out.old.items ++ spec.op_text op) }
+{
+    match op {
+        Op::Add => out.extend_from_slice(b" + "),
+        Op::Sub => out.extend_from_slice(b" - "),
+        Op::Mul => out.extend_from_slice(b" * "),
+        Op::Eq => out.extend_from_slice(b" = "),
+        Op::Lt => out.extend_from_slice(b" < "),
+    }
+}
+
+fn print_number(out: &mut Vec<u8>, n: i64) -> Result<(), AllocError>
+    ensures { OnOk result (out.new.items ≡ out.old.items ++ signed_decimal n) }
+{
+    let mut buffer = Buffer::new();
+    out.extend_from_slice(buffer.format(n).as_bytes())
+}
+
+fn print_expression(out: &mut Vec<u8>, e: &Expr) -> Result<(), AllocError>
+    ensures { OnOk result (out.new.items ≡ out.old.items ++ spec.canon_tree (tree e.now)) }
+{
+    match e {
+        Expr::Number(n) => print_number(out, *n),
+        Expr::Name(x) => out.extend_from_slice(x.text),
+        Expr::Bracket(e) => {
+            out.extend_from_slice(b"(")?;
+            print_expression(out, e)?;
+            out.extend_from_slice(b")")
+        }
+        Expr::Binary(op, a, b) => {
+            print_expression(out, a)?;
+            print_op(out, *op)?;
+            print_expression(out, b)
+        }
+    }
+}
+
+fn print_class(out: &mut Vec<u8>, class: Option<Name>) -> Result<(), AllocError>
+    ensures { OnOk result (out.new.items ≡ out.old.items ++ spec.canon_class (option_map named class.entry)) }
+{
+    match class {
+        None => Ok(()),
+        Some(class) => {
+            out.extend_from_slice(b" : ")?;
+            out.extend_from_slice(class.text)
+        }
+    }
+}
+
+fn print_spaces(out: &mut Vec<u8>, indent: u16) -> Result<(), AllocError>
+    ensures { OnOk result (out.new.items ≡ out.old.items ++ spec.spaces indent) }
+{
+    for _ in 0..indent {
+        out.extend_from_slice(b"  ")?;
+    }
+    Ok(())
+}
+
+/// A sequence at an indent.
+#[cycle(printing)]
+fn print_body(out: &mut Vec<u8>, body: &[Stmt], indent: u16) -> Result<(), AllocError>
+    requires { indent + body_depth (body_of body.now) ≤ 1000 }
+    ensures { OnOk result (out.new.items ≡ out.old.items ++ spec.canon_body indent (body_of body.now)) }
+{
+    let mut first = true;
+    for c in body {
+        if !first {
+            out.extend_from_slice(b";\n")?;
+        }
+        first = false;
+        print_spaces(out, indent)?;
+        print_command(out, c, indent)?;
+    }
+    Ok(())
+}
+
+/// A command at an indent, without the spaces before it.
+#[cycle(printing)]
+fn print_command(out: &mut Vec<u8>, c: &Stmt, indent: u16) -> Result<(), AllocError>
+    requires { indent + command_depth (command c.now) ≤ 1000 }
+    ensures { OnOk result (out.new.items ≡ out.old.items ++ spec.canon_command indent (command c.now)) }
+{
+    match c {
+        Stmt::Assign(x, e) => {
+            out.extend_from_slice(x.text)?;
+            out.extend_from_slice(b" := ")?;
+            print_expression(out, e)
+        }
+        Stmt::If(e, yes, no) => {
+            out.extend_from_slice(b"if ")?;
+            print_expression(out, e)?;
+            out.extend_from_slice(b" then ")?;
+            print_command(out, yes, indent)?;
+            out.extend_from_slice(b" else ")?;
+            print_command(out, no, indent)
+        }
+        Stmt::While(e, body) => {
+            out.extend_from_slice(b"while ")?;
+            print_expression(out, e)?;
+            out.extend_from_slice(b" do ")?;
+            print_command(out, body, indent)
+        }
+        Stmt::Letvar(x, class, e, body) => {
+            out.extend_from_slice(b"letvar ")?;
+            out.extend_from_slice(x.text)?;
+            print_class(out, *class)?;
+            out.extend_from_slice(b" := ")?;
+            print_expression(out, e)?;
+            out.extend_from_slice(b" in ")?;
+            print_command(out, body, indent)
+        }
+        Stmt::Block(body) => {
+            out.extend_from_slice(b"{\n")?;
+            print_body(out, body, indent + 1)?;
+            out.extend_from_slice(b"\n")?;
+            print_spaces(out, indent)?;
+            out.extend_from_slice(b"}")
+        }
+    }
+}
