@@ -137,7 +137,7 @@ class_lays : (x : Named) (class : Option Named) (b : List ℕ) (ws : List Word) 
 class_lays x None b ws h i l = spaced x.text (codes ":= " ++ b) (Called x ∷ []) (Sign k.Assign ∷ ws) (name_lays x h) (assign b ws l)
 class_lays x (Some c) b ws h i l =
     spaced x.text (codes ": " ++ (c.text ++ (codes " := " ++ b))) (Called x ∷ []) (Sign k.Colon ∷ Called c ∷ Sign k.Assign ∷ ws) (name_lays x h)
-      (colon (c.text ++ (codes " := " ++ b)) (Called c ∷ Sign k.Assign ∷ ws) (spaced c.text (codes ":= " ++ b) (Called c ∷ []) (Sign k.Assign ∷ ws) (name_lays c i) (assign b ws l)))
+    (colon (c.text ++ (codes " := " ++ b)) (Called c ∷ Sign k.Assign ∷ ws) (spaced c.text (codes ":= " ++ b) (Called c ∷ []) (Sign k.Assign ∷ ws) (name_lays c i) (assign b ws l)))
 
 -- a semicolon, a line break and more
 semicolon_lays : (h b : List ℕ) (ws : List Word) → is_gap false false h ≡ true → Lays b ws → Lays (codes ";" ++ (h ++ b)) (Sign k.Semicolon ∷ ws)
@@ -152,7 +152,7 @@ block_lays : (i : ℕ) (b : List ℕ) (ws : List Word) → Lays b ws → Lays (c
 unfolding kind_of byte_kind
 block_lays i b ws l =
     lead (codes "{") k.OpenBrace (Sign k.OpenBrace) (codes "\n") (b ++ (codes "\n" ++ (spaces i ++ codes "}"))) (ws ++ Sign k.CloseBrace ∷ []) refl (λ s. refl) refl (λ rest. refl)
-      (join b (10 ∷ spaces i) (codes "}") ws (Sign k.CloseBrace ∷ []) (blanks (2 * i)) (λ rest. refl) l brace_lays)
+    (join b (10 ∷ spaces i) (codes "}") ws (Sign k.CloseBrace ∷ []) (blanks (2 * i)) (λ rest. refl) l brace_lays)
 
 more_lays : (i : ℕ) (a b : List ℕ) (va vb : List Word) → Lays a va → Lays b vb → Lays (a ++ (codes ";\n" ++ (spaces i ++ b))) (va ++ Sign k.Semicolon ∷ vb)
 more_lays i a b va vb la lb = join a [] (codes ";\n" ++ (spaces i ++ b)) va (Sign k.Semicolon ∷ vb) refl (λ rest. refl) la (semicolon_lays (10 ∷ spaces i) b vb (blanks (2 * i)) lb)

@@ -38,7 +38,8 @@ split (x ∷ xs) ys ws h =
     let f = front x (xs ++ ys) ws h in
     let s = split xs ys f.tail f.tails in
     record {
-      one = f.head ∷ s.one; two = s.two;
+      one = f.head ∷ s.one;
+      two = s.two;
       parts = f.parts ∙ ap (λ (z : List Word). f.head ∷ z) s.parts;
       ones = ap (λ (z : List Word). bare f.head ∷ z) s.ones ∙ ap (λ (z : Word). z ∷ map bare xs) f.heads;
       twos = s.twos;

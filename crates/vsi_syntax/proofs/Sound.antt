@@ -70,30 +70,30 @@ unfolding more
 more_sound zero inner room l t ws u rest sound lv fits h =
     elim (go_cases (Some (t, ws)) (λ op rest. None) (next l (own_level t) ws) (Some (u, rest)) h) [
       | inl s ↦
-        let e = some_left t u ws rest s.1 in
-        let f = some_right t u ws rest s.1 in
-        rw (← e, ← f) (record { parts = refl; levelled = lv; fits = fits })
+          let e = some_left t u ws rest s.1 in
+          let f = some_right t u ws rest s.1 in
+          rw (← e, ← f) (record { parts = refl; levelled = lv; fits = fits })
       | inr s ↦ absurd (cc (s.2))
     ]
 more_sound (suc n) inner room l t ws u rest sound lv fits h =
     elim (go_cases (Some (t, ws)) (λ op rest. cond (ltb (depth t) room) (inner (right_level op) rest >>= λ r. more inner n room l (Both op t r.0) r.1) None) (next l (own_level t) ws) (Some (u, rest)) h) [
       | inl s ↦
-        let e = some_left t u ws rest s.1 in
-        let f = some_right t u ws rest s.1 in
-        rw (← e, ← f) (record { parts = refl; levelled = lv; fits = fits })
+          let e = some_left t u ws rest s.1 in
+          let f = some_right t u ws rest s.1 in
+          rw (← e, ← f) (record { parts = refl; levelled = lv; fits = fits })
       | inr s ↦
-        let op = s.0.0 in
-        let after = s.0.1 in
-        let g = guard_some (ltb (depth t) room) (inner (right_level op) after >>= λ r. more inner n room l (Both op t r.0) r.1) (u, rest) s.2 in
-        let low : depth t < room = ltb-true (depth t) room g.0 in
-        let b = bind_some (inner (right_level op) after) (λ r. more inner n room l (Both op t r.0) r.1) (u, rest) g.1 in
-        let p = next_is l (own_level t) ws op after s.1 in
-        let q = sound (right_level op) after b.0.0 b.0.1 b.1 in
-        let lv' : IsLevelled l (Both op t b.0.0) = (p.1, relevel l (left_level op) t lv p.2, q.1) in
-        let r = more_sound n inner room l (Both op t b.0.0) b.0.1 u rest sound lv' (omega (arith, q.2)) b.2 in
-        let e : write t ++ ws ≡ write (Both op t b.0.0) ++ b.0.1 =
-            ap (λ (x : List Word). write t ++ x) (p.0 ∙ ap (λ (x : List Word). Sign (sign op) ∷ x) q.0) ∙ sym (append_assoc (write t) (Sign (sign op) ∷ write b.0.0) b.0.1) in
-        record { parts = e ∙ r.parts; levelled = r.levelled; fits = r.fits }
+          let op = s.0.0 in
+          let after = s.0.1 in
+          let g = guard_some (ltb (depth t) room) (inner (right_level op) after >>= λ r. more inner n room l (Both op t r.0) r.1) (u, rest) s.2 in
+          let low : depth t < room = ltb-true (depth t) room g.0 in
+          let b = bind_some (inner (right_level op) after) (λ r. more inner n room l (Both op t r.0) r.1) (u, rest) g.1 in
+          let p = next_is l (own_level t) ws op after s.1 in
+          let q = sound (right_level op) after b.0.0 b.0.1 b.1 in
+          let lv' : IsLevelled l (Both op t b.0.0) = (p.1, relevel l (left_level op) t lv p.2, q.1) in
+          let r = more_sound n inner room l (Both op t b.0.0) b.0.1 u rest sound lv' (omega (arith, q.2)) b.2 in
+          let e : write t ++ ws ≡ write (Both op t b.0.0) ++ b.0.1 =
+          ap (λ (x : List Word). write t ++ x) (p.0 ∙ ap (λ (x : List Word). Sign (sign op) ∷ x) q.0) ∙ sym (append_assoc (write t) (Sign (sign op) ∷ write b.0.0) b.0.1) in
+          record { parts = e ∙ r.parts; levelled = r.levelled; fits = r.fits }
     ]
 
 whole_sound : (inner : Reads) (room l : ℕ) (ws : List Word) (t : Tree) (rest : List Word) → IsSoundBelow room inner → whole inner room l ws ≡ Some (t, rest) → Took room l ws t rest

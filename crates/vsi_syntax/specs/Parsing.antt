@@ -90,8 +90,8 @@ unfoldable pub more : Reads → ℕ → ℕ → ℕ → Tree → List Word → O
 more inner zero room l left ws = go (Some (left, ws)) (λ op rest. None) (next l (own_level left) ws)
 more inner (suc turns) room l left ws =
     go (Some (left, ws))
-        (λ op rest. if nat_lt (depth left) room then (inner (right_level op) rest >>= λ r. more inner turns room l (Both op left r.0) r.1) else None)
-        (next l (own_level left) ws)
+    (λ op rest. if nat_lt (depth left) room then (inner (right_level op) rest >>= λ r. more inner turns room l (Both op left r.0) r.1) else None)
+    (next l (own_level left) ws)
 
 abbrev pub whole : Reads → ℕ → Reads
 whole inner room l ws = first inner ws >>= λ r. more inner room room l r.0 r.1

@@ -5,8 +5,8 @@ ghost use Rattle.vsi_syntax.specs.declared.parser.ParseError.TheVariants.{Memory
 ghost use Rattle.vsi_syntax.specs.Tree.{level, left_level, right_level, depth};
 ghost use Rattle.vsi_syntax.specs.View.{words, tree};
 
-use crate::token::{Kind, Span, Token};
 use crate::operator::Op;
+use crate::token::{Kind, Span, Token};
 use crate::tree::{Expr, Name};
 use std::alloc::{AllocError, AllocFailed, Global};
 

@@ -8,8 +8,8 @@ ghost use Rattle.vsi_syntax.specs.Programs.{command, body_of, declared};
 ghost use Rattle.vsi_syntax.specs.Program.{whole};
 ghost use Rattle.vsi_syntax.specs.Canon as spec;
 
-use crate::program::Program;
 use crate::operator::Op;
+use crate::program::Program;
 use crate::tree::{Declaration, Expr, Name, Stmt};
 use itoa::Buffer;
 use std::alloc::{AllocError, Global};

@@ -5,8 +5,8 @@ ghost use Rattle.vsi_syntax.specs.Parsing.{Gives};
 ghost use Rattle.vsi_syntax.specs.Parsing as spec;
 
 use super::ParseError;
-use crate::token::{Kind, Span, Token};
 use crate::operator::Op;
+use crate::token::{Kind, Span, Token};
 use crate::tree::{Expr, Name};
 use std::alloc::Global;
 
@@ -61,11 +61,7 @@ fn right_level_of(op: Op) -> u8
 }
 
 #[tactic(auto, unfolding(crate::specs::Parsing::next))]
-fn next<'t, 'a>(
-    least: u8,
-    left: u8,
-    tokens: &'t [Token<'a>],
-) -> Option<(Op, &'t [Token<'a>])>
+fn next<'t, 'a>(least: u8, left: u8, tokens: &'t [Token<'a>]) -> Option<(Op, &'t [Token<'a>])>
     ensures { option_map (λ x. (x.0, words x.1.now)) result ≡ spec.next least left (words tokens.now) }
 {
     let [token, rest @ ..] = tokens else {
@@ -89,10 +85,7 @@ pub fn fault<'a>(tokens: &[Token<'a>], end: usize) -> Span {
     }
 }
 
-fn close<'t, 'a>(
-    tokens: &'t [Token<'a>],
-    end: usize,
-) -> Result<&'t [Token<'a>], ParseError>
+fn close<'t, 'a>(tokens: &'t [Token<'a>], end: usize) -> Result<&'t [Token<'a>], ParseError>
     ensures { Gives (λ x. words x.now) result (spec.closing (words tokens.now)) }
 {
     match tokens {

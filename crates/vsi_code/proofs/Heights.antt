@@ -1,0 +1,51 @@
+-- Heights and nestings of sequences, and the height that the depth allows.
+use Rattle.std.proofs.Common.{◌≡◌, ℕ, ◌+◌, ◌<◌, ◌≤◌, max, List, [], ◌∷◌, ◌++◌, length, take, get_or, sym, ap, ◌∙◌, arith}
+use Rattle.std.proofs.lemmas.List.{take_more}
+use Rattle.vsi_scope.specs.declared.program.Cmd.{Cmd}
+use Rattle.vsi_scope.specs.Phrase.{Phrase, Literal, Contents, Apply, Command, Nothing, Put, Then, Choose, Repeat, Allocate, nesting, phrase_depth, depth}
+use Rattle.vsi_scope.specs.View.{command, sequence}
+use Rattle.vsi_code.specs.Needs.{phrase_height, height}
+
+-- A sequence with one command more is as high as the higher of the two.
+height_push : (cs : List Cmd) (c : Cmd) →
+    height (sequence (cs ++ c ∷ [])) ≡ max (height (sequence cs)) (height (command c))
+height_push [] c = omega arith
+height_push (d ∷ cs) c = omega (arith, height_push cs c)
+
+-- The height of the commands up to one of them and that one.
+pub height_more : (cs : List Cmd) (i : ℕ) (c : Cmd) → i < length cs → c ≡ get_or cs i c →
+    height (sequence (take (i + 1) cs)) ≡ max (height (sequence (take i cs))) (height (command c))
+height_more cs i c lt e =
+    ap (λ l. height (sequence l)) (take_more cs i c lt)
+    ∙ height_push (take i cs) (get_or cs i c)
+    ∙ ap (λ x. max (height (sequence (take i cs))) (height (command x))) (sym e)
+
+-- A sequence with one command more nests as deep as the deeper of the two.
+nesting_push : (cs : List Cmd) (c : Cmd) →
+    nesting (sequence (cs ++ c ∷ [])) ≡ max (nesting (sequence cs)) (nesting (command c))
+nesting_push [] c = omega arith
+nesting_push (d ∷ cs) c = omega (arith, nesting_push cs c)
+
+-- The nesting of the commands up to one of them and that one.
+pub nesting_more : (cs : List Cmd) (i : ℕ) (c : Cmd) → i < length cs → c ≡ get_or cs i c →
+    nesting (sequence (take (i + 1) cs)) ≡ max (nesting (sequence (take i cs))) (nesting (command c))
+nesting_more cs i c lt e =
+    ap (λ l. nesting (sequence l)) (take_more cs i c lt)
+    ∙ nesting_push (take i cs) (get_or cs i c)
+    ∙ ap (λ x. max (nesting (sequence (take i cs))) (nesting (command x))) (sym e)
+
+-- An expression has at most one operand more at a time than it is deep.
+phrase_height-within_depth : (e : Phrase) → phrase_height e ≤ phrase_depth e + 1
+phrase_height-within_depth (Literal n) = omega arith
+phrase_height-within_depth (Contents l s) = omega arith
+phrase_height-within_depth (Apply o a b) = omega (arith, phrase_height-within_depth a, phrase_height-within_depth b)
+
+-- So has a command.
+pub height-within_depth : (c : Command) → height c ≤ depth c + 1
+height-within_depth Nothing = omega arith
+height-within_depth (Put l s e) = phrase_height-within_depth e
+height-within_depth (Then a b) = omega (arith, height-within_depth a, height-within_depth b)
+height-within_depth (Choose e a b) =
+    omega (arith, phrase_height-within_depth e, height-within_depth a, height-within_depth b)
+height-within_depth (Repeat e c) = omega (arith, phrase_height-within_depth e, height-within_depth c)
+height-within_depth (Allocate e c) = omega (arith, phrase_height-within_depth e, height-within_depth c)

@@ -1,0 +1,10 @@
+pub mod Placed
+pub mod Stretches
+pub mod Runs
+pub mod Correct
+pub mod Fine
+pub mod Patched
+pub mod Parts
+pub mod Heights
+pub mod Names
+pub mod Made

@@ -1,0 +1,69 @@
+-- How code is laid out.
+use Rattle.std.specs.Prelude.{ℕ, ◌+◌, ◌<◌, ◌≤◌, List, [], ◌∷◌, ◌++◌, length}
+use Rattle.vsi_image.specs.declared.instr.Instr.{Instr}
+use Rattle.vsi_image.specs.declared.instr.Instr.TheVariants as i
+use Rattle.vsi_syntax.specs.declared.operator.Op.{Op}
+use Rattle.vsi_syntax.specs.declared.operator.Op.TheVariants as o
+use Rattle.vsi_scope.specs.Phrase.{Phrase, Literal, Contents, Apply, Command, Nothing, Put, Then, Choose, Repeat, Allocate, phrase_size, size, nesting}
+
+-- The instruction of an operator.
+abbrev pub op_code : Op → Instr
+op_code o.Add = i.Add
+op_code o.Sub = i.Sub
+op_code o.Mul = i.Mul
+op_code o.Eq = i.Eq
+op_code o.Lt = i.Lt
+
+-- An expression's code is that of the left operand, that of the right one, and the operator.
+abbrev pub phrase_code : Phrase → List Instr
+phrase_code (Literal n) = i.Push n ∷ []
+phrase_code (Contents l s) = i.Load l ∷ []
+phrase_code (Apply o a b) = phrase_code a ++ (phrase_code b ++ op_code o ∷ [])
+
+-- A guard's code is that of its expression, and a jump to the target where the word is 0.
+abbrev pub guard_code : Phrase → ℕ → List Instr
+guard_code e target = phrase_code e ++ i.Jz target ∷ []
+
+-- A choice is its guard, a jump to the second branch where the word is 0, the first branch, a jump to the end, and
+-- the second branch.
+abbrev pub choice_code : List Instr → ℕ → List Instr → ℕ → List Instr → List Instr
+choice_code guard other first end second = guard ++ (i.Jz other ∷ (first ++ (i.Jmp end ∷ second)))
+
+-- A loop is its guard, a jump to the end where the word is 0, the body, and a jump to the guard.
+abbrev pub loop_code : List Instr → ℕ → List Instr → ℕ → List Instr
+loop_code guard end body start = guard ++ (i.Jz end ∷ (body ++ i.Jmp start ∷ []))
+
+-- The code of a command that begins at the place pc, with k words in scope.
+abbrev pub code_at : ℕ → ℕ → Command → List Instr
+code_at pc k Nothing = []
+code_at pc k (Put l s e) = phrase_code e ++ i.Store l ∷ []
+code_at pc k (Then a b) = code_at pc k a ++ code_at (pc + size a) k b
+code_at pc k (Choose e a b) =
+    let first = pc + phrase_size e + 1 in
+    let second = first + size a + 1 in
+    choice_code (phrase_code e) second (code_at first k a) (second + size b) (code_at second k b)
+code_at pc k (Repeat e c) =
+    let body = pc + phrase_size e + 1 in
+    loop_code (phrase_code e) (body + size c + 1) (code_at body k c) pc
+code_at pc k (Allocate e c) = phrase_code e ++ (i.Store k ∷ code_at (pc + phrase_size e + 1) (k + 1) c)
+
+-- The code before with that of a command behind it.
+abbrev pub with_code : List Instr → ℕ → Command → List Instr
+with_code before k c = before ++ code_at (length before) k c
+
+-- The whole code of a body ends with a HALT.
+abbrev pub whole_code : ℕ → Command → List Instr
+whole_code globals c = code_at 0 globals c ++ i.Halt ∷ []
+
+-- The most instructions of an image, its HALT among them.
+abbrev pub most_instructions : ℕ
+most_instructions = 65535
+
+-- The most slots of an image.
+abbrev pub most_slots : ℕ
+most_slots = 512
+
+-- A command's code fits between this many instructions and a HALT, and its letvars above this many words.
+pub record Fits (pc k : ℕ) (c : Command) : Type 0 where
+  pub size : pc + size c < most_instructions
+  pub slots : k + nesting c ≤ most_slots

@@ -1,0 +1,4 @@
+pub mod Needs
+pub mod Layout
+pub mod Names
+pub mod Behaves

@@ -1,0 +1,14 @@
+//! Code generation: the verified image of a resolved program.
+//!
+//! A `Resolved` comes in, a `Verified` goes out; the clause `behaves` of `generate` says that the image's runs end in
+//! exactly the stores that the program's body evaluates to.
+#![tactic(auto)]
+
+mod emission;
+mod generator;
+mod measure;
+
+pub use generator::generate;
+
+#[cfg(test)]
+mod tests;

@@ -1,0 +1,65 @@
+-- What a compiled text's run answers.
+use Rattle.std.proofs.Common.{◌≡◌, ◌≢◌, ℕ, ℤ, List, length, refl, sym, ap, ◌∙◌, Result, Ok, Err}
+use Rattle.vsi_lattice.specs.Order.{Lattice}
+use Rattle.vsi_scope.specs.Faults.{Known}
+use Rattle.vsi_types.specs.declared.rules.Profile.{Profile}
+use Rattle.vsi_types.specs.declared.rules.Profile.TheVariants.{Base, Strict}
+use Rattle.vsi_image.specs.declared.instr.Image.{Image}
+use Rattle.vsi_machine.specs.declared.interpreter.StartError.{StartError}
+use Rattle.vsi_machine.specs.declared.interpreter.StartError.TheVariants as start
+use Rattle.vsi_compiler.specs.Acceptance.{IsAccepted}
+use Rattle.vsi_compiler.specs.Headline.{HasGlobals, KeepsMeaning, IsCoded, IsCompiled}
+use Rattle.vsi_compiler.specs.Observation.{IsNoninterfering}
+use Rattle.vsi_compiler.specs.Run.{starting, HasWrongStore, RefusesRun}
+
+-- the profiles differ
+base_is_not_strict : ◌≡◌ {A = Profile} Base Strict → ⊥
+base_is_not_strict h = cc
+
+-- what the compiler promises of an image, in one
+pub compiled_of : (known : Known) (L : Lattice) (text : List ℕ) (im : Image) → IsAccepted known L Base text →
+    HasGlobals text im → KeepsMeaning known text im → IsNoninterfering known L im → IsCoded im →
+    IsCompiled known L Base text im
+compiled_of known L text im accepted globals meaning noninterference coded =
+    record {
+      accepted = accepted;
+      globals = globals;
+      meaning = meaning;
+      noninterference = noninterference;
+      endings = λ h. absurd (base_is_not_strict h);
+      coded = coded;
+    }
+
+-- a wrong store isn't want of memory
+wrong_is_not_memory : (n : ℕ) → ◌≡◌ {A = StartError} (start.WrongStore n) start.Memory → ⊥
+wrong_is_not_memory n h = cc
+
+-- the number of words that is told
+abbrev words_told : StartError → ℕ
+words_told start.Memory = 0
+words_told (start.WrongStore n) = n
+
+-- the error of an answer, or another one
+abbrev error_of : {X : Type 0} → StartError → Result X StartError → StartError
+error_of d (Ok x) = d
+error_of d (Err e) = e
+
+-- a machine that was not started is a refusal of the run
+pub start_refused : {X : Type 0} (known : Known) (L : Lattice) (text : List ℕ) (store : List ℤ) (im : Image) →
+    IsCompiled known L Base text im → (e : StartError) →
+    (length store ≢ length im.globals.items → ◌≡◌ {A = Result X StartError} (Err e)
+    (Err (start.WrongStore (length store)))) →
+    (length store ≡ length im.globals.items → e ≡ start.Memory) → RefusesRun known L text store (starting e)
+start_refused known L text store im compiled start.Memory wrong memory = tt
+start_refused {X} known L text store im compiled (start.WrongStore n) wrong memory =
+    let differs : length store ≢ length im.globals.items = λ h. wrong_is_not_memory n (memory h) in
+    record {
+      image = im;
+      compiled = compiled;
+      wrong = differs;
+      told = told (wrong differs);
+    }
+  where
+    told : ◌≡◌ {A = Result X StartError} (Err (start.WrongStore n)) (Err (start.WrongStore (length store))) →
+        n ≡ length store
+    told h = ap words_told (ap (error_of start.Memory) h)

@@ -1,0 +1,31 @@
+-- Errors of the layers as errors of the compiler, whose want of memory is its own.
+use Rattle.vsi_syntax.specs.declared.lexer.LexError.{LexError}
+use Rattle.vsi_syntax.specs.declared.lexer.LexError.TheVariants as lexer
+use Rattle.vsi_syntax.specs.declared.parser.ParseError.{ParseError}
+use Rattle.vsi_syntax.specs.declared.parser.ParseError.TheVariants as parser
+use Rattle.vsi_scope.specs.declared.resolution.ScopeError.{ScopeError}
+use Rattle.vsi_scope.specs.declared.resolution.ScopeError.TheVariants as scope
+use Rattle.vsi_infer.specs.declared.error.InferError.{InferError}
+use Rattle.vsi_infer.specs.declared.error.InferError.TheVariants as infer
+use Rattle.vsi_compiler.specs.declared.error.CompileError.{CompileError}
+use Rattle.vsi_compiler.specs.declared.error.CompileError.TheVariants.{Lex, Parse, Scope, Flow, Memory}
+
+-- an error of the words
+abbrev pub lexical : LexError → CompileError
+lexical lexer.Memory = Memory
+lexical e = Lex e
+
+-- an error of the tree
+abbrev pub syntactic : ParseError → CompileError
+syntactic parser.Memory = Memory
+syntactic e = Parse e
+
+-- an error of the scopes
+abbrev pub scoping : ScopeError → CompileError
+scoping scope.Memory = Memory
+scoping e = Scope e
+
+-- an error of the inference
+abbrev pub flowing : InferError → CompileError
+flowing infer.Memory = Memory
+flowing (infer.Refused walk) = Flow walk

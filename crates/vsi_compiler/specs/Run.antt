@@ -1,0 +1,51 @@
+-- What a text that is compiled and run answers.
+use Rattle.std.specs.Prelude.{◌≡◌, ◌≢◌, ℕ, ℤ, List, length, Some}
+use Rattle.vsi_lattice.specs.Order.{Lattice}
+use Rattle.vsi_scope.specs.Faults.{Known}
+use Rattle.vsi_types.specs.declared.rules.Profile.TheVariants.{Base}
+use Rattle.vsi_image.specs.declared.instr.Image.{Image}
+use Rattle.vsi_image.specs.Meaning.{State}
+use Rattle.vsi_machine.specs.declared.interpreter.Outcome.{Outcome}
+use Rattle.vsi_machine.specs.declared.interpreter.StartError.{StartError}
+use Rattle.vsi_machine.specs.declared.interpreter.StartError.TheVariants as start
+use Rattle.vsi_machine.specs.Runs.{outcome_of, globals_of, run_of}
+use Rattle.vsi_compiler.specs.declared.error.CompileError.{CompileError}
+use Rattle.vsi_compiler.specs.declared.error.CompileError.TheVariants as compiler
+use Rattle.vsi_compiler.specs.declared.run.RunError.{RunError}
+use Rattle.vsi_compiler.specs.declared.run.RunError.TheVariants.{Compile, Start, Memory}
+use Rattle.vsi_compiler.specs.Headline.{IsCompiled}
+use Rattle.vsi_compiler.specs.Refusal.{Refuses}
+
+-- a refusal of the compiler
+abbrev pub compiling : CompileError → RunError
+compiling compiler.Memory = Memory
+compiling e = Compile e
+
+-- a machine that was not started
+abbrev pub starting : StartError → RunError
+starting start.Memory = Memory
+starting e = Start e
+
+-- the text is compiled, and its image's run from the store with this budget ends so
+pub record Ran (known : Known) (L : Lattice) (text : List ℕ) (store : List ℤ) (budget : ℕ) (outcome : Outcome)
+    (words : List ℤ) : Type 0 where
+  pub image : Image
+  pub compiled : IsCompiled known L Base text image
+  pub last : State
+  pub reached : run_of image store budget ≡ Some last
+  pub ends : outcome ≡ outcome_of last
+  pub globals : words ≡ globals_of image last
+
+-- the text is compiled, and the store hasn't one word per global
+pub record HasWrongStore (known : Known) (L : Lattice) (text : List ℕ) (store : List ℤ) (words : ℕ) : Type 0 where
+  pub image : Image
+  pub compiled : IsCompiled known L Base text image
+  pub wrong : length store ≢ length image.globals.items
+  pub told : words ≡ length store
+
+-- a refusal of a run
+abbrev pub RefusesRun : Known → Lattice → List ℕ → List ℤ → RunError → Type 0
+RefusesRun known L text store Memory = Unit {0}
+RefusesRun known L text store (Compile e) = (e ≢ compiler.Memory) × Refuses known L Base text e
+RefusesRun known L text store (Start start.Memory) = ⊥
+RefusesRun known L text store (Start (start.WrongStore n)) = HasWrongStore known L text store n

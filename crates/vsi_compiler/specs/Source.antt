@@ -1,0 +1,14 @@
+-- What a source text is: its tokens, the tree that writes them, and the commands over locations that the tree stands
+-- for.
+use Rattle.std.specs.Prelude.{◌≡◌, ℕ, ◌≤◌, List, length, map}
+use Rattle.vsi_syntax.specs.Cut.{Piece, IsCut}
+use Rattle.vsi_syntax.specs.Tree.{Whole, IsProgram, write_program}
+use Rattle.vsi_syntax.specs.Spelling.{word_at}
+
+-- the text is within its limit, and a levelled tree of depth at most 200 writes the tokens of its cut
+pub record Reads (text : List ℕ) (tree : Whole) : Type 0 where
+  pub short : length text ≤ 1048576
+  pub tokens : List Piece
+  pub cut : IsCut text tokens
+  pub program : IsProgram tree.body
+  pub written : write_program tree ≡ map word_at tokens

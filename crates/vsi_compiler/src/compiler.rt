@@ -1,0 +1,61 @@
+//! From a source text to a verified image.
+
+ghost use Rattle.std.specs.Prelude.{◌≡◌, IfOk, IfErr};
+ghost use Rattle.vsi_lattice.specs.Named.{class_named, order};
+ghost use Rattle.vsi_types.specs.declared.rules.Profile.TheVariants.{Base, Strict};
+ghost use Rattle.vsi_compiler.specs.declared.error.CompileError.TheVariants.{Memory};
+ghost use Rattle.vsi_compiler.specs.Acceptance.{IsAccepted};
+ghost use Rattle.vsi_compiler.specs.Headline.{HasGlobals, KeepsMeaning, IsCoded};
+ghost use Rattle.vsi_compiler.specs.Observation.{IsNoninterfering, EndsAlike};
+ghost use Rattle.vsi_compiler.specs.Refusal.{Refuses};
+
+use crate::error::CompileError;
+use crate::source::resolved_program;
+use std::alloc::Global;
+use vsi_code::generate;
+use vsi_image::Verified;
+use vsi_infer::infer_in;
+use vsi_lattice::Lattice;
+use vsi_opt::optimise;
+use vsi_types::Profile;
+
+/// The image of a text that is accepted under a profile.
+///
+/// # Errors
+///
+/// The first refusal in the order text, words, tree, scope, size, flow. `Memory` may stand in place of any answer.
+pub fn compile_in(
+    alloc: Global,
+    profile: Profile,
+    lattice: &Lattice,
+    text: &[u8],
+) -> Result<Verified, CompileError>
+    ensures accepted { IfOk result (λ _. IsAccepted (class_named lattice.now) (order lattice.now) profile text.now) }
+    ensures refused { IfErr result (Refuses (class_named lattice.now) (order lattice.now) profile text.now) }
+    ensures exact { IsAccepted (class_named lattice.now) (order lattice.now) profile text.now → IfErr result (λ e. e ≡ Memory) }
+    ensures globals { IfOk result (HasGlobals text.now) }
+    ensures meaning { IfOk result (KeepsMeaning (class_named lattice.now) text.now) }
+    ensures noninterference { IfOk result (IsNoninterfering (class_named lattice.now) (order lattice.now)) }
+    ensures endings { profile ≡ Strict → IfOk result (EndsAlike (class_named lattice.now) (order lattice.now)) }
+    ensures coded { IfOk result IsCoded }
+{
+    let resolved = resolved_program(alloc, lattice, text)?;
+    let _classes = infer_in(alloc, profile, lattice, &resolved)?;
+    let optimised = optimise(alloc, &resolved)?;
+    let verified = generate(alloc, &optimised)?;
+    let _image = verified.image();
+    Ok(verified)
+}
+
+/// The image of a text that is accepted: `compile_in` for the base profile.
+pub fn compile(alloc: Global, lattice: &Lattice, text: &[u8]) -> Result<Verified, CompileError>
+    ensures accepted { IfOk result (λ _. IsAccepted (class_named lattice.now) (order lattice.now) Base text.now) }
+    ensures refused { IfErr result (Refuses (class_named lattice.now) (order lattice.now) Base text.now) }
+    ensures exact { IsAccepted (class_named lattice.now) (order lattice.now) Base text.now → IfErr result (λ e. e ≡ Memory) }
+    ensures globals { IfOk result (HasGlobals text.now) }
+    ensures meaning { IfOk result (KeepsMeaning (class_named lattice.now) text.now) }
+    ensures noninterference { IfOk result (IsNoninterfering (class_named lattice.now) (order lattice.now)) }
+    ensures coded { IfOk result IsCoded }
+{
+    compile_in(alloc, Profile::Base, lattice, text)
+}

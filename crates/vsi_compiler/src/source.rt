@@ -1,0 +1,49 @@
+//! The program that a text stands for.
+
+ghost use Rattle.std.specs.Prelude.{◌≡◌, ℕ, List, IfOk, IfErr, MatchResult};
+ghost use Rattle.vsi_syntax.specs.Tree.{Whole};
+ghost use Rattle.vsi_syntax.specs.Program.{whole};
+ghost use Rattle.vsi_compiler.specs.declared.error.CompileError.TheVariants.{Memory};
+ghost use Rattle.vsi_compiler.specs.Source.{Reads};
+ghost use Rattle.vsi_compiler.specs.Refusal.{RefusesTree, RefusesProgram};
+ghost use Rattle.vsi_compiler.specs.Stands.{Stands};
+ghost use Rattle.vsi_lattice.specs.Named.{class_named};
+ghost use Rattle.vsi_scope.specs.Phrase.{Command};
+ghost use Rattle.vsi_scope.specs.Program.{IsResolved};
+ghost use Rattle.vsi_scope.specs.Resolving.{AreBelow, HasClassesBelow, IsResolution};
+
+use crate::error::CompileError;
+use std::alloc::Global;
+use vsi_lattice::Lattice;
+use vsi_scope::{Resolved, resolve};
+use vsi_syntax::{Program, lex, parse};
+
+/// The tree that writes the text.
+pub(crate) fn read_program<'a>(alloc: Global, text: &'a [u8]) -> Result<Program<'a>, CompileError>
+    ensures reads { IfOk result (λ p. Reads text.now (whole p)) }
+    ensures refused { IfErr result (RefusesTree text.now) }
+    ensures exact { (tree : Whole) → Reads text.now tree → MatchResult result (λ p. whole p ≡ tree) (λ e. e ≡ Memory) }
+{
+    let tokens = lex(alloc, text)?;
+    let program = parse(alloc, &tokens)?;
+    Ok(program)
+}
+
+/// The text over locations.
+pub(crate) fn resolved_program<'a>(
+    alloc: Global,
+    lattice: &Lattice,
+    text: &'a [u8],
+) -> Result<Resolved<'a>, CompileError>
+    ensures stands { IfOk result (Stands (class_named lattice.now) text.now) }
+    ensures kept { IfOk result IsResolved }
+    ensures classes { (n : ℕ) → AreBelow n (class_named lattice.now) → IfOk result (HasClassesBelow n) }
+    ensures refused { IfErr result (RefusesProgram (class_named lattice.now) text.now) }
+    ensures exact { (tree : Whole) (commands : List Command) → Reads text.now tree
+        → IsResolution (class_named lattice.now) tree commands → IfErr result (λ e. e ≡ Memory) }
+{
+    let program = read_program(alloc, text)?;
+    let resolved = resolve(alloc, &program, lattice)?;
+    let _body = resolved.body();
+    Ok(resolved)
+}

@@ -1,0 +1,4 @@
+pub mod Counted
+pub mod Engine
+pub mod Errors
+pub mod Running

@@ -1,0 +1,60 @@
+ghost use Rattle.std.specs.Prelude.{◌≡◌, ◌+◌, ◌<◌, ◌≤◌, ◌↔◌, ℕ, List, length, take, IfOk, IfErr, IfSome, OnOk, IsErrOf, vec_len};
+ghost use Rattle.std.specs.Io.KnownBytes.{Appends, Consumes, Keeps};
+ghost use Rattle.vsi_engine.specs.Counted.{device_of, faults_of};
+ghost use Rattle.vsi_engine.specs.Engine.{IsOfReading};
+
+use crate::counted::Counted;
+use crate::error::EngineError;
+use std::alloc::Global;
+use std::io::{Read, Write};
+
+/// One byte more than the longest source text.
+pub const READ_LIMIT: usize = 1_048_577;
+
+const CHUNK: usize = 4096;
+
+/// Reads to the end, or to the limit.
+pub fn read_all<R: Read>(alloc: Global, reader: &mut Counted<R>) -> Result<Vec<u8>, EngineError>
+    requires { faults_of reader.old < u64.MAX }
+    ensures fault { IsErrOf result EngineError.ReadFault ↔ faults_of reader.old < faults_of reader.new }
+    ensures count { faults_of reader.old ≤ faults_of reader.new }
+    ensures once { faults_of reader.new ≤ faults_of reader.old + 1 }
+    ensures only { IfErr result IsOfReading }
+    ensures bytes { IfOk result (λ bytes. IfSome (R.remaining (device_of reader.old)) (λ xs. bytes.items ≡ take 1048577 xs)) }
+    ensures read { IfOk result (λ bytes. Consumes (R.remaining (device_of reader.old)) (R.remaining (device_of reader.new)) bytes.items) }
+    ensures bound { (taken : List ℕ) × Consumes (R.remaining (device_of reader.old)) (R.remaining (device_of reader.new)) taken × (length taken ≤ 1048577) }
+{
+    let mut bytes = Vec::new(alloc);
+    let mut chunk = [0; CHUNK];
+    while bytes.len() < READ_LIMIT {
+        let room = CHUNK.min(READ_LIMIT - bytes.len());
+        match reader.read(&mut chunk[..room]) {
+            Ok(0) => break,
+            Ok(count) => bytes
+                .extend_from_slice(&chunk[..count])
+                .map_err(|_| EngineError::Memory)?,
+            Err(_) => return Err(EngineError::ReadFault),
+        }
+    }
+    Ok(bytes)
+}
+
+/// Writes the whole text, and doesn't flush.
+pub fn write_out<W: Write>(text: &[u8], writer: &mut Counted<W>) -> Result<(), EngineError>
+    requires { faults_of writer.old < u64.MAX }
+    ensures fault { IsErrOf result EngineError.WriteFault ↔ faults_of writer.old < faults_of writer.new }
+    ensures count { faults_of writer.old ≤ faults_of writer.new }
+    ensures once { faults_of writer.new ≤ faults_of writer.old + 1 }
+    ensures only { IfErr result (λ e. e ≡ EngineError.WriteFault) }
+    ensures whole { OnOk result (Appends (W.contents (device_of writer.old)) (W.contents (device_of writer.new)) text.now) }
+    ensures prefix { (n : ℕ) × Appends (W.contents (device_of writer.old)) (W.contents (device_of writer.new)) (take n text.now) }
+{
+    let mut done = 0;
+    while done < text.len() {
+        match writer.write(&text[done..]) {
+            Ok(0) | Err(_) => return Err(EngineError::WriteFault),
+            Ok(count) => done += count,
+        }
+    }
+    Ok(())
+}

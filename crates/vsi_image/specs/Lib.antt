@@ -1,0 +1,9 @@
+pub mod Fields
+pub mod Reading
+pub mod Limits
+pub mod Listing
+pub mod Effects
+pub mod Valid
+pub mod Marks
+pub mod Faults
+pub mod Meaning

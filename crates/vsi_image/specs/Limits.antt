@@ -1,0 +1,24 @@
+-- The first thing of an image that has no bytes.
+use Rattle.std.specs.Prelude.{ℕ, ◌+◌, List, [], ◌∷◌, ◌++◌, length, Option, Some, None, true, false, if◌then◌else◌, ◌&&◌, nat_lt}
+use Rattle.vsi_image.specs.declared.limits.Limit.{Limit}
+use Rattle.vsi_image.specs.declared.limits.Limit.TheVariants.{Globals, Slots, Stack, Count, Name, Class}
+use Rattle.vsi_syntax.specs.Words.{is_name}
+use Rattle.vsi_image.specs.Fields.{Global, Fields, is_taken}
+
+-- The first fault of these globals, which have numbers from n on and stand behind those before.
+abbrev pub globals_limit : ℕ → List Global → List Global → Option Limit
+globals_limit n before [] = None
+globals_limit n before (g ∷ gs) =
+    if is_name g.0 && (if is_taken before g.0 then false else true)
+    then (if is_name g.1 then globals_limit (n + 1) (before ++ g ∷ []) gs else Some (Class n))
+    else Some (Name n)
+
+-- The first limit that an image is past: its numbers first, then its globals.
+abbrev pub first_limit : Fields → Option Limit
+first_limit f =
+    if nat_lt 256 (length f.globals) then Some Globals
+    else if nat_lt f.slots (length f.globals) then Some Slots
+    else if nat_lt 512 f.slots then Some Slots
+    else if nat_lt 256 f.stack then Some Stack
+    else if nat_lt 65535 (length f.code) then Some Count
+    else globals_limit 0 [] f.globals

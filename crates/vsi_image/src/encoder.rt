@@ -1,0 +1,192 @@
+//! From an image to its bytes, in version 2.
+
+ghost use Rattle.std.specs.Prelude.{◌≡◌, ◌≢◌, ◌<◌, ◌++◌, length, OnOk, IfOk, IfErr, All, Some, Ok};
+ghost use Rattle.std.specs.List.{flat_map};
+ghost use Rattle.std.specs.Option.{option_map};
+ghost use Rattle.vsi_image.specs.declared.encoder.EncodeError.TheVariants.{Memory, Unencodable};
+ghost use Rattle.vsi_image.specs.Fields as spec;
+ghost use Rattle.vsi_image.specs.Fields.{fields, global, globals, global_bytes, instr_bytes, head_bytes, string, IsAllowed, HasOpcode, HasBytes, Spells};
+ghost use Rattle.vsi_image.specs.Limits.{first_limit};
+ghost use Rattle.vsi_image.specs.Reading.{image_of};
+
+use crate::instr::{Image, Instr};
+use crate::limits::{Limit, limit_of};
+use crate::opcodes::{self, MAGIC, VERSION};
+use std::alloc::{AllocError, Global};
+
+/// Adds a name: its length, a byte, and its bytes.
+fn put_string(out: &mut Vec<u8>, text: &[u8]) -> Result<(), AllocError>
+    requires { length text.now < 256 }
+    ensures { OnOk result (out.new.items ≡ out.old.items ++ string text.now) }
+{
+    out.push(text.len() as u8)?;
+    out.extend_from_slice(text)
+}
+
+/// Adds a global's name and the name of its class.
+fn put_global(out: &mut Vec<u8>, g: &(Vec<u8>, Vec<u8>)) -> Result<(), AllocError>
+    requires name { length g.now.0.items < 256 }
+    requires class { length g.now.1.items < 256 }
+    ensures { OnOk result (out.new.items ≡ out.old.items ++ global_bytes (global g.now)) }
+{
+    put_string(out, &g.0)?;
+    put_string(out, &g.1)
+}
+
+/// Adds an instruction's opcode and its operand, big endian.
+fn put_instr(out: &mut Vec<u8>, instr: Instr) -> Result<(), AllocError>
+    ensures { OnOk result (out.new.items ≡ out.old.items ++ instr_bytes instr) }
+{
+    match instr {
+        Instr::Push(n) => {
+            out.push(opcodes::PUSH)?;
+            out.extend_from_slice(&n.to_be_bytes())?;
+        }
+        Instr::Load(s) => {
+            out.push(opcodes::LOAD)?;
+            out.extend_from_slice(&s.to_be_bytes())?;
+        }
+        Instr::Store(s) => {
+            out.push(opcodes::STORE)?;
+            out.extend_from_slice(&s.to_be_bytes())?;
+        }
+        Instr::Add => out.push(opcodes::ADD)?,
+        Instr::Sub => out.push(opcodes::SUB)?,
+        Instr::Eq => out.push(opcodes::EQ)?,
+        Instr::Lt => out.push(opcodes::LT)?,
+        Instr::Jz(t) => {
+            out.push(opcodes::JZ)?;
+            out.extend_from_slice(&t.to_be_bytes())?;
+        }
+        Instr::Jmp(t) => {
+            out.push(opcodes::JMP)?;
+            out.extend_from_slice(&t.to_be_bytes())?;
+        }
+        Instr::Halt => out.push(opcodes::HALT)?,
+        Instr::Mul => out.push(opcodes::MUL)?,
+    }
+    Ok(())
+}
+
+/// Adds the globals.
+fn put_globals(out: &mut Vec<u8>, all: &[(Vec<u8>, Vec<u8>)]) -> Result<(), AllocError>
+    requires { All (λ g. (length g.0.items < 256) × (length g.1.items < 256)) all.now }
+    ensures { OnOk result (out.new.items ≡ out.old.items ++ flat_map global_bytes (globals all.now)) }
+{
+    for g in all {
+        put_global(out, g)?;
+    }
+    Ok(())
+}
+
+/// What the type says of an instruction's operand.
+fn known(instr: Instr)
+    ensures { HasOpcode 2 instr }
+{
+    match instr {
+        Instr::Push(_n) => {}
+        Instr::Load(_s) => {}
+        Instr::Store(_s) => {}
+        Instr::Add => {}
+        Instr::Sub => {}
+        Instr::Mul => {}
+        Instr::Eq => {}
+        Instr::Lt => {}
+        Instr::Jz(_t) => {}
+        Instr::Jmp(_t) => {}
+        Instr::Halt => {}
+    }
+}
+
+/// What the type says of the operands of a code.
+fn known_all(code: &[Instr])
+    ensures { All (HasOpcode 2) code.now }
+{
+    for instr in code {
+        known(*instr);
+    }
+}
+
+/// Adds the instructions.
+fn put_code(out: &mut Vec<u8>, code: &[Instr]) -> Result<(), AllocError>
+    ensures { OnOk result (out.new.items ≡ out.old.items ++ flat_map instr_bytes code.now) }
+{
+    for instr in code {
+        put_instr(out, *instr)?;
+    }
+    Ok(())
+}
+
+/// Adds what stands before the globals.
+fn put_head(
+    out: &mut Vec<u8>,
+    globals: u16,
+    slots: u16,
+    stack: u16,
+    count: u32,
+) -> Result<(), AllocError>
+    ensures { OnOk result (out.new.items ≡ out.old.items ++ head_bytes 2 globals slots stack count) }
+{
+    out.extend_from_slice(&MAGIC)?;
+    out.push(VERSION)?;
+    out.extend_from_slice(&globals.to_be_bytes())?;
+    out.extend_from_slice(&slots.to_be_bytes())?;
+    out.extend_from_slice(&stack.to_be_bytes())?;
+    out.extend_from_slice(&count.to_be_bytes())?;
+    Ok(())
+}
+
+/// The bytes of an image that is within its limits.
+fn bytes_of(alloc: Global, image: &Image) -> Result<Vec<u8>, AllocError>
+    requires { IsAllowed (fields image.now) }
+    ensures bytes { IfOk result (λ b. b.items ≡ spec.bytes_of 2 (fields image.now)) }
+    ensures fits { OnOk result (HasBytes 2 (fields image.now)) }
+{
+    known_all(&image.code);
+    let mut out = Vec::new(alloc);
+    put_head(
+        &mut out,
+        image.globals.len() as u16,
+        image.slots,
+        image.stack,
+        image.code.len() as u32,
+    )?;
+    put_globals(&mut out, &image.globals)?;
+    put_code(&mut out, &image.code)?;
+    Ok(out)
+}
+
+/// Why an image was not written as bytes.
+#[derive(Clone, Copy, PartialEq, Eq, Debug)]
+pub enum EncodeError {
+    /// There was no memory for the bytes.
+    Memory,
+    /// The image is past this limit, the first one.
+    Unencodable(Limit),
+}
+
+impl From<AllocError> for EncodeError {
+    ghost from_gives = { λ _ e. e ≡ Memory };
+
+    fn from(_e: AllocError) -> EncodeError {
+        EncodeError::Memory
+    }
+}
+
+/// The bytes of the image, in version 2, or the first limit that it is past.
+pub fn encode(alloc: Global, image: &Image) -> Result<Vec<u8>, EncodeError>
+    // The bytes are the image's in version 2.
+    ensures bytes { IfOk result (λ b. b.items ≡ spec.bytes_of 2 (fields image.now)) }
+    // An image that has bytes is within its limits.
+    ensures allowed { OnOk result (IsAllowed (fields image.now)) }
+    // The error is the first limit, unless memory ran out.
+    ensures first { IfErr result (λ e. e ≢ Memory → option_map Unencodable (first_limit (fields image.now)) ≡ Some e) }
+    // The bytes spell the image, and are read as this image.
+    ensures spelled { IfOk result (λ b. Spells b.items (fields image.now)) }
+    ensures read { IfOk result (λ b. image_of b.items ≡ Ok (fields image.now)) }
+{
+    if let Some(limit) = limit_of(image) {
+        return Err(EncodeError::Unencodable(limit));
+    }
+    Ok(bytes_of(alloc, image)?)
+}

@@ -1,0 +1,78 @@
+//! The limits of an image: what is past them has no bytes.
+
+ghost use Rattle.std.specs.Prelude.{◌≡◌, []};
+ghost use Rattle.vsi_image.specs.Fields.{fields, globals};
+ghost use Rattle.vsi_image.specs.Limits as spec;
+
+use crate::decoder::is_taken;
+use crate::instr::Image;
+use vsi_syntax::is_name;
+
+/// The most globals of an image.
+pub(crate) const MOST_GLOBALS: u16 = 256;
+
+/// The most slots of an image, globals included.
+pub(crate) const MOST_SLOTS: u16 = 512;
+
+/// The most operands that an image asks room for.
+pub(crate) const MOST_OPERANDS: u16 = 256;
+
+/// The most instructions of an image, `Halt` included.
+pub(crate) const MOST_INSTRUCTIONS: u32 = 65535;
+
+/// The most bytes of a name.
+pub(crate) const LONGEST_NAME: u8 = 32;
+
+/// A limit that an image is past; a number is a global's, from 0.
+#[derive(Clone, Copy, PartialEq, Eq, Debug)]
+pub enum Limit {
+    /// There are more than 256 globals.
+    Globals,
+    /// There are more than 512 slots, or fewer than globals.
+    Slots,
+    /// The operand stack has room for more than 256.
+    Stack,
+    /// There are more than 65,535 instructions.
+    Count,
+    /// The global's name is none, or that of a global before it.
+    Name(usize),
+    /// The global's class name is none.
+    Class(usize),
+}
+
+/// The first global whose name or class name isn't allowed.
+fn globals_limit(all: &[(Vec<u8>, Vec<u8>)]) -> Option<Limit>
+    ensures { result ≡ spec.globals_limit 0 [] (globals all.now) }
+{
+    for i in 0..all.len() {
+        let (before, rest) = all.split_at(i);
+        if let [g, ..] = rest {
+            if !(is_name(&g.0) && !is_taken(before, &g.0)) {
+                return Some(Limit::Name(i));
+            }
+            if !is_name(&g.1) {
+                return Some(Limit::Class(i));
+            }
+        }
+    }
+    None
+}
+
+/// The first limit that the image is past.
+pub(crate) fn limit_of(image: &Image) -> Option<Limit>
+    ensures { result ≡ spec.first_limit (fields image.now) }
+{
+    if image.globals.len() > MOST_GLOBALS as usize {
+        Some(Limit::Globals)
+    } else if image.globals.len() > image.slots as usize {
+        Some(Limit::Slots)
+    } else if image.slots > MOST_SLOTS {
+        Some(Limit::Slots)
+    } else if image.stack > MOST_OPERANDS {
+        Some(Limit::Stack)
+    } else if image.code.len() > MOST_INSTRUCTIONS as usize {
+        Some(Limit::Count)
+    } else {
+        globals_limit(&image.globals)
+    }
+}

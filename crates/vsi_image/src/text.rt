@@ -1,0 +1,130 @@
+//! Instructions and images as text.
+
+ghost use Rattle.std.specs.Prelude.{◌≡◌, ◌++◌, OnOk, IfOk, decimal};
+ghost use Rattle.std.specs.Fmt.{signed_decimal};
+ghost use Rattle.std.specs.List.{flat_map};
+ghost use Rattle.vsi_image.specs.Fields.{fields, global, globals};
+ghost use Rattle.vsi_image.specs.Listing as spec;
+
+use crate::instr::{Image, Instr};
+use itoa::Buffer;
+use std::alloc::{AllocError, Global};
+
+/// Adds a number in decimal.
+fn put_number(out: &mut Vec<u8>, n: usize) -> Result<(), AllocError>
+    ensures { OnOk result (out.new.items ≡ out.old.items ++ decimal n) }
+{
+    let mut buffer = Buffer::new();
+    out.extend_from_slice(buffer.format(n).as_bytes())
+}
+
+/// Adds a number in decimal, with a `-` before a negative one.
+fn put_signed(out: &mut Vec<u8>, n: i64) -> Result<(), AllocError>
+    ensures { OnOk result (out.new.items ≡ out.old.items ++ signed_decimal n) }
+{
+    let mut buffer = Buffer::new();
+    out.extend_from_slice(buffer.format(n).as_bytes())
+}
+
+impl Instr {
+    /// Adds the text of the instruction at the end: its word, and its operand in decimal, as in `LOAD 0` or `PUSH -5`.
+    pub fn write_to(self, out: &mut Vec<u8>) -> Result<(), AllocError>
+        ensures { OnOk result (out.new.items ≡ out.old.items ++ spec.instr_text self) }
+    {
+        match self {
+            Instr::Push(n) => {
+                out.extend_from_slice(b"PUSH ")?;
+                put_signed(out, n)?;
+            }
+            Instr::Load(s) => {
+                out.extend_from_slice(b"LOAD ")?;
+                put_number(out, s as usize)?;
+            }
+            Instr::Store(s) => {
+                out.extend_from_slice(b"STORE ")?;
+                put_number(out, s as usize)?;
+            }
+            Instr::Add => out.extend_from_slice(b"ADD")?,
+            Instr::Sub => out.extend_from_slice(b"SUB")?,
+            Instr::Mul => out.extend_from_slice(b"MUL")?,
+            Instr::Eq => out.extend_from_slice(b"EQ")?,
+            Instr::Lt => out.extend_from_slice(b"LT")?,
+            Instr::Jz(t) => {
+                out.extend_from_slice(b"JZ ")?;
+                put_number(out, t as usize)?;
+            }
+            Instr::Jmp(t) => {
+                out.extend_from_slice(b"JMP ")?;
+                put_number(out, t as usize)?;
+            }
+            Instr::Halt => out.extend_from_slice(b"HALT")?,
+        }
+        Ok(())
+    }
+}
+
+/// Adds the line of an instruction.
+fn put_line(out: &mut Vec<u8>, pc: usize, instr: Instr) -> Result<(), AllocError>
+    ensures { OnOk result (out.new.items ≡ out.old.items ++ spec.instr_line pc instr) }
+{
+    put_number(out, pc)?;
+    out.extend_from_slice(b": ")?;
+    instr.write_to(out)?;
+    out.extend_from_slice(b"\n")?;
+    Ok(())
+}
+
+/// Adds the lines of the instructions.
+fn put_code(out: &mut Vec<u8>, code: &[Instr]) -> Result<(), AllocError>
+    ensures { OnOk result (out.new.items ≡ out.old.items ++ spec.code_lines 0 code.now) }
+{
+    for (pc, instr) in code.iter().enumerate() {
+        put_line(out, pc, *instr)?;
+    }
+    Ok(())
+}
+
+/// Adds the line of a global.
+fn put_global(out: &mut Vec<u8>, g: &(Vec<u8>, Vec<u8>)) -> Result<(), AllocError>
+    ensures { OnOk result (out.new.items ≡ out.old.items ++ spec.global_line (global g.now)) }
+{
+    out.extend_from_slice(&g.0)?;
+    out.extend_from_slice(b" : ")?;
+    out.extend_from_slice(&g.1)?;
+    out.extend_from_slice(b"\n")?;
+    Ok(())
+}
+
+/// Adds the lines of the globals.
+fn put_globals(out: &mut Vec<u8>, all: &[(Vec<u8>, Vec<u8>)]) -> Result<(), AllocError>
+    ensures { OnOk result (out.new.items ≡ out.old.items ++ flat_map spec.global_line (globals all.now)) }
+{
+    for g in all {
+        put_global(out, g)?;
+    }
+    Ok(())
+}
+
+/// Adds a line of a word and a number.
+fn put_number_line(out: &mut Vec<u8>, word: &[u8], n: usize) -> Result<(), AllocError>
+    ensures { OnOk result (out.new.items ≡ out.old.items ++ spec.number_line word.now n) }
+{
+    out.extend_from_slice(word)?;
+    put_number(out, n)?;
+    out.extend_from_slice(b"\n")?;
+    Ok(())
+}
+
+/// The image as text: a line each for the number of globals, of slots and of operands, then a line per global and a
+/// line per instruction.
+pub fn listing(alloc: Global, image: &Image) -> Result<Vec<u8>, AllocError>
+    ensures { IfOk result (λ text. text.items ≡ spec.listing (fields image.now)) }
+{
+    let mut out = Vec::new(alloc);
+    put_number_line(&mut out, b"globals ", image.globals.len())?;
+    put_number_line(&mut out, b"slots ", image.slots as usize)?;
+    put_number_line(&mut out, b"stack ", image.stack as usize)?;
+    put_globals(&mut out, &image.globals)?;
+    put_code(&mut out, &image.code)?;
+    Ok(out)
+}

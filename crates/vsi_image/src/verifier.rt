@@ -1,0 +1,149 @@
+//! The verifier, which takes no memory: it goes once over the code, with a row of marks, and once over the jumps.
+
+ghost use Rattle.std.specs.Prelude.{◌≡◌, ◌↔◌, ℕ, ◌<◌, ◌≤◌, ◌-◌, length, IfOk, IfErr, IsOk, Some, IsNone, false, true, slice_get};
+ghost use Rattle.std.specs.Option.{option_map_or};
+ghost use Rattle.vsi_image.specs.Effects.{goes_off, target_of};
+ghost use Rattle.vsi_image.specs.Faults as spec;
+ghost use Rattle.vsi_image.specs.Marks.{AreMarked, MarkDepths, marked};
+ghost use Rattle.vsi_image.specs.Valid.{IsValid};
+
+use crate::effects::{depth_after, gives, goes_off, leaves_none, slot_of, takes, target_of};
+use crate::instr::{Image, Instr};
+use crate::limits::{Limit, limit_of};
+use crate::marks::{WORDS, blank, is_marked, mark_if};
+use crate::verified::Verified;
+
+/// Why an image is refused; a number is an instruction's, from 0.
+#[derive(Clone, Copy, PartialEq, Eq, Debug)]
+pub enum VerifyError {
+    /// The image is past a limit, as `encode` names it.
+    Unencodable(Limit),
+    /// The instruction names a slot that the image lacks.
+    BadSlot(usize),
+    /// The instruction names a target that isn't below the number of instructions.
+    BadTarget(usize),
+    /// The instruction takes more operands than there are.
+    Underflow(usize),
+    /// The instruction leaves more operands than the stack has room for.
+    Overflow(usize),
+    /// A jump or a halt leaves operands, or a jump's target is met with operands.
+    NotEmpty(usize),
+    /// There is no instruction, or the last one goes on to the next.
+    RunsOff,
+}
+
+/// The first fault of an instruction that is met with this many operands, apart from the depth at its target.
+fn fault_at(image: &Image, pc: usize, depth: usize, instr: Instr) -> Option<VerifyError>
+    requires { depth ≤ 65535 }
+    ensures { result ≡ spec.fault_at image.now pc depth instr }
+{
+    if let Some(slot) = slot_of(instr) {
+        if slot >= image.slots {
+            return Some(VerifyError::BadSlot(pc));
+        }
+    }
+    if let Some(target) = target_of(instr) {
+        if target as usize >= image.code.len() {
+            return Some(VerifyError::BadTarget(pc));
+        }
+    }
+    if depth < takes(instr) {
+        return Some(VerifyError::Underflow(pc));
+    }
+    let left = depth - takes(instr) + gives(instr);
+    if left > image.stack as usize {
+        return Some(VerifyError::Overflow(pc));
+    }
+    if leaves_none(instr) && left > 0 {
+        return Some(VerifyError::NotEmpty(pc));
+    }
+    None
+}
+
+/// The first instruction's fault, with a mark at each instruction that is met without operands.
+fn check_each(image: &Image, marks: &mut [u64; WORDS]) -> Option<VerifyError>
+    requires short { length image.now.code.items ≤ 65535 }
+    requires stack { image.now.stack ≤ 256 }
+    requires blank { (k : ℕ) → marked marks.old k ≡ false }
+    ensures fault { result ≡ spec.first_from (spec.own_fault image.now) 0 image.now.code.items }
+    ensures marks { IsNone result → MarkDepths image.now.code.items (marked marks.new) }
+{
+    let mut depth = 0;
+    for (pc, instr) in image.code.iter().enumerate() {
+        if let Some(fault) = fault_at(image, pc, depth, *instr) {
+            return Some(fault);
+        }
+        mark_if(depth == 0, marks, pc);
+        depth = depth_after(depth, *instr);
+    }
+    None
+}
+
+/// Whether the instruction has no target or one with a mark.
+fn is_target_fine(instr: Instr, marks: &[u64; WORDS]) -> bool
+    requires { (t : ℕ) → target_of instr ≡ Some t → t < 65536 }
+    ensures { result ≡ option_map_or (marked marks.now) (target_of instr) true }
+{
+    match target_of(instr) {
+        Some(target) => is_marked(marks, target as usize),
+        None => true,
+    }
+}
+
+/// The first jump to an instruction that is met with operands.
+fn check_targets(code: &[Instr], marks: &[u64; WORDS]) -> Option<VerifyError>
+    requires { AreMarked code.now (marked marks.now) }
+    ensures { result ≡ spec.first_from (spec.target_fault code.now) 0 code.now }
+{
+    for (pc, instr) in code.iter().enumerate() {
+        if !is_target_fine(*instr, marks) {
+            return Some(VerifyError::NotEmpty(pc));
+        }
+    }
+    None
+}
+
+/// Whether there is a last instruction, and it never goes on to the next.
+fn ends_well(code: &[Instr]) -> bool
+    ensures { result ≡ option_map_or goes_off (slice_get code.now (length code.now - 1)) false }
+{
+    match code.last() {
+        Some(instr) => goes_off(*instr),
+        None => false,
+    }
+}
+
+/// The image's first fault.
+fn fault_of(image: &Image) -> Option<VerifyError>
+    ensures { result ≡ spec.first_fault image.now }
+{
+    if let Some(limit) = limit_of(image) {
+        return Some(VerifyError::Unencodable(limit));
+    }
+    let mut marks = blank();
+    if let Some(fault) = check_each(image, &mut marks) {
+        return Some(fault);
+    }
+    if !ends_well(&image.code) {
+        return Some(VerifyError::RunsOff);
+    }
+    check_targets(&image.code, &marks)
+}
+
+/// The same image, known to be valid, or the image back with its first fault: a limit, then the instructions' faults
+/// in turn, then a code that runs off its end, then the jumps to instructions that are met with operands.
+pub fn verify(image: Image) -> Result<Verified, (Image, VerifyError)>
+    // It is verified exactly where it is valid.
+    ensures valid { IsOk result ↔ IsValid image }
+    // What is verified is the image, unchanged.
+    ensures same { IfOk result (λ verified. verified ≡ image) }
+    // What is refused comes back unchanged.
+    ensures back { IfErr result (λ e. e.0 ≡ image) }
+    // The error is the first fault.
+    ensures first { IfErr result (λ e. spec.first_fault image ≡ Some e.1) }
+{
+    match fault_of(&image) {
+        None => Ok(Verified::of(image)),
+        Some(fault) => Err((image, fault)),
+    }
+}

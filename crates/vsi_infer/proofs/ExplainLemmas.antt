@@ -1,0 +1,27 @@
+-- The text of a walk from its parts.
+use Rattle.std.proofs.Common.{◌≡◌, ℕ, zero, suc, ◌+◌, ◌-◌, ◌<◌, ◌==◌, false, List, [], ◌∷◌, ◌++◌, length, get_or, refl, sym, ap, ◌∙◌, arith}
+use Rattle.std.specs.List.{flat_map}
+use Rattle.std.proofs.lemmas.Bool.{false≢true}
+use Rattle.vsi_lattice.specs.declared.lattice.Lattice.{Lattice}
+use Rattle.vsi_scope.specs.Program.{Source}
+use Rattle.vsi_types.specs.declared.rules.Step.{Step}
+use Rattle.vsi_types.specs.Walks.{last_target}
+use Rattle.vsi_infer.specs.Explanation.{step_line, last_text, explanation}
+
+-- where the last step of a walk goes
+last_at : (x d : Step) (xs : List Step) → (get_or (x ∷ xs) (length xs) d).target ≡ last_target x xs
+last_at x d [] = refl
+last_at x d (y ∷ xs) = last_at y d xs
+
+-- the lines of the steps and the last line are the walk's text
+pub explained : (l : Lattice) (source : List ℕ) (r : Source) (items : List Step) (d e : Step) → 0 < length items
+    → flat_map (step_line source r) items ++ last_text l r (get_or items 0 d).source (get_or items (length items - 1) e).target ≡ explanation l source r items
+explained l source r [] d e lt = absurd (omega (arith, lt))
+explained l source r (x ∷ xs) d e lt =
+    let n : suc (length xs) - 1 ≡ length xs = omega arith in
+    ap (λ (i : ℕ). flat_map (step_line source r) (x ∷ xs) ++ last_text l r x.source (get_or (x ∷ xs) i e).target) n
+    ∙ ap (λ v. flat_map (step_line source r) (x ∷ xs) ++ last_text l r x.source v) (last_at x e xs)
+
+pub positive : (n : ℕ) → false ≡ (n == 0) → 0 < n
+positive zero e = absurd (false≢true e)
+positive (suc n) e = omega arith

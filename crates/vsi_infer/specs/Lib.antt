@@ -1,0 +1,14 @@
+pub mod FlowRows
+pub mod Leading
+pub mod Flowing
+pub mod Orders
+pub mod Choices
+pub mod Ranks
+pub mod Inference
+pub mod Distances
+pub mod Seeking
+pub mod Membership
+pub mod Paths
+pub mod Shortest
+pub mod Laws
+pub mod Explanation

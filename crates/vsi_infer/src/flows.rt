@@ -1,0 +1,62 @@
+//! The flows of a program, as rows.
+
+ghost use Rattle.std.specs.Prelude.{◌≡◌, ℕ, ◌+◌, ◌<◌, ◌≤◌, length, IfOk};
+ghost use Rattle.std.specs.List.{All};
+ghost use Rattle.vsi_types.specs.Security.{program as program_of, count_from};
+ghost use Rattle.vsi_infer.specs.Flowing.{AreFlowsOf};
+
+use crate::noting::{Noting, note_commands};
+use crate::raise::Flow;
+use crate::rows::has_bit;
+use std::alloc::{AllocError, Global as Heap};
+use vsi_scope::{Resolved, Var};
+use vsi_types::Profile;
+
+/// For each variable 16 words, a bit for each variable that flows to it; the last row is that of the loops' ending.
+#[derive(Drop)]
+pub struct FlowRows {
+    rows: Vec<u64>,
+    ghost lawful: { length rows.items ≤ 16400 },
+}
+
+impl Flow for FlowRows {
+    ghost use Rattle.vsi_infer.specs.FlowRows.{flow_has};
+
+    ghost flows = { λ s a b. flow_has s.rows.items b a };
+
+    fn has(&self, from: usize, to: usize) -> bool {
+        to < 1025 && has_bit(&self.rows, to, from)
+    }
+}
+
+/// The variables of the globals.
+pub fn first_variables(alloc: Heap, count: u16) -> Result<Vec<Var>, AllocError>
+    ensures { IfOk result (λ s. s.items ≡ count_from 0 count) }
+{
+    let mut scope = Vec::new(alloc);
+    for i in 0..count {
+        scope.push(Var(i))?;
+    }
+    Ok(scope)
+}
+
+/// The rows of a program's flows.
+pub fn flow_rows(
+    alloc: Heap,
+    profile: Profile,
+    program: &Resolved<'_>,
+) -> Result<FlowRows, AllocError>
+    ensures { IfOk result (λ f. AreFlowsOf profile (program_of program.now) (⟦<FlowRows as Flow>⟧.flows f)) }
+{
+    let body = program.body();
+    let count = program.globals().len() as u16;
+    let sink = count + program.letvars().len() as u16;
+    let mut walk = Noting {
+        rows: vec![in alloc; 0; sink as usize * 16 + 16]?,
+        scope: first_variables(alloc, count)?,
+        next: count,
+    };
+    note_commands(&mut walk, profile, sink, &[0; 16], body)?;
+    let Noting { rows, .. } = walk;
+    Ok(FlowRows { rows })
+}

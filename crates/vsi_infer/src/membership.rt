@@ -1,0 +1,235 @@
+//! Whether a step is one of a program's, by one walk over its commands and without memory.
+
+ghost use Rattle.std.specs.Prelude.{◌≡◌, ◌+◌, ◌≤◌, ◌<◌, ◌||◌, ◌&&◌, length, slice_index};
+ghost use Rattle.vsi_scope.specs.Phrase.{HasLocations, Put, Choose, Repeat, Allocate};
+ghost use Rattle.vsi_scope.specs.View.{phrase, command, sequence};
+ghost use Rattle.vsi_types.specs.declared.rules.Rule.TheVariants.{Assign};
+ghost use Rattle.vsi_types.specs.Security.{name_place};
+ghost use Rattle.vsi_infer.specs.Leading.{minds as minds_it};
+ghost use Rattle.vsi_infer.specs.Membership.{same_rule as same_rule_of, same_span as same_span_of, read_is as read_is_of, written_is as written_is_of, reads_pass as reads_pass_of, ends_pass as ends_pass_of, IsFor, IsPast, stand_of};
+
+use crate::seek::loops;
+use arrayvec::ArrayVec;
+use vsi_scope::{Cmd, Entry, Ex};
+use vsi_syntax::Span;
+use vsi_types::{Profile, Rule, Step};
+
+/// The most locations that are in scope at once, and some more.
+pub const SCOPE: usize = 512;
+
+/// The variable of each location, and the next declaration's number.
+#[derive(Drop)]
+pub struct Cursor {
+    pub scope: ArrayVec<u16, SCOPE>,
+    pub next: u16,
+}
+
+/// Whether two rules are one.
+fn same_rule(first: Rule, second: Rule) -> bool
+    ensures { result ≡ same_rule_of first second }
+{
+    match (first, second) {
+        (Rule::Assign, Rule::Assign) => true,
+        (Rule::If, Rule::If) => true,
+        (Rule::While, Rule::While) => true,
+        (Rule::Letvar, Rule::Letvar) => true,
+        (Rule::Loop, Rule::Loop) => true,
+        _ => false,
+    }
+}
+
+/// Whether two places are one.
+fn same_span(first: Span, second: Span) -> bool
+    ensures { result ≡ same_span_of first second }
+{
+    first.start == second.start && first.stop == second.stop
+}
+
+/// Whether the step reads this variable there by this rule.
+fn read_is(step: &Step, rule: Rule, variable: u16, place: Span) -> bool
+    ensures { result ≡ read_is_of step.now rule variable place }
+{
+    same_rule(rule, step.rule) && (variable == step.source.0 && same_span(place, step.read))
+}
+
+/// Whether the step writes this variable there.
+fn written_is(step: &Step, variable: u16, place: Span) -> bool
+    ensures { result ≡ written_is_of step.now variable place }
+{
+    variable == step.target.0 && same_span(place, step.written)
+}
+
+/// Whether the step reads what an expression reads.
+fn reads_pass(step: &Step, rule: Rule, scope: &[u16], e: &Ex) -> bool
+    requires { HasLocations (length scope.now) (phrase e.now) }
+    ensures { result ≡ reads_pass_of step.now rule scope.now (phrase e.now) }
+{
+    match e {
+        Ex::Num(_) => false,
+        Ex::Loc(l, place) => read_is(step, rule, scope[*l as usize], *place),
+        Ex::Op(_, a, b) => reads_pass(step, rule, scope, a) || reads_pass(step, rule, scope, b),
+    }
+}
+
+/// Whether the step goes from what an expression reads to the ending of a loop.
+fn ends_pass(step: &Step, scope: &[u16], e: &Ex) -> bool
+    requires { HasLocations (length scope.now) (phrase e.now) }
+    ensures { result ≡ ends_pass_of step.now scope.now (phrase e.now) }
+{
+    match e {
+        Ex::Num(_) => false,
+        Ex::Loc(l, place) => {
+            read_is(step, Rule::Loop, scope[*l as usize], *place) && written_is(step, 65535, *place)
+        }
+        Ex::Op(_, a, b) => ends_pass(step, scope, a) || ends_pass(step, scope, b),
+    }
+}
+
+/// Whether the profile asks after the ending of what loops.
+fn minds(profile: Profile, looping: bool) -> bool
+    ensures { result ≡ minds_it profile looping }
+{
+    match profile {
+        Profile::Base => false,
+        Profile::Strict => looping,
+    }
+}
+
+/// Whether the step is the assignment's.
+fn pass_assign(
+    cursor: &Cursor,
+    step: &Step,
+    around: bool,
+    location: u16,
+    span: Span,
+    value: &Ex,
+) -> bool
+    requires places { HasLocations (length cursor.now.scope.items) (phrase value.now) }
+    requires target { location < length cursor.now.scope.items }
+    ensures { result ≡ ((reads_pass_of step.now Assign cursor.now.scope.items (phrase value.now) || around) && written_is_of step.now (slice_index cursor.now.scope.items location) span) }
+{
+    let target = cursor.scope[location as usize];
+    (reads_pass(step, Rule::Assign, &cursor.scope, value) || around)
+        && written_is(step, target, span)
+}
+
+/// Whether the step is one of the choice's.
+#[cycle(walk)]
+fn pass_if(
+    cursor: &mut Cursor,
+    step: &Step,
+    profile: Profile,
+    entries: &[Entry<'_>],
+    first: u16,
+    around: bool,
+    yes: &[Cmd],
+    other: &[Cmd],
+    guard: &Ex,
+) -> bool
+    requires { IsFor first (length entries.now) (stand_of cursor.old) (Choose (phrase guard.now) (sequence yes.now) (sequence other.now)) }
+    ensures { IsPast step.now profile (name_place entries.now first) around (stand_of cursor.old) (Choose (phrase guard.now) (sequence yes.now) (sequence other.now)) (stand_of cursor.new) result }
+{
+    let ends = ends_pass(step, &cursor.scope, guard) && minds(profile, loops(yes) || loops(other));
+    let inner = around || reads_pass(step, Rule::If, &cursor.scope, guard);
+    let one = pass_commands(cursor, step, profile, entries, first, inner, yes);
+    let two = pass_commands(cursor, step, profile, entries, first, inner, other);
+    ends | (one | two)
+}
+
+/// Whether the step is one of the loop's.
+#[cycle(walk)]
+fn pass_while(
+    cursor: &mut Cursor,
+    step: &Step,
+    profile: Profile,
+    entries: &[Entry<'_>],
+    first: u16,
+    around: bool,
+    body: &[Cmd],
+    guard: &Ex,
+) -> bool
+    requires { IsFor first (length entries.now) (stand_of cursor.old) (Repeat (phrase guard.now) (sequence body.now)) }
+    ensures { IsPast step.now profile (name_place entries.now first) around (stand_of cursor.old) (Repeat (phrase guard.now) (sequence body.now)) (stand_of cursor.new) result }
+{
+    let ends = ends_pass(step, &cursor.scope, guard) && minds(profile, true);
+    let inner = around || reads_pass(step, Rule::While, &cursor.scope, guard);
+    let one = pass_commands(cursor, step, profile, entries, first, inner, body);
+    ends | one
+}
+
+/// Whether the step is one of the letvar's.
+#[cycle(walk)]
+fn pass_letvar(
+    cursor: &mut Cursor,
+    step: &Step,
+    profile: Profile,
+    entries: &[Entry<'_>],
+    first: u16,
+    around: bool,
+    body: &[Cmd],
+    value: &Ex,
+) -> bool
+    requires { IsFor first (length entries.now) (stand_of cursor.old) (Allocate (phrase value.now) (sequence body.now)) }
+    ensures { IsPast step.now profile (name_place entries.now first) around (stand_of cursor.old) (Allocate (phrase value.now) (sequence body.now)) (stand_of cursor.new) result }
+{
+    let variable = cursor.next;
+    let written = entries[(cursor.next - first) as usize].span;
+    let here = reads_pass(step, Rule::Letvar, &cursor.scope, value)
+        && written_is(step, variable, written);
+    let outside = cursor.scope.len();
+    cursor.scope.push(variable);
+    cursor.next += 1;
+    let one = pass_commands(cursor, step, profile, entries, first, around, body);
+    cursor.scope.truncate(outside);
+    here | one
+}
+
+/// Whether the step is one of the commands'.
+#[cycle(walk)]
+pub fn pass_commands(
+    cursor: &mut Cursor,
+    step: &Step,
+    profile: Profile,
+    entries: &[Entry<'_>],
+    first: u16,
+    around: bool,
+    body: &[Cmd],
+) -> bool
+    requires { IsFor first (length entries.now) (stand_of cursor.old) (sequence body.now) }
+    ensures { IsPast step.now profile (name_place entries.now first) around (stand_of cursor.old) (sequence body.now) (stand_of cursor.new) result }
+{
+    let mut found = false;
+    for c in body {
+        let one = pass_command(cursor, step, profile, entries, first, around, c);
+        found |= one;
+    }
+    found
+}
+
+/// Whether the step is one of the command's.
+#[cycle(walk)]
+fn pass_command(
+    cursor: &mut Cursor,
+    step: &Step,
+    profile: Profile,
+    entries: &[Entry<'_>],
+    first: u16,
+    around: bool,
+    c: &Cmd,
+) -> bool
+    requires { IsFor first (length entries.now) (stand_of cursor.old) (command c.now) }
+    ensures { IsPast step.now profile (name_place entries.now first) around (stand_of cursor.old) (command c.now) (stand_of cursor.new) result }
+{
+    match c {
+        Cmd::Assign { loc, span, value } => pass_assign(cursor, step, around, *loc, *span, value),
+        Cmd::If { guard, yes, no } => pass_if(
+            cursor, step, profile, entries, first, around, yes, no, guard,
+        ),
+        Cmd::While { guard, body } => pass_while(
+            cursor, step, profile, entries, first, around, body, guard,
+        ),
+        Cmd::Letvar { value, body } => pass_letvar(
+            cursor, step, profile, entries, first, around, body, value,
+        ),
+    }
+}

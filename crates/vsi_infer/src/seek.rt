@@ -1,0 +1,344 @@
+//! The first step of a program that is wanted.
+
+ghost use Rattle.std.specs.Prelude.{◌≡◌, ◌++◌, ◌+◌, ◌≤◌, ◌||◌, ℕ, Bool, true, List, length, OnOk};
+ghost use Rattle.std.specs.List.{find};
+ghost use Rattle.vsi_scope.specs.Phrase.{letvars, has_loop, HasPlaces, HasLocations, Put, Choose, Repeat, Allocate};
+ghost use Rattle.vsi_scope.specs.View.{phrase, command, sequence};
+ghost use Rattle.vsi_types.specs.Steps.{reads, guarded, flows, endings, steps};
+ghost use Rattle.vsi_types.specs.Security.{name_place};
+ghost use Rattle.vsi_types.specs.declared.rules.Profile.TheVariants.{Strict};
+ghost use Rattle.vsi_types.specs.declared.rules.Step.{Step};
+ghost use Rattle.vsi_types.specs.declared.rules.Profile.{Profile};
+ghost use Rattle.vsi_syntax.specs.declared.token.Span.{Span};
+ghost use Rattle.vsi_infer.specs.Seeking.{place_of, Sought, HasRoom};
+
+use crate::walker::Walker;
+use std::alloc::AllocError;
+use vsi_scope::{Cmd, Entry, Ex, Var};
+use vsi_syntax::Span;
+use vsi_types::{Guard, Profile, Read, Rule, Step};
+
+/// Which steps are wanted.
+pub trait Wanted {
+    ghost wants: { Self → Step → Bool };
+
+    fn is_wanted(&self, step: &Step) -> bool
+        ensures { result ≡ wants self.now step.now };
+}
+
+/// The first wanted flow of guards to what they enclose.
+fn seek_guards<W: Wanted>(wanted: &W, target: Var, written: Span, guards: &[Guard]) -> Option<Step>
+    ensures { result ≡ find (W.wants wanted.now) (flows target written guards.now) }
+{
+    for g in guards {
+        let step = Step {
+            rule: g.rule,
+            source: g.read.variable,
+            target,
+            read: g.read.place,
+            written,
+        };
+        if wanted.is_wanted(&step) {
+            return Some(step);
+        }
+    }
+    None
+}
+
+/// The first wanted flow of what is read.
+fn seek_reads<W: Wanted>(
+    wanted: &W,
+    target: Var,
+    written: Span,
+    scope: &[Var],
+    rule: Rule,
+    e: &Ex,
+) -> Option<Step>
+    requires { HasLocations (length scope.now) (phrase e.now) }
+    ensures { result ≡ find (W.wants wanted.now) (flows target written (guarded rule (reads scope.now (phrase e.now)))) }
+{
+    match e {
+        Ex::Num(_) => None,
+        Ex::Loc(l, place) => {
+            let step = Step {
+                rule,
+                source: scope[*l as usize],
+                target,
+                read: *place,
+                written,
+            };
+            if wanted.is_wanted(&step) {
+                Some(step)
+            } else {
+                None
+            }
+        }
+        Ex::Op(_, a, b) => match seek_reads(wanted, target, written, scope, rule, a) {
+            Some(step) => Some(step),
+            None => seek_reads(wanted, target, written, scope, rule, b),
+        },
+    }
+}
+
+/// The first wanted flow of what is read to the ending of a loop.
+fn seek_endings<W: Wanted>(wanted: &W, scope: &[Var], e: &Ex) -> Option<Step>
+    requires { HasLocations (length scope.now) (phrase e.now) }
+    ensures { result ≡ find (W.wants wanted.now) (endings Strict true (reads scope.now (phrase e.now))) }
+{
+    match e {
+        Ex::Num(_) => None,
+        Ex::Loc(l, place) => {
+            let step = Step {
+                rule: Rule::Loop,
+                source: scope[*l as usize],
+                target: Var(65535),
+                read: *place,
+                written: *place,
+            };
+            if wanted.is_wanted(&step) {
+                Some(step)
+            } else {
+                None
+            }
+        }
+        Ex::Op(_, a, b) => match seek_endings(wanted, scope, a) {
+            Some(step) => Some(step),
+            None => seek_endings(wanted, scope, b),
+        },
+    }
+}
+
+/// Whether a loop stands in the commands, at any depth.
+#[cycle(loops)]
+pub fn loops(body: &[Cmd]) -> bool
+    ensures { result ≡ has_loop (sequence body.now) }
+{
+    let mut looping = false;
+    for c in body {
+        looping |= loops_in(c);
+    }
+    looping
+}
+
+#[cycle(loops)]
+fn loops_in(c: &Cmd) -> bool
+    ensures { result ≡ has_loop (command c.now) }
+{
+    match c {
+        Cmd::Assign { .. } => false,
+        Cmd::If { yes, no, .. } => loops(yes) | loops(no),
+        Cmd::While { .. } => true,
+        Cmd::Letvar { body, .. } => loops(body),
+    }
+}
+
+/// Adds what an expression reads.
+fn push_reads(guards: &mut Vec<Guard>, scope: &[Var], rule: Rule, e: &Ex) -> Result<(), AllocError>
+    requires { HasLocations (length scope.now) (phrase e.now) }
+    ensures { OnOk result (guards.new.items ≡ guards.old.items ++ guarded rule (reads scope.now (phrase e.now))) }
+{
+    match e {
+        Ex::Num(_) => Ok(()),
+        Ex::Loc(l, place) => {
+            guards.push(Guard {
+                rule,
+                read: Read {
+                    variable: scope[*l as usize],
+                    place: *place,
+                },
+            })?;
+            Ok(())
+        }
+        Ex::Op(_, a, b) => {
+            push_reads(guards, scope, rule, a)?;
+            push_reads(guards, scope, rule, b)
+        }
+    }
+}
+
+/// Seeks in an assignment.
+fn seek_assign<W: Wanted>(
+    wanted: &W,
+    walk: &Walker,
+    location: u16,
+    written: Span,
+    value: &Ex,
+) -> Option<Step>
+    requires { HasPlaces (length walk.now.scope.items) (Put location written (phrase value.now)) }
+    ensures { (P : Profile) (names : ℕ → Span) → result ≡ find (W.wants wanted.now) (steps P names walk.now.guards.items walk.now.scope.items walk.now.next (Put location written (phrase value.now))) }
+{
+    let target = walk.scope[location as usize];
+    match seek_reads(wanted, target, written, &walk.scope, Rule::Assign, value) {
+        Some(step) => Some(step),
+        None => seek_guards(wanted, target, written, &walk.guards),
+    }
+}
+
+/// The first wanted flow of what a loop's guard reads to its ending.
+fn seek_ending<W: Wanted>(wanted: &W, profile: Profile, scope: &[Var], guard: &Ex) -> Option<Step>
+    requires { HasLocations (length scope.now) (phrase guard.now) }
+    ensures { result ≡ find (W.wants wanted.now) (endings profile true (reads scope.now (phrase guard.now))) }
+{
+    match profile {
+        Profile::Base => None,
+        Profile::Strict => seek_endings(wanted, scope, guard),
+    }
+}
+
+/// The first wanted flow of what a choice's guard reads to the ending of a loop in its branches.
+fn seek_ending_of<W: Wanted>(
+    wanted: &W,
+    profile: Profile,
+    scope: &[Var],
+    yes: &[Cmd],
+    other: &[Cmd],
+    guard: &Ex,
+) -> Option<Step>
+    requires { HasLocations (length scope.now) (phrase guard.now) }
+    ensures { result ≡ find (W.wants wanted.now) (endings profile (has_loop (sequence yes.now) || has_loop (sequence other.now)) (reads scope.now (phrase guard.now))) }
+{
+    match profile {
+        Profile::Base => None,
+        Profile::Strict => {
+            let step = seek_endings(wanted, scope, guard)?;
+            if loops(yes) || loops(other) {
+                Some(step)
+            } else {
+                None
+            }
+        }
+    }
+}
+
+/// Seeks in a choice.
+#[cycle(walk)]
+fn seek_if<W: Wanted>(
+    wanted: &W,
+    profile: Profile,
+    entries: &[Entry<'_>],
+    first: u16,
+    walk: &mut Walker,
+    yes: &[Cmd],
+    other: &[Cmd],
+    guard: &Ex,
+) -> Result<Option<Step>, AllocError>
+    requires { HasRoom first (length entries.now) (place_of walk.old) (Choose (phrase guard.now) (sequence yes.now) (sequence other.now)) }
+    ensures { Sought profile (name_place entries.now first) (W.wants wanted.now) (place_of walk.old) (Choose (phrase guard.now) (sequence yes.now) (sequence other.now)) (place_of walk.new) result }
+{
+    if let Some(step) = seek_ending_of(wanted, profile, &walk.scope, yes, other, guard) {
+        return Ok(Some(step));
+    }
+    let outside = walk.guards.len();
+    push_reads(&mut walk.guards, &walk.scope, Rule::If, guard)?;
+    if let Some(step) = seek_commands(wanted, profile, entries, first, walk, yes)? {
+        return Ok(Some(step));
+    }
+    if let Some(step) = seek_commands(wanted, profile, entries, first, walk, other)? {
+        return Ok(Some(step));
+    }
+    walk.guards.truncate(outside);
+    Ok(None)
+}
+
+/// Seeks in a loop.
+#[cycle(walk)]
+fn seek_while<W: Wanted>(
+    wanted: &W,
+    profile: Profile,
+    entries: &[Entry<'_>],
+    first: u16,
+    walk: &mut Walker,
+    body: &[Cmd],
+    guard: &Ex,
+) -> Result<Option<Step>, AllocError>
+    requires { HasRoom first (length entries.now) (place_of walk.old) (Repeat (phrase guard.now) (sequence body.now)) }
+    ensures { Sought profile (name_place entries.now first) (W.wants wanted.now) (place_of walk.old) (Repeat (phrase guard.now) (sequence body.now)) (place_of walk.new) result }
+{
+    if let Some(step) = seek_ending(wanted, profile, &walk.scope, guard) {
+        return Ok(Some(step));
+    }
+    let outside = walk.guards.len();
+    push_reads(&mut walk.guards, &walk.scope, Rule::While, guard)?;
+    if let Some(step) = seek_commands(wanted, profile, entries, first, walk, body)? {
+        return Ok(Some(step));
+    }
+    walk.guards.truncate(outside);
+    Ok(None)
+}
+
+/// Seeks in a letvar.
+#[cycle(walk)]
+fn seek_letvar<W: Wanted>(
+    wanted: &W,
+    profile: Profile,
+    entries: &[Entry<'_>],
+    first: u16,
+    walk: &mut Walker,
+    body: &[Cmd],
+    value: &Ex,
+) -> Result<Option<Step>, AllocError>
+    requires { HasRoom first (length entries.now) (place_of walk.old) (Allocate (phrase value.now) (sequence body.now)) }
+    ensures { Sought profile (name_place entries.now first) (W.wants wanted.now) (place_of walk.old) (Allocate (phrase value.now) (sequence body.now)) (place_of walk.new) result }
+{
+    let variable = Var(walk.next);
+    let written = entries[(walk.next - first) as usize].span;
+    if let Some(step) = seek_reads(wanted, variable, written, &walk.scope, Rule::Letvar, value) {
+        return Ok(Some(step));
+    }
+    let outside = walk.scope.len();
+    walk.scope.push(variable)?;
+    walk.next += 1;
+    if let Some(step) = seek_commands(wanted, profile, entries, first, walk, body)? {
+        return Ok(Some(step));
+    }
+    walk.scope.truncate(outside);
+    Ok(None)
+}
+
+/// Seeks in the commands of a list.
+#[cycle(walk)]
+pub fn seek_commands<W: Wanted>(
+    wanted: &W,
+    profile: Profile,
+    entries: &[Entry<'_>],
+    first: u16,
+    walk: &mut Walker,
+    body: &[Cmd],
+) -> Result<Option<Step>, AllocError>
+    requires { HasRoom first (length entries.now) (place_of walk.old) (sequence body.now) }
+    ensures { Sought profile (name_place entries.now first) (W.wants wanted.now) (place_of walk.old) (sequence body.now) (place_of walk.new) result }
+{
+    for c in body {
+        if let Some(step) = seek_command(wanted, profile, entries, first, walk, c)? {
+            return Ok(Some(step));
+        }
+    }
+    Ok(None)
+}
+
+/// Seeks in one command.
+#[cycle(walk)]
+fn seek_command<W: Wanted>(
+    wanted: &W,
+    profile: Profile,
+    entries: &[Entry<'_>],
+    first: u16,
+    walk: &mut Walker,
+    c: &Cmd,
+) -> Result<Option<Step>, AllocError>
+    requires { HasRoom first (length entries.now) (place_of walk.old) (command c.now) }
+    ensures { Sought profile (name_place entries.now first) (W.wants wanted.now) (place_of walk.old) (command c.now) (place_of walk.new) result }
+{
+    match c {
+        Cmd::Assign { loc, span, value } => Ok(seek_assign(wanted, walk, *loc, *span, value)),
+        Cmd::If { guard, yes, no } => seek_if(
+            wanted, profile, entries, first, walk, yes, no, guard,
+        ),
+        Cmd::While { guard, body } => seek_while(
+            wanted, profile, entries, first, walk, body, guard,
+        ),
+        Cmd::Letvar { value, body } => seek_letvar(
+            wanted, profile, entries, first, walk, body, value,
+        ),
+    }
+}

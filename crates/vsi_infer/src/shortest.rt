@@ -1,0 +1,220 @@
+//! A shortest bad walk of a program that has one.
+
+ghost use Rattle.std.specs.Prelude.{◌≡◌, ◌+◌, ◌<◌, ℕ, Bool, List, map, slice_index, slice_index_or, None, [], IsTrue, IfOk, ◌∷◌};
+ghost use Rattle.std.specs.List.{All, Contains, find};
+ghost use Rattle.vsi_lattice.specs.Order.{IsClass};
+ghost use Rattle.vsi_types.specs.Security.{program as program_of, steps_of};
+ghost use Rattle.vsi_types.specs.declared.rules.Step.{Step};
+ghost use Rattle.vsi_infer.specs.Choices.{HasBadWalk};
+ghost use Rattle.vsi_infer.specs.Flowing.{AreFlowsOf};
+ghost use Rattle.vsi_infer.specs.Inference.{table, AreClasses, IsShortest};
+ghost use Rattle.vsi_infer.specs.Paths.{IsPath};
+ghost use Rattle.vsi_infer.specs.Shortest.{begins as begins_of, goes_on as goes_on_of, row_of as row_of_variable, LeadsDown, IsArrived};
+
+use crate::flows::first_variables;
+use crate::levels::{far_at, fewest, level, levels};
+use crate::raise::Flow;
+use crate::seek::{Wanted, seek_commands};
+use crate::walk::Walk;
+use crate::walker::Walker;
+use std::alloc::{AllocError, Global as Heap};
+use vsi_lattice::{Class, Classes};
+use vsi_scope::{Resolved, Var};
+use vsi_types::{Profile, Step};
+
+/// The place of a variable in a row: the ending of a loop has the last.
+fn row_of(last: u16, variable: Var) -> u16
+    ensures { result ≡ row_of_variable last variable }
+{
+    if variable.0 == 65535 {
+        last
+    } else {
+        variable.0
+    }
+}
+
+/// The steps that begin a shortest bad walk: from a declared variable that is `now` away to one that is `after` away.
+#[derive(Drop)]
+pub struct Begins<'a> {
+    declared: &'a [Option<Class>],
+    rows: &'a [Vec<u16>],
+    last: u16,
+    now: u16,
+    after: u16,
+}
+
+impl<'a> Wanted for Begins<'a> {
+    ghost wants = { λ w s. begins_of w.declared.now (map (λ r. r.items) w.rows.now) w.last w.now w.after s };
+
+    fn is_wanted(&self, step: &Step) -> bool {
+        let Some(Some(class)) = self.declared.get(step.source.0 as usize) else {
+            return false;
+        };
+        let here = far_at(self.rows, *class, step.source.0 as usize);
+        let there = far_at(self.rows, *class, row_of(self.last, step.target) as usize);
+        here == self.now && there == self.after
+    }
+}
+
+/// The steps that go on from a variable to one that is `after` away.
+#[derive(Drop)]
+pub struct GoesOn<'a> {
+    at: Var,
+    row: &'a [u16],
+    last: u16,
+    after: u16,
+}
+
+impl<'a> Wanted for GoesOn<'a> {
+    ghost wants = { λ w s. goes_on_of w.at w.row.now w.last w.after s };
+
+    fn is_wanted(&self, step: &Step) -> bool {
+        step.source == self.at
+            && level(self.row, row_of(self.last, step.target) as usize) == self.after
+    }
+}
+
+/// The first step of the program that is wanted.
+fn seek<W: Wanted>(
+    alloc: Heap,
+    profile: Profile,
+    program: &Resolved<'_>,
+    wanted: &W,
+) -> Result<Option<Step>, AllocError>
+    ensures { IfOk result (λ o. o ≡ find (W.wants wanted.now) (steps_of profile (program_of program.now))) }
+{
+    let body = program.body();
+    let first = program.globals().len() as u16;
+    let mut walk = Walker {
+        scope: first_variables(alloc, first)?,
+        guards: Vec::new(alloc),
+        next: first,
+    };
+    seek_commands(wanted, profile, program.letvars(), first, &mut walk, body)
+}
+
+/// The first wanted step of a program that has one.
+fn first_wanted<W: Wanted>(
+    alloc: Heap,
+    profile: Profile,
+    program: &Resolved<'_>,
+    wanted: &W,
+) -> Result<Step, AllocError>
+    requires { (s : Step) × Contains (steps_of profile (program_of program.now)) s × IsTrue (W.wants wanted.now s) }
+    ensures there { IfOk result (λ s. Contains (steps_of profile (program_of program.now)) s) }
+    ensures wanted { IfOk result (λ s. IsTrue (W.wants wanted.now s)) }
+{
+    match seek(alloc, profile, program, wanted)? {
+        Some(step) => Ok(step),
+        None => unreachable!(),
+    }
+}
+
+/// The first step from this variable to one that is `after` steps away.
+fn next_step(
+    alloc: Heap,
+    profile: Profile,
+    program: &Resolved<'_>,
+    row: &[u16],
+    last: u16,
+    at: Var,
+    after: u16,
+) -> Result<Step, AllocError>
+    requires { (s : Step) × Contains (steps_of profile (program_of program.now)) s × IsTrue (goes_on_of at row.now last after s) }
+    ensures there { IfOk result (λ s. Contains (steps_of profile (program_of program.now)) s) }
+    ensures wanted { IfOk result (λ s. IsTrue (goes_on_of at row.now last after s)) }
+{
+    let wanted = GoesOn {
+        at,
+        row,
+        last,
+        after,
+    };
+    first_wanted(alloc, profile, program, &wanted)
+}
+
+/// Goes on with a walk, step by step, to a variable that is no step away.
+fn follow(
+    alloc: Heap,
+    profile: Profile,
+    program: &Resolved<'_>,
+    row: &[u16],
+    last: u16,
+    first: Step,
+    length: u16,
+) -> Result<Vec<Step>, AllocError>
+    requires down { LeadsDown (steps_of profile (program_of program.now)) last row.now }
+    requires there { Contains (steps_of profile (program_of program.now)) first }
+    requires at { slice_index row.now (row_of_variable last first.target) ≡ length }
+    requires small { length < 65535 }
+    ensures { IfOk result (λ w. (rest : List Step) × (w.items ≡ first ∷ rest)
+        × IsArrived (steps_of profile (program_of program.now)) last row.now first.source (length + 1) (first ∷ rest)) }
+{
+    let mut at = first.target;
+    let mut steps = Vec::new(alloc);
+    steps.push(first)?;
+    let mut left = length;
+    while left > 0 {
+        left -= 1;
+        let step = next_step(alloc, profile, program, row, last, at, left)?;
+        at = step.target;
+        steps.push(step)?;
+    }
+    Ok(steps)
+}
+
+/// The declared class of a variable.
+fn class_at(declared: &[Option<Class>], variable: Var) -> Option<Class>
+    ensures { result ≡ slice_index_or declared.now variable None }
+{
+    match declared.get(variable.0 as usize) {
+        Some(class) => *class,
+        None => None,
+    }
+}
+
+/// The row of a class.
+fn row_at<'a>(rows: &'a [Vec<u16>], class: Class) -> &'a [u16]
+    ensures { result.now ≡ slice_index_or (map (λ r. r.items) rows.now) class [] }
+{
+    match rows.get(class.index()) {
+        Some(row) => row.as_slice(),
+        None => &[],
+    }
+}
+
+/// A shortest bad walk, the first of these by its steps' order, of a program that has a bad walk.
+pub fn shortest_walk<C: Classes, F: Flow>(
+    alloc: Heap,
+    profile: Profile,
+    lattice: &C,
+    program: &Resolved<'_>,
+    flow: &F,
+    declared: &[Option<Class>],
+) -> Result<Walk, AllocError>
+    requires globals { All (IsClass (C.lattice lattice.now)) (program_of program.now).globals }
+    requires letvars { AreClasses (C.lattice lattice.now) (program_of program.now).declared }
+    requires flows { AreFlowsOf profile (program_of program.now) (F.flows flow.now) }
+    requires declared { declared.now ≡ table (C.lattice lattice.now) (program_of program.now) }
+    requires bad { HasBadWalk (C.lattice lattice.now).count (C.lattice lattice.now).leq (F.flows flow.now) (table (C.lattice lattice.now) (program_of program.now)) }
+    ensures { IfOk result (λ w. IsShortest (C.lattice lattice.now) profile (program_of program.now) w.steps.items) }
+{
+    let _body = program.body();
+    let rows = levels(alloc, lattice, flow, declared)?;
+    let length = fewest(&rows, declared);
+    let last = (declared.len() - 1) as u16;
+    let begins = Begins {
+        declared,
+        rows: &rows,
+        last,
+        now: length,
+        after: length - 1,
+    };
+    let first = first_wanted(alloc, profile, program, &begins)?;
+    let Some(class) = class_at(declared, first.source) else {
+        unreachable!();
+    };
+    let row = row_at(&rows, class);
+    let steps = follow(alloc, profile, program, row, last, first, length - 1)?;
+    Ok(Walk { steps })
+}

@@ -1,0 +1,62 @@
+//! The strict profile.
+
+use super::{K2, K4, says};
+use vsi_types::Profile::{Base, Strict};
+
+#[test]
+fn endings_of_loops(rt: HostRuntime) {
+    let alloc = rt.alloc();
+    let row = b"var h : H; while h do h := h";
+    assert!(rt; says(alloc, Base, K2, row, b""));
+    assert!(rt;
+        says(
+            alloc,
+            Strict,
+            K2,
+            row,
+            b"1:18 h flows to (loop) by LOOP at 1:18\nh : H may not flow to (loop) : L\n"
+        )
+    );
+    assert!(rt;
+        says(
+            alloc,
+            Strict,
+            K2,
+            b"var h : H; var k : H; if h then while 0 do k := 1 else k := 2",
+            b"1:26 h flows to (loop) by LOOP at 1:26\nh : H may not flow to (loop) : L\n"
+        )
+    );
+    assert!(rt;
+        says(
+            alloc,
+            Strict,
+            K2,
+            b"var h : H; letvar t := h in while t do t := 0",
+            b"1:24 h flows to t by LETVAR at 1:19\n1:35 t flows to (loop) by LOOP at 1:35\nh : H may not flow to (loop) : L\n"
+        )
+    );
+    assert!(rt;
+        says(
+            alloc,
+            Strict,
+            K4,
+            b"var a : A; while a < 3 do a := a + 1",
+            b"1:18 a flows to (loop) by LOOP at 1:18\na : A may not flow to (loop) : L\n"
+        )
+    );
+}
+
+#[test]
+fn loops_on_the_bottom_class(rt: HostRuntime) {
+    let alloc = rt.alloc();
+    assert!(rt;
+        says(
+            alloc,
+            Strict,
+            K2,
+            b"var h : H; var l : L; letvar a := 0 in letvar b := 0 in while l < 3 do { b := a; a := h; l := l + 1 }",
+            b"11"
+        )
+    );
+    assert!(rt; says(alloc, Strict, K2, b"var x : L; while 1 do x := x", b""));
+}

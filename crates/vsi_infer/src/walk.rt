@@ -1,0 +1,133 @@
+//! Walks, and the test whether one is bad.
+
+ghost use Rattle.std.specs.Prelude.{◌≡◌, ◌≤◌, ◌↔◌, ℕ, length, IfSome, IfNone, IsTrue};
+ghost use Rattle.std.specs.List.{All, list_any};
+ghost use Rattle.vsi_lattice.specs.Order.{IsClass};
+ghost use Rattle.vsi_types.specs.Security.{program as program_of, count_from, steps_of};
+ghost use Rattle.vsi_types.specs.Walks.{IsBad, declared_class as declared_class_of};
+ghost use Rattle.vsi_types.specs.declared.rules.Profile.TheVariants.{Base};
+ghost use Rattle.vsi_infer.specs.Inference.{AreClasses};
+ghost use Rattle.vsi_infer.specs.Membership.{same_step};
+ghost use Rattle.vsi_infer.specs.Paths.{IsPath};
+
+use crate::membership::{Cursor, SCOPE, pass_commands};
+use arrayvec::ArrayVec;
+use vsi_lattice::{Class, Classes};
+use vsi_scope::{Resolved, Var};
+use vsi_types::{Profile, Step};
+
+/// Flow steps, each going on where the one before it ended.
+#[derive(Debug, Drop)]
+pub struct Walk {
+    pub steps: Vec<Step>,
+}
+
+/// The numbers of the globals.
+fn first_numbers(count: u16) -> ArrayVec<u16, SCOPE>
+    requires { count ≤ 256 }
+    ensures { result.items ≡ count_from 0 count }
+{
+    let mut scope = ArrayVec::new();
+    for i in 0..count {
+        scope.push(i);
+    }
+    scope
+}
+
+/// Whether the step is one of the program's.
+fn is_step(profile: Profile, program: &Resolved<'_>, step: &Step) -> bool
+    ensures { result ≡ list_any (same_step step.now) (steps_of profile (program_of program.now)) }
+{
+    let body = program.body();
+    let first = program.globals().len() as u16;
+    let mut cursor = Cursor {
+        scope: first_numbers(first),
+        next: first,
+    };
+    pass_commands(
+        &mut cursor,
+        step,
+        profile,
+        program.letvars(),
+        first,
+        false,
+        body,
+    )
+}
+
+/// The variable where the steps lead from this one, where each is the program's and goes on from the one before.
+fn path_end(profile: Profile, program: &Resolved<'_>, steps: &[Step], from: Var) -> Option<Var>
+    ensures some { IfSome result (λ b. IsPath (steps_of profile (program_of program.now)) from steps.now b) }
+    ensures none { IfNone result ((b : ℕ) → IsPath (steps_of profile (program_of program.now)) from steps.now b → ⊥) }
+{
+    let mut at = from;
+    for step in steps {
+        if step.source != at {
+            return None;
+        }
+        if !is_step(profile, program, step) {
+            return None;
+        }
+        at = step.target;
+    }
+    Some(at)
+}
+
+/// The declared class of a variable, and the bottom class for the loops' ending.
+pub fn declared_class<C: Classes>(
+    lattice: &C,
+    program: &Resolved<'_>,
+    variable: Var,
+) -> Option<Class>
+    ensures { result ≡ declared_class_of (C.lattice lattice.now) (program_of program.now) variable }
+{
+    if variable.0 == 65535 {
+        return Some(lattice.bottom());
+    }
+    let number = variable.0 as usize;
+    let globals = program.globals();
+    if number < globals.len() {
+        return Some(globals[number].class);
+    }
+    match program.letvars().get(number - globals.len()) {
+        Some(entry) => entry.class,
+        None => None,
+    }
+}
+
+/// Whether a walk is bad under a profile: its steps are the program's, each goes on where the one before it ended,
+/// and the first source's declared class isn't at or below the last target's. It takes no memory.
+pub fn check_walk_in<C: Classes>(
+    profile: Profile,
+    lattice: &C,
+    program: &Resolved<'_>,
+    walk: &Walk,
+) -> bool
+    requires globals { All (IsClass (C.lattice lattice.now)) (program_of program.now).globals }
+    requires declared { AreClasses (C.lattice lattice.now) (program_of program.now).declared }
+    ensures { IsTrue result ↔ IsBad (C.lattice lattice.now) profile (program_of program.now) walk.now.steps.items }
+{
+    let steps = walk.steps.as_slice();
+    let Some(first) = steps.first() else {
+        return false;
+    };
+    let Some(last) = path_end(profile, program, steps, first.source) else {
+        return false;
+    };
+    let Some(low) = declared_class(lattice, program, first.source) else {
+        return false;
+    };
+    let Some(high) = declared_class(lattice, program, last) else {
+        return false;
+    };
+    !lattice.leq(low, high)
+}
+
+/// Whether a walk is bad.
+pub fn check_walk<C: Classes>(lattice: &C, program: &Resolved<'_>, walk: &Walk) -> bool
+    requires globals { All (IsClass (C.lattice lattice.now)) (program_of program.now).globals }
+    requires declared { AreClasses (C.lattice lattice.now) (program_of program.now).declared }
+    ensures { IsTrue result ↔ IsBad (C.lattice lattice.now) Base (program_of program.now) walk.now.steps.items }
+{
+    check_walk_in(Profile::Base, lattice, program, walk)
+}

@@ -1,0 +1,9 @@
+pub mod RowLemmas
+pub mod ClosureLemmas
+pub mod JoinLemmas
+pub mod OrderLemmas
+pub mod ShapeLemmas
+pub mod NameLemmas
+pub mod FileLemmas
+pub mod TableLemmas
+pub mod PairLemmas

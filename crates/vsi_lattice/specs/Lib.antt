@@ -1,0 +1,11 @@
+pub mod Order
+pub mod Laws
+pub mod Pairs
+pub mod Refusals
+pub mod Rows
+pub mod Tables
+pub mod Shape
+pub mod Names
+pub mod Naming
+pub mod Named
+pub mod Faults

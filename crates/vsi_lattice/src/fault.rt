@@ -1,0 +1,69 @@
+//! Why a lattice file is refused.
+
+ghost use Rattle.std.specs.Prelude.{◌≡◌};
+
+use crate::class::Class;
+use crate::order::OrderError;
+use std::alloc::{AllocError, AllocFailed};
+
+/// Why a lattice file is refused. Faults are judged in the order in which they stand here.
+#[derive(Clone, Copy, Debug, PartialEq, Eq)]
+pub enum LatticeError {
+    /// There was no memory to read the file.
+    Memory,
+    /// The text is no TOML document.
+    NotToml,
+    /// The document has other keys than `classes` and `below`, or other types there.
+    BadShape,
+    /// There is no class.
+    NoClass,
+    /// There are more than 64 classes.
+    TooManyClasses,
+    /// The class with this place in `classes` has no name.
+    BadName(usize),
+    /// The class with this place in `classes` has the name of an earlier one.
+    DuplicateName(usize),
+    /// The pair with this place in `below` names no class.
+    UnknownName(usize),
+    /// Two classes that are below each other.
+    Cycle(Class, Class),
+    /// Two classes without a least class above both.
+    NoJoin(Class, Class),
+    /// Two classes without a greatest class below both.
+    NoMeet(Class, Class),
+}
+
+impl From<AllocError> for LatticeError {
+    ghost use Rattle.vsi_lattice.specs.declared.fault.LatticeError.TheVariants.{Memory};
+
+    ghost from_gives = { λ _ e. e ≡ Memory };
+
+    fn from(_e: AllocError) -> LatticeError {
+        LatticeError::Memory
+    }
+}
+
+impl<T: Drop> From<AllocFailed<T>> for LatticeError {
+    ghost use Rattle.vsi_lattice.specs.declared.fault.LatticeError.TheVariants.{Memory};
+
+    ghost from_gives = { λ _ e. e ≡ Memory };
+
+    fn from(_e: AllocFailed<T>) -> LatticeError {
+        LatticeError::Memory
+    }
+}
+
+impl From<OrderError> for LatticeError {
+    ghost use Rattle.vsi_lattice.specs.Faults.{of_order};
+
+    ghost from_gives = { λ o e. e ≡ of_order o };
+
+    fn from(e: OrderError) -> LatticeError {
+        match e {
+            OrderError::Memory => LatticeError::Memory,
+            OrderError::Cycle(a, b) => LatticeError::Cycle(a, b),
+            OrderError::NoJoin(a, b) => LatticeError::NoJoin(a, b),
+            OrderError::NoMeet(a, b) => LatticeError::NoMeet(a, b),
+        }
+    }
+}

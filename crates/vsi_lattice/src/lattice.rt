@@ -1,0 +1,90 @@
+//! Classes with names.
+
+ghost use Rattle.std.specs.Prelude.{length};
+ghost use Rattle.vsi_lattice.specs.Names.{owned};
+ghost use Rattle.vsi_lattice.specs.Naming.{AreNames};
+
+use crate::class::Class;
+use crate::mask::MaskLattice;
+use crate::names::place_of;
+use crate::order::Classes;
+use indexmap::IndexSet;
+
+/// A lattice of 1 to 64 classes, each with a name.
+#[derive(Drop)]
+pub struct Lattice {
+    names: IndexSet<String>,
+    order: MaskLattice,
+    pub ghost named: { AreNames (owned names.keys) (length order.above.items) },
+}
+
+impl Lattice {
+    ghost use Rattle.std.specs.Prelude.{◌≡◌, ◌<◌, slice_get, IfSome, Some, IsTrue};
+    ghost use Rattle.vsi_syntax.specs.Words.{is_name};
+    ghost use Rattle.vsi_lattice.specs.Order.{IsClass};
+    ghost use Rattle.vsi_lattice.specs.Named as spec;
+
+    /// The lattice of these names and this order.
+    pub(crate) fn new(names: IndexSet<String>, order: MaskLattice) -> Lattice
+        requires { AreNames (owned names.keys) (length order.above.items) }
+        ensures names { spec.names result ≡ owned names.keys }
+        ensures order { spec.order result ≡ ⟦<MaskLattice as Classes>⟧.lattice order }
+    {
+        Lattice { names, order }
+    }
+
+    /// The class of that name, or `None` where no class has it.
+    pub fn class_named(&self, name: &[u8]) -> Option<Class>
+        ensures class { result ≡ spec.class_named self.now name.now }
+        ensures within { IfSome result (IsClass (spec.order self.now)) }
+        ensures place { IfSome result (λ class. slice_get (spec.names self.now) class ≡ Some name.now) }
+        ensures named { IfSome result (λ _. IsTrue (is_name name.now)) }
+    {
+        match place_of(self.names.as_slice(), name) {
+            Some(place) => Some(Class::at(place)),
+            None => None,
+        }
+    }
+
+    /// The name of a class of the lattice, as it stands in the file.
+    pub fn name(&self, class: Class) -> &[u8]
+        requires { IsClass (spec.order self.now) class }
+        ensures place { slice_get (spec.names self.now) class ≡ Some result.now }
+        ensures class { spec.class_named self.now result.now ≡ Some class }
+    {
+        self.names.as_slice()[class.index()].as_bytes()
+    }
+}
+
+impl Classes for Lattice {
+    ghost use Rattle.vsi_lattice.specs.Named.{order};
+    ghost use Rattle.vsi_lattice.specs.Laws.{lawful_is_lattice};
+
+    ghost lattice = { order };
+
+    ghost laws = { λ s. lawful_is_lattice (order s) s.order.lawful };
+
+    fn count(&self) -> usize {
+        self.order.count()
+    }
+
+    fn leq(&self, a: Class, b: Class) -> bool {
+        self.order.leq(a, b)
+    }
+
+    fn join(&self, a: Class, b: Class) -> Class {
+        self.order.join(a, b)
+    }
+
+    fn meet(&self, a: Class, b: Class) -> Class {
+        self.order.meet(a, b)
+    }
+
+    fn bottom(&self) -> Class {
+        self.order.bottom()
+    }
+
+    fn top(&self) -> Class {
+        self.order.top()
+    }
+}

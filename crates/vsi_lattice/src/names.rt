@@ -1,0 +1,109 @@
+//! The names of the classes, and their places.
+
+ghost use Rattle.std.specs.Prelude.{◌≡◌, ℕ, ◌<◌, ◌≤◌, List, [], ◌∷◌, ◌++◌, true, false, length, map, IfOk, IfErr, OnOk, IfSome, IfNone, Some, None, string_bytes};
+ghost use Rattle.vsi_lattice.specs.Names.{texts, text_pairs, owned, place_in, IsLeast, Never, IsBadName, StandsIn, StandsEarlier, IsUnknown, IsUnknownAt, number_of};
+ghost use Rattle.vsi_lattice.specs.Faults.{TellsDuplicate, TellsUnknown};
+ghost use Rattle.vsi_lattice.specs.Pairs.{ArePairsBelow};
+ghost use Rattle.vsi_lattice.specs.declared.fault.LatticeError.TheVariants as errors;
+
+use crate::fault::LatticeError;
+use indexmap::IndexSet;
+use std::alloc::Global;
+use vsi_syntax::is_name;
+
+/// The first place of a name.
+pub fn place_of(names: &[String], name: &[u8]) -> Option<u8>
+    requires few { length names.now ≤ 64 }
+    ensures place { result ≡ place_in (owned names.now) name.now }
+    ensures within { IfSome result (λ k. k < length names.now) }
+{
+    for i in 0..names.len() {
+        if names[i].as_bytes() == name {
+            return Some(i as u8);
+        }
+    }
+    None
+}
+
+/// The place of the first that is no name.
+pub fn first_bad(names: &[&str]) -> Option<usize>
+    ensures some { IfSome result (IsLeast (IsBadName (texts names.now))) }
+    ensures none { IfNone result (Never (IsBadName (texts names.now))) }
+{
+    for i in 0..names.len() {
+        if !is_name(names[i].as_bytes()) {
+            return Some(i);
+        }
+    }
+    None
+}
+
+/// The places of two names.
+pub fn number(names: &[String], low: &str, high: &str) -> Option<(u8, u8)>
+    requires few { length names.now ≤ 64 }
+    ensures some { IfSome result (λ p. p ≡ number_of (owned names.now) (low.now, high.now)) }
+    ensures known { IfSome result (λ p. ¬ (IsUnknown (owned names.now) (low.now, high.now))) }
+    ensures below { IfSome result (λ p. (p.0 < length names.now) × (p.1 < length names.now)) }
+    ensures none { IfNone result (IsUnknown (owned names.now) (low.now, high.now)) }
+{
+    let Some(a) = place_of(names, low.as_bytes()) else {
+        return None;
+    };
+    let Some(b) = place_of(names, high.as_bytes()) else {
+        return None;
+    };
+    Some((a, b))
+}
+
+/// Adds a name that is not there, and says whether it did.
+fn add_name(alloc: Global, set: &mut IndexSet<String>, name: &str) -> Result<bool, LatticeError>
+    ensures added { IfOk result (λ r. r ≡ true → owned set.new.keys ≡ owned set.old.keys ++ name.now ∷ []) }
+    ensures fresh { IfOk result (λ r. r ≡ true → ¬ (StandsIn (owned set.old.keys) name.now)) }
+    ensures taken { IfOk result (λ r. r ≡ false → StandsIn (owned set.old.keys) name.now) }
+    ensures memory { IfErr result (λ e. e ≡ errors.Memory) }
+{
+    let name = String::from_str(alloc, name)?;
+    let (_, is_new) = set.insert_full(name)?;
+    Ok(is_new)
+}
+
+/// The set of the names, in their order.
+pub fn collect_names(alloc: Global, names: &[&str]) -> Result<IndexSet<String>, LatticeError>
+    ensures names { IfOk result (λ set. owned set.keys ≡ texts names.now) }
+    ensures distinct { OnOk result (Never (StandsEarlier (texts names.now))) }
+    ensures duplicate { IfErr result (TellsDuplicate (texts names.now)) }
+{
+    let mut set = IndexSet::new(alloc);
+    for i in 0..names.len() {
+        let is_new = add_name(alloc, &mut set, names[i])?;
+        if !is_new {
+            return Err(LatticeError::DuplicateName(i));
+        }
+    }
+    Ok(set)
+}
+
+/// The pairs by the places of their names.
+pub fn number_pairs(
+    alloc: Global,
+    names: &[String],
+    pairs: &[(&str, &str)],
+) -> Result<Vec<(u8, u8)>, LatticeError>
+    requires few { length names.now ≤ 64 }
+    ensures numbers { IfOk result (λ v. v.items ≡ map (number_of (owned names.now)) (text_pairs pairs.now)) }
+    ensures below { IfOk result (λ v. ArePairsBelow (length names.now) v.items) }
+    ensures known { OnOk result (Never (IsUnknownAt (owned names.now) (text_pairs pairs.now))) }
+    ensures unknown { IfErr result (TellsUnknown (owned names.now) (text_pairs pairs.now)) }
+{
+    let mut numbers = Vec::new(alloc);
+    for i in 0..pairs.len() {
+        let (low, high) = pairs[i];
+        let Some(both) = number(names, low, high) else {
+            return Err(LatticeError::UnknownName(i));
+        };
+        let Ok(()) = numbers.push(both) else {
+            return Err(LatticeError::Memory);
+        };
+    }
+    Ok(numbers)
+}

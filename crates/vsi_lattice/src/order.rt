@@ -1,0 +1,56 @@
+//! What every lattice of classes offers, and why an order is refused.
+
+ghost use Rattle.std.specs.Prelude.{◌≡◌};
+ghost use Rattle.vsi_lattice.specs.Order.{Lattice, IsLattice, IsClass, Below, IsJoin, IsMeet};
+
+use crate::class::Class;
+
+/// Why pairs of classes are no lattice.
+#[derive(Clone, Copy, Debug, PartialEq, Eq)]
+pub enum OrderError {
+    /// There was no memory to hold the order.
+    Memory,
+    /// Two classes that are below each other.
+    Cycle(Class, Class),
+    /// Two classes without a least class above both.
+    NoJoin(Class, Class),
+    /// Two classes without a greatest class below both.
+    NoMeet(Class, Class),
+}
+
+/// A finite lattice of classes.
+pub trait Classes {
+    ghost lattice: { Self → Lattice };
+
+    /// The number of classes, 1 to 64.
+    fn count(&self) -> usize
+        ensures { result ≡ (lattice self.now).count };
+
+    /// Whether the first class is at or below the second.
+    fn leq(&self, a: Class, b: Class) -> bool
+        requires first { IsClass (lattice self.now) a }
+        requires second { IsClass (lattice self.now) b }
+        ensures { result ≡ (lattice self.now).leq a b };
+
+    /// The least class at or above both.
+    fn join(&self, a: Class, b: Class) -> Class
+        requires first { IsClass (lattice self.now) a }
+        requires second { IsClass (lattice self.now) b }
+        ensures { IsJoin (lattice self.now).count (Below (lattice self.now)) a b result };
+
+    /// The greatest class at or below both.
+    fn meet(&self, a: Class, b: Class) -> Class
+        requires first { IsClass (lattice self.now) a }
+        requires second { IsClass (lattice self.now) b }
+        ensures { IsMeet (lattice self.now).count (Below (lattice self.now)) a b result };
+
+    /// The class below all.
+    fn bottom(&self) -> Class
+        ensures { result ≡ (lattice self.now).bottom };
+
+    /// The class above all.
+    fn top(&self) -> Class
+        ensures { result ≡ (lattice self.now).top };
+
+    ghost laws: { (s : Self) → IsLattice (lattice s) };
+}

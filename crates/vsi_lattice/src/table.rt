@@ -1,0 +1,196 @@
+//! The order as a table: for each two classes, whether the first is at or below the second.
+
+ghost use Rattle.std.specs.Prelude.{◌≡◌, ℕ, ◌<◌, ◌≤◌, ◌&&◌, ◌||◌, ◌==◌, nat_lt, length, vec_len, IfOk, IfSome, IfNone, true, false};
+ghost use Rattle.vsi_lattice.specs.Order.{IsJoin, HasJoin};
+ghost use Rattle.vsi_lattice.specs.Pairs.{Says, IsCycle, IsFirstPair, ArePairsBelow};
+ghost use Rattle.vsi_lattice.specs.Rows.{AddsPair, IsPreorder, IsClosureOf, IsTransposed};
+ghost use Rattle.vsi_lattice.specs.Tables.{table_has};
+
+use std::alloc::{AllocError, Global};
+
+/// The cells of one class.
+const SIDE: usize = 64;
+
+/// The cells of a table.
+const CELLS: usize = 4096;
+
+/// The order in both directions.
+#[derive(Drop)]
+pub struct Tables {
+    pub above: Vec<bool>,
+    pub below: Vec<bool>,
+}
+
+/// Whether the first class is at or below the second.
+#[tactic(auto, unfolding(crate::specs::Tables::table_has))]
+pub fn has(table: &[bool], a: usize, b: usize) -> bool
+    requires len { length table.now ≡ 4096 }
+    requires a { a < 64 }
+    requires b { b < 64 }
+    ensures { result ≡ table_has table.now a b }
+{
+    table[a * SIDE + b]
+}
+
+/// The order in which each class is below itself alone.
+fn own_table(alloc: Global, count: usize) -> Result<Vec<bool>, AllocError>
+    requires { count ≤ 64 }
+    ensures len { IfOk result (λ table. length table.items ≡ 4096) }
+    ensures cells { IfOk result (λ table. (a b : ℕ) → table_has table.items a b ≡ (nat_lt a count && (a == b))) }
+{
+    let mut table = Vec::new(alloc);
+    for i in 0..CELLS {
+        let a = i / SIDE;
+        table.push(a < count && a == i % SIDE)?;
+    }
+    Ok(table)
+}
+
+/// The order in which each class that is below `low` is below all that `high` is below too.
+fn with_pair(alloc: Global, table: &[bool], low: u8, high: u8) -> Result<Vec<bool>, AllocError>
+    requires len { length table.now ≡ 4096 }
+    requires low { low < 64 }
+    requires high { high < 64 }
+    ensures len { IfOk result (λ next. length next.items ≡ 4096) }
+    ensures adds { IfOk result (λ next. AddsPair (table_has table.now) (table_has next.items) low high) }
+{
+    let mut next = Vec::new(alloc);
+    for i in 0..CELLS {
+        let a = i / SIDE;
+        let b = i % SIDE;
+        let is_below_low = has(table, a, usize::from(low));
+        let is_above_high = has(table, usize::from(high), b);
+        next.push(has(table, a, b) || (is_below_low && is_above_high))?;
+    }
+    Ok(next)
+}
+
+/// The order that the pairs declare, in both directions.
+pub fn closed_tables(alloc: Global, count: usize, pairs: &[(u8, u8)]) -> Result<Tables, AllocError>
+    requires count { count ≤ 64 }
+    requires pairs { ArePairsBelow count pairs.now }
+    ensures above_len { IfOk result (λ tables. length tables.above.items ≡ 4096) }
+    ensures below_len { IfOk result (λ tables. length tables.below.items ≡ 4096) }
+    ensures above { IfOk result (λ tables. IsClosureOf count pairs.now (table_has tables.above.items)) }
+    ensures below { IfOk result (λ tables. IsTransposed (table_has tables.above.items)
+        (table_has tables.below.items)) }
+{
+    let mut above = own_table(alloc, count)?;
+    let mut below = own_table(alloc, count)?;
+    for i in 0..pairs.len() {
+        let (low, high) = pairs[i];
+        above = with_pair(alloc, &above, low, high)?;
+        below = with_pair(alloc, &below, high, low)?;
+    }
+    Ok(Tables { above, below })
+}
+
+/// Whether the third class is a least one above the first two.
+fn is_least_above(table: &[bool], count: usize, a: usize, b: usize, c: usize) -> bool
+    requires len { length table.now ≡ 4096 }
+    requires count { count ≤ 64 }
+    requires a { a < count }
+    requires b { b < count }
+    requires c { c < count }
+    ensures join { result ≡ true → IsJoin count (Says (table_has table.now)) a b c }
+    ensures none { result ≡ false → ¬ (IsJoin count (Says (table_has table.now)) a b c) }
+{
+    if !has(table, a, c) {
+        return false;
+    }
+    if !has(table, b, c) {
+        return false;
+    }
+    for d in 0..count {
+        if !has(table, a, d) {
+            continue;
+        }
+        if !has(table, b, d) {
+            continue;
+        }
+        if !has(table, c, d) {
+            return false;
+        }
+    }
+    true
+}
+
+/// The least class above two classes, if there is one.
+pub fn least_above(table: &[bool], count: usize, a: usize, b: usize) -> Option<u8>
+    requires len { length table.now ≡ 4096 }
+    requires count { count ≤ 64 }
+    requires a { a < count }
+    requires b { b < count }
+    ensures some { IfSome result (IsJoin count (Says (table_has table.now)) a b) }
+    ensures none { IfNone result (¬ (HasJoin count (Says (table_has table.now)) a b)) }
+{
+    for c in 0..count {
+        if is_least_above(table, count, a, b, c) {
+            return Some(c as u8);
+        }
+    }
+    None
+}
+
+/// The first two classes with no least class above both.
+pub fn first_unjoined(table: &[bool], count: usize) -> Option<(u8, u8)>
+    requires len { length table.now ≡ 4096 }
+    requires count { count ≤ 64 }
+    ensures some { IfSome result (λ p. IsFirstPair count (λ x y. ¬ (HasJoin count (Says (table_has table.now)) x y))
+        p.0 p.1) }
+    ensures none { IfNone result ((x y : ℕ) → x < count → y < count →
+        HasJoin count (Says (table_has table.now)) x y) }
+{
+    for a in 0..count {
+        for b in 0..count {
+            let Some(_) = least_above(table, count, a, b) else {
+                return Some((a as u8, b as u8));
+            };
+        }
+    }
+    None
+}
+
+/// The first two different classes that are below each other.
+pub fn first_cycle(table: &[bool], count: usize) -> Option<(u8, u8)>
+    requires len { length table.now ≡ 4096 }
+    requires count { count ≤ 64 }
+    ensures some { IfSome result (λ p. IsFirstPair count (IsCycle count (Says (table_has table.now))) p.0 p.1) }
+    ensures none { IfNone result ((x y : ℕ) → x < count → y < count →
+        ¬ (IsCycle count (Says (table_has table.now)) x y)) }
+{
+    for a in 0..count {
+        for b in 0..count {
+            if a == b {
+                continue;
+            }
+            if !has(table, a, b) {
+                continue;
+            }
+            if has(table, b, a) {
+                return Some((a as u8, b as u8));
+            }
+        }
+    }
+    None
+}
+
+/// The class above all.
+pub fn greatest(table: &[bool], count: usize) -> u8
+    requires len { length table.now ≡ 4096 }
+    requires some { 0 < count }
+    requires count { count ≤ 64 }
+    requires order { IsPreorder count (table_has table.now) }
+    requires joins { (x y : ℕ) → x < count → y < count → HasJoin count (Says (table_has table.now)) x y }
+    ensures within { result < count }
+    ensures greatest { (a : ℕ) → a < count → table_has table.now a result ≡ true }
+{
+    let mut last = 0;
+    for a in 0..count {
+        last = match least_above(table, count, usize::from(last), a) {
+            Some(c) => c,
+            None => unreachable!(),
+        };
+    }
+    last
+}

@@ -1,0 +1,5 @@
+//! Orders and lattice files, accepted and refused.
+
+mod files;
+mod forms;
+mod orders;

@@ -1,0 +1,4 @@
+pub mod Steps
+pub mod Budgets
+pub mod Progress
+pub mod TraceLines

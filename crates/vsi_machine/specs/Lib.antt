@@ -1,0 +1,5 @@
+pub mod Sound
+pub mod Held
+pub mod Runs
+pub mod Trace
+pub mod Laws

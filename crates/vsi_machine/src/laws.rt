@@ -1,0 +1,23 @@
+//! Laws of runs.
+
+ghost use Rattle.vsi_machine.specs.Laws.{BudgetsAdd, HaltingLasts, NeverStuck, OneEnding};
+
+/// A run and a further run are one run with the sum of both budgets.
+pub fn budgets_add()
+    ensures { BudgetsAdd }
+{}
+
+/// What has halted within a budget is in the same state after every larger one.
+pub fn halting_lasts()
+    ensures { HaltingLasts }
+{}
+
+/// Two budgets within which an image halts give the same words in the globals.
+pub fn one_ending()
+    ensures { OneEnding }
+{}
+
+/// Every run of a valid image has a state: it never lacks an operand, room, a slot or an instruction.
+pub fn never_stuck()
+    ensures { NeverStuck }
+{}

@@ -1,0 +1,17 @@
+//! The stack machine. A `Machine` runs a verified image from a word for each global, one instruction at a time or for
+//! a budget of them. It answers the words of its globals, and the trace line of its next instruction.
+//!
+//! The clauses of `run` and `step` say that the machine's state is the one that the instructions' meaning gives. That
+//! there is one is part of them: a verified image never lacks an operand, room, a slot or an instruction, so that the
+//! loop has no test for any of these.
+#![tactic(auto)]
+
+mod action;
+mod interpreter;
+pub mod laws;
+#[cfg(test)]
+mod tests;
+mod tracing;
+mod turns;
+
+pub use interpreter::{Machine, Outcome, StartError};

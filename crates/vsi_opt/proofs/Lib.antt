@@ -1,0 +1,14 @@
+pub mod FoldedRuns
+pub mod LiveRuns
+pub mod Depths
+pub mod Kept
+pub mod Sequences
+pub mod FoldingCases
+pub mod ReadingCases
+pub mod LoopCases
+pub mod NeededCases
+pub mod StillCases
+pub mod Sets
+pub mod Numbers
+pub mod Remains
+pub mod Rebuilt

@@ -1,0 +1,259 @@
+//! Live variables, and the assignments that go.
+//!
+//! A set of live variables holds their locations. Two variables that share a location are never in scope together, and
+//! a location is taken out of the set at both ends of its variable's scope, so that it stands for one declaration.
+
+ghost use Rattle.std.specs.Prelude.{◌≡◌, ◌+◌, ◌<◌, ◌≤◌, IfOk, OnOk, reverse};
+ghost use Rattle.vsi_scope.specs.Phrase.{HasLocations, Put, letvars};
+ghost use Rattle.vsi_scope.specs.View.{phrase, command, sequence};
+ghost use Rattle.vsi_opt.specs.Folding.{append};
+ghost use Rattle.vsi_opt.specs.Liveness.{reads, joined, before, still, needed, taken};
+ghost use Rattle.vsi_opt.specs.Loops.{AddFits, AddsTo, StillFits};
+ghost use Rattle.vsi_opt.specs.Ranges.{Fits, bits};
+
+use crate::small_set::SmallSet;
+use std::alloc::{AllocError, Global};
+use vsi_scope::{Cmd, Ex};
+use vsi_syntax::Span;
+
+/// An equal expression.
+fn copy_expression(e: &Ex, alloc: Global) -> Result<Ex, AllocError>
+    ensures { IfOk result (λ x. phrase x ≡ phrase e.now) }
+{
+    match e {
+        Ex::Num(n) => Ok(Ex::Num(*n)),
+        Ex::Loc(l, span) => Ok(Ex::Loc(*l, *span)),
+        Ex::Op(op, a, b) => {
+            let left = copy_expression(a, alloc)?;
+            let right = copy_expression(b, alloc)?;
+            Ok(Ex::Op(*op, Box::new(alloc, left)?, Box::new(alloc, right)?))
+        }
+    }
+}
+
+/// An assignment of an equal expression.
+fn copy_assignment(loc: u16, span: Span, value: &Ex, alloc: Global) -> Result<Cmd, AllocError>
+    ensures { IfOk result (λ c. command c ≡ Put loc span (phrase value.now)) }
+{
+    let value = copy_expression(value, alloc)?;
+    Ok(Cmd::Assign { loc, span, value })
+}
+
+/// Adds what an expression reads.
+fn add_reads(e: &Ex, live: &mut SmallSet)
+    requires { HasLocations 1024 (phrase e.now) }
+    ensures { bits live.new ≡ joined (bits live.old) (reads (phrase e.now)) }
+{
+    match e {
+        Ex::Num(_) => {}
+        Ex::Loc(l, _) => live.insert(*l),
+        Ex::Op(_, a, b) => {
+            add_reads(a, live);
+            add_reads(b, live);
+        }
+    }
+}
+
+/// Takes a location out, if it isn't a global.
+fn take_out(live: &mut SmallSet, globals: u16, l: u16)
+    requires { l < 1024 }
+    ensures { bits live.new ≡ taken globals l (bits live.old) }
+{
+    if globals <= l {
+        live.remove(l);
+    }
+}
+
+/// Adds what the expressions of a loop's commands read, and notes of each letvar, by its number, whether its scope
+/// reads its variable. `next` is the number of the commands' first letvar.
+#[cycle(adding)]
+fn add_all(body: &[Cmd], scope: u16, live: &mut SmallSet, own: &mut SmallSet, next: &mut u16)
+    requires { AddFits scope next.now (sequence body.now) }
+    ensures { AddsTo scope (sequence body.now) live.old own.old next.old live.new own.new next.new }
+{
+    for c in body {
+        add_one(c, scope, live, own, next);
+    }
+}
+
+#[cycle(adding)]
+fn add_one(c: &Cmd, scope: u16, live: &mut SmallSet, own: &mut SmallSet, next: &mut u16)
+    requires { AddFits scope next.now (command c.now) }
+    ensures { AddsTo scope (command c.now) live.old own.old next.old live.new own.new next.new }
+{
+    match c {
+        Cmd::Assign { value, .. } => add_reads(value, live),
+        Cmd::If { guard, yes, no } => {
+            add_reads(guard, live);
+            add_all(yes, scope, live, own, next);
+            add_all(no, scope, live, own, next);
+        }
+        Cmd::While { guard, body } => {
+            add_reads(guard, live);
+            add_all(body, scope, live, own, next);
+        }
+        Cmd::Letvar { value, body } => {
+            add_reads(value, live);
+            let number = *next;
+            *next += 1;
+            let was_read = live.contains(scope);
+            live.remove(scope);
+            add_all(body, scope + 1, live, own, next);
+            own.set(number, live.contains(scope));
+            if was_read {
+                live.insert(scope);
+            }
+        }
+    }
+}
+
+/// Commands of a loop, without the assignments to what isn't live there. `own` tells of each letvar, by its number,
+/// whether its scope reads its variable, and `next` is the number of the commands' first letvar.
+#[cycle(still)]
+fn still_all(
+    body: &[Cmd],
+    scope: u16,
+    live: &SmallSet,
+    own: &SmallSet,
+    next: &mut u16,
+    alloc: Global,
+) -> Result<Vec<Cmd>, AllocError>
+    requires { StillFits (bits own.now) scope next.now (sequence body.now) }
+    ensures { IfOk result
+        (λ v.
+        (sequence v.items ≡ still scope (sequence body.now) (bits live.now)) ×
+        (next.new ≡ next.old + letvars (sequence body.now))) }
+{
+    let mut out = Vec::new(alloc);
+    for c in body {
+        still_one(c, scope, live, own, next, &mut out, alloc)?;
+    }
+    Ok(out)
+}
+
+#[cycle(still)]
+fn still_one(
+    c: &Cmd,
+    scope: u16,
+    live: &SmallSet,
+    own: &SmallSet,
+    next: &mut u16,
+    out: &mut Vec<Cmd>,
+    alloc: Global,
+) -> Result<(), AllocError>
+    requires { StillFits (bits own.now) scope next.now (command c.now) }
+    ensures { OnOk result
+        ((sequence out.new.items ≡ append (sequence out.old.items) (still scope (command c.now) (bits live.now))) ×
+        (next.new ≡ next.old + letvars (command c.now))) }
+{
+    match c {
+        Cmd::Assign { loc, span, value } => {
+            if live.contains(*loc) {
+                out.push(copy_assignment(*loc, *span, value, alloc)?)?;
+            }
+            Ok(())
+        }
+        Cmd::If { guard, yes, no } => {
+            let guard = copy_expression(guard, alloc)?;
+            let yes = still_all(yes, scope, live, own, next, alloc)?;
+            let no = still_all(no, scope, live, own, next, alloc)?;
+            out.push(Cmd::If { guard, yes, no })?;
+            Ok(())
+        }
+        Cmd::While { guard, body } => {
+            let guard = copy_expression(guard, alloc)?;
+            let body = still_all(body, scope, live, own, next, alloc)?;
+            out.push(Cmd::While { guard, body })?;
+            Ok(())
+        }
+        Cmd::Letvar { value, body } => {
+            let value = copy_expression(value, alloc)?;
+            let mut inner = *live;
+            inner.set(scope, own.contains(*next));
+            *next += 1;
+            let body = still_all(body, scope + 1, &inner, own, next, alloc)?;
+            out.push(Cmd::Letvar { value, body })?;
+            Ok(())
+        }
+    }
+}
+
+/// Commands without their dead assignments; what is live after them becomes what is live before.
+#[cycle(needed)]
+pub fn needed_all(
+    body: &[Cmd],
+    globals: u16,
+    scope: u16,
+    live: &mut SmallSet,
+    alloc: Global,
+) -> Result<Vec<Cmd>, AllocError>
+    requires { Fits scope (sequence body.now) }
+    ensures { IfOk result
+        (λ v.
+        (sequence v.items ≡ needed globals scope (sequence body.now) (bits live.old)) ×
+        (bits live.new ≡ before globals scope (sequence body.now) (bits live.old))) }
+{
+    let mut out = Vec::new(alloc);
+    let count = body.len();
+    for j in 0..count {
+        let c = &body[count - 1 - j];
+        needed_one(c, globals, scope, live, &mut out, alloc)?;
+    }
+    out.reverse();
+    Ok(out)
+}
+
+#[cycle(needed)]
+fn needed_one(
+    c: &Cmd,
+    globals: u16,
+    scope: u16,
+    live: &mut SmallSet,
+    out: &mut Vec<Cmd>,
+    alloc: Global,
+) -> Result<(), AllocError>
+    requires { Fits scope (command c.now) }
+    ensures { OnOk result
+        ((sequence (reverse out.new.items) ≡
+        append (needed globals scope (command c.now) (bits live.old)) (sequence (reverse out.old.items))) ×
+        (bits live.new ≡ before globals scope (command c.now) (bits live.old))) }
+{
+    match c {
+        Cmd::Assign { loc, span, value } => {
+            if live.contains(*loc) {
+                take_out(live, globals, *loc);
+                add_reads(value, live);
+                out.push(copy_assignment(*loc, *span, value, alloc)?)?;
+            }
+            Ok(())
+        }
+        Cmd::If { guard, yes, no } => {
+            let mut other = *live;
+            let no = needed_all(no, globals, scope, &mut other, alloc)?;
+            let yes = needed_all(yes, globals, scope, live, alloc)?;
+            live.join(&other);
+            add_reads(guard, live);
+            let guard = copy_expression(guard, alloc)?;
+            out.push(Cmd::If { guard, yes, no })?;
+            Ok(())
+        }
+        Cmd::While { guard, body } => {
+            let mut own = SmallSet::below(0);
+            add_reads(guard, live);
+            add_all(body, scope, live, &mut own, &mut 0);
+            let guard = copy_expression(guard, alloc)?;
+            let body = still_all(body, scope, live, &own, &mut 0, alloc)?;
+            out.push(Cmd::While { guard, body })?;
+            Ok(())
+        }
+        Cmd::Letvar { value, body } => {
+            live.remove(scope);
+            let body = needed_all(body, globals, scope + 1, live, alloc)?;
+            live.remove(scope);
+            add_reads(value, live);
+            let value = copy_expression(value, alloc)?;
+            out.push(Cmd::Letvar { value, body })?;
+            Ok(())
+        }
+    }
+}

@@ -1,0 +1,74 @@
+//! Sets of numbers below 1,024: of locations, and of letvars by number.
+
+ghost use Rattle.std.specs.Prelude.{◌≡◌, ◌<◌, ◌≤◌, true, false};
+ghost use Rattle.vsi_opt.specs.Liveness.{with_bit, joined};
+ghost use Rattle.vsi_opt.specs.Ranges.{bits};
+ghost use Rattle.vsi_opt.specs.Optimised.{globals_alone};
+
+/// A set of numbers below 1,024, a bit for each.
+#[derive(Clone, Copy)]
+pub struct SmallSet {
+    words: [u64; 16],
+}
+
+impl SmallSet {
+    /// The numbers below a number.
+    pub fn below(count: u16) -> SmallSet
+        requires { count ≤ 1024 }
+        ensures { bits result ≡ globals_alone count }
+    {
+        let mut set = SmallSet { words: [0; 16] };
+        for n in 0..count {
+            set.insert(n);
+        }
+        set
+    }
+
+    /// Whether a number is in the set.
+    pub fn contains(&self, n: u16) -> bool
+        requires { n < 1024 }
+        ensures { result ≡ bits self.now n }
+    {
+        let word = self.words[(n / 64) as usize];
+        (word >> (n % 64)) % 2 == 1
+    }
+
+    /// Puts a number in.
+    pub fn insert(&mut self, n: u16)
+        requires { n < 1024 }
+        ensures { bits self.new ≡ with_bit (bits self.old) n true }
+    {
+        let at = (n / 64) as usize;
+        self.words[at] = self.words[at] | (1 << (n % 64));
+    }
+
+    /// Takes a number out.
+    pub fn remove(&mut self, n: u16)
+        requires { n < 1024 }
+        ensures { bits self.new ≡ with_bit (bits self.old) n false }
+    {
+        let at = (n / 64) as usize;
+        self.words[at] = self.words[at] & !(1 << (n % 64));
+    }
+
+    /// Puts a number in or takes it out.
+    pub fn set(&mut self, n: u16, is_in: bool)
+        requires { n < 1024 }
+        ensures { bits self.new ≡ with_bit (bits self.old) n is_in }
+    {
+        if is_in {
+            self.insert(n);
+        } else {
+            self.remove(n);
+        }
+    }
+
+    /// Puts in what another set has.
+    pub fn join(&mut self, other: &SmallSet)
+        ensures { bits self.new ≡ joined (bits self.old) (bits other.now) }
+    {
+        for i in 0..16 {
+            self.words[i] = self.words[i] | other.words[i];
+        }
+    }
+}

@@ -1,0 +1,83 @@
+-- Where the relation holds, names are there and the function gives what it says.
+use Rattle.std.proofs.Common.{◌≡◌, ℕ, List, [], ◌∷◌, ◌++◌, length, refl, sym, ap, ◌∙◌, Option, Some, None, Bool, true, false, bytes_eq, if◌then◌else◌}
+use Rattle.std.proofs.lemmas.Slice.Eq.{bytes_eq-Decides}
+use Rattle.vsi_syntax.specs.Tree as tree
+use Rattle.vsi_scope.specs.declared.resolution.ScopeError.TheVariants as errors
+use Rattle.vsi_scope.specs.Phrase.{Phrase, Contents, Apply, Command, Put, Choose, Repeat, Allocate}
+use Rattle.vsi_scope.specs.Scopes.{Text, Scope, IsAbsent, StandsFor, Means, Does, DoesAll, in_sequence}
+use Rattle.vsi_scope.specs.Places.{place_of, next_place, or_zero, place, phrase_of, commands_of, all_commands}
+use Rattle.vsi_scope.specs.Faults.{Known, uses, first_fault, or_else, if_absent}
+use Rattle.vsi_scope.proofs.Faulty.{none_in_both}
+
+-- The first place where a test succeeds.
+abbrev here : Bool → Option ℕ
+here b = if b then Some 0 else None
+
+-- A test that fails gives no place.
+no_match : (b : Bool) → (b ≡ true → ⊥) → here b ≡ None
+no_match true f = absurd (f refl)
+no_match false f = refl
+
+-- A test that succeeds gives the first place.
+match_here : (b : Bool) → b ≡ true → here b ≡ Some 0
+match_here b e = ap here e
+
+-- A name that is absent has no place.
+pub gone : (s : Scope) (x : Text) → IsAbsent s x → place_of s x ≡ None
+gone [] x a = refl
+gone (y ∷ ys) x a =
+    ap (λ o. next_place o (if bytes_eq y x then Some 0 else None)) (gone ys x a.1)
+    ∙ no_match (bytes_eq y x) (λ e. a.0 ((bytes_eq-Decides y x).0 e))
+
+-- A name that is absent behind its place has that place for its last.
+at_last : (before after : Scope) (x : Text) → IsAbsent after x →
+    place_of (before ++ x ∷ after) x ≡ Some (length before)
+at_last [] after x a =
+    ap (λ o. next_place o (if bytes_eq x x then Some 0 else None)) (gone after x a)
+    ∙ match_here (bytes_eq x x) ((bytes_eq-Decides x x).1 refl)
+at_last (y ∷ ys) after x a = ap (λ o. next_place o (if bytes_eq y x then Some 0 else None)) (at_last ys after x a)
+
+-- What a name stands for is its last place.
+pub place_is : (s : Scope) (x : Text) (l : ℕ) → StandsFor s x l → place_of s x ≡ Some l
+place_is s x l r = ap (λ z. place_of z x) r.splits ∙ at_last r.before r.after x r.last ∙ ap Some r.place
+
+-- An expression is what the function gives.
+pub means_one : (s : Scope) (e : tree.Tree) (p : Phrase) → Means s e p → p ≡ phrase_of s e
+means_one s (tree.Literal n) p m = m
+means_one s (tree.Read x) p m = m.2 ∙ ap (λ l. Contents l x.span) (sym (ap or_zero (place_is s x.text m.0 m.1)))
+means_one s (tree.Round e) p m = means_one s e p m
+means_one s (tree.Both op a b) p m =
+    m.4 ∙ ap (λ q. Apply op q m.1) (means_one s a m.0 m.2) ∙ ap (Apply op (phrase_of s a)) (means_one s b m.1 m.3)
+
+-- An expression over locations has no fault.
+pub means_clean : (k : Known) (s : Scope) (e : tree.Tree) (p : Phrase) → Means s e p → first_fault k (uses s e) ≡ None
+means_clean k s (tree.Literal n) p m = refl
+means_clean k s (tree.Read x) p m =
+    ap (λ o. or_else (if_absent o (errors.Unbound x.span)) None) (place_is s x.text m.0 m.1)
+means_clean k s (tree.Round e) p m = means_clean k s e p m
+means_clean k s (tree.Both op a b) p m =
+    none_in_both k (uses s a) (uses s b) (means_clean k s a m.0 m.2) (means_clean k s b m.1 m.3)
+
+mutual
+  -- A command is what the function gives.
+  pub does_one : (s : Scope) (c : tree.Command) (cs : List Command) → Does s c cs → cs ≡ commands_of s c
+  does_one s (tree.Set x e) cs m =
+      m.4 ∙ ap (λ l. Put l x.span m.1 ∷ []) (sym (ap or_zero (place_is s x.text m.0 m.2)))
+      ∙ ap (λ p. Put (place s x.text) x.span p ∷ []) (means_one s e m.1 m.3)
+  does_one s (tree.Choose e c d) cs m =
+      m.6 ∙ ap (λ p. Choose p (in_sequence m.1) (in_sequence m.2) ∷ []) (means_one s e m.0 m.3)
+      ∙ ap (λ q. Choose (phrase_of s e) (in_sequence q) (in_sequence m.2) ∷ []) (does_one s c m.1 m.4)
+      ∙ ap (λ q. Choose (phrase_of s e) (in_sequence (commands_of s c)) (in_sequence q) ∷ []) (does_one s d m.2 m.5)
+  does_one s (tree.Loop e c) cs m =
+      m.4 ∙ ap (λ p. Repeat p (in_sequence m.1) ∷ []) (means_one s e m.0 m.2)
+      ∙ ap (λ q. Repeat (phrase_of s e) (in_sequence q) ∷ []) (does_one s c m.1 m.3)
+  does_one s (tree.Local x class e c) cs m =
+      m.4 ∙ ap (λ p. Allocate p (in_sequence m.1) ∷ []) (means_one s e m.0 m.2)
+      ∙ ap (λ q. Allocate (phrase_of s e) (in_sequence q) ∷ []) (does_one (s ++ x.text ∷ []) c m.1 m.3)
+  does_one s (tree.Braces b) cs m = does_all_one s b cs m
+
+  -- A sequence is what the function gives.
+  pub does_all_one : (s : Scope) (b : tree.Body) (cs : List Command) → DoesAll s b cs → cs ≡ all_commands s b
+  does_all_one s tree.Done cs m = m
+  does_all_one s (tree.Then c rest) cs m =
+      m.4 ∙ ap (λ x. x ++ m.1) (does_one s c m.0 m.2) ∙ ap (λ x. commands_of s c ++ x) (does_all_one s rest m.1 m.3)

@@ -1,0 +1,54 @@
+-- The first fault of marks that stand one behind another.
+use Rattle.std.proofs.Common.{◌≡◌, List, [], ◌∷◌, ◌++◌, refl, ap, ◌∙◌, Option, Some, None}
+use Rattle.vsi_scope.specs.declared.resolution.ScopeError.{ScopeError}
+use Rattle.vsi_scope.specs.declared.resolution.ScopeError.TheVariants as errors
+use Rattle.vsi_scope.specs.Faults.{Known, Mark, first_fault, fault_at, or_else, Refuses}
+
+-- The first of three faults doesn't depend on how they are grouped.
+or_else_more : (a b c : Option ScopeError) → or_else a (or_else b c) ≡ or_else (or_else a b) c
+or_else_more (Some e) b c = refl
+or_else_more None b c = refl
+
+-- The first fault of two parts is that of the first part, else that of the second.
+pub first_of_both : (k : Known) (xs ys : List Mark) →
+    first_fault k (xs ++ ys) ≡ or_else (first_fault k xs) (first_fault k ys)
+first_of_both k [] ys = refl
+first_of_both k (x ∷ xs) ys =
+    ap (or_else (fault_at k x)) (first_of_both k xs ys) ∙ or_else_more (fault_at k x) (first_fault k xs)
+    (first_fault k ys)
+
+-- A fault in the first part.
+pub fault_first : (k : Known) (xs ys : List Mark) (e : ScopeError) → first_fault k xs ≡ Some e →
+    first_fault k (xs ++ ys) ≡ Some e
+fault_first k xs ys e p = first_of_both k xs ys ∙ ap (λ o. or_else o (first_fault k ys)) p
+
+-- What the second part has where the first has none.
+pub fault_behind : (k : Known) (xs ys : List Mark) → first_fault k xs ≡ None →
+    first_fault k (xs ++ ys) ≡ first_fault k ys
+fault_behind k xs ys p = first_of_both k xs ys ∙ ap (λ o. or_else o (first_fault k ys)) p
+
+-- An error that is one fault is another one that equals it.
+pub refuses_as : (e : ScopeError) (o q : Option ScopeError) → ((x : ScopeError) → o ≡ Some x → q ≡ Some x) →
+    Refuses e o → Refuses e q
+refuses_as errors.Memory o q f p = tt
+refuses_as (errors.Duplicate s) o q f p = f _ p
+refuses_as (errors.UnknownClass s) o q f p = f _ p
+refuses_as (errors.Unbound s) o q f p = f _ p
+refuses_as (errors.TooManyGlobals s) o q f p = f _ p
+refuses_as (errors.TooManyDeclarations s) o q f p = f _ p
+refuses_as errors.TooLarge o q f p = f _ p
+
+-- An error that is the first fault of the first part is that of both.
+pub refuses_first : (e : ScopeError) (k : Known) (xs ys : List Mark) → Refuses e (first_fault k xs) →
+    Refuses e (first_fault k (xs ++ ys))
+refuses_first e k xs ys p = refuses_as e _ _ (fault_first k xs ys) p
+
+-- An error that is the first fault of the second part is that of both where the first has none.
+pub refuses_behind : (e : ScopeError) (k : Known) (xs ys : List Mark) → first_fault k xs ≡ None →
+    Refuses e (first_fault k ys) → Refuses e (first_fault k (xs ++ ys))
+refuses_behind e k xs ys n p = refuses_as e _ _ (λ x q. fault_behind k xs ys n ∙ q) p
+
+-- Two parts without a fault have none together.
+pub none_in_both : (k : Known) (xs ys : List Mark) → first_fault k xs ≡ None → first_fault k ys ≡ None →
+    first_fault k (xs ++ ys) ≡ None
+none_in_both k xs ys p q = fault_behind k xs ys p ∙ q

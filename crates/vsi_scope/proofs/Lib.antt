@@ -1,0 +1,15 @@
+pub mod Views
+pub mod Evaluation
+pub mod Scoping
+pub mod Faulty
+pub mod Midway
+pub mod Walks
+pub mod Weights
+pub mod Forms
+pub mod Declaring
+pub mod Meaning
+pub mod Top
+pub mod Complete
+pub mod Limits
+pub mod Clean
+pub mod Classes

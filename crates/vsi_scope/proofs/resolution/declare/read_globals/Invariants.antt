@@ -1,0 +1,10 @@
+use Rattle.std.proofs.Common.{drop, map}
+use Rattle.vsi_syntax.specs.Programs as syntax
+use Rattle.vsi_lattice.specs.Named.{class_named}
+use Rattle.vsi_scope.proofs.Declaring.{Halfway}
+use Rattle.vsi_scope.proofs.resolution.declare.read_globals.Given as goal
+
+abbrev pub invariant-loop-d : goal.invariant-loop-d
+invariant-loop-d l =
+    Halfway (class_named l.lattice) l.list.items l.names.items (map syntax.declared l.declarations)
+    (map syntax.declared (drop l.d-index l.declarations))

@@ -1,0 +1,116 @@
+-- The declarations and uses of a program in text order, each with what it is judged against, and the first fault.
+use Rattle.std.specs.Prelude.{◌≡◌, ℕ, suc, ◌+◌, nat_lt, List, [], ◌∷◌, ◌++◌, length, map, if◌then◌else◌, Option, Some, None, Result, Ok, Err}
+use Rattle.vsi_syntax.specs.Tree as tree
+use Rattle.vsi_scope.specs.declared.resolution.ScopeError.{ScopeError}
+use Rattle.vsi_scope.specs.declared.resolution.ScopeError.TheVariants as errors
+use Rattle.vsi_scope.specs.Scopes.{Text, Scope}
+use Rattle.vsi_scope.specs.Places.{place_of}
+
+-- A place of the text that may be at fault: the name of a global with those above it, the name of a letvar with the
+-- number of declarations before it, the name of a class, or a name that is read or assigned to with those in scope.
+pub data Mark : Type 0 where
+  Global : (above : Scope) → (name : tree.Named) → Mark
+  Local : (declared : ℕ) → (name : tree.Named) → Mark
+  Class : (name : tree.Named) → Mark
+  Use : (scope : Scope) → (name : tree.Named) → Mark
+
+-- ---- what stands in a tree, in text order
+
+-- The class that is written, if any.
+abbrev pub class_marks : Option tree.Named → List Mark
+class_marks None = []
+class_marks (Some class) = Class class ∷ []
+
+-- The names of an expression.
+abbrev pub uses : Scope → tree.Tree → List Mark
+uses scope (tree.Literal n) = []
+uses scope (tree.Read x) = Use scope x ∷ []
+uses scope (tree.Round e) = uses scope e
+uses scope (tree.Both op a b) = uses scope a ++ uses scope b
+
+abbrev mutual
+  -- The number of letvars in a command.
+  pub locals : tree.Command → ℕ
+  locals (tree.Set x e) = 0
+  locals (tree.Choose e c d) = locals c + locals d
+  locals (tree.Loop e c) = locals c
+  locals (tree.Local x class e c) = suc (locals c)
+  locals (tree.Braces b) = all_locals b
+
+  -- The number of letvars in a sequence.
+  pub all_locals : tree.Body → ℕ
+  all_locals tree.Done = 0
+  all_locals (tree.Then c rest) = locals c + all_locals rest
+
+abbrev mutual
+  -- The marks of a command behind n declarations.
+  pub marks : Scope → ℕ → tree.Command → List Mark
+  marks scope n (tree.Set x e) = Use scope x ∷ uses scope e
+  marks scope n (tree.Choose e c d) = uses scope e ++ (marks scope n c ++ marks scope (n + locals c) d)
+  marks scope n (tree.Loop e c) = uses scope e ++ marks scope n c
+  marks scope n (tree.Local x class e c) =
+      Local n x ∷ (class_marks class ++ (uses scope e ++ marks (scope ++ x.text ∷ []) (suc n) c))
+  marks scope n (tree.Braces b) = all_marks scope n b
+
+  -- The marks of a sequence behind n declarations.
+  pub all_marks : Scope → ℕ → tree.Body → List Mark
+  all_marks scope n tree.Done = []
+  all_marks scope n (tree.Then c rest) = marks scope n c ++ all_marks scope (n + locals c) rest
+
+-- The marks of globals below others.
+abbrev pub global_marks : Scope → List tree.Declared → List Mark
+global_marks above [] = []
+global_marks above (g ∷ gs) = Global above g.name ∷ Class g.class ∷ global_marks (above ++ g.name.text ∷ []) gs
+
+-- The names of globals.
+abbrev pub global_names : List tree.Declared → Scope
+global_names gs = map (λ g. g.name.text) gs
+
+-- The marks of a program.
+abbrev pub program_marks : tree.Whole → List Mark
+program_marks p = global_marks [] p.globals ++ all_marks (global_names p.globals) (length p.globals) p.body
+
+-- ---- faults
+
+-- A fault where nothing was found.
+abbrev pub if_absent : Option ℕ → ScopeError → Option ScopeError
+if_absent None e = Some e
+if_absent (Some l) e = None
+
+-- A fault where something was found, else another one.
+abbrev pub if_there : Option ℕ → ScopeError → Option ScopeError → Option ScopeError
+if_there None e otherwise = otherwise
+if_there (Some l) e otherwise = Some e
+
+-- The class that a name stands for, if the lattice has it.
+abbrev pub Known : Type 0
+Known = Text → Option ℕ
+
+-- What is wrong at a mark; of two faults the one of smaller number.
+abbrev pub fault_at : Known → Mark → Option ScopeError
+fault_at classes (Global above x) =
+    if_there (place_of above x.text) (errors.Duplicate x.span)
+    (if nat_lt (length above) 256 then None else Some (errors.TooManyGlobals x.span))
+fault_at classes (Local n x) = if nat_lt n 1024 then None else Some (errors.TooManyDeclarations x.span)
+fault_at classes (Class x) = if_absent (classes x.text) (errors.UnknownClass x.span)
+fault_at classes (Use scope x) = if_absent (place_of scope x.text) (errors.Unbound x.span)
+
+-- The first of two faults.
+abbrev pub or_else : Option ScopeError → Option ScopeError → Option ScopeError
+or_else (Some e) o = Some e
+or_else None o = o
+
+-- The first fault of marks.
+abbrev pub first_fault : Known → List Mark → Option ScopeError
+first_fault classes [] = None
+first_fault classes (m ∷ ms) = or_else (fault_at classes m) (first_fault classes ms)
+
+-- An error is the first fault, unless memory ran out.
+abbrev pub Refuses : ScopeError → Option ScopeError → Type 0
+Refuses errors.Memory o = Unit {0}
+Refuses e o = o ≡ Some e
+
+-- An answer is given where there is no fault, and an error is the first fault.
+abbrev pub Judged : {X : Type 0} → Result X ScopeError → Option ScopeError → Type 0
+Judged (Ok x) o = o ≡ None
+Judged (Err e) o = Refuses e o

@@ -1,0 +1,10 @@
+pub mod Phrase
+pub mod View
+pub mod Meaning
+pub mod Rules
+pub mod Program
+pub mod Scopes
+pub mod Places
+pub mod Faults
+pub mod Walking
+pub mod Resolving

@@ -1,0 +1,47 @@
+-- Resolution as a function, for trees whose names are all in scope.
+use Rattle.std.specs.Prelude.{ℕ, suc, List, [], ◌∷◌, ◌++◌, bytes_eq, if◌then◌else◌, Option, Some, None}
+use Rattle.vsi_syntax.specs.Tree as tree
+use Rattle.vsi_scope.specs.Phrase.{Phrase, Literal, Contents, Apply, Command, Put, Choose, Repeat, Allocate}
+use Rattle.vsi_scope.specs.Scopes.{Text, Scope, in_sequence}
+
+-- The place in a longer list: one further, or here where there is none further.
+abbrev pub next_place : Option ℕ → Option ℕ → Option ℕ
+next_place (Some l) here = Some (suc l)
+next_place None here = here
+
+-- The last place of a name.
+abbrev pub place_of : Scope → Text → Option ℕ
+place_of [] x = None
+place_of (y ∷ ys) x = next_place (place_of ys x) (if bytes_eq y x then Some 0 else None)
+
+-- A number that is there, else 0.
+abbrev pub or_zero : Option ℕ → ℕ
+or_zero None = 0
+or_zero (Some l) = l
+
+-- The last place of a name that is in scope, else 0.
+abbrev pub place : Scope → Text → ℕ
+place scope x = or_zero (place_of scope x)
+
+-- The expression over locations.
+abbrev pub phrase_of : Scope → tree.Tree → Phrase
+phrase_of scope (tree.Literal n) = Literal n
+phrase_of scope (tree.Read x) = Contents (place scope x.text) x.span
+phrase_of scope (tree.Round e) = phrase_of scope e
+phrase_of scope (tree.Both op a b) = Apply op (phrase_of scope a) (phrase_of scope b)
+
+abbrev mutual
+  -- The list of commands that a command is over locations.
+  pub commands_of : Scope → tree.Command → List Command
+  commands_of scope (tree.Set x e) = Put (place scope x.text) x.span (phrase_of scope e) ∷ []
+  commands_of scope (tree.Choose e c d) =
+      Choose (phrase_of scope e) (in_sequence (commands_of scope c)) (in_sequence (commands_of scope d)) ∷ []
+  commands_of scope (tree.Loop e c) = Repeat (phrase_of scope e) (in_sequence (commands_of scope c)) ∷ []
+  commands_of scope (tree.Local x class e c) =
+      Allocate (phrase_of scope e) (in_sequence (commands_of (scope ++ x.text ∷ []) c)) ∷ []
+  commands_of scope (tree.Braces b) = all_commands scope b
+
+  -- The list of commands that a sequence is over locations.
+  pub all_commands : Scope → tree.Body → List Command
+  all_commands scope tree.Done = []
+  all_commands scope (tree.Then c rest) = commands_of scope c ++ all_commands scope rest

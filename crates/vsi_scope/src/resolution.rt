@@ -1,0 +1,59 @@
+//! The resolution of names: every name is replaced by the location that it stands for.
+
+ghost use Rattle.std.specs.Prelude.{◌≡◌};
+ghost use Rattle.vsi_scope.specs.declared.resolution.ScopeError.TheVariants.{Memory};
+
+use std::alloc::{AllocError, AllocFailed};
+use vsi_syntax::Span;
+
+mod command;
+mod declare;
+mod expression;
+mod scope;
+mod whole;
+
+pub use whole::resolve;
+
+/// The most globals of a program.
+const MAX_GLOBALS: usize = 256;
+
+/// The most declarations of a program, globals and `letvar`s together.
+const MAX_DECLARATIONS: usize = 1024;
+
+/// The greatest size of a program's body.
+const MAX_SIZE: u32 = 65_534;
+
+/// Why a program isn't resolved. Each span is that of the name's token.
+#[derive(Clone, Copy, Debug, PartialEq, Eq)]
+pub enum ScopeError {
+    /// A growth was refused.
+    Memory,
+    /// A global's name that is declared above.
+    Duplicate(Span),
+    /// The name of a class that the lattice doesn't have.
+    UnknownClass(Span),
+    /// A name that isn't in scope where it is used.
+    Unbound(Span),
+    /// The name of the 257th global.
+    TooManyGlobals(Span),
+    /// The name of the 1,025th declaration.
+    TooManyDeclarations(Span),
+    /// The size of the body is above 65,534.
+    TooLarge,
+}
+
+impl From<AllocError> for ScopeError {
+    ghost from_gives = { λ _ e. e ≡ Memory };
+
+    fn from(_e: AllocError) -> ScopeError {
+        ScopeError::Memory
+    }
+}
+
+impl<T: Drop> From<AllocFailed<T>> for ScopeError {
+    ghost from_gives = { λ _ e. e ≡ Memory };
+
+    fn from(_e: AllocFailed<T>) -> ScopeError {
+        ScopeError::Memory
+    }
+}

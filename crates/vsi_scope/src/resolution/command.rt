@@ -1,0 +1,240 @@
+//! Commands: one walk through the text, with the names in scope and the entries of the letvars so far.
+
+ghost use Rattle.std.specs.Prelude.{◌≡◌, ◌<◌, length, map, [], option_map, IfOk, IfErr};
+ghost use Rattle.vsi_scope.specs.declared.resolution.ScopeError.TheVariants.{Memory};
+ghost use Rattle.vsi_syntax.specs.Tree.{Set, Choose, Loop, Local};
+ghost use Rattle.vsi_syntax.specs.View.{tree, named};
+ghost use Rattle.vsi_syntax.specs.Programs as syntax;
+ghost use Rattle.vsi_lattice.specs.Named.{class_named};
+ghost use Rattle.vsi_scope.specs.Faults.{class_marks, first_fault, Judged, Known};
+ghost use Rattle.vsi_scope.specs.Places.{commands_of};
+ghost use Rattle.vsi_scope.specs.Resolving.{class_of};
+ghost use Rattle.vsi_scope.specs.Walking.{Walked, WalkedOne, WalkedAll, IsWithin, scope_of, fault_in, fault_in_all};
+
+use super::expression::expression;
+use super::scope::find;
+use super::{MAX_DECLARATIONS, ScopeError};
+use crate::program::Cmd;
+use crate::resolved::Entry;
+use std::alloc::Global;
+use vsi_lattice::{Class, Lattice};
+use vsi_syntax::{Expr, Name, Stmt};
+
+/// Where a walk through the text is.
+#[derive(Drop)]
+pub struct Walk<'a> {
+    /// The names in scope, globals first.
+    pub names: Vec<&'a [u8]>,
+    /// The entries of the letvars so far, in text order.
+    pub letvars: Vec<Entry<'a>>,
+    /// The number of globals.
+    pub globals: usize,
+}
+
+impl<'a> Walk<'a> {
+    ghost use Rattle.std.specs.Prelude.{◌++◌, ◌∷◌, OnOk, take, ◌-◌};
+    ghost use Rattle.vsi_scope.specs.Resolving.{variable, letvar};
+
+    /// A letvar's name comes into scope, and its entry is the last.
+    fn enter(&mut self, x: Name<'a>, class: Option<Class>) -> Result<(), ScopeError>
+        ensures names { OnOk result (self.new.names.items ≡ self.old.names.items ++ x.entry.text ∷ []) }
+        ensures globals { OnOk result (self.new.globals ≡ self.old.globals) }
+        ensures letvars { OnOk result
+            (map variable self.new.letvars.items ≡
+            map variable self.old.letvars.items ++ letvar (named x.entry) class ∷ []) }
+        ensures memory { IfErr result (λ e. e ≡ Memory) }
+    {
+        let entry = Entry {
+            name: x.text,
+            class,
+            span: x.span,
+        };
+        let Ok(()) = self.letvars.push(entry) else {
+            return Err(ScopeError::Memory);
+        };
+        self.names.push(x.text)?;
+        Ok(())
+    }
+
+    /// The last name in scope goes out of it.
+    fn leave(&mut self)
+        requires { 0 < length self.old.names.items }
+        ensures names { self.new.names.items ≡ take (length self.old.names.items - 1) self.old.names.items }
+        ensures globals { self.new.globals ≡ self.old.globals }
+        ensures letvars { self.new.letvars ≡ self.old.letvars }
+    {
+        let before = self.names.len() - 1;
+        self.names.truncate(before);
+    }
+}
+
+/// The class that is written.
+fn class<'a>(lattice: &Lattice, class: Option<Name<'a>>) -> Result<Option<Class>, ScopeError>
+    ensures value { IfOk result (λ x. x ≡ class_of (class_named lattice.now) (option_map named class.entry)) }
+    ensures fault { Judged result
+        (first_fault (class_named lattice.now) (class_marks (option_map named class.entry))) }
+{
+    let Some(name) = class else {
+        return Ok(None);
+    };
+    match lattice.class_named(name.text) {
+        Some(c) => Ok(Some(c)),
+        None => Err(ScopeError::UnknownClass(name.span)),
+    }
+}
+
+/// An assignment: the name first, then the value.
+fn assign<'a>(
+    alloc: Global,
+    walk: &mut Walk<'a>,
+    out: &mut Vec<Cmd>,
+    x: Name<'a>,
+    e: &Expr<'a>,
+) -> Result<(), ScopeError>
+    requires { IsWithin walk.old }
+    ensures value { IfOk result
+        (λ _. Walked walk.old walk.new out.old.items out.new.items []
+        (commands_of (scope_of walk.old) (Set (named x.entry) (tree e.now)))) }
+    ensures fault { (known : Known) → Judged result (fault_in known walk.old (Set (named x.entry) (tree e.now))) }
+{
+    let Some(loc) = find(&walk.names, x.text) else {
+        return Err(ScopeError::Unbound(x.span));
+    };
+    let value = expression(alloc, &walk.names, e)?;
+    out.push(Cmd::Assign {
+        loc,
+        span: x.span,
+        value,
+    })?;
+    Ok(())
+}
+
+/// A choice: the guard, the first branch, the second.
+#[cycle(walk)]
+fn choose<'a>(
+    alloc: Global,
+    lattice: &Lattice,
+    walk: &mut Walk<'a>,
+    out: &mut Vec<Cmd>,
+    guard: &Expr<'a>,
+    first: &Stmt<'a>,
+    second: &Stmt<'a>,
+) -> Result<(), ScopeError>
+    requires { IsWithin walk.old }
+    ensures value { IfOk result
+        (λ _. WalkedOne (class_named lattice.now) walk.old walk.new out.old.items out.new.items
+        (Choose (tree guard.now) (syntax.command first.now) (syntax.command second.now))) }
+    ensures fault { Judged result
+        (fault_in (class_named lattice.now) walk.old
+        (Choose (tree guard.now) (syntax.command first.now) (syntax.command second.now))) }
+{
+    let guard = expression(alloc, &walk.names, guard)?;
+    let mut yes = Vec::new(alloc);
+    statement(alloc, lattice, walk, &mut yes, first)?;
+    let mut no = Vec::new(alloc);
+    statement(alloc, lattice, walk, &mut no, second)?;
+    out.push(Cmd::If { guard, yes, no })?;
+    Ok(())
+}
+
+/// A loop: the guard, then the body.
+#[cycle(walk)]
+fn repeat<'a>(
+    alloc: Global,
+    lattice: &Lattice,
+    walk: &mut Walk<'a>,
+    out: &mut Vec<Cmd>,
+    guard: &Expr<'a>,
+    c: &Stmt<'a>,
+) -> Result<(), ScopeError>
+    requires { IsWithin walk.old }
+    ensures value { IfOk result
+        (λ _. WalkedOne (class_named lattice.now) walk.old walk.new out.old.items out.new.items
+        (Loop (tree guard.now) (syntax.command c.now))) }
+    ensures fault { Judged result
+        (fault_in (class_named lattice.now) walk.old (Loop (tree guard.now) (syntax.command c.now))) }
+{
+    let guard = expression(alloc, &walk.names, guard)?;
+    let mut body = Vec::new(alloc);
+    statement(alloc, lattice, walk, &mut body, c)?;
+    out.push(Cmd::While { guard, body })?;
+    Ok(())
+}
+
+/// A letvar: its name, its class, its initial value in the outer scope, and then the body.
+#[cycle(walk)]
+fn local<'a>(
+    alloc: Global,
+    lattice: &Lattice,
+    walk: &mut Walk<'a>,
+    out: &mut Vec<Cmd>,
+    x: Name<'a>,
+    written: Option<Name<'a>>,
+    e: &Expr<'a>,
+    c: &Stmt<'a>,
+) -> Result<(), ScopeError>
+    requires { IsWithin walk.old }
+    ensures value { IfOk result
+        (λ _. WalkedOne (class_named lattice.now) walk.old walk.new out.old.items out.new.items
+        (Local (named x.entry) (option_map named written.entry) (tree e.now) (syntax.command c.now))) }
+    ensures fault { Judged result
+        (fault_in (class_named lattice.now) walk.old
+        (Local (named x.entry) (option_map named written.entry) (tree e.now) (syntax.command c.now))) }
+{
+    if walk.globals + walk.letvars.len() >= MAX_DECLARATIONS {
+        return Err(ScopeError::TooManyDeclarations(x.span));
+    }
+    let class = class(lattice, written)?;
+    let value = expression(alloc, &walk.names, e)?;
+    walk.enter(x, class)?;
+    let mut body = Vec::new(alloc);
+    statement(alloc, lattice, walk, &mut body, c)?;
+    walk.leave();
+    out.push(Cmd::Letvar { value, body })?;
+    Ok(())
+}
+
+/// The commands of a sequence, behind those of `out`.
+#[cycle(walk)]
+pub fn sequence<'a>(
+    alloc: Global,
+    lattice: &Lattice,
+    walk: &mut Walk<'a>,
+    out: &mut Vec<Cmd>,
+    body: &[Stmt<'a>],
+) -> Result<(), ScopeError>
+    requires { IsWithin walk.old }
+    ensures value { IfOk result
+        (λ _. WalkedAll (class_named lattice.now) walk.old walk.new out.old.items out.new.items
+        (syntax.body_of body.now)) }
+    ensures fault { Judged result (fault_in_all (class_named lattice.now) walk.old (syntax.body_of body.now)) }
+{
+    for c in body {
+        statement(alloc, lattice, walk, out, c)?;
+    }
+    Ok(())
+}
+
+/// The commands of one statement, behind those of `out`.
+#[cycle(walk)]
+fn statement<'a>(
+    alloc: Global,
+    lattice: &Lattice,
+    walk: &mut Walk<'a>,
+    out: &mut Vec<Cmd>,
+    c: &Stmt<'a>,
+) -> Result<(), ScopeError>
+    requires { IsWithin walk.old }
+    ensures value { IfOk result
+        (λ _. WalkedOne (class_named lattice.now) walk.old walk.new out.old.items out.new.items
+        (syntax.command c.now)) }
+    ensures fault { Judged result (fault_in (class_named lattice.now) walk.old (syntax.command c.now)) }
+{
+    match c {
+        Stmt::Assign(x, e) => assign(alloc, walk, out, *x, e),
+        Stmt::If(e, first, second) => choose(alloc, lattice, walk, out, e, first, second),
+        Stmt::While(e, c) => repeat(alloc, lattice, walk, out, e, c),
+        Stmt::Letvar(x, class, e, c) => local(alloc, lattice, walk, out, *x, *class, e, c),
+        Stmt::Block(body) => sequence(alloc, lattice, walk, out, body),
+    }
+}

@@ -1,0 +1,35 @@
+//! Expressions over locations.
+
+ghost use Rattle.std.specs.Prelude.{◌≡◌, ◌≤◌, length, map, IfOk};
+ghost use Rattle.vsi_syntax.specs.View.{tree};
+ghost use Rattle.vsi_scope.specs.View.{phrase};
+ghost use Rattle.vsi_scope.specs.Places.{phrase_of};
+ghost use Rattle.vsi_scope.specs.Faults.{Known, uses, first_fault, Judged};
+
+use super::ScopeError;
+use super::scope::find;
+use crate::program::Ex;
+use std::alloc::Global;
+use vsi_syntax::Expr;
+
+/// The expression with a location for each name; brackets leave nothing.
+pub fn expression<'a>(alloc: Global, names: &[&'a [u8]], e: &Expr<'a>) -> Result<Ex, ScopeError>
+    requires { length names.now ≤ 1024 }
+    ensures value { IfOk result (λ x. phrase x ≡ phrase_of (map (λ x. x.now) names.now) (tree e.now)) }
+    ensures fault { (classes : Known) →
+        Judged result (first_fault classes (uses (map (λ x. x.now) names.now) (tree e.now))) }
+{
+    match e {
+        Expr::Number(n) => Ok(Ex::Num(*n)),
+        Expr::Name(x) => match find(names, x.text) {
+            Some(l) => Ok(Ex::Loc(l, x.span)),
+            None => Err(ScopeError::Unbound(x.span)),
+        },
+        Expr::Bracket(inner) => expression(alloc, names, inner),
+        Expr::Binary(op, a, b) => {
+            let left = expression(alloc, names, a)?;
+            let right = expression(alloc, names, b)?;
+            Ok(Ex::Op(*op, Box::new(alloc, left)?, Box::new(alloc, right)?))
+        }
+    }
+}

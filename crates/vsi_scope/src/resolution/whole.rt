@@ -1,0 +1,51 @@
+//! A whole program.
+
+ghost use Rattle.std.specs.Prelude.{◌≡◌, ℕ, List, IfOk, IfErr};
+ghost use Rattle.vsi_syntax.specs.Program.{whole};
+ghost use Rattle.vsi_lattice.specs.Named.{class_named};
+ghost use Rattle.vsi_scope.specs.declared.resolution.ScopeError.TheVariants.{Memory};
+ghost use Rattle.vsi_scope.specs.Phrase.{Command};
+ghost use Rattle.vsi_scope.specs.Resolving.{Resolves, AreBelow, HasClassesBelow, IsResolution, Explains};
+
+use super::command::{Walk, sequence};
+use super::declare::{Globals, read_globals};
+use super::{MAX_SIZE, ScopeError};
+use crate::measure::size;
+use crate::resolved::Resolved;
+use std::alloc::Global;
+use vsi_lattice::Lattice;
+use vsi_syntax::Program;
+
+/// The program over locations, with the classes that the lattice has under the names of the text.
+///
+/// # Errors
+///
+/// The first fault in text order; of two at one place the one that stands first in [`ScopeError`]. A `letvar` is
+/// judged by its name (`TooManyDeclarations`), then its class (`UnknownClass`), then its initial value (`Unbound`).
+/// Without a fault `TooLarge`, where the size is above 65,534. `Memory` may stand in place of any answer.
+pub fn resolve<'a>(
+    alloc: Global,
+    program: &Program<'a>,
+    lattice: &Lattice,
+) -> Result<Resolved<'a>, ScopeError>
+    ensures resolved { IfOk result (λ r. Resolves (class_named lattice.now) (whole program.now) r) }
+    ensures classes { (n : ℕ) → AreBelow n (class_named lattice.now) →
+        IfOk result (λ r. HasClassesBelow n r) }
+    ensures refused { IfErr result (λ e. Explains (class_named lattice.now) (whole program.now) e) }
+    ensures exact { (cs : List Command) → IsResolution (class_named lattice.now) (whole program.now) cs →
+        IfErr result (λ e. e ≡ Memory) }
+{
+    let Globals { list, names } = read_globals(alloc, lattice, program.globals())?;
+    let mut walk = Walk {
+        globals: list.len(),
+        names,
+        letvars: Vec::new(alloc),
+    };
+    let mut body = Vec::new(alloc);
+    sequence(alloc, lattice, &mut walk, &mut body, program.body())?;
+    if size(&body) > MAX_SIZE {
+        return Err(ScopeError::TooLarge);
+    }
+    let Walk { letvars, .. } = walk;
+    Ok(Resolved::new(list, letvars, body))
+}

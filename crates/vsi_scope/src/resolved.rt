@@ -1,0 +1,124 @@
+//! A resolved program: its globals, the entries of its letvars and its body.
+
+ghost use Rattle.std.specs.Prelude.{◌≡◌, List, ℕ, IfOk, IfErr};
+
+use crate::program::Cmd;
+use std::alloc::{AllocError, Global as Heap};
+use std::marker::Model;
+use vsi_lattice::Class;
+use vsi_syntax::Span;
+
+/// A variable: the number of its declaration, globals first, then letvars in text order.
+#[derive(Clone, Copy, Debug, PartialEq, Eq)]
+pub struct Var(pub u16);
+
+impl Model for Var {
+    ghost Value = { ℕ };
+
+    ghost view = { λ v. v.0 };
+
+    ghost inverse = { λ n. record { 0 = n } };
+}
+
+/// A global variable: its name, its class, and the name of the class.
+#[derive(Clone, Copy)]
+pub struct Global<'a> {
+    pub name: &'a [u8],
+    pub class: Class,
+    pub class_name: &'a [u8],
+}
+
+/// The entry of a letvar: its class where one is written, and the span of its name.
+#[derive(Clone, Copy)]
+pub struct Entry<'a> {
+    pub name: &'a [u8],
+    pub class: Option<Class>,
+    pub span: Span,
+}
+
+/// A program over locations. It has at most 256 globals of distinct names, at most 1,024 declarations, one entry for
+/// each `letvar`, and a body of size 65,534 at most whose locations exist, whose `letvar`s nest 200 deep at most and
+/// whose expressions are 200 deep at most.
+#[derive(Drop)]
+pub struct Resolved<'a> {
+    globals: Vec<Global<'a>>,
+    letvars: Vec<Entry<'a>>,
+    body: Vec<Cmd>,
+}
+
+impl<'a> Model for Resolved<'a> {
+    ghost use Rattle.vsi_scope.specs.Program.{Source, IsResolved, source};
+    ghost use Rattle.vsi_scope.specs.contracts.program.Cmd as cmd;
+    ghost use Rattle.std.specs.Coded.{codes};
+
+    ghost Value = { Source };
+
+    ghost coded = { Prim.hlevel (codes, cmd.the_row.coded) };
+
+    ghost view = { λ r. source r.globals.items r.letvars.items r.body.items };
+
+    ghost invariant = { λ r. IsResolved (source r.globals.items r.letvars.items r.body.items) };
+}
+
+impl<'a> Resolved<'a> {
+    ghost use Rattle.vsi_scope.specs.Program.{IsResolved, source};
+
+    /// The program of these globals, entries and commands.
+    pub(crate) fn new(
+        globals: Vec<Global<'a>>,
+        letvars: Vec<Entry<'a>>,
+        body: Vec<Cmd>,
+    ) -> Resolved<'a>
+        requires { IsResolved (source globals.items letvars.items body.items) }
+        ensures { result ≡ source globals.entry.items letvars.entry.items body.items }
+    {
+        Resolved {
+            globals,
+            letvars,
+            body,
+        }
+    }
+
+    /// The globals, in order.
+    pub fn globals(&self) -> &[Global<'a>]
+        ensures { result.now ≡ self.now.globals }
+    {
+        &self.globals
+    }
+
+    /// The entries of the letvars, in text order.
+    pub fn letvars(&self) -> &[Entry<'a>]
+        ensures { result.now ≡ self.now.letvars }
+    {
+        &self.letvars
+    }
+
+    /// A program with the same globals, and these entries and this body. Want of memory hands both back.
+    pub fn rebuilt(
+        &self,
+        alloc: Heap,
+        letvars: Vec<Entry<'a>>,
+        body: Vec<Cmd>,
+    ) -> Result<Resolved<'a>, (AllocError, Vec<Entry<'a>>, Vec<Cmd>)>
+        requires { IsResolved (source self.now.globals letvars.items body.items) }
+        ensures rebuilt { IfOk result (λ r. r ≡ source self.now.globals letvars.entry.items body.items) }
+        ensures back { IfErr result (λ e. (e.1 ≡ letvars.entry) × (e.2 ≡ body)) }
+    {
+        match self.globals.as_slice().to_vec(alloc) {
+            Ok(globals) => Ok(Resolved {
+                globals,
+                letvars,
+                body,
+            }),
+            Err(e) => Err((e, letvars, body)),
+        }
+    }
+
+    /// The commands.
+    pub fn body(&self) -> &[Cmd]
+        ensures value { result.now ≡ self.now.body }
+        ensures resolved { IsResolved self.now }
+    {
+        &self.body
+    }
+}

@@ -1,0 +1,36 @@
+//! Why a store file is refused.
+
+ghost use Rattle.std.specs.Prelude.{◌≡◌};
+ghost use Rattle.vsi_store.specs.declared.error.StoreError.TheVariants.{Memory};
+
+use std::alloc::{AllocError, AllocFailed};
+use thiserror::Error;
+
+/// Why a store file is refused: it is no TOML, or the first faulty key in byte order has no number or is no global.
+#[derive(Debug, Drop, Error)]
+pub enum StoreError {
+    #[error("the store file is no TOML")]
+    NotToml,
+    #[error("the value of a key is no number")]
+    NotANumber(Vec<u8>),
+    #[error("a key is no global")]
+    UnknownGlobal(Vec<u8>),
+    #[error("out of memory")]
+    Memory,
+}
+
+impl From<AllocError> for StoreError {
+    ghost from_gives = { λ _ e. e ≡ Memory };
+
+    fn from(_error: AllocError) -> StoreError {
+        StoreError::Memory
+    }
+}
+
+impl<T: Drop> From<AllocFailed<T>> for StoreError {
+    ghost from_gives = { λ _ e. e ≡ Memory };
+
+    fn from(_error: AllocFailed<T>) -> StoreError {
+        StoreError::Memory
+    }
+}

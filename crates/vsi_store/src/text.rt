@@ -1,0 +1,34 @@
+//! The text of a store.
+
+ghost use Rattle.std.specs.Prelude.{◌≡◌, ◌++◌, length, IfOk, OnOk};
+ghost use Rattle.vsi_image.specs.Fields.{globals};
+ghost use Rattle.vsi_store.specs.Text.{line_of, store_text_of};
+
+use itoa::Buffer;
+use std::alloc::{AllocError, Global};
+use vsi_image::Image;
+
+/// A line `name = number` for each global, in order, each ending with a line feed.
+pub fn store_text(alloc: Global, image: &Image, words: &[i64]) -> Result<Vec<u8>, AllocError>
+    requires { length words.now ≡ length image.now.globals.items }
+    ensures { IfOk result (λ text. text.items ≡ store_text_of (globals image.now.globals.items) words.now) }
+{
+    let variables = image.globals.as_slice();
+    let mut text = Vec::new(alloc);
+    for (i, variable) in variables.iter().enumerate() {
+        push_line(&mut text, variable.0.as_slice(), words[i])?;
+    }
+    Ok(text)
+}
+
+/// One line more.
+pub(crate) fn push_line(text: &mut Vec<u8>, name: &[u8], word: i64) -> Result<(), AllocError>
+    ensures { OnOk result (text.new.items ≡ text.old.items ++ line_of name.now word) }
+{
+    let mut buffer = Buffer::new();
+    text.extend_from_slice(name)?;
+    text.extend_from_slice(b" = ")?;
+    text.extend_from_slice(buffer.format(word).as_bytes())?;
+    text.push(b'\n')?;
+    Ok(())
+}

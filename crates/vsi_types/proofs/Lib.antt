@@ -1,0 +1,11 @@
+pub mod Orders
+pub mod Flow
+pub mod Programs
+pub mod Secure
+pub mod Endings
+pub mod Walking
+pub mod Judging
+pub mod Places
+pub mod Tables
+pub mod Looping
+pub mod Choosing

@@ -1,0 +1,59 @@
+-- What the check answers.
+use Rattle.std.specs.Prelude.{◌≡◌, ℕ, ◌+◌, ◌++◌, List, map, Result, Ok, Err}
+use Rattle.vsi_lattice.specs.Order.{Lattice}
+use Rattle.vsi_syntax.specs.declared.token.Span.{Span}
+use Rattle.vsi_scope.specs.Phrase.{Command, letvars}
+use Rattle.vsi_types.specs.declared.error.CheckError.{CheckError}
+use Rattle.vsi_types.specs.declared.error.CheckError.TheVariants.{Memory, WrongChoice, Flow}
+use Rattle.vsi_types.specs.declared.rules.Profile.{Profile}
+use Rattle.vsi_types.specs.declared.rules.Step.{Step}
+use Rattle.vsi_types.specs.declared.rules.Guard.{Guard}
+use Rattle.vsi_types.specs.declared.rules.FlowFault.{FlowFault}
+use Rattle.vsi_types.specs.declared.walker.Walker.{Walker}
+use Rattle.vsi_types.specs.Steps.{flow, steps, AreInOrder, IsFirstFault}
+use Rattle.vsi_types.specs.Security.{Program, IsChoice, class_of, steps_of}
+
+-- What a refusal says: a wrong choice is none, and a flow is the first step that isn't in order.
+abbrev pub TellsWhy : Lattice → Profile → Program → List ℕ → CheckError → Type 0
+TellsWhy L P p s Memory = Unit {0}
+TellsWhy L P p s WrongChoice = IsChoice p s → ⊥
+TellsWhy L P p s (Flow f) = IsChoice p s × IsFirstFault L (class_of L (p.globals ++ s)) (steps_of P p) f
+
+-- What an answer says of a list of steps: all are in order, or the first that isn't.
+abbrev pub StepsJudged : {U : Type 0} → Lattice → (ℕ → ℕ) → List Step → Result U FlowFault → Type 0
+StepsJudged L classes ss (Ok u) = AreInOrder L classes ss
+StepsJudged L classes ss (Err f) = IsFirstFault L classes ss f
+
+-- The flow of what a guard reads into a target that is written at the place for that guard.
+abbrev pub step_at : ℕ → (Guard → Span) → Guard → Step
+step_at target written g = flow target (written g) g
+
+-- What an answer says of the flows of guards to a target, wherever it is written.
+abbrev pub FlowsJudged : {U : Type 0} → Lattice → (ℕ → ℕ) → ℕ → List Guard → Result U FlowFault → Type 0
+FlowsJudged L classes target gs r = (written : Guard → Span) →
+    StepsJudged L classes (map (step_at target written) gs) r
+
+-- A place in a program: the variable of each location, the guards round it, and the declarations before it.
+pub record Place : Type 0 where
+  pub scope : List ℕ
+  pub guards : List Guard
+  pub next : ℕ
+
+-- The place where a walk stands.
+abbrev pub place_of : Walker → Place
+place_of w = record { scope = w.scope.items; guards = w.guards.items; next = w.next }
+
+-- What an error says of a list of steps: a flow is the first that isn't in order.
+abbrev pub TellsFault : Lattice → (ℕ → ℕ) → List Step → CheckError → Type 0
+TellsFault L classes ss Memory = Unit {0}
+TellsFault L classes ss WrongChoice = ⊥
+TellsFault L classes ss (Flow f) = IsFirstFault L classes ss f
+
+-- What an answer says of the steps of a command at a place, and of the place after it.
+abbrev pub Judged : {U : Type 0} → Lattice → Profile → (ℕ → ℕ) → Place → Command → Place → Result U CheckError →
+    Type 0
+Judged L P classes a c b (Ok u) =
+    (b.scope ≡ a.scope) × (b.guards ≡ a.guards) × (b.next ≡ a.next + letvars c)
+    × ((names : ℕ → Span) → AreInOrder L classes (steps P names a.guards a.scope a.next c))
+Judged L P classes a c b (Err e) =
+    (names : ℕ → Span) → TellsFault L classes (steps P names a.guards a.scope a.next c) e

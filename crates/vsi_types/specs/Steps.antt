@@ -1,0 +1,85 @@
+-- The flow steps of a program, in their order.
+use Rattle.std.specs.Prelude.{◌≡◌, ℕ, ◌+◌, Bool, true, false, ◌||◌, List, [], ◌∷◌, ◌++◌, map, slice_index}
+use Rattle.std.specs.List.{All}
+use Rattle.vsi_lattice.specs.Order.{Lattice, Below}
+use Rattle.vsi_syntax.specs.declared.token.Span.{Span}
+use Rattle.vsi_scope.specs.Phrase.{Phrase, Literal, Contents, Apply, Command, Nothing, Put, Then, Choose, Repeat, Allocate, letvars, has_loop}
+use Rattle.vsi_types.specs.declared.rules.Profile.{Profile}
+use Rattle.vsi_types.specs.declared.rules.Profile.TheVariants.{Base, Strict}
+use Rattle.vsi_types.specs.declared.rules.Rule.{Rule}
+use Rattle.vsi_types.specs.declared.rules.Step.{Step}
+use Rattle.vsi_types.specs.declared.rules.Read.{Read}
+use Rattle.vsi_types.specs.declared.rules.Guard.{Guard}
+use Rattle.vsi_types.specs.declared.rules.FlowFault.{FlowFault}
+use Rattle.vsi_types.specs.declared.rules.Rule.TheVariants.{Assign, If, While, Letvar, Loop}
+
+-- The variable that stands for the ending of loops.
+abbrev pub sink : ℕ
+sink = 65535
+
+-- What an expression reads, in text order, where the scope gives the variable of each location.
+abbrev pub reads : List ℕ → Phrase → List Read
+reads scope (Literal z) = []
+reads scope (Contents l s) = record { variable = slice_index scope l; place = s } ∷ []
+reads scope (Apply o a b) = reads scope a ++ reads scope b
+
+-- What a guard reads, under the rule of that guard.
+abbrev pub guarded : Rule → List Read → List Guard
+guarded rule rs = map (λ r. record { rule = rule; read = r }) rs
+
+-- The flow of what a guard reads into a target.
+abbrev pub flow : ℕ → Span → Guard → Step
+flow target written g =
+    record { rule = g.rule; source = g.read.variable; target = target; read = g.read.place; written = written }
+
+-- The flows of what guards read into a target.
+abbrev pub flows : ℕ → Span → List Guard → List Step
+flows target written gs = map (flow target written) gs
+
+-- The flow of what is read into the ending of a loop, which is written where it is read.
+abbrev pub ending : Read → Step
+ending r = record { rule = Loop; source = r.variable; target = sink; read = r.place; written = r.place }
+
+-- The flows of what is read into the ending of a loop, under the strict profile and where there is a loop.
+abbrev pub endings : Profile → Bool → List Read → List Step
+endings Base looping rs = []
+endings Strict false rs = []
+endings Strict true rs = map ending rs
+
+-- The flow steps of a command under guards, the outermost first, with n declarations before it.
+--   names   where the name of each declaration stands
+--   scope   the variable of each location
+abbrev pub steps : Profile → (ℕ → Span) → List Guard → List ℕ → ℕ → Command → List Step
+steps P names gs scope n Nothing = []
+steps P names gs scope n (Put l s e) = flows (slice_index scope l) s (guarded Assign (reads scope e) ++ gs)
+steps P names gs scope n (Then a b) = steps P names gs scope n a ++ steps P names gs scope (n + letvars a) b
+steps P names gs scope n (Choose e a b) =
+    endings P (has_loop a || has_loop b) (reads scope e)
+    ++ (steps P names (gs ++ guarded If (reads scope e)) scope n a
+    ++ steps P names (gs ++ guarded If (reads scope e)) scope (n + letvars a) b)
+steps P names gs scope n (Repeat e c) =
+    endings P true (reads scope e) ++ steps P names (gs ++ guarded While (reads scope e)) scope n c
+steps P names gs scope n (Allocate e c) =
+    flows n (names n) (guarded Letvar (reads scope e)) ++ steps P names gs (scope ++ n ∷ []) (n + 1) c
+
+-- A step is in order where the class of its source is at or below the class of its target.
+abbrev pub IsInOrder : Lattice → (ℕ → ℕ) → Step → Type 0
+IsInOrder L classes s = Below L (classes s.source) (classes s.target)
+
+-- All steps are in order.
+abbrev pub AreInOrder : Lattice → (ℕ → ℕ) → List Step → Type 0
+AreInOrder L classes ss = All (IsInOrder L classes) ss
+
+-- What a refusal tells of a step.
+abbrev pub fault_of : Step → FlowFault
+fault_of s = record { rule = s.rule; span = s.read; source = s.source; target = s.target }
+
+-- The fault tells of the first step of the list that isn't in order.
+pub record IsFirstFault (L : Lattice) (classes : ℕ → ℕ) (ss : List Step) (f : FlowFault) : Type 0 where
+  pub before : List Step
+  pub step : Step
+  pub after : List Step
+  pub whole : ss ≡ before ++ step ∷ after
+  pub earlier : AreInOrder L classes before
+  pub fault : f ≡ fault_of step
+  pub down : IsInOrder L classes step → ⊥

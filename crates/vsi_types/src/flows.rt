@@ -1,0 +1,179 @@
+//! The flows of what one expression or a list of guards reads into one target.
+
+ghost use Rattle.std.specs.Prelude.{◌≡◌, ◌++◌, ◌||◌, true, length, OnOk};
+ghost use Rattle.std.specs.List.{All};
+ghost use Rattle.vsi_lattice.specs.Order.{IsClass};
+ghost use Rattle.vsi_scope.specs.Phrase.{has_loop, HasLocations};
+ghost use Rattle.vsi_scope.specs.View.{phrase, sequence};
+ghost use Rattle.vsi_types.specs.Steps.{reads, guarded, endings};
+ghost use Rattle.vsi_types.specs.Security.{class_of};
+ghost use Rattle.vsi_types.specs.Checking.{FlowsJudged, StepsJudged};
+
+use crate::loops::loops;
+use crate::rules::{FlowFault, Guard, LOOP, Profile, Read, Rule};
+use std::alloc::AllocError;
+use vsi_lattice::{Class, Classes};
+use vsi_scope::{Cmd, Ex, Var};
+
+/// The class of a declaration; the ending of a loop has the bottom class.
+fn class_of<C: Classes>(lattice: &C, table: &[Class], variable: Var) -> Class
+    ensures { result ≡ class_of (C.lattice lattice.now) table.now variable }
+{
+    if variable.0 == LOOP.0 {
+        lattice.bottom()
+    } else {
+        match table.get(variable.0 as usize) {
+            Some(class) => *class,
+            None => Class::at(0),
+        }
+    }
+}
+
+/// Whether what is read may flow to the target.
+fn may_flow<C: Classes>(lattice: &C, table: &[Class], source: Var, target: Var) -> bool
+    requires { All (IsClass (C.lattice lattice.now)) table.now }
+    ensures { let classes = class_of (C.lattice lattice.now) table.now in
+        result ≡ (C.lattice lattice.now).leq (classes source) (classes target) }
+{
+    lattice.leq(
+        class_of(lattice, table, source),
+        class_of(lattice, table, target),
+    )
+}
+
+/// Whether each guard may flow to the target.
+pub fn check_guards<C: Classes>(
+    lattice: &C,
+    table: &[Class],
+    target: Var,
+    guards: &[Guard],
+) -> Result<(), FlowFault>
+    requires { All (IsClass (C.lattice lattice.now)) table.now }
+    ensures { let classes = class_of (C.lattice lattice.now) table.now in
+        FlowsJudged (C.lattice lattice.now) classes target guards.now result }
+{
+    for g in guards {
+        if !may_flow(lattice, table, g.read.variable, target) {
+            return Err(FlowFault {
+                rule: g.rule,
+                span: g.read.place,
+                source: g.read.variable,
+                target,
+            });
+        }
+    }
+    Ok(())
+}
+
+/// Whether what an expression reads may flow to the target.
+pub fn check_reads<C: Classes>(
+    lattice: &C,
+    table: &[Class],
+    target: Var,
+    scope: &[Var],
+    rule: Rule,
+    e: &Ex,
+) -> Result<(), FlowFault>
+    requires classes { All (IsClass (C.lattice lattice.now)) table.now }
+    requires places { HasLocations (length scope.now) (phrase e.now) }
+    ensures { let classes = class_of (C.lattice lattice.now) table.now in
+        FlowsJudged (C.lattice lattice.now) classes target (guarded rule (reads scope.now (phrase e.now))) result }
+{
+    match e {
+        Ex::Num(_) => Ok(()),
+        Ex::Loc(l, place) => {
+            let source = scope[*l as usize];
+            if may_flow(lattice, table, source, target) {
+                Ok(())
+            } else {
+                Err(FlowFault {
+                    rule,
+                    span: *place,
+                    source,
+                    target,
+                })
+            }
+        }
+        Ex::Op(_, a, b) => {
+            check_reads(lattice, table, target, scope, rule, a)?;
+            check_reads(lattice, table, target, scope, rule, b)
+        }
+    }
+}
+
+/// Whether what the guard of a loop reads may tell how the loop ends.
+pub fn check_loop<C: Classes>(
+    lattice: &C,
+    profile: Profile,
+    table: &[Class],
+    scope: &[Var],
+    guard: &Ex,
+) -> Result<(), FlowFault>
+    requires classes { All (IsClass (C.lattice lattice.now)) table.now }
+    requires places { HasLocations (length scope.now) (phrase guard.now) }
+    ensures { let classes = class_of (C.lattice lattice.now) table.now in
+        StepsJudged (C.lattice lattice.now) classes
+        (endings profile true (reads scope.now (phrase guard.now))) result }
+{
+    match profile {
+        Profile::Base => Ok(()),
+        Profile::Strict => check_reads(lattice, table, LOOP, scope, Rule::Loop, guard),
+    }
+}
+
+/// Whether what the guard of a choice reads may tell how the loops in its branches end.
+pub fn check_choice<C: Classes>(
+    lattice: &C,
+    profile: Profile,
+    table: &[Class],
+    scope: &[Var],
+    first: &[Cmd],
+    second: &[Cmd],
+    guard: &Ex,
+) -> Result<(), FlowFault>
+    requires classes { All (IsClass (C.lattice lattice.now)) table.now }
+    requires places { HasLocations (length scope.now) (phrase guard.now) }
+    ensures { let looping = has_loop (sequence first.now) || has_loop (sequence second.now) in
+        StepsJudged (C.lattice lattice.now) (class_of (C.lattice lattice.now) table.now)
+        (endings profile looping (reads scope.now (phrase guard.now))) result }
+{
+    match profile {
+        Profile::Base => Ok(()),
+        Profile::Strict => {
+            if loops(first) || loops(second) {
+                check_loop(lattice, profile, table, scope, guard)
+            } else {
+                Ok(())
+            }
+        }
+    }
+}
+
+/// Adds what an expression reads.
+pub fn push_reads(
+    guards: &mut Vec<Guard>,
+    scope: &[Var],
+    rule: Rule,
+    e: &Ex,
+) -> Result<(), AllocError>
+    requires { HasLocations (length scope.now) (phrase e.now) }
+    ensures { OnOk result (guards.new.items ≡ guards.old.items ++ guarded rule (reads scope.now (phrase e.now))) }
+{
+    match e {
+        Ex::Num(_) => Ok(()),
+        Ex::Loc(l, place) => {
+            guards.push(Guard {
+                rule,
+                read: Read {
+                    variable: scope[*l as usize],
+                    place: *place,
+                },
+            })?;
+            Ok(())
+        }
+        Ex::Op(_, a, b) => {
+            push_reads(guards, scope, rule, a)?;
+            push_reads(guards, scope, rule, b)
+        }
+    }
+}

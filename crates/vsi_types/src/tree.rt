@@ -1,0 +1,163 @@
+//! The walk over a program that judges its flow steps in their order.
+
+ghost use Rattle.std.specs.Prelude.{◌+◌, ◌≤◌, length};
+ghost use Rattle.std.specs.List.{All};
+ghost use Rattle.vsi_lattice.specs.Order.{IsClass};
+ghost use Rattle.vsi_scope.specs.Phrase.{letvars, HasPlaces, Put, Choose, Repeat, Allocate};
+ghost use Rattle.vsi_scope.specs.View.{phrase, command, sequence};
+ghost use Rattle.vsi_types.specs.Security.{class_of};
+ghost use Rattle.vsi_types.specs.Checking.{Judged, place_of};
+
+use crate::error::CheckError;
+use crate::flows::{check_choice, check_guards, check_loop, check_reads, push_reads};
+use crate::rules::{Profile, Rule};
+use crate::walker::Walker;
+use vsi_lattice::{Class, Classes};
+use vsi_scope::{Cmd, Ex, Var};
+use vsi_syntax::Span;
+
+/// Checks an assignment.
+fn check_assign<C: Classes>(
+    lattice: &C,
+    profile: Profile,
+    table: &[Class],
+    walk: &mut Walker,
+    location: u16,
+    span: Span,
+    value: &Ex,
+) -> Result<(), CheckError>
+    requires classes { All (IsClass (C.lattice lattice.now)) table.now }
+    requires places { HasPlaces (length walk.old.scope.items) (Put location span (phrase value.now)) }
+    requires limit { walk.old.next + letvars (Put location span (phrase value.now)) ≤ 1024 }
+    ensures { Judged (C.lattice lattice.now) profile (class_of (C.lattice lattice.now) table.now) (place_of walk.old)
+        (Put location span (phrase value.now)) (place_of walk.new) result }
+{
+    let target = walk.scope[location as usize];
+    check_reads(lattice, table, target, &walk.scope, Rule::Assign, value)?;
+    check_guards(lattice, table, target, &walk.guards)?;
+    Ok(())
+}
+
+/// Checks a choice.
+#[cycle(walk)]
+fn check_if<C: Classes>(
+    lattice: &C,
+    profile: Profile,
+    table: &[Class],
+    walk: &mut Walker,
+    first: &[Cmd],
+    second: &[Cmd],
+    guard: &Ex,
+) -> Result<(), CheckError>
+    requires classes { All (IsClass (C.lattice lattice.now)) table.now }
+    requires places { HasPlaces (length walk.old.scope.items)
+        (Choose (phrase guard.now) (sequence first.now) (sequence second.now)) }
+    requires limit { walk.old.next + letvars (Choose (phrase guard.now) (sequence first.now) (sequence second.now))
+        ≤ 1024 }
+    ensures { Judged (C.lattice lattice.now) profile (class_of (C.lattice lattice.now) table.now) (place_of walk.old)
+        (Choose (phrase guard.now) (sequence first.now) (sequence second.now)) (place_of walk.new) result }
+{
+    check_choice(lattice, profile, table, &walk.scope, first, second, guard)?;
+    let outside = walk.guards.len();
+    push_reads(&mut walk.guards, &walk.scope, Rule::If, guard)?;
+    check_commands(lattice, profile, table, walk, first)?;
+    check_commands(lattice, profile, table, walk, second)?;
+    walk.guards.truncate(outside);
+    Ok(())
+}
+
+/// Checks a loop.
+#[cycle(walk)]
+fn check_while<C: Classes>(
+    lattice: &C,
+    profile: Profile,
+    table: &[Class],
+    walk: &mut Walker,
+    body: &[Cmd],
+    guard: &Ex,
+) -> Result<(), CheckError>
+    requires classes { All (IsClass (C.lattice lattice.now)) table.now }
+    requires places { HasPlaces (length walk.old.scope.items) (Repeat (phrase guard.now) (sequence body.now)) }
+    requires limit { walk.old.next + letvars (Repeat (phrase guard.now) (sequence body.now)) ≤ 1024 }
+    ensures { Judged (C.lattice lattice.now) profile (class_of (C.lattice lattice.now) table.now) (place_of walk.old)
+        (Repeat (phrase guard.now) (sequence body.now)) (place_of walk.new) result }
+{
+    check_loop(lattice, profile, table, &walk.scope, guard)?;
+    let outside = walk.guards.len();
+    push_reads(&mut walk.guards, &walk.scope, Rule::While, guard)?;
+    check_commands(lattice, profile, table, walk, body)?;
+    walk.guards.truncate(outside);
+    Ok(())
+}
+
+/// Checks a letvar.
+#[cycle(walk)]
+fn check_letvar<C: Classes>(
+    lattice: &C,
+    profile: Profile,
+    table: &[Class],
+    walk: &mut Walker,
+    body: &[Cmd],
+    value: &Ex,
+) -> Result<(), CheckError>
+    requires classes { All (IsClass (C.lattice lattice.now)) table.now }
+    requires places { HasPlaces (length walk.old.scope.items) (Allocate (phrase value.now) (sequence body.now)) }
+    requires limit { walk.old.next + letvars (Allocate (phrase value.now) (sequence body.now)) ≤ 1024 }
+    ensures { Judged (C.lattice lattice.now) profile (class_of (C.lattice lattice.now) table.now) (place_of walk.old)
+        (Allocate (phrase value.now) (sequence body.now)) (place_of walk.new) result }
+{
+    let variable = Var(walk.next);
+    check_reads(lattice, table, variable, &walk.scope, Rule::Letvar, value)?;
+    let outside = walk.scope.len();
+    walk.scope.push(variable)?;
+    walk.next += 1;
+    check_commands(lattice, profile, table, walk, body)?;
+    walk.scope.truncate(outside);
+    Ok(())
+}
+
+/// Checks the commands of a list, one after another.
+#[cycle(walk)]
+pub fn check_commands<C: Classes>(
+    lattice: &C,
+    profile: Profile,
+    table: &[Class],
+    walk: &mut Walker,
+    body: &[Cmd],
+) -> Result<(), CheckError>
+    requires classes { All (IsClass (C.lattice lattice.now)) table.now }
+    requires places { HasPlaces (length walk.old.scope.items) (sequence body.now) }
+    requires limit { walk.old.next + letvars (sequence body.now) ≤ 1024 }
+    ensures { Judged (C.lattice lattice.now) profile (class_of (C.lattice lattice.now) table.now) (place_of walk.old)
+        (sequence body.now) (place_of walk.new) result }
+{
+    for c in body {
+        check_command(lattice, profile, table, walk, c)?;
+    }
+    Ok(())
+}
+
+/// Checks one command.
+#[cycle(walk)]
+fn check_command<C: Classes>(
+    lattice: &C,
+    profile: Profile,
+    table: &[Class],
+    walk: &mut Walker,
+    c: &Cmd,
+) -> Result<(), CheckError>
+    requires classes { All (IsClass (C.lattice lattice.now)) table.now }
+    requires places { HasPlaces (length walk.old.scope.items) (command c.now) }
+    requires limit { walk.old.next + letvars (command c.now) ≤ 1024 }
+    ensures { Judged (C.lattice lattice.now) profile (class_of (C.lattice lattice.now) table.now) (place_of walk.old)
+        (command c.now) (place_of walk.new) result }
+{
+    match c {
+        Cmd::Assign { loc, span, value } => {
+            check_assign(lattice, profile, table, walk, *loc, *span, value)
+        }
+        Cmd::If { guard, yes, no } => check_if(lattice, profile, table, walk, yes, no, guard),
+        Cmd::While { guard, body } => check_while(lattice, profile, table, walk, body, guard),
+        Cmd::Letvar { value, body } => check_letvar(lattice, profile, table, walk, body, value),
+    }
+}
