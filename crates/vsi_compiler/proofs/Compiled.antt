@@ -18,7 +18,7 @@ use Rattle.vsi_types.specs.declared.rules.Profile.{Profile}
 use Rattle.vsi_types.specs.declared.rules.Step.{Step}
 use Rattle.vsi_types.specs.Security.{program, IsTypable, IsResolved}
 use Rattle.vsi_types.proofs.Walking.{bad_walks_refute}
-use Rattle.vsi_infer.specs.Inference.{IsShortest}
+use Rattle.vsi_infer.specs.Inference.{IsShortest, IsLeast}
 use Rattle.vsi_image.specs.declared.instr.Image.{Image}
 use Rattle.vsi_image.specs.Fields as image
 use Rattle.vsi_code.specs.Behaves.{Behaves}
@@ -116,6 +116,11 @@ module _ (known : Known) (text : List ℕ) (r : Source) (stands : Stands known t
       body_is known stands.tree r stands.resolves ∙ ap in_sequence (sym one.1) in
       subst (λ n. Behaves n (in_sequence commands) im) count
       (subst (λ c. Behaves (length r.globals) c im) body behaves)
+
+  -- the least choice for the resolved program is that for the tree's
+  pub least_tree : (L : Order) (P : Profile) (s : List ℕ) → IsLeast L P (program r) s →
+      IsLeast L P (program_of known stands.tree (map command r.body)) s
+  least_tree L P s = subst (λ p. IsLeast L P p s) (program_is known stands.tree r stands.resolves)
 
   -- a refusal of the inference is one of the text
   pub flow_refused : (L : Order) (P : Profile) (e : InferError) → inference.Refuses L P (program r) e →

@@ -1,7 +1,7 @@
 -- The program that typing speaks of is that of the tree.
-use Rattle.std.proofs.Common.{◌≡◌, ℕ, ◌+◌, ◌-◌, ◌<◌, ◌≤◌, List, [], ◌∷◌, map, length, refl, sym, ap, subst, ◌∙◌, Option, Some, None, unwrap_or, slice_get, slice_index_or, IfSome}
+use Rattle.std.proofs.Common.{◌≡◌, ℕ, suc, ◌+◌, ◌-◌, ◌<◌, ◌≤◌, List, [], ◌∷◌, map, length, refl, sym, ap, subst, ◌∙◌, Option, Some, None, unwrap_or, slice_get, slice_index_or, IfSome}
 use Rattle.std.specs.Option.{option_map}
-use Rattle.std.specs.List.{All}
+use Rattle.std.specs.List.{All, AllZip}
 use Rattle.std.proofs.lemmas.List.{length-map}
 use Rattle.std.proofs.lemmas.List.Elements.{All-map}
 use Rattle.std.proofs.lemmas.Option.{slice_get-map}
@@ -126,3 +126,14 @@ typing_ready L r kept below =
 -- the declared classes of the letvars are classes
 pub declared_classes : (L : Lattice) (r : Source) → HasClassesBelow L.count r → AreClasses L (program r).declared
 declared_classes L r below = All-map (λ d. IfSome d (IsClass L)) (λ (e : Entry). e.class) r.letvars below.letvars
+
+-- the classes of the globals are classes
+pub global_classes : (L : Lattice) (r : Source) → HasClassesBelow L.count r → All (IsClass L) (program r).globals
+global_classes L r below = All-map (IsClass L) (λ (g : Global). g.class) r.globals below.globals
+
+-- lists that are related element by element are as long
+pub zip_length : {A B : Type 0} (R : A → B → Type 0) (xs : List A) (ys : List B) → AllZip R xs ys → length xs ≡ length ys
+zip_length R [] [] h = refl
+zip_length R [] (y ∷ ys) h = absurd h
+zip_length R (x ∷ xs) [] h = absurd h
+zip_length R (x ∷ xs) (y ∷ ys) h = ap suc (zip_length R xs ys h.1)

@@ -6,3 +6,4 @@ pub mod Acceptance
 pub mod Headline
 pub mod Stands
 pub mod Run
+pub mod Classes

@@ -4,6 +4,7 @@ use Rattle.std.specs.Prelude.{◌≡◌, ℕ, ◌≤◌, List, length, map}
 use Rattle.vsi_syntax.specs.Cut.{Piece, IsCut}
 use Rattle.vsi_syntax.specs.Tree.{Whole, IsProgram, write_program}
 use Rattle.vsi_syntax.specs.Spelling.{word_at}
+use Rattle.vsi_syntax.specs.Canon.{canon}
 
 -- the text is within its limit, and a levelled tree of depth at most 200 writes the tokens of its cut
 pub record Reads (text : List ℕ) (tree : Whole) : Type 0 where
@@ -12,3 +13,7 @@ pub record Reads (text : List ℕ) (tree : Whole) : Type 0 where
   pub cut : IsCut text tokens
   pub program : IsProgram tree.body
   pub written : write_program tree ≡ map word_at tokens
+
+-- the canonical text of the tree that reads the text
+abbrev pub IsCanonicalText : List ℕ → List ℕ → Type 0
+IsCanonicalText text out = (tree : Whole) × Reads text tree × (out ≡ canon tree)

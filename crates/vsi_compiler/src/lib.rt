@@ -5,7 +5,12 @@ mod compiler;
 mod error;
 mod run;
 mod source;
+mod texts;
 
 pub use compiler::{compile, compile_in};
 pub use error::CompileError;
 pub use run::{RunError, run_source};
+pub use texts::{classes_text, classes_text_in, format_text};
+
+#[cfg(test)]
+mod tests;

@@ -1,5 +1,5 @@
 -- The text of a walk from its parts.
-use Rattle.std.proofs.Common.{◌≡◌, ℕ, zero, suc, ◌+◌, ◌-◌, ◌<◌, ◌==◌, false, List, [], ◌∷◌, ◌++◌, length, get_or, refl, sym, ap, ◌∙◌, arith}
+use Rattle.std.proofs.Common.{◌≡◌, ℕ, zero, suc, ◌-◌, ◌<◌, ◌==◌, false, List, [], ◌∷◌, ◌++◌, length, get_or, refl, ap, ◌∙◌, arith}
 use Rattle.std.specs.List.{flat_map}
 use Rattle.std.proofs.lemmas.Bool.{false≢true}
 use Rattle.vsi_lattice.specs.declared.lattice.Lattice.{Lattice}
@@ -15,7 +15,8 @@ last_at x d (y ∷ xs) = last_at y d xs
 
 -- the lines of the steps and the last line are the walk's text
 pub explained : (l : Lattice) (source : List ℕ) (r : Source) (items : List Step) (d e : Step) → 0 < length items
-    → flat_map (step_line source r) items ++ last_text l r (get_or items 0 d).source (get_or items (length items - 1) e).target ≡ explanation l source r items
+    → flat_map (step_line source r) items ++ last_text l r (get_or items 0 d).source
+    (get_or items (length items - 1) e).target ≡ explanation l source r items
 explained l source r [] d e lt = absurd (omega (arith, lt))
 explained l source r (x ∷ xs) d e lt =
     let n : suc (length xs) - 1 ≡ length xs = omega arith in

@@ -1,9 +1,8 @@
 -- What is found in a command's parts is found in the command.
-use Rattle.std.proofs.Common.{◌≡◌, ℕ, zero, suc, ◌+◌, ◌<◌, ◌≤◌, Bool, true, false, ◌||◌, List, [], ◌∷◌, ◌++◌, take, length, get_or, Option, Some, None, refl, sym, ap, ◌∙◌, subst, arith}
-use Rattle.std.specs.Prelude.{⊤, Result, Ok, Err}
+use Rattle.std.proofs.Common.{◌≡◌, ℕ, ◌+◌, ◌<◌, Bool, true, ◌||◌, List, [], ◌∷◌, ◌++◌, take, length, get_or, Option, Some, None, refl, sym, ap, ◌∙◌, subst, arith}
+use Rattle.std.specs.Prelude.{⊤, Ok}
 use Rattle.std.specs.Option.{option_or}
 use Rattle.std.specs.List.{find}
-use Rattle.std.proofs.lemmas.List.{take_all}
 use Rattle.std.proofs.lemmas.List.Folds.{find-append}
 use Rattle.vsi_syntax.specs.declared.token.Span.{Span}
 use Rattle.vsi_scope.specs.declared.program.Cmd.{Cmd}
@@ -45,23 +44,31 @@ module _ (P : Profile) (names : ℕ → Span) (p : Step → Bool) where
   passed_then xs ys o e f = find-append p xs ys ∙ ap (λ x. option_or x (find p ys)) e ∙ f
 
   -- what an answer says where a step was found, and where none was
-  pub sought_some : (a b : Place) (c : Command) (o : Option Step) (s : Step) → o ≡ Some s → Sought {E = ⊤} P names p a c b (Ok o) → find p (here a c) ≡ Some s
+  pub sought_some : (a b : Place) (c : Command) (o : Option Step) (s : Step) → o ≡ Some s
+      → Sought {E = ⊤} P names p a c b (Ok o) → find p (here a c) ≡ Some s
   sought_some a b c o s e h = subst (λ x. Sought {E = ⊤} P names p a c b (Ok x)) e h
 
-  pub sought_none : (a b : Place) (c : Command) (o : Option Step) → o ≡ None → Sought {E = ⊤} P names p a c b (Ok o) → IsPassed P names p a c b
+  pub sought_none : (a b : Place) (c : Command) (o : Option Step) → o ≡ None → Sought {E = ⊤} P names p a c b (Ok o)
+      → IsPassed P names p a c b
   sought_none a b c o e h = subst (λ x. Sought {E = ⊤} P names p a c b (Ok x)) e h
 
   -- the same at a place whose parts are known
-  pub some_at : (t t' : List ℕ) (g g' : List Guard) (n : ℕ) (b : Place) (c : Command) (o : Option Step) (s : Step) → t ≡ t' → g ≡ g' → o ≡ Some s → Sought {E = ⊤} P names p (place t g n) c b (Ok o) → find p (here (place t' g' n) c) ≡ Some s
+  pub some_at : (t t' : List ℕ) (g g' : List Guard) (n : ℕ) (b : Place) (c : Command) (o : Option Step) (s : Step)
+      → t ≡ t' → g ≡ g' → o ≡ Some s → Sought {E = ⊤} P names p (place t g n) c b (Ok o)
+      → find p (here (place t' g' n) c) ≡ Some s
   some_at t t' g g' n b c o s f e i h =
-      subst (λ u. find p (here (place u g' n) c) ≡ Some s) f (subst (λ l. find p (here (place t l n) c) ≡ Some s) e (sought_some (place t g n) b c o s i h))
+      subst (λ u. find p (here (place u g' n) c) ≡ Some s) f (subst (λ l. find p (here (place t l n) c) ≡ Some s) e
+      (sought_some (place t g n) b c o s i h))
 
-  pub none_at : (t t' : List ℕ) (g g' : List Guard) (n : ℕ) (b : Place) (c : Command) (o : Option Step) → t ≡ t' → g ≡ g' → o ≡ None → Sought {E = ⊤} P names p (place t g n) c b (Ok o) → IsPassed P names p (place t' g' n) c b
+  pub none_at : (t t' : List ℕ) (g g' : List Guard) (n : ℕ) (b : Place) (c : Command) (o : Option Step) → t ≡ t'
+      → g ≡ g' → o ≡ None → Sought {E = ⊤} P names p (place t g n) c b (Ok o) → IsPassed P names p (place t' g' n) c b
   none_at t t' g g' n b c o f e i h =
-      subst (λ u. IsPassed P names p (place u g' n) c b) f (subst (λ l. IsPassed P names p (place t l n) c b) e (sought_none (place t g n) b c o i h))
+      subst (λ u. IsPassed P names p (place u g' n) c b) f (subst (λ l. IsPassed P names p (place t l n) c b) e
+      (sought_none (place t g n) b c o i h))
 
   -- an assignment's answer
-  pub put_answer : (a : Place) (k : Command) (l : ℕ) (s : Span) (e : Phrase) (o : Option Step) → k ≡ Put l s e → o ≡ find p (here a (Put l s e)) → Sought {E = ⊤} P names p a k a (Ok o)
+  pub put_answer : (a : Place) (k : Command) (l : ℕ) (s : Span) (e : Phrase) (o : Option Step) → k ≡ Put l s e
+      → o ≡ find p (here a (Put l s e)) → Sought {E = ⊤} P names p a k a (Ok o)
   put_answer a k l s e o is h =
       subst (λ c. Sought {E = ⊤} P names p a c a (Ok o)) (sym is) (of_put o h)
     where
@@ -70,27 +77,37 @@ module _ (P : Profile) (names : ℕ → Span) (p : Step → Bool) where
       of_put (Some x) h = sym h
 
   -- the same place
-  pub moved : (a b : Place) (c : Command) (o : Option Step) → b.scope ≡ a.scope → b.guards ≡ a.guards → (n : ℕ) → b.next ≡ n → find p (here b c) ≡ o → find p (steps P names a.guards a.scope n c) ≡ o
+  pub moved : (a b : Place) (c : Command) (o : Option Step) → b.scope ≡ a.scope → b.guards ≡ a.guards → (n : ℕ)
+      → b.next ≡ n → find p (here b c) ≡ o → find p (steps P names a.guards a.scope n c) ≡ o
   moved a b c o s g n e h =
-      sym (ap (λ x. find p (steps P names b.guards x b.next c)) s ∙ ap (λ x. find p (steps P names x a.scope b.next c)) g ∙ ap (λ x. find p (steps P names a.guards a.scope x c)) e) ∙ h
+      sym (ap (λ x. find p (steps P names b.guards x b.next c)) s
+      ∙ ap (λ x. find p (steps P names x a.scope b.next c)) g
+      ∙ ap (λ x. find p (steps P names a.guards a.scope x c)) e) ∙ h
 
-  module _ (a : Place) (e : Phrase) (c d : Command) (none : find p (endings P (has_loop c || has_loop d) (reads a.scope e)) ≡ None) where
+  module _ (a : Place) (e : Phrase) (c d : Command) (none : find p
+      (endings P (has_loop c || has_loop d) (reads a.scope e)) ≡ None) where
     pub choose_first : (s : Step) → find p (here (inside If e a) c) ≡ Some s → find p (here a (Choose e c d)) ≡ Some s
     choose_first s h =
         passed_then (endings P (has_loop c || has_loop d) (reads a.scope e)) _ (Some s) none
-        (found_left p (here (inside If e a) c) (steps P names (a.guards ++ guarded If (reads a.scope e)) a.scope (a.next + letvars c) d) s h)
+        (found_left p (here (inside If e a) c) (steps P names (a.guards ++ guarded If (reads a.scope e)) a.scope
+        (a.next + letvars c) d) s h)
 
-    pub choose_second : (b : Place) (o : Option Step) → IsPassed P names p (inside If e a) c b → find p (here b d) ≡ o → find p (here a (Choose e c d)) ≡ o
+    pub choose_second : (b : Place) (o : Option Step) → IsPassed P names p (inside If e a) c b
+        → find p (here b d) ≡ o → find p (here a (Choose e c d)) ≡ o
     choose_second b o i h =
         passed_then (endings P (has_loop c || has_loop d) (reads a.scope e)) _ o none
-        (passed_then (here (inside If e a) c) (steps P names (a.guards ++ guarded If (reads a.scope e)) a.scope (a.next + letvars c) d) o i.nothing
+        (passed_then (here (inside If e a) c) (steps P names (a.guards ++ guarded If (reads a.scope e)) a.scope
+        (a.next + letvars c) d) o i.nothing
         (moved (inside If e a) b d o i.scope i.guards (a.next + letvars c) i.next h))
 
-    pub choose_none : (b b' z : Place) → IsPassed P names p (inside If e a) c b → IsPassed P names p b d b' → z.scope ≡ b'.scope → z.guards ≡ take (length a.guards) b'.guards → z.next ≡ b'.next → IsPassed P names p a (Choose e c d) z
+    pub choose_none : (b b' z : Place) → IsPassed P names p (inside If e a) c b → IsPassed P names p b d b'
+        → z.scope ≡ b'.scope → z.guards ≡ take (length a.guards) b'.guards → z.next ≡ b'.next
+        → IsPassed P names p a (Choose e c d) z
     choose_none b b' z i j s g n = record {
       nothing = choose_second b None i j.nothing;
       scope = s ∙ j.scope ∙ i.scope;
-      guards = g ∙ ap (take (length a.guards)) (j.guards ∙ i.guards) ∙ take_front a.guards (guarded If (reads a.scope e));
+      guards = g ∙ ap (take (length a.guards)) (j.guards ∙ i.guards)
+          ∙ take_front a.guards (guarded If (reads a.scope e));
       next = omega (arith, n, j.next, i.next);
     }
 
@@ -98,7 +115,8 @@ module _ (P : Profile) (names : ℕ → Span) (p : Step → Bool) where
     pub repeat_some : (o : Option Step) → find p (here (inside While e a) c) ≡ o → find p (here a (Repeat e c)) ≡ o
     repeat_some o h = passed_then (endings P true (reads a.scope e)) _ o none h
 
-    pub repeat_none : (b z : Place) → IsPassed P names p (inside While e a) c b → z.scope ≡ b.scope → z.guards ≡ take (length a.guards) b.guards → z.next ≡ b.next → IsPassed P names p a (Repeat e c) z
+    pub repeat_none : (b z : Place) → IsPassed P names p (inside While e a) c b → z.scope ≡ b.scope
+        → z.guards ≡ take (length a.guards) b.guards → z.next ≡ b.next → IsPassed P names p a (Repeat e c) z
     repeat_none b z i s g n = record {
       nothing = repeat_some None i.nothing;
       scope = s ∙ i.scope;
@@ -107,14 +125,20 @@ module _ (P : Profile) (names : ℕ → Span) (p : Step → Bool) where
     }
 
   module _ (a : Place) (e : Phrase) (c : Command) where
-    pub allocate_here : (s : Step) → find p (flows a.next (names a.next) (guarded Letvar (reads a.scope e))) ≡ Some s → find p (here a (Allocate e c)) ≡ Some s
-    allocate_here s h = found_left p (flows a.next (names a.next) (guarded Letvar (reads a.scope e))) (here (within_letvar a) c) s h
+    pub allocate_here : (s : Step) → find p (flows a.next (names a.next) (guarded Letvar (reads a.scope e))) ≡ Some
+        s → find p (here a (Allocate e c)) ≡ Some s
+    allocate_here s h = found_left p (flows a.next (names a.next) (guarded Letvar (reads a.scope e)))
+        (here (within_letvar a) c) s h
 
     module _ (none : find p (flows a.next (names a.next) (guarded Letvar (reads a.scope e))) ≡ None) where
-      pub allocate_some : (o : Option Step) → find p (here (within_letvar a) c) ≡ o → find p (here a (Allocate e c)) ≡ o
-      allocate_some o h = passed_then (flows a.next (names a.next) (guarded Letvar (reads a.scope e))) (here (within_letvar a) c) o none h
+      pub allocate_some : (o : Option Step) → find p (here (within_letvar a) c) ≡ o
+          → find p (here a (Allocate e c)) ≡ o
+      allocate_some o h = passed_then (flows a.next (names a.next) (guarded Letvar (reads a.scope e)))
+          (here (within_letvar a) c) o none h
 
-      pub allocate_none : (b z : Place) → IsPassed P names p (within_letvar a) c b → z.scope ≡ take (length a.scope) b.scope → z.guards ≡ b.guards → z.next ≡ b.next → IsPassed P names p a (Allocate e c) z
+      pub allocate_none : (b z : Place) → IsPassed P names p (within_letvar a) c b
+          → z.scope ≡ take (length a.scope) b.scope → z.guards ≡ b.guards → z.next ≡ b.next
+          → IsPassed P names p a (Allocate e c) z
       allocate_none b z i s g n = record {
         nothing = allocate_some None i.nothing;
         scope = s ∙ ap (take (length a.scope)) i.scope ∙ take_front a.scope (a.next ∷ []);
@@ -123,7 +147,8 @@ module _ (P : Profile) (names : ℕ → Span) (p : Step → Bool) where
       }
 
   -- the commands of a list, up to a place in it
-  module _ (a b : Place) (cs : List Cmd) (i : ℕ) (c : Cmd) (lt : i < length cs) (is : c ≡ get_or cs i c) (h : IsPassed P names p a (sequence (take i cs)) b) where
+  module _ (a b : Place) (cs : List Cmd) (i : ℕ) (c : Cmd) (lt : i < length cs) (is : c ≡ get_or cs i c)
+      (h : IsPassed P names p a (sequence (take i cs)) b) where
     pub list_some : (s : Step) → find p (here b (command c)) ≡ Some s → find p (here a (sequence cs)) ≡ Some s
     list_some s f =
         let r = steps_at P names a.guards a.scope a.next cs i c lt is in
@@ -131,7 +156,8 @@ module _ (P : Profile) (names : ℕ → Span) (p : Step → Bool) where
         ap (find p) r.1 ∙ passed_then (here a (sequence (take i cs))) _ (Some s) h.nothing
         (found_left p (steps P names a.guards a.scope (a.next + letvars (sequence (take i cs))) (command c)) r.0 s k)
 
-    pub list_more : (d : Place) → IsPassed P names p b (command c) d → IsPassed P names p a (sequence (take (i + 1) cs)) d
+    pub list_more : (d : Place) → IsPassed P names p b (command c) d
+        → IsPassed P names p a (sequence (take (i + 1) cs)) d
     list_more d j = record {
       nothing =
           ap (find p) (steps_more P names a.guards a.scope a.next cs i c lt is)
@@ -146,7 +172,8 @@ module _ (P : Profile) (names : ℕ → Span) (p : Step → Bool) where
     room_next first count f =
         let l = letvars_at cs i c lt is in
         record {
-          places = subst (λ s. HasPlaces (length s) (command c)) (sym h.scope) (places_at (length a.scope) cs i c lt is f.places);
+          places = subst (λ s. HasPlaces (length s) (command c)) (sym h.scope)
+              (places_at (length a.scope) cs i c lt is f.places);
           after = omega (arith, f.after, h.next);
           limit = omega (arith, f.limit, h.next, l);
           small = f.small;

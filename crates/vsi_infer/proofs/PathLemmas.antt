@@ -1,11 +1,11 @@
 -- Paths and bad walks, and when a step is one of a list.
-use Rattle.std.proofs.Common.{◌≡◌, ◌≢◌, ℕ, zero, suc, ◌+◌, ◌<◌, ◌≤◌, ◌==◌, ◌&&◌, ◌||◌, cond, Bool, true, false, not, List, [], ◌∷◌, ◌++◌, map, take, drop, length, get_or, slice_get, Option, Some, None, refl, sym, ap, ◌∙◌, subst, arith, inl, inr, eq-eqb, ne_eqb}
+use Rattle.std.proofs.Common.{◌≡◌, ℕ, zero, suc, ◌+◌, ◌<◌, ◌==◌, ◌&&◌, ◌||◌, cond, Bool, true, false, not, List, [], ◌∷◌, ◌++◌, take, length, get_or, slice_get, Option, Some, None, refl, sym, ap, ◌∙◌, subst, arith, inl, inr, eq-eqb}
 use Rattle.std.specs.Prelude.{slice_index}
 use Rattle.std.specs.List.{All, Contains, list_any, find}
 use Rattle.std.proofs.lemmas.List.{take_more}
 use Rattle.std.proofs.lemmas.List.Folds.{list_any_at, list_any-append}
-use Rattle.std.proofs.lemmas.List.Elements.{All-nil, All-cons, All-head, All-tail, All-contains}
-use Rattle.std.proofs.lemmas.Bool.{cases_eq, and_parts, or_cases, and_from, false≢true}
+use Rattle.std.proofs.lemmas.List.Elements.{All-nil, All-cons, All-head, All-tail}
+use Rattle.std.proofs.lemmas.Bool.{and_parts, or_cases, and_from, false≢true}
 use Rattle.std.proofs.lemmas.Bool.Decides.{nat_tests}
 use Rattle.vsi_lattice.specs.Order.{Lattice, Below}
 use Rattle.vsi_syntax.specs.declared.token.Span.{Span}
@@ -19,21 +19,29 @@ use Rattle.vsi_types.specs.declared.rules.Guard.{Guard}
 use Rattle.vsi_types.specs.declared.rules.Step.{Step}
 use Rattle.vsi_types.specs.Steps.{reads, guarded, flows, endings, steps, sink}
 use Rattle.vsi_types.specs.Security.{Program, steps_of}
-use Rattle.vsi_types.specs.Walks.{IsChain, last_target, IsBadFrom, IsBad, declared_class}
+use Rattle.vsi_types.specs.Walks.{IsChain, last_target, IsBad, declared_class}
 use Rattle.vsi_infer.specs.Leading.{minds}
 use Rattle.vsi_infer.specs.Membership.{same_rule, same_span, read_is, written_is, same_step, reads_pass, ends_pass, passes}
 use Rattle.vsi_infer.specs.Paths.{IsPath}
 
 module _ (ss : List Step) where
   -- a path goes on with a step
-  pub path_push : (a b : ℕ) (xs : List Step) (s : Step) → IsPath ss a xs b → s.source ≡ b → Contains ss s → IsPath ss a (xs ++ s ∷ []) s.target
+  pub path_push : (a b : ℕ) (xs : List Step) (s : Step) → IsPath ss a xs b → s.source ≡ b → Contains ss s
+      → IsPath ss a (xs ++ s ∷ []) s.target
   path_push a b [] s p e c = (e ∙ sym p, c, refl)
   path_push a b (x ∷ xs) s p e c = (p.0, p.1, path_push x.target b xs s p.2 e c)
 
   -- the steps up to one of a path, and that step
-  pub path_at : (a b : ℕ) (xs : List Step) (i : ℕ) (s : Step) → i < length xs → s ≡ get_or xs i s → IsPath ss a xs b → (m : ℕ) × IsPath ss a (take i xs) m × (s.source ≡ m) × Contains ss s
+  pub path_at : (a b : ℕ) (xs : List Step) (i : ℕ) (s : Step) → i < length xs → s ≡ get_or xs i s → IsPath ss a xs b
+      → (m : ℕ) × IsPath ss a (take i xs) m × (s.source ≡ m) × Contains ss s
   path_at a b [] i s lt is p = absurd (omega arith)
-  path_at a b (x ∷ xs) zero s lt is p = (a, refl, ap (λ (y : Step). y.source) is ∙ p.0, subst (Contains ss) (sym is) p.1)
+  path_at a b (x ∷ xs) zero s lt is p = (
+    a,
+    refl,
+    ap (λ (y : Step). y.source) is
+        ∙ p.0,
+    subst (Contains ss) (sym is) p.1,
+  )
   path_at a b (x ∷ xs) (suc i) s lt is p =
       let r = path_at x.target b xs i s (omega (arith, lt)) is p.2 in
       (r.0, (p.0, p.1, r.1), r.2, r.3)
@@ -44,12 +52,15 @@ module _ (ss : List Step) where
   path_end a b d (x ∷ xs) p q = path_end x.target b d xs p.2 q.2
 
   -- one step more of a path
-  pub path_more : (a b : ℕ) (xs : List Step) (i : ℕ) (s : Step) → i < length xs → s ≡ get_or xs i s → IsPath ss a (take i xs) b → s.source ≡ b → Contains ss s → IsPath ss a (take (i + 1) xs) s.target
+  pub path_more : (a b : ℕ) (xs : List Step) (i : ℕ) (s : Step) → i < length xs → s ≡ get_or xs i s
+      → IsPath ss a (take i xs) b → s.source ≡ b → Contains ss s → IsPath ss a (take (i + 1) xs) s.target
   path_more a b xs i s lt is p e c =
-      subst (λ l. IsPath ss a l s.target) (ap (λ y. take i xs ++ y ∷ []) is ∙ sym (take_more xs i s lt)) (path_push a b (take i xs) s p e c)
+      subst (λ l. IsPath ss a l s.target) (ap (λ y. take i xs ++ y ∷ []) is ∙ sym (take_more xs i s lt))
+      (path_push a b (take i xs) s p e c)
 
   -- a path that isn't there
-  pub path_turns : (a b m : ℕ) (xs : List Step) (i : ℕ) (s : Step) → i < length xs → s ≡ get_or xs i s → IsPath ss a (take i xs) m → (s.source ≡ m → Contains ss s → ⊥) → IsPath ss a xs b → ⊥
+  pub path_turns : (a b m : ℕ) (xs : List Step) (i : ℕ) (s : Step) → i < length xs → s ≡ get_or xs i s
+      → IsPath ss a (take i xs) m → (s.source ≡ m → Contains ss s → ⊥) → IsPath ss a xs b → ⊥
   path_turns a b m xs i s lt is p never q =
       let r = path_at a b xs i s lt is q in
       never (r.2 ∙ path_end a r.0 m (take i xs) r.1 p) r.3
@@ -59,21 +70,25 @@ module _ (ss : List Step) where
   path_steps a b [] p = All-nil (Contains ss)
   path_steps a b (x ∷ xs) p = All-cons (Contains ss) x xs p.1 (path_steps x.target b xs p.2)
 
-  pub path_chain : (a b : ℕ) (s : Step) (rest : List Step) → IsPath ss a (s ∷ rest) b → IsChain s rest × (last_target s rest ≡ b)
+  pub path_chain : (a b : ℕ) (s : Step) (rest : List Step) → IsPath ss a (s ∷ rest) b → IsChain s rest
+      × (last_target s rest ≡ b)
   path_chain a b s [] p = (tt, p.2)
   path_chain a b s (t ∷ rest) p =
       let r = path_chain s.target b t rest p.2 in
       ((sym p.2.0, r.0), r.1)
 
-  pub chain_path : (s : Step) (rest : List Step) → All (Contains ss) (s ∷ rest) → IsChain s rest → IsPath ss s.source (s ∷ rest) (last_target s rest)
+  pub chain_path : (s : Step) (rest : List Step) → All (Contains ss) (s ∷ rest) → IsChain s rest
+      → IsPath ss s.source (s ∷ rest) (last_target s rest)
   chain_path s [] all c = (refl, All-head (Contains ss) s [] all, refl)
   chain_path s (t ∷ rest) all c =
       let r = chain_path t rest (All-tail (Contains ss) s (t ∷ rest) all) c.1 in
       (refl, All-head (Contains ss) s (t ∷ rest) all, (sym c.0, r.1, r.2))
 
 -- a path between declared variables is a bad walk where their classes are not in order
-pub path_bad : (L : Lattice) (P : Profile) (p : Program) (s : Step) (rest : List Step) (b low high : ℕ) → IsPath (steps_of P p) s.source (s ∷ rest) b
-    → declared_class L p s.source ≡ Some low → declared_class L p b ≡ Some high → (Below L low high → ⊥) → IsBad L P p (s ∷ rest)
+pub path_bad : (L : Lattice) (P : Profile) (p : Program) (s : Step) (rest : List Step) (b low high : ℕ)
+    → IsPath (steps_of P p) s.source (s ∷ rest) b
+    → declared_class L p s.source ≡ Some low → declared_class L p b ≡ Some high → (Below L low high → ⊥)
+    → IsBad L P p (s ∷ rest)
 path_bad L P p s rest b low high w l h down =
     let c = path_chain (steps_of P p) s.source b s rest w in
     record {
@@ -87,12 +102,16 @@ path_bad L P p s rest b low high w l h down =
     }
 
 -- the same of steps whose first one is known
-pub bad_steps : (L : Lattice) (P : Profile) (p : Program) (xs : List Step) (s : Step) (b low high : ℕ) → slice_get xs 0 ≡ Some s → IsPath (steps_of P p) s.source xs b
-    → declared_class L p s.source ≡ Some low → declared_class L p b ≡ Some high → (Below L low high → ⊥) → IsBad L P p xs
-bad_steps L P p [] s b low high e w l h down = absurd (subst (λ o. elim o as (λ _. Type 0) [ None ↦ Unit {0} | Some z ↦ ⊥ ]) e tt)
+pub bad_steps : (L : Lattice) (P : Profile) (p : Program) (xs : List Step) (s : Step) (b low high : ℕ)
+    → slice_get xs 0 ≡ Some s → IsPath (steps_of P p) s.source xs b
+    → declared_class L p s.source ≡ Some low → declared_class L p b ≡ Some high → (Below L low high → ⊥)
+    → IsBad L P p xs
+bad_steps L P p [] s b low high e w l h down = absurd (subst (λ o. elim o as (λ _. Type 0)
+    [ None ↦ Unit {0} | Some z ↦ ⊥ ]) e tt)
 bad_steps L P p (x ∷ xs) s b low high e w l h down =
     let q : x ≡ s = ap (λ o. elim o as (λ _. Step) [ None ↦ x | Some y ↦ y ]) e in
-    path_bad L P p x xs b low high (subst (λ (y : Step). IsPath (steps_of P p) y.source (x ∷ xs) b) (sym q) w) (subst (λ (y : Step). declared_class L p y.source ≡ Some low) (sym q) l) h down
+    path_bad L P p x xs b low high (subst (λ (y : Step). IsPath (steps_of P p) y.source (x ∷ xs) b) (sym q) w)
+    (subst (λ (y : Step). declared_class L p y.source ≡ Some low) (sym q) l) h down
 
 -- a bad walk is a path between declared variables whose classes are not in order
 pub record Bad (L : Lattice) (P : Profile) (p : Program) (xs : List Step) (s : Step) : Type 0 where
@@ -104,7 +123,8 @@ pub record Bad (L : Lattice) (P : Profile) (p : Program) (xs : List Step) (s : S
   pub target : declared_class L p end ≡ Some high
   pub down : Below L low high → ⊥
 
-pub bad_parts : (L : Lattice) (P : Profile) (p : Program) (xs : List Step) (s : Step) → slice_get xs 0 ≡ Some s → IsBad L P p xs → Bad L P p xs s
+pub bad_parts : (L : Lattice) (P : Profile) (p : Program) (xs : List Step) (s : Step) → slice_get xs 0 ≡ Some s
+    → IsBad L P p xs → Bad L P p xs s
 bad_parts L P p [] s e bad = absurd bad
 bad_parts L P p (x ∷ xs) s e bad =
     let q : x ≡ s = ap (λ o. elim o as (λ _. Step) [ None ↦ x | Some y ↦ y ]) e in
@@ -126,7 +146,8 @@ found_there p (x ∷ xs) s e = by (p x) refl (λ f. found_there p xs s f) e
     some_is : (a b : Step) → Some a ≡ Some b → a ≡ b
     some_is a b e = ap (λ o. elim o as (λ _. Step) [ None ↦ a | Some y ↦ y ]) e
 
-    by : (b : Bool) → p x ≡ b → (find p xs ≡ Some s → Contains xs s × (p s ≡ true)) → cond b (Some x) (find p xs) ≡ Some s → Contains (x ∷ xs) s × (p s ≡ true)
+    by : (b : Bool) → p x ≡ b → (find p xs ≡ Some s → Contains xs s × (p s ≡ true))
+        → cond b (Some x) (find p xs) ≡ Some s → Contains (x ∷ xs) s × (p s ≡ true)
     by true t rest e = let q = some_is x s e in ((0, omega arith, q), ap p (sym q) ∙ t)
     by false t rest e = let r = rest e in ((suc r.0.0, omega (arith, r.0.1), r.0.2), r.1)
 
@@ -135,7 +156,8 @@ pub found_none : (p : Step → Bool) (xs : List Step) → find p xs ≡ None →
 found_none p [] e s c t = omega (arith, c.1)
 found_none p (x ∷ xs) e s c t = by (p x) refl (λ f d. found_none p xs f s d t) e c
   where
-    by : (b : Bool) → p x ≡ b → (find p xs ≡ None → Contains xs s → ⊥) → cond b (Some x) (find p xs) ≡ None → Contains (x ∷ xs) s → ⊥
+    by : (b : Bool) → p x ≡ b → (find p xs ≡ None → Contains xs s → ⊥) → cond b (Some x) (find p xs) ≡ None
+        → Contains (x ∷ xs) s → ⊥
     by true u rest e c = subst (λ o. elim o as (λ _. Type 0) [ None ↦ ⊥ | Some z ↦ Unit {0} ]) e tt
     by false u rest e (zero, lt, is) = false≢true (sym u ∙ ap p is ∙ t)
     by false u rest e (suc k, lt, is) = rest e (k, omega (arith, lt), is)
@@ -207,7 +229,8 @@ span_is s t e =
     ap (λ x. record { start = x; stop = s.stop }) a ∙ ap (λ x. record { start = t.start; stop = x }) b
 
 span_self : (s : Span) → same_span s s ≡ true
-span_self s = and_from (s.start == s.start) (s.stop == s.stop) (eq-eqb s.start s.start refl) (eq-eqb s.stop s.stop refl)
+span_self s = and_from (s.start == s.start) (s.stop == s.stop) (eq-eqb s.start s.start refl)
+    (eq-eqb s.stop s.stop refl)
 
 step_is : (x s : Step) → same_step x s ≡ true → s ≡ x
 step_is x s e =
@@ -231,7 +254,8 @@ step_self x =
     and_from (read_is x x.rule x.source x.read) (written_is x x.target x.written)
     (and_from (same_rule x.rule x.rule) ((x.source == x.source) && same_span x.read x.read) (rule_self x.rule)
     (and_from (x.source == x.source) (same_span x.read x.read) (eq-eqb x.source x.source refl) (span_self x.read)))
-    (and_from (x.target == x.target) (same_span x.written x.written) (eq-eqb x.target x.target refl) (span_self x.written))
+    (and_from (x.target == x.target) (same_span x.written x.written) (eq-eqb x.target x.target refl)
+    (span_self x.written))
 
 -- a step is in a list exactly where a step of the list is the same
 pub same_there : (x : Step) (ss : List Step) → list_any (same_step x) ss ≡ true → Contains ss x
@@ -253,29 +277,40 @@ module _ (x : Step) where
   or_false true = refl
   or_false false = refl
 
-  reads_as : (rule : Rule) (scope : List ℕ) (e : Phrase) → guards_pass (guarded rule (reads scope e)) ≡ reads_pass x rule scope e
+  reads_as : (rule : Rule) (scope : List ℕ) (e : Phrase) → guards_pass
+      (guarded rule (reads scope e)) ≡ reads_pass x rule scope e
   reads_as rule scope (Literal z) = refl
   reads_as rule scope (Contents l s) = or_false (read_is x rule (slice_index scope l) s)
   reads_as rule scope (Apply o a b) =
-      more rule (reads scope a) (reads scope b) ∙ ap (λ t. t || guards_pass (guarded rule (reads scope b))) (reads_as rule scope a)
+      more rule (reads scope a) (reads scope b) ∙ ap (λ t. t || guards_pass (guarded rule (reads scope b)))
+      (reads_as rule scope a)
       ∙ ap (λ t. reads_pass x rule scope a || t) (reads_as rule scope b)
     where
-      more : (rule : Rule) (rs qs : List Read) → guards_pass (guarded rule (rs ++ qs)) ≡ (guards_pass (guarded rule rs) || guards_pass (guarded rule qs))
+      more : (rule : Rule) (rs qs : List Read) → guards_pass (guarded rule (rs ++ qs)) ≡
+          (guards_pass (guarded rule rs) || guards_pass (guarded rule qs))
       more rule [] qs = refl
-      more rule (r ∷ rs) qs = ap (λ t. read_is x rule r.variable r.place || t) (more rule rs qs) ∙ or_assoc (read_is x rule r.variable r.place) (guards_pass (guarded rule rs)) (guards_pass (guarded rule qs))
+      more rule (r ∷ rs) qs = ap (λ t. read_is x rule r.variable r.place || t) (more rule rs qs)
+          ∙ or_assoc (read_is x rule r.variable r.place) (guards_pass (guarded rule rs))
+          (guards_pass (guarded rule qs))
         where
           or_assoc : (x y z : Bool) → (x || (y || z)) ≡ ((x || y) || z)
           or_assoc true y z = refl
           or_assoc false y z = refl
 
-  ends_as : (scope : List ℕ) (e : Phrase) → list_any (same_step x) (endings Strict true (reads scope e)) ≡ ends_pass x scope e
+  ends_as : (scope : List ℕ) (e : Phrase) → list_any (same_step x)
+      (endings Strict true (reads scope e)) ≡ ends_pass x scope e
   ends_as scope (Literal z) = refl
   ends_as scope (Contents l s) = or_false (read_is x Loop (slice_index scope l) s && written_is x sink s)
-  ends_as scope (Apply o a b) = more (reads scope a) (reads scope b) ∙ ap (λ t. t || list_any (same_step x) (endings Strict true (reads scope b))) (ends_as scope a) ∙ ap (λ t. ends_pass x scope a || t) (ends_as scope b)
+  ends_as scope (Apply o a b) = more (reads scope a) (reads scope b)
+      ∙ ap (λ t. t || list_any (same_step x) (endings Strict true (reads scope b))) (ends_as scope a)
+      ∙ ap (λ t. ends_pass x scope a || t) (ends_as scope b)
     where
-      more : (rs qs : List Read) → list_any (same_step x) (endings Strict true (rs ++ qs)) ≡ (list_any (same_step x) (endings Strict true rs) || list_any (same_step x) (endings Strict true qs))
+      more : (rs qs : List Read) → list_any (same_step x) (endings Strict true (rs ++ qs)) ≡
+          (list_any (same_step x) (endings Strict true rs) || list_any (same_step x) (endings Strict true qs))
       more [] qs = refl
-      more (r ∷ rs) qs = ap (λ t. (read_is x Loop r.variable r.place && written_is x sink r.place) || t) (more rs qs) ∙ or_assoc (read_is x Loop r.variable r.place && written_is x sink r.place) (list_any (same_step x) (endings Strict true rs)) (list_any (same_step x) (endings Strict true qs))
+      more (r ∷ rs) qs = ap (λ t. (read_is x Loop r.variable r.place && written_is x sink r.place) || t)
+          (more rs qs) ∙ or_assoc (read_is x Loop r.variable r.place && written_is x sink r.place)
+          (list_any (same_step x) (endings Strict true rs)) (list_any (same_step x) (endings Strict true qs))
         where
           or_assoc : (x y z : Bool) → (x || (y || z)) ≡ ((x || y) || z)
           or_assoc true y z = refl
@@ -289,14 +324,18 @@ module _ (x : Step) where
   and_false true = refl
   and_false false = refl
 
-  endings_as : (P : Profile) (looping : Bool) (scope : List ℕ) (e : Phrase) → list_any (same_step x) (endings P looping (reads scope e)) ≡ (ends_pass x scope e && minds P looping)
+  endings_as : (P : Profile) (looping : Bool) (scope : List ℕ) (e : Phrase)
+      → list_any (same_step x) (endings P looping (reads scope e)) ≡ (ends_pass x scope e && minds P looping)
   endings_as Base looping scope e = and_false (ends_pass x scope e)
   endings_as Strict false scope e = and_false (ends_pass x scope e)
   endings_as Strict true scope e = ends_as scope e ∙ and_true (ends_pass x scope e)
 
-  flows_as : (target : ℕ) (written : Span) (gs : List Guard) → list_any (same_step x) (flows target written gs) ≡ (guards_pass gs && written_is x target written)
+  flows_as : (target : ℕ) (written : Span) (gs : List Guard) → list_any (same_step x) (flows target written gs) ≡
+      (guards_pass gs && written_is x target written)
   flows_as target written [] = refl
-  flows_as target written (g ∷ gs) = ap (λ t. (read_is x g.rule g.read.variable g.read.place && written_is x target written) || t) (flows_as target written gs) ∙ distribute (read_is x g.rule g.read.variable g.read.place) (guards_pass gs) (written_is x target written)
+  flows_as target written (g ∷ gs) = ap (λ t. (read_is x g.rule g.read.variable g.read.place
+      && written_is x target written) || t) (flows_as target written gs)
+      ∙ distribute (read_is x g.rule g.read.variable g.read.place) (guards_pass gs) (written_is x target written)
     where
       distribute : (x y b : Bool) → ((x && b) || (y && b)) ≡ ((x || y) && b)
       distribute true y true = refl
@@ -304,36 +343,54 @@ module _ (x : Step) where
       distribute true false false = refl
       distribute false y b = refl
 
-  any_append : (xs ys : List Step) → list_any (same_step x) (xs ++ ys) ≡ (list_any (same_step x) xs || list_any (same_step x) ys)
+  any_append : (xs ys : List Step) → list_any (same_step x) (xs ++ ys) ≡
+      (list_any (same_step x) xs || list_any (same_step x) ys)
   any_append xs ys = list_any-append (same_step x) xs ys
 
   guards_append : (gs hs : List Guard) → guards_pass (gs ++ hs) ≡ (guards_pass gs || guards_pass hs)
   guards_append gs hs = list_any-append (λ (g : Guard). read_is x g.rule g.read.variable g.read.place) gs hs
 
   -- the walk over the commands tells which steps are theirs
-  pub steps_pass : (P : Profile) (names : ℕ → Span) (gs : List Guard) (scope : List ℕ) (n : ℕ) (c : Command) → list_any (same_step x) (steps P names gs scope n c) ≡ passes x P names (guards_pass gs) scope n c
+  pub steps_pass : (P : Profile) (names : ℕ → Span) (gs : List Guard) (scope : List ℕ) (n : ℕ) (c : Command)
+      → list_any (same_step x) (steps P names gs scope n c) ≡ passes x P names (guards_pass gs) scope n c
   steps_pass P names gs scope n Nothing = refl
   steps_pass P names gs scope n (Put l s e) =
       flows_as (slice_index scope l) s (guarded Assign (reads scope e) ++ gs)
-      ∙ ap (λ t. t && written_is x (slice_index scope l) s) (guards_append (guarded Assign (reads scope e)) gs ∙ ap (λ t. t || guards_pass gs) (reads_as Assign scope e))
+      ∙ ap (λ t. t && written_is x (slice_index scope l) s) (guards_append (guarded Assign (reads scope e)) gs
+      ∙ ap (λ t. t || guards_pass gs) (reads_as Assign scope e))
   steps_pass P names gs scope n (Then c d) =
       any_append (steps P names gs scope n c) (steps P names gs scope (n + letvars c) d)
-      ∙ ap (λ t. t || list_any (same_step x) (steps P names gs scope (n + letvars c) d)) (steps_pass P names gs scope n c)
+      ∙ ap (λ t. t || list_any (same_step x) (steps P names gs scope (n + letvars c) d))
+      (steps_pass P names gs scope n c)
       ∙ ap (λ t. passes x P names (guards_pass gs) scope n c || t) (steps_pass P names gs scope (n + letvars c) d)
   steps_pass P names gs scope n (Choose e c d) =
-      let around = guards_append gs (guarded If (reads scope e)) ∙ ap (λ t. guards_pass gs || t) (reads_as If scope e) in
+      let around = guards_append gs (guarded If (reads scope e))
+      ∙ ap (λ t. guards_pass gs || t) (reads_as If scope e) in
       any_append (endings P (has_loop c || has_loop d) (reads scope e)) _
-      ∙ ap (λ t. t || list_any (same_step x) (steps P names (gs ++ guarded If (reads scope e)) scope n c ++ steps P names (gs ++ guarded If (reads scope e)) scope (n + letvars c) d)) (endings_as P (has_loop c || has_loop d) scope e)
+      ∙ ap (λ t. t || list_any (same_step x) (steps P names (gs ++ guarded If (reads scope e)) scope n c
+      ++ steps P names (gs ++ guarded If (reads scope e)) scope (n + letvars c) d))
+      (endings_as P (has_loop c || has_loop d) scope e)
       ∙ ap (λ t. (ends_pass x scope e && minds P (has_loop c || has_loop d)) || t)
-      (any_append (steps P names (gs ++ guarded If (reads scope e)) scope n c) (steps P names (gs ++ guarded If (reads scope e)) scope (n + letvars c) d)
-      ∙ ap (λ t. t || list_any (same_step x) (steps P names (gs ++ guarded If (reads scope e)) scope (n + letvars c) d)) (steps_pass P names (gs ++ guarded If (reads scope e)) scope n c ∙ ap (λ t. passes x P names t scope n c) around)
-      ∙ ap (λ t. passes x P names (guards_pass gs || reads_pass x If scope e) scope n c || t) (steps_pass P names (gs ++ guarded If (reads scope e)) scope (n + letvars c) d ∙ ap (λ t. passes x P names t scope (n + letvars c) d) around))
+      (any_append (steps P names (gs ++ guarded If (reads scope e)) scope n c)
+      (steps P names (gs ++ guarded If (reads scope e)) scope (n + letvars c) d)
+      ∙ ap (λ t. t || list_any (same_step x) (steps P names (gs ++ guarded If (reads scope e)) scope
+      (n + letvars c) d)) (steps_pass P names (gs ++ guarded If (reads scope e)) scope n c
+      ∙ ap (λ t. passes x P names t scope n c) around)
+      ∙ ap (λ t. passes x P names (guards_pass gs || reads_pass x If scope e) scope n c || t)
+      (steps_pass P names (gs ++ guarded If (reads scope e)) scope (n + letvars c) d
+      ∙ ap (λ t. passes x P names t scope (n + letvars c) d) around))
   steps_pass P names gs scope n (Repeat e c) =
-      let around = guards_append gs (guarded While (reads scope e)) ∙ ap (λ t. guards_pass gs || t) (reads_as While scope e) in
+      let around = guards_append gs (guarded While (reads scope e))
+      ∙ ap (λ t. guards_pass gs || t) (reads_as While scope e) in
       any_append (endings P true (reads scope e)) _
-      ∙ ap (λ t. t || list_any (same_step x) (steps P names (gs ++ guarded While (reads scope e)) scope n c)) (endings_as P true scope e)
-      ∙ ap (λ t. (ends_pass x scope e && minds P true) || t) (steps_pass P names (gs ++ guarded While (reads scope e)) scope n c ∙ ap (λ t. passes x P names t scope n c) around)
+      ∙ ap (λ t. t || list_any (same_step x) (steps P names (gs ++ guarded While (reads scope e)) scope n c))
+      (endings_as P true scope e)
+      ∙ ap (λ t. (ends_pass x scope e && minds P true) || t) (steps_pass P names
+      (gs ++ guarded While (reads scope e)) scope n c ∙ ap (λ t. passes x P names t scope n c) around)
   steps_pass P names gs scope n (Allocate e c) =
       any_append (flows n (names n) (guarded Letvar (reads scope e))) _
-      ∙ ap (λ t. t || list_any (same_step x) (steps P names gs (scope ++ n ∷ []) (n + 1) c)) (flows_as n (names n) (guarded Letvar (reads scope e)) ∙ ap (λ t. t && written_is x n (names n)) (reads_as Letvar scope e))
-      ∙ ap (λ t. (reads_pass x Letvar scope e && written_is x n (names n)) || t) (steps_pass P names gs (scope ++ n ∷ []) (n + 1) c)
+      ∙ ap (λ t. t || list_any (same_step x) (steps P names gs (scope ++ n ∷ []) (n + 1) c))
+      (flows_as n (names n) (guarded Letvar (reads scope e))
+      ∙ ap (λ t. t && written_is x n (names n)) (reads_as Letvar scope e))
+      ∙ ap (λ t. (reads_pass x Letvar scope e && written_is x n (names n)) || t)
+      (steps_pass P names gs (scope ++ n ∷ []) (n + 1) c)

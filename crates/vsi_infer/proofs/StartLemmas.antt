@@ -1,19 +1,19 @@
 -- A walk over a whole program has what it needs at its start.
-use Rattle.std.proofs.Common.{◌≡◌, ℕ, ◌+◌, ◌≤◌, List, [], length, map, refl, sym, ap, ◌∙◌, subst, arith}
+use Rattle.std.proofs.Common.{◌≡◌, ℕ, List, [], length, sym, ap, ◌∙◌, subst, arith}
 use Rattle.std.proofs.lemmas.List.{length-map}
 use Rattle.vsi_scope.specs.declared.program.Cmd.{Cmd}
 use Rattle.vsi_scope.specs.declared.resolved.Entry.{Entry}
 use Rattle.vsi_scope.specs.Phrase.{HasPlaces}
 use Rattle.vsi_scope.specs.View.{sequence}
 use Rattle.vsi_scope.specs.Program.{Source, IsResolved}
-use Rattle.std.specs.Prelude.{Bool, true, false, Option, Some, None, Result, Ok, Err, IfOk}
+use Rattle.std.specs.Prelude.{Bool, false, Option, Some, None, Result, Ok, Err, IfOk}
 use Rattle.std.specs.List.{find, list_any}
 use Rattle.vsi_types.specs.declared.rules.Profile.{Profile}
 use Rattle.vsi_types.specs.declared.rules.Step.{Step}
 use Rattle.vsi_types.specs.Steps.{steps}
 use Rattle.vsi_types.specs.Security.{count_from, program, name_place, steps_of}
 use Rattle.vsi_infer.specs.Seeking.{HasRoom, Sought, Place}
-use Rattle.vsi_infer.specs.Membership.{Stand, IsFor, same_step, passes}
+use Rattle.vsi_infer.specs.Membership.{IsFor, same_step, passes}
 use Rattle.vsi_infer.proofs.PassingLemmas.{place}
 use Rattle.vsi_infer.proofs.PathLemmas.{steps_pass}
 use Rattle.vsi_infer.proofs.RowsOf.{length_count}
@@ -22,7 +22,8 @@ module _ (r : Source) (res : IsResolved r) where
   at_start : HasPlaces (length (count_from 0 (length r.globals))) (sequence r.body)
   at_start = subst (λ n. HasPlaces n (sequence r.body)) (sym (length_count 0 (length r.globals))) res.places
 
-  whole_room : HasRoom (length r.globals) (length r.letvars) (place (count_from 0 (length r.globals)) [] (length r.globals)) (sequence r.body)
+  whole_room : HasRoom (length r.globals) (length r.letvars) (place (count_from 0 (length r.globals)) []
+      (length r.globals)) (sequence r.body)
   whole_room = record {
     places = at_start;
     after = omega arith;
@@ -30,7 +31,8 @@ module _ (r : Source) (res : IsResolved r) where
     small = omega (arith, res.entries, res.few_declarations);
   }
 
-  whole_for : IsFor (length r.globals) (length r.letvars) (record { scope = count_from 0 (length r.globals); next = length r.globals }) (sequence r.body)
+  whole_for : IsFor (length r.globals) (length r.letvars) (record
+      { scope = count_from 0 (length r.globals); next = length r.globals }) (sequence r.body)
   whole_for = record {
     places = at_start;
     after = omega arith;
@@ -39,22 +41,30 @@ module _ (r : Source) (res : IsResolved r) where
     room = omega (arith, length_count 0 (length r.globals), res.few_globals, res.nested);
   }
 
-  module _ (scope : List ℕ) (n : ℕ) (entries : List Entry) (body : List Cmd) (s : scope ≡ count_from 0 n) (g : n ≡ length r.globals) (ls : entries ≡ r.letvars) (b : body ≡ r.body) where
+  module _ (scope : List ℕ) (n : ℕ) (entries : List Entry) (body : List Cmd) (s : scope ≡ count_from 0 n)
+      (g : n ≡ length r.globals) (ls : entries ≡ r.letvars) (b : body ≡ r.body) where
     pub start_room : HasRoom n (length entries) (place scope [] n) (sequence body)
     start_room =
         subst (λ t. HasRoom n (length entries) (place t [] n) (sequence body)) (sym s)
         (subst (λ (m : ℕ). HasRoom m (length entries) (place (count_from 0 m) [] m) (sequence body)) (sym g)
-        (subst (λ l. HasRoom (length r.globals) (length l) (place (count_from 0 (length r.globals)) [] (length r.globals)) (sequence body)) (sym ls)
-        (subst (λ l. HasRoom (length r.globals) (length r.letvars) (place (count_from 0 (length r.globals)) [] (length r.globals)) (sequence l)) (sym b) whole_room)))
+        (subst (λ l. HasRoom (length r.globals) (length l) (place (count_from 0 (length r.globals)) []
+        (length r.globals)) (sequence body)) (sym ls)
+        (subst (λ l. HasRoom (length r.globals) (length r.letvars)
+        (place (count_from 0 (length r.globals)) [] (length r.globals)) (sequence l)) (sym b) whole_room)))
 
     pub start_for : IsFor n (length entries) (record { scope = scope; next = n }) (sequence body)
     start_for =
         subst (λ t. IsFor n (length entries) (record { scope = t; next = n }) (sequence body)) (sym s)
-        (subst (λ (m : ℕ). IsFor m (length entries) (record { scope = count_from 0 m; next = m }) (sequence body)) (sym g)
-        (subst (λ l. IsFor (length r.globals) (length l) (record { scope = count_from 0 (length r.globals); next = length r.globals }) (sequence body)) (sym ls)
-        (subst (λ l. IsFor (length r.globals) (length r.letvars) (record { scope = count_from 0 (length r.globals); next = length r.globals }) (sequence l)) (sym b) whole_for)))
+        (subst (λ (m : ℕ). IsFor m (length entries) (record { scope = count_from 0 m; next = m }) (sequence body))
+        (sym g)
+        (subst (λ l. IsFor (length r.globals) (length l) (record
+        { scope = count_from 0 (length r.globals); next = length r.globals }) (sequence body)) (sym ls)
+        (subst (λ l. IsFor (length r.globals) (length r.letvars)
+        (record { scope = count_from 0 (length r.globals); next = length r.globals }) (sequence l))
+        (sym b) whole_for)))
 
-    pub start_steps : (P : Profile) → steps P (name_place entries n) [] scope n (sequence body) ≡ steps_of P (program r)
+    pub start_steps : (P : Profile) → steps P (name_place entries n) [] scope n (sequence body) ≡ steps_of P
+        (program r)
     start_steps P =
         let m : n ≡ length (program r).globals = g ∙ sym (length-map r.globals (λ x. x.class)) in
         ap (λ t. steps P (name_place entries n) [] t n (sequence body)) s
@@ -63,10 +73,14 @@ module _ (r : Source) (res : IsResolved r) where
         ∙ ap (λ (k : ℕ). steps P (name_place r.letvars k) [] (count_from 0 n) n (sequence r.body)) g
         ∙ ap (λ (k : ℕ). steps P (name_place r.letvars (length r.globals)) [] (count_from 0 k) k (sequence r.body)) m
 
-    pub start_passes : (x : Step) (P : Profile) → passes x P (name_place entries n) false scope n (sequence body) ≡ list_any (same_step x) (steps_of P (program r))
-    start_passes x P = sym (steps_pass x P (name_place entries n) [] scope n (sequence body)) ∙ ap (list_any (same_step x)) (start_steps P)
+    pub start_passes : (x : Step) (P : Profile) → passes x P (name_place entries n) false scope n
+        (sequence body) ≡ list_any (same_step x) (steps_of P (program r))
+    start_passes x P = sym (steps_pass x P (name_place entries n) [] scope n (sequence body))
+        ∙ ap (list_any (same_step x)) (start_steps P)
 
-    pub start_sought : {E : Type 0} (P : Profile) (p : Step → Bool) (z : Place) (o : Result (Option Step) E) → Sought P (name_place entries n) p (place scope [] n) (sequence body) z o → IfOk o (λ t. t ≡ find p (steps_of P (program r)))
+    pub start_sought : {E : Type 0} (P : Profile) (p : Step → Bool) (z : Place) (o : Result (Option Step) E)
+        → Sought P (name_place entries n) p (place scope [] n) (sequence body) z o
+        → IfOk o (λ t. t ≡ find p (steps_of P (program r)))
     start_sought P p z (Ok (Some x)) h = sym h ∙ ap (find p) (start_steps P)
     start_sought P p z (Ok None) h = sym h.nothing ∙ ap (find p) (start_steps P)
     start_sought P p z (Err e) h = tt

@@ -1,11 +1,11 @@
 -- Each step goes to a variable, or to the ending of a loop.
-use Rattle.std.proofs.Common.{◌≡◌, ◌≢◌, ℕ, zero, suc, ◌+◌, ◌<◌, ◌≤◌, ◌==◌, cond, Bool, true, false, ◌||◌, List, [], ◌∷◌, ◌++◌, map, length, refl, sym, ap, ◌∙◌, subst, arith, eq-eqb, ne_eqb}
+use Rattle.std.proofs.Common.{◌≡◌, ℕ, ◌+◌, ◌<◌, ◌≤◌, cond, Bool, true, false, ◌||◌, List, [], ◌∷◌, ◌++◌, length, refl, sym, ap, subst, arith, eq-eqb, ne_eqb}
 use Rattle.std.specs.Prelude.{slice_index}
 use Rattle.std.specs.List.{All}
 use Rattle.std.proofs.lemmas.List.{length_push}
 use Rattle.std.proofs.lemmas.List.Elements.{All-nil, All-cons, All-append, All-push, All-get_or}
 use Rattle.vsi_syntax.specs.declared.token.Span.{Span}
-use Rattle.vsi_scope.specs.Phrase.{Phrase, Command, Nothing, Put, Then, Choose, Repeat, Allocate, letvars, has_loop, HasPlaces}
+use Rattle.vsi_scope.specs.Phrase.{Command, Nothing, Put, Then, Choose, Repeat, Allocate, letvars, has_loop, HasPlaces}
 use Rattle.vsi_types.specs.declared.rules.Profile.{Profile}
 use Rattle.vsi_types.specs.declared.rules.Profile.TheVariants.{Base, Strict}
 use Rattle.vsi_types.specs.declared.rules.Rule.TheVariants.{Assign, If, While, Letvar, Loop}
@@ -21,34 +21,72 @@ HasTarget k s = (b : ℕ) × (b ≤ k) × (s.target ≡ variable_at k b)
 
 module _ (k : ℕ) where
   to_variable : (s : Step) → s.target < k → HasTarget k s
-  to_variable s lt = (s.target, omega (arith, lt), sym (ap (λ t. cond t sink s.target) (ne_eqb s.target k (λ e. omega (arith, lt, e)))))
+  to_variable s lt = (
+    s.target,
+    omega (arith, lt),
+    sym (ap (λ t. cond t sink s.target)
+        (ne_eqb s.target k (λ e. omega (arith, lt, e)))),
+  )
 
-  flows_to : (target : ℕ) (written : Span) (gs : List Guard) → target < k → All (HasTarget k) (flows target written gs)
+  flows_to : (target : ℕ) (written : Span) (gs : List Guard) → target < k
+      → All (HasTarget k) (flows target written gs)
   flows_to target written [] lt = All-nil (HasTarget k)
-  flows_to target written (g ∷ gs) lt = All-cons (HasTarget k) (record { rule = g.rule; source = g.read.variable; target = target; read = g.read.place; written = written }) (flows target written gs) (to_variable (record { rule = g.rule; source = g.read.variable; target = target; read = g.read.place; written = written }) lt) (flows_to target written gs lt)
+  flows_to target written (g ∷ gs) lt = All-cons (HasTarget k)
+      (record { rule = g.rule; source = g.read.variable; target = target; read = g.read.place; written = written })
+      (flows target written gs) (to_variable (record {
+        rule = g.rule;
+        source = g.read.variable;
+        target =
+            target;
+        read = g.read.place;
+        written = written;
+      }) lt) (flows_to target written gs lt)
 
   loops_to : (rs : List Read) → All (HasTarget k) (endings Strict true rs)
   loops_to [] = All-nil (HasTarget k)
-  loops_to (r ∷ rs) = All-cons (HasTarget k) (record { rule = Loop; source = r.variable; target = sink; read = r.place; written = r.place }) (endings Strict true rs) (k, omega arith, sym (ap (λ t. cond t sink k) (eq-eqb k k refl))) (loops_to rs)
+  loops_to (r ∷ rs) = All-cons (HasTarget k) (record {
+    rule = Loop;
+    source = r.variable;
+    target = sink;
+    read =
+        r.place;
+    written = r.place;
+  }) (endings Strict true rs) (
+    k,
+    omega arith,
+    sym (ap (λ t. cond t sink k) (eq-eqb k k refl)),
+  ) (loops_to rs)
 
   endings_to : (P : Profile) (looping : Bool) (rs : List Read) → All (HasTarget k) (endings P looping rs)
   endings_to Base looping rs = All-nil (HasTarget k)
   endings_to Strict false rs = All-nil (HasTarget k)
   endings_to Strict true rs = loops_to rs
 
-  pub targets : (P : Profile) (names : ℕ → Span) (gs : List Guard) (scope : List ℕ) (n : ℕ) (c : Command) → HasPlaces (length scope) c → n + letvars c ≤ k → All (λ v. v < k) scope → All (HasTarget k) (steps P names gs scope n c)
+  pub targets : (P : Profile) (names : ℕ → Span) (gs : List Guard) (scope : List ℕ) (n : ℕ) (c : Command)
+      → HasPlaces (length scope) c → n + letvars c ≤ k → All (λ v. v < k) scope
+      → All (HasTarget k) (steps P names gs scope n c)
   targets P names gs scope n Nothing places limit all = All-nil (HasTarget k)
-  targets P names gs scope n (Put l s e) places limit all = flows_to (slice_index scope l) s (guarded Assign (reads scope e) ++ gs) (All-get_or (λ v. v < k) scope l 0 places.0 all)
+  targets P names gs scope n (Put l s e) places limit all = flows_to (slice_index scope l) s
+      (guarded Assign (reads scope e) ++ gs) (All-get_or (λ v. v < k) scope l 0 places.0 all)
   targets P names gs scope n (Then c d) places limit all =
-      All-append (HasTarget k) (steps P names gs scope n c) (steps P names gs scope (n + letvars c) d) (targets P names gs scope n c places.0 (omega (arith, limit)) all) (targets P names gs scope (n + letvars c) d places.1 (omega (arith, limit)) all)
+      All-append (HasTarget k) (steps P names gs scope n c) (steps P names gs scope (n + letvars c) d)
+      (targets P names gs scope n c places.0 (omega (arith, limit)) all)
+      (targets P names gs scope (n + letvars c) d places.1 (omega (arith, limit)) all)
   targets P names gs scope n (Choose e c d) places limit all =
-      All-append (HasTarget k) (endings P (has_loop c || has_loop d) (reads scope e)) _ (endings_to P (has_loop c || has_loop d) (reads scope e))
-      (All-append (HasTarget k) (steps P names (gs ++ guarded If (reads scope e)) scope n c) (steps P names (gs ++ guarded If (reads scope e)) scope (n + letvars c) d)
-      (targets P names (gs ++ guarded If (reads scope e)) scope n c places.1 (omega (arith, limit)) all) (targets P names (gs ++ guarded If (reads scope e)) scope (n + letvars c) d places.2 (omega (arith, limit)) all))
+      All-append (HasTarget k) (endings P (has_loop c || has_loop d) (reads scope e)) _
+      (endings_to P (has_loop c || has_loop d) (reads scope e))
+      (All-append (HasTarget k) (steps P names (gs ++ guarded If (reads scope e)) scope n c)
+      (steps P names (gs ++ guarded If (reads scope e)) scope (n + letvars c) d)
+      (targets P names (gs ++ guarded If (reads scope e)) scope n c places.1 (omega (arith, limit)) all)
+      (targets P names (gs ++ guarded If (reads scope e)) scope (n + letvars c) d places.2
+      (omega (arith, limit)) all))
   targets P names gs scope n (Repeat e c) places limit all =
-      All-append (HasTarget k) (endings P true (reads scope e)) _ (endings_to P true (reads scope e)) (targets P names (gs ++ guarded While (reads scope e)) scope n c places.1 (omega (arith, limit)) all)
+      All-append (HasTarget k) (endings P true (reads scope e)) _ (endings_to P true (reads scope e))
+      (targets P names (gs ++ guarded While (reads scope e)) scope n c places.1 (omega (arith, limit)) all)
   targets P names gs scope n (Allocate e c) places limit all =
       let lt : n < k = omega (arith, limit) in
       let size : length (scope ++ n ∷ []) ≡ length scope + 1 = length_push scope n in
-      All-append (HasTarget k) (flows n (names n) (guarded Letvar (reads scope e))) _ (flows_to n (names n) (guarded Letvar (reads scope e)) lt)
-      (targets P names gs (scope ++ n ∷ []) (n + 1) c (subst (λ m. HasPlaces m c) (sym size) places.1) (omega (arith, limit)) (All-push (λ v. v < k) scope n all lt))
+      All-append (HasTarget k) (flows n (names n) (guarded Letvar (reads scope e))) _
+      (flows_to n (names n) (guarded Letvar (reads scope e)) lt)
+      (targets P names gs (scope ++ n ∷ []) (n + 1) c (subst (λ m. HasPlaces m c) (sym size) places.1)
+      (omega (arith, limit)) (All-push (λ v. v < k) scope n all lt))

@@ -25,7 +25,8 @@ module _ (size : ℕ) (leq : ℕ → ℕ → Bool) (flows : ℕ → ℕ → Bool
   -- typable, and below every typable choice at each variable
   pub record IsLeastTypable (s : List ℕ) : Type 0 where
     pub typable : IsTypable s
-    pub least : (t : List ℕ) → IsTypable t → (v : ℕ) → v < length declared → leq (slice_index s v) (slice_index t v) ≡ true
+    pub least : (t : List ℕ) → IsTypable t → (v : ℕ) → v < length declared
+        → leq (slice_index s v) (slice_index t v) ≡ true
 
   -- a walk of n flows from one declared variable to another whose class is not above the first one's
   pub record IsBadWalk (n a b : ℕ) : Type 0 where
@@ -50,11 +51,13 @@ module _ (size : ℕ) (leq : ℕ → ℕ → Bool) (flows : ℕ → ℕ → Bool
 
   -- the flows into omitted variables are in order
   abbrev pub IsRaised : List ℕ → Type 0
-  IsRaised s = (a b : ℕ) → slice_get declared b ≡ Some None → flows a b ≡ true → leq (slice_index s a) (slice_index s b) ≡ true
+  IsRaised s = (a b : ℕ) → slice_get declared b ≡ Some None → flows a b ≡ true
+      → leq (slice_index s a) (slice_index s b) ≡ true
 
   -- each flow into an omitted variable is in order, or waits to be seen to
   pub record Waits (s waiting : List ℕ) (from next : ℕ) : Type 0 where
-    pub each : (a b : ℕ) → slice_get declared b ≡ Some None → flows a b ≡ true → (Contains waiting a ⊎ (leq (slice_index s a) (slice_index s b) ≡ true)) ⊎ ((a ≡ from) × (next ≤ b))
+    pub each : (a b : ℕ) → slice_get declared b ≡ Some None → flows a b ≡ true
+        → (Contains waiting a ⊎ (leq (slice_index s a) (slice_index s b) ≡ true)) ⊎ ((a ≡ from) × (next ≤ b))
     pub within : (v : ℕ) → Contains waiting v → v < length declared
 
   -- the declared classes are of the lattice, and the flows are between variables
@@ -66,8 +69,10 @@ module _ (size : ℕ) (leq : ℕ → ℕ → Bool) (flows : ℕ → ℕ → Bool
 abbrev pub IsInOrder : (ℕ → ℕ → Bool) → (ℕ → ℕ → Bool) → List ℕ → ℕ → ℕ → Type 0
 IsInOrder leq flows s a b = flows a b ≡ true → leq (slice_index s a) (slice_index s b) ≡ true
 
+-- a flow between variables that is out of order
 abbrev pub IsOutOfOrder : (ℕ → ℕ → Bool) → (ℕ → ℕ → Bool) → List ℕ → ℕ → ℕ → Type 0
-IsOutOfOrder leq flows s a b = (a < length s) × (b < length s) × (flows a b ≡ true) × (leq (slice_index s a) (slice_index s b) ≡ false)
+IsOutOfOrder leq flows s a b = (a < length s) × (b < length s) × (flows a b ≡ true)
+    × (leq (slice_index s a) (slice_index s b) ≡ false)
 
 -- the class at one place became the join of two
 pub record IsRaiseOf (size : ℕ) (leq : ℕ → ℕ → Bool) (old new : List ℕ) (from to : ℕ) : Type 0 where

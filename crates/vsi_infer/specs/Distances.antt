@@ -5,6 +5,7 @@ use Rattle.std.specs.Prelude.{◌≡◌, ℕ, zero, suc, ◌+◌, ◌<◌, ◌�
 abbrev pub none : ℕ
 none = 65535
 
+-- a place is a goal
 abbrev pub IsGoal : List Bool → ℕ → Type 0
 IsGoal goals v = slice_index_or goals v false ≡ true
 
@@ -42,6 +43,7 @@ module _ (flows : ℕ → ℕ → Bool) where
   abbrev pub IsSeen : ℕ → List ℕ → ℕ → Type 0
   IsSeen level far b = (a : ℕ) → flows a b ≡ true → slice_index far a ≤ level + 1
 
+  -- numbers only fell, and some place was reached where more is said
   pub record Moved (level : ℕ) (old new : List ℕ) (more : Bool) : Type 0 where
     pub down : (v : ℕ) → slice_index new v ≤ slice_index old v
     pub level_kept : (v : ℕ) → slice_index new v ≡ level → slice_index old v ≡ level

@@ -1,5 +1,5 @@
 -- What the inference answers.
-use Rattle.std.specs.Prelude.{◌≡◌, ℕ, ◌+◌, ◌≤◌, Option, Some, IfSome, List, [], ◌∷◌, ◌++◌, map, length}
+use Rattle.std.specs.Prelude.{ℕ, ◌≤◌, Option, Some, IfSome, List, [], ◌∷◌, ◌++◌, map, length}
 use Rattle.std.specs.List.{All, AllZip}
 use Rattle.vsi_lattice.specs.Order.{Lattice, IsClass, Below}
 use Rattle.vsi_types.specs.declared.rules.Profile.{Profile}

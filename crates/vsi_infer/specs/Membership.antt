@@ -1,12 +1,10 @@
 -- A step among those of a program, without a list of the guards around.
 use Rattle.std.specs.Prelude.{◌≡◌, ℕ, ◌+◌, ◌≤◌, ◌==◌, Bool, true, false, ◌&&◌, ◌||◌, List, [], ◌∷◌, ◌++◌, length, slice_index}
-use Rattle.std.specs.List.{list_any}
 use Rattle.vsi_syntax.specs.declared.token.Span.{Span}
 use Rattle.vsi_scope.specs.Phrase.{Phrase, Literal, Contents, Apply, Command, Nothing, Put, Then, Choose, Repeat, Allocate, letvars, has_loop, nesting, HasPlaces}
 use Rattle.vsi_types.specs.declared.rules.Profile.{Profile}
 use Rattle.vsi_types.specs.declared.rules.Rule.{Rule}
 use Rattle.vsi_types.specs.declared.rules.Rule.TheVariants.{Assign, If, While, Letvar, Loop}
-use Rattle.vsi_types.specs.declared.rules.Guard.{Guard}
 use Rattle.vsi_types.specs.declared.rules.Step.{Step}
 use Rattle.vsi_types.specs.Steps.{sink}
 use Rattle.vsi_infer.specs.Leading.{minds}
@@ -83,7 +81,8 @@ pub record IsFor (first count : ℕ) (a : Stand) (c : Command) : Type 0 where
   pub room : length a.scope + nesting c ≤ 456
 
 -- the answer for a command, and where the cursor stands after it
-pub record IsPast (x : Step) (P : Profile) (names : ℕ → Span) (around : Bool) (a : Stand) (c : Command) (b : Stand) (found : Bool) : Type 0 where
+pub record IsPast (x : Step) (P : Profile) (names : ℕ → Span) (around : Bool) (a : Stand) (c : Command) (b : Stand)
+    (found : Bool) : Type 0 where
   pub answer : found ≡ passes x P names around a.scope a.next c
   pub scope : b.scope ≡ a.scope
   pub next : b.next ≡ a.next + letvars c

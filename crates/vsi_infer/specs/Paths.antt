@@ -1,5 +1,5 @@
 -- Walks through steps of a list.
-use Rattle.std.specs.Prelude.{◌≡◌, ℕ, ◌+◌, List, [], ◌∷◌}
+use Rattle.std.specs.Prelude.{◌≡◌, ℕ, List, [], ◌∷◌}
 use Rattle.std.specs.List.{Contains}
 use Rattle.vsi_types.specs.declared.rules.Step.{Step}
 

@@ -27,14 +27,16 @@ pub record HasRoom (first count : ℕ) (a : Place) (c : Command) : Type 0 where
   pub small : first + count ≤ 1024
 
 -- nothing was found, and the place after the command
-pub record IsPassed (P : Profile) (names : ℕ → Span) (wants : Step → Bool) (a : Place) (c : Command) (b : Place) : Type 0 where
+pub record IsPassed (P : Profile) (names : ℕ → Span) (wants : Step → Bool) (a : Place) (c : Command)
+    (b : Place) : Type 0 where
   pub nothing : find wants (steps P names a.guards a.scope a.next c) ≡ None
   pub scope : b.scope ≡ a.scope
   pub guards : b.guards ≡ a.guards
   pub next : b.next ≡ a.next + letvars c
 
 -- the first step of the command that is wanted, if there is one
-abbrev pub Sought : {E : Type 0} → Profile → (ℕ → Span) → (Step → Bool) → Place → Command → Place → Result (Option Step) E → Type 0
+abbrev pub Sought : {E : Type 0} → Profile → (ℕ → Span) → (Step → Bool) → Place → Command → Place
+    → Result (Option Step) E → Type 0
 Sought P names wants a c b (Ok (Some s)) = find wants (steps P names a.guards a.scope a.next c) ≡ Some s
 Sought P names wants a c b (Ok None) = IsPassed P names wants a c b
 Sought P names wants a c b (Err e) = Unit {0}

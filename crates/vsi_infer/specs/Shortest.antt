@@ -1,7 +1,7 @@
 -- Which steps begin a shortest bad walk, and which go on with it.
-use Rattle.std.specs.Prelude.{◌≡◌, ◌⊎◌, ℕ, suc, ◌+◌, ◌<◌, ◌≤◌, ◌==◌, ◌&&◌, Bool, true, false, not, cond, Option, Some, None, List, [], map, length, slice_index, slice_index_or, slice_get}
+use Rattle.std.specs.Prelude.{◌≡◌, ◌⊎◌, ℕ, suc, ◌<◌, ◌≤◌, ◌==◌, ◌&&◌, Bool, false, not, cond, Option, Some, None, List, [], map, length, slice_index, slice_index_or, slice_get}
 use Rattle.std.specs.List.{Contains}
-use Rattle.vsi_lattice.specs.Order.{Lattice, IsClass}
+use Rattle.vsi_lattice.specs.Order.{Lattice}
 use Rattle.vsi_types.specs.declared.rules.Step.{Step}
 use Rattle.vsi_types.specs.Steps.{sink}
 use Rattle.vsi_infer.specs.Distances.{AreDistances}

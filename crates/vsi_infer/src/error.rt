@@ -9,7 +9,9 @@ use std::alloc::{AllocError, AllocFailed};
 /// Why no classes are found.
 #[derive(Debug, Drop)]
 pub enum InferError {
+    /// There was too little memory.
     Memory,
+    /// No choice of classes is typable: a bad walk, and none has fewer steps.
     Refused(Walk),
 }
 

@@ -122,7 +122,8 @@ fn put_steps(
     program: &Resolved<'_>,
     steps: &[Step],
 ) -> Result<(), AllocError>
-    ensures { OnOk result (text.new.items ≡ text.old.items ++ flat_map (spec.step_line source.now program.now) steps.now) }
+    ensures { OnOk result (text.new.items ≡ text.old.items ++ flat_map
+        (spec.step_line source.now program.now) steps.now) }
 {
     for step in steps {
         put_step(text, source, program, step)?;

@@ -35,7 +35,7 @@ fn declared_table<C: Classes>(
     Ok(table)
 }
 
-/// The least typable choice of classes under a profile.
+/// The least typable choice of classes under a profile, a class for each `letvar` in text order; else `Refused`.
 pub fn infer_in<C: Classes>(
     alloc: Heap,
     profile: Profile,
@@ -59,7 +59,7 @@ pub fn infer_in<C: Classes>(
     Ok(choice[first..first + count].to_vec(alloc)?)
 }
 
-/// The least typable choice of classes.
+/// The least typable choice of classes under the base profile.
 pub fn infer<C: Classes>(
     alloc: Heap,
     lattice: &C,

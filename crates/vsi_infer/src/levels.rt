@@ -62,9 +62,11 @@ pub fn levels<C: Classes, F: Flow>(
 ) -> Result<Vec<Vec<u16>>, AllocError>
     requires declared { AreClasses (C.lattice lattice.now) declared.now }
     requires small { length declared.now ≤ 1025 }
-    requires within { (a b : ℕ) → F.flows flow.now a b ≡ true → (a < length declared.now) × (b < length declared.now) }
+    requires within { (a b : ℕ) → F.flows flow.now a b ≡ true → (a < length declared.now)
+        × (b < length declared.now) }
     ensures count { IfOk result (λ t. length t.items ≡ (C.lattice lattice.now).count) }
-    ensures levels { IfOk result (λ t. AreLevels (C.lattice lattice.now) (F.flows flow.now) declared.now (map (λ r. r.items) t.items)) }
+    ensures levels { IfOk result (λ t. AreLevels (C.lattice lattice.now) (F.flows flow.now) declared.now
+        (map (λ r. r.items) t.items)) }
 {
     let mut rows = empty_rows(alloc, lattice.count())?;
     for v in 0..declared.len() {

@@ -1,4 +1,9 @@
-//! The least classes that are typable, or a shortest bad walk that shows why there are none.
+//! The inference of classes.
+//!
+//! A resolved program over a lattice comes in; out come the least classes that are typable, one for each
+//! `letvar` (clause `ok` of `infer_in`), or a bad walk such that no bad walk has fewer steps (clause `refused`).
+//! `check_walk_in` tells bad walks from others without memory, and `explain` writes one as text. The laws of bad
+//! walks stand in `laws`.
 #![tactic(auto)]
 
 mod distances;

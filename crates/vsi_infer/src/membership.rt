@@ -106,7 +106,8 @@ fn pass_assign(
 ) -> bool
     requires places { HasLocations (length cursor.now.scope.items) (phrase value.now) }
     requires target { location < length cursor.now.scope.items }
-    ensures { result ≡ ((reads_pass_of step.now Assign cursor.now.scope.items (phrase value.now) || around) && written_is_of step.now (slice_index cursor.now.scope.items location) span) }
+    ensures { result ≡ ((reads_pass_of step.now Assign cursor.now.scope.items (phrase value.now) || around)
+        && written_is_of step.now (slice_index cursor.now.scope.items location) span) }
 {
     let target = cursor.scope[location as usize];
     (reads_pass(step, Rule::Assign, &cursor.scope, value) || around)
@@ -126,8 +127,10 @@ fn pass_if(
     other: &[Cmd],
     guard: &Ex,
 ) -> bool
-    requires { IsFor first (length entries.now) (stand_of cursor.old) (Choose (phrase guard.now) (sequence yes.now) (sequence other.now)) }
-    ensures { IsPast step.now profile (name_place entries.now first) around (stand_of cursor.old) (Choose (phrase guard.now) (sequence yes.now) (sequence other.now)) (stand_of cursor.new) result }
+    requires { IsFor first (length entries.now) (stand_of cursor.old)
+        (Choose (phrase guard.now) (sequence yes.now) (sequence other.now)) }
+    ensures { IsPast step.now profile (name_place entries.now first) around (stand_of cursor.old)
+        (Choose (phrase guard.now) (sequence yes.now) (sequence other.now)) (stand_of cursor.new) result }
 {
     let ends = ends_pass(step, &cursor.scope, guard) && minds(profile, loops(yes) || loops(other));
     let inner = around || reads_pass(step, Rule::If, &cursor.scope, guard);
@@ -148,8 +151,10 @@ fn pass_while(
     body: &[Cmd],
     guard: &Ex,
 ) -> bool
-    requires { IsFor first (length entries.now) (stand_of cursor.old) (Repeat (phrase guard.now) (sequence body.now)) }
-    ensures { IsPast step.now profile (name_place entries.now first) around (stand_of cursor.old) (Repeat (phrase guard.now) (sequence body.now)) (stand_of cursor.new) result }
+    requires { IsFor first (length entries.now) (stand_of cursor.old)
+        (Repeat (phrase guard.now) (sequence body.now)) }
+    ensures { IsPast step.now profile (name_place entries.now first) around (stand_of cursor.old)
+        (Repeat (phrase guard.now) (sequence body.now)) (stand_of cursor.new) result }
 {
     let ends = ends_pass(step, &cursor.scope, guard) && minds(profile, true);
     let inner = around || reads_pass(step, Rule::While, &cursor.scope, guard);
@@ -169,8 +174,10 @@ fn pass_letvar(
     body: &[Cmd],
     value: &Ex,
 ) -> bool
-    requires { IsFor first (length entries.now) (stand_of cursor.old) (Allocate (phrase value.now) (sequence body.now)) }
-    ensures { IsPast step.now profile (name_place entries.now first) around (stand_of cursor.old) (Allocate (phrase value.now) (sequence body.now)) (stand_of cursor.new) result }
+    requires { IsFor first (length entries.now) (stand_of cursor.old)
+        (Allocate (phrase value.now) (sequence body.now)) }
+    ensures { IsPast step.now profile (name_place entries.now first) around (stand_of cursor.old)
+        (Allocate (phrase value.now) (sequence body.now)) (stand_of cursor.new) result }
 {
     let variable = cursor.next;
     let written = entries[(cursor.next - first) as usize].span;
@@ -196,7 +203,8 @@ pub fn pass_commands(
     body: &[Cmd],
 ) -> bool
     requires { IsFor first (length entries.now) (stand_of cursor.old) (sequence body.now) }
-    ensures { IsPast step.now profile (name_place entries.now first) around (stand_of cursor.old) (sequence body.now) (stand_of cursor.new) result }
+    ensures { IsPast step.now profile (name_place entries.now first) around (stand_of cursor.old)
+        (sequence body.now) (stand_of cursor.new) result }
 {
     let mut found = false;
     for c in body {
@@ -218,7 +226,8 @@ fn pass_command(
     c: &Cmd,
 ) -> bool
     requires { IsFor first (length entries.now) (stand_of cursor.old) (command c.now) }
-    ensures { IsPast step.now profile (name_place entries.now first) around (stand_of cursor.old) (command c.now) (stand_of cursor.new) result }
+    ensures { IsPast step.now profile (name_place entries.now first) around (stand_of cursor.old) (command c.now)
+        (stand_of cursor.new) result }
 {
     match c {
         Cmd::Assign { loc, span, value } => pass_assign(cursor, step, around, *loc, *span, value),

@@ -27,7 +27,8 @@ fn note_reads(rows: &mut [u64], row: usize, scope: &[Var], e: &Ex)
     requires scope { All (λ v. v < 1024) scope.now }
     requires room { row * 16 + 16 ≤ length rows.old }
     ensures len { length rows.new ≡ length rows.old }
-    ensures bits { (a b : ℕ) → flow_has rows.new b a ≡ (flow_has rows.old b a || ((b == row) && reads_it scope.now (phrase e.now) a)) }
+    ensures bits { (a b : ℕ) → flow_has rows.new b a ≡ (flow_has rows.old b a ||
+        ((b == row) && reads_it scope.now (phrase e.now) a)) }
 {
     match e {
         Ex::Num(_) => {}
@@ -60,7 +61,9 @@ fn note_ending(walk: &mut Noting, profile: Profile, looping: bool, sink: u16, gu
     ensures scope { walk.new.scope.items ≡ walk.old.scope.items }
     ensures next { walk.new.next ≡ walk.old.next }
     ensures len { length walk.new.rows.items ≡ length walk.old.rows.items }
-    ensures bits { (a b : ℕ) → flow_has walk.new.rows.items b a ≡ (flow_has walk.old.rows.items b a || (minds_it profile looping && ((b == sink) && reads_it walk.old.scope.items (phrase guard.now) a))) }
+    ensures bits { (a b : ℕ) → flow_has walk.new.rows.items b a ≡
+        (flow_has walk.old.rows.items b a || (minds_it profile looping
+        && ((b == sink) && reads_it walk.old.scope.items (phrase guard.now) a))) }
 {
     if minds(profile, looping) {
         note_reads(&mut walk.rows, sink as usize, &walk.scope, guard);
@@ -89,7 +92,8 @@ fn note_assign(
     value: &Ex,
 )
     requires { IsReady sink (spot_of walk.old) (Put location span (phrase value.now)) }
-    ensures { IsNoted profile sink (row_reads around.now) (spot_of walk.old) (Put location span (phrase value.now)) (spot_of walk.new) }
+    ensures { IsNoted profile sink (row_reads around.now) (spot_of walk.old) (Put location span (phrase value.now))
+        (spot_of walk.new) }
 {
     let target = walk.scope[location as usize];
     let row = target.0 as usize;
@@ -108,8 +112,10 @@ fn note_if(
     second: &[Cmd],
     guard: &Ex,
 ) -> Result<bool, AllocError>
-    requires { IsReady sink (spot_of walk.old) (Choose (phrase guard.now) (sequence first.now) (sequence second.now)) }
-    ensures { Noted profile sink (row_reads around.now) (spot_of walk.old) (Choose (phrase guard.now) (sequence first.now) (sequence second.now)) (spot_of walk.new) result }
+    requires { IsReady sink (spot_of walk.old) (Choose (phrase guard.now) (sequence first.now)
+        (sequence second.now)) }
+    ensures { Noted profile sink (row_reads around.now) (spot_of walk.old)
+        (Choose (phrase guard.now) (sequence first.now) (sequence second.now)) (spot_of walk.new) result }
 {
     let inner = within(around, &walk.scope, guard);
     let one = note_commands(walk, profile, sink, &inner, first)?;
@@ -130,7 +136,8 @@ fn note_while(
     guard: &Ex,
 ) -> Result<bool, AllocError>
     requires { IsReady sink (spot_of walk.old) (Repeat (phrase guard.now) (sequence body.now)) }
-    ensures { Noted profile sink (row_reads around.now) (spot_of walk.old) (Repeat (phrase guard.now) (sequence body.now)) (spot_of walk.new) result }
+    ensures { Noted profile sink (row_reads around.now) (spot_of walk.old)
+        (Repeat (phrase guard.now) (sequence body.now)) (spot_of walk.new) result }
 {
     note_ending(walk, profile, true, sink, guard);
     let inner = within(around, &walk.scope, guard);
@@ -149,7 +156,8 @@ fn note_letvar(
     value: &Ex,
 ) -> Result<bool, AllocError>
     requires { IsReady sink (spot_of walk.old) (Allocate (phrase value.now) (sequence body.now)) }
-    ensures { Noted profile sink (row_reads around.now) (spot_of walk.old) (Allocate (phrase value.now) (sequence body.now)) (spot_of walk.new) result }
+    ensures { Noted profile sink (row_reads around.now) (spot_of walk.old)
+        (Allocate (phrase value.now) (sequence body.now)) (spot_of walk.new) result }
 {
     let row = walk.next as usize;
     note_reads(&mut walk.rows, row, &walk.scope, value);
@@ -171,7 +179,8 @@ pub fn note_commands(
     body: &[Cmd],
 ) -> Result<bool, AllocError>
     requires { IsReady sink (spot_of walk.old) (sequence body.now) }
-    ensures { Noted profile sink (row_reads around.now) (spot_of walk.old) (sequence body.now) (spot_of walk.new) result }
+    ensures { Noted profile sink (row_reads around.now) (spot_of walk.old) (sequence body.now)
+        (spot_of walk.new) result }
 {
     let mut looping = false;
     for c in body {

@@ -55,7 +55,8 @@ fn seek_reads<W: Wanted>(
     e: &Ex,
 ) -> Option<Step>
     requires { HasLocations (length scope.now) (phrase e.now) }
-    ensures { result ≡ find (W.wants wanted.now) (flows target written (guarded rule (reads scope.now (phrase e.now)))) }
+    ensures { result ≡ find (W.wants wanted.now) (flows target written
+        (guarded rule (reads scope.now (phrase e.now)))) }
 {
     match e {
         Ex::Num(_) => None,
@@ -165,7 +166,9 @@ fn seek_assign<W: Wanted>(
     value: &Ex,
 ) -> Option<Step>
     requires { HasPlaces (length walk.now.scope.items) (Put location written (phrase value.now)) }
-    ensures { (P : Profile) (names : ℕ → Span) → result ≡ find (W.wants wanted.now) (steps P names walk.now.guards.items walk.now.scope.items walk.now.next (Put location written (phrase value.now))) }
+    ensures { (P : Profile) (names : ℕ → Span) → result ≡ find (W.wants wanted.now)
+        (steps P names walk.now.guards.items walk.now.scope.items walk.now.next
+        (Put location written (phrase value.now))) }
 {
     let target = walk.scope[location as usize];
     match seek_reads(wanted, target, written, &walk.scope, Rule::Assign, value) {
@@ -195,7 +198,8 @@ fn seek_ending_of<W: Wanted>(
     guard: &Ex,
 ) -> Option<Step>
     requires { HasLocations (length scope.now) (phrase guard.now) }
-    ensures { result ≡ find (W.wants wanted.now) (endings profile (has_loop (sequence yes.now) || has_loop (sequence other.now)) (reads scope.now (phrase guard.now))) }
+    ensures { result ≡ find (W.wants wanted.now) (endings profile
+        (has_loop (sequence yes.now) || has_loop (sequence other.now)) (reads scope.now (phrase guard.now))) }
 {
     match profile {
         Profile::Base => None,
@@ -222,8 +226,10 @@ fn seek_if<W: Wanted>(
     other: &[Cmd],
     guard: &Ex,
 ) -> Result<Option<Step>, AllocError>
-    requires { HasRoom first (length entries.now) (place_of walk.old) (Choose (phrase guard.now) (sequence yes.now) (sequence other.now)) }
-    ensures { Sought profile (name_place entries.now first) (W.wants wanted.now) (place_of walk.old) (Choose (phrase guard.now) (sequence yes.now) (sequence other.now)) (place_of walk.new) result }
+    requires { HasRoom first (length entries.now) (place_of walk.old)
+        (Choose (phrase guard.now) (sequence yes.now) (sequence other.now)) }
+    ensures { Sought profile (name_place entries.now first) (W.wants wanted.now) (place_of walk.old)
+        (Choose (phrase guard.now) (sequence yes.now) (sequence other.now)) (place_of walk.new) result }
 {
     if let Some(step) = seek_ending_of(wanted, profile, &walk.scope, yes, other, guard) {
         return Ok(Some(step));
@@ -251,8 +257,10 @@ fn seek_while<W: Wanted>(
     body: &[Cmd],
     guard: &Ex,
 ) -> Result<Option<Step>, AllocError>
-    requires { HasRoom first (length entries.now) (place_of walk.old) (Repeat (phrase guard.now) (sequence body.now)) }
-    ensures { Sought profile (name_place entries.now first) (W.wants wanted.now) (place_of walk.old) (Repeat (phrase guard.now) (sequence body.now)) (place_of walk.new) result }
+    requires { HasRoom first (length entries.now) (place_of walk.old)
+        (Repeat (phrase guard.now) (sequence body.now)) }
+    ensures { Sought profile (name_place entries.now first) (W.wants wanted.now) (place_of walk.old)
+        (Repeat (phrase guard.now) (sequence body.now)) (place_of walk.new) result }
 {
     if let Some(step) = seek_ending(wanted, profile, &walk.scope, guard) {
         return Ok(Some(step));
@@ -277,8 +285,10 @@ fn seek_letvar<W: Wanted>(
     body: &[Cmd],
     value: &Ex,
 ) -> Result<Option<Step>, AllocError>
-    requires { HasRoom first (length entries.now) (place_of walk.old) (Allocate (phrase value.now) (sequence body.now)) }
-    ensures { Sought profile (name_place entries.now first) (W.wants wanted.now) (place_of walk.old) (Allocate (phrase value.now) (sequence body.now)) (place_of walk.new) result }
+    requires { HasRoom first (length entries.now) (place_of walk.old)
+        (Allocate (phrase value.now) (sequence body.now)) }
+    ensures { Sought profile (name_place entries.now first) (W.wants wanted.now) (place_of walk.old)
+        (Allocate (phrase value.now) (sequence body.now)) (place_of walk.new) result }
 {
     let variable = Var(walk.next);
     let written = entries[(walk.next - first) as usize].span;
@@ -306,7 +316,8 @@ pub fn seek_commands<W: Wanted>(
     body: &[Cmd],
 ) -> Result<Option<Step>, AllocError>
     requires { HasRoom first (length entries.now) (place_of walk.old) (sequence body.now) }
-    ensures { Sought profile (name_place entries.now first) (W.wants wanted.now) (place_of walk.old) (sequence body.now) (place_of walk.new) result }
+    ensures { Sought profile (name_place entries.now first) (W.wants wanted.now) (place_of walk.old)
+        (sequence body.now) (place_of walk.new) result }
 {
     for c in body {
         if let Some(step) = seek_command(wanted, profile, entries, first, walk, c)? {
@@ -327,7 +338,8 @@ fn seek_command<W: Wanted>(
     c: &Cmd,
 ) -> Result<Option<Step>, AllocError>
     requires { HasRoom first (length entries.now) (place_of walk.old) (command c.now) }
-    ensures { Sought profile (name_place entries.now first) (W.wants wanted.now) (place_of walk.old) (command c.now) (place_of walk.new) result }
+    ensures { Sought profile (name_place entries.now first) (W.wants wanted.now) (place_of walk.old) (command c.now)
+        (place_of walk.new) result }
 {
     match c {
         Cmd::Assign { loc, span, value } => Ok(seek_assign(wanted, walk, *loc, *span, value)),

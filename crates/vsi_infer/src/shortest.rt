@@ -120,7 +120,8 @@ fn next_step(
     at: Var,
     after: u16,
 ) -> Result<Step, AllocError>
-    requires { (s : Step) × Contains (steps_of profile (program_of program.now)) s × IsTrue (goes_on_of at row.now last after s) }
+    requires { (s : Step) × Contains (steps_of profile (program_of program.now)) s
+        × IsTrue (goes_on_of at row.now last after s) }
     ensures there { IfOk result (λ s. Contains (steps_of profile (program_of program.now)) s) }
     ensures wanted { IfOk result (λ s. IsTrue (goes_on_of at row.now last after s)) }
 {
@@ -196,7 +197,8 @@ pub fn shortest_walk<C: Classes, F: Flow>(
     requires letvars { AreClasses (C.lattice lattice.now) (program_of program.now).declared }
     requires flows { AreFlowsOf profile (program_of program.now) (F.flows flow.now) }
     requires declared { declared.now ≡ table (C.lattice lattice.now) (program_of program.now) }
-    requires bad { HasBadWalk (C.lattice lattice.now).count (C.lattice lattice.now).leq (F.flows flow.now) (table (C.lattice lattice.now) (program_of program.now)) }
+    requires bad { HasBadWalk (C.lattice lattice.now).count (C.lattice lattice.now).leq (F.flows flow.now)
+        (table (C.lattice lattice.now) (program_of program.now)) }
     ensures { IfOk result (λ w. IsShortest (C.lattice lattice.now) profile (program_of program.now) w.steps.items) }
 {
     let _body = program.body();

@@ -3,14 +3,14 @@ mod base;
 mod strict;
 mod walks;
 
-ghost use Rattle.std.specs.Prelude.{◌≡◌, true, map};
+ghost use Rattle.std.specs.Prelude.{◌≡◌, true, map, IfSome};
 ghost use Rattle.std.specs.List.{All};
 ghost use Rattle.vsi_lattice.specs.Order.{IsClass};
 ghost use Rattle.vsi_infer.specs.Inference.{AreClasses};
 
 use crate::{InferError, check_walk, check_walk_in, explain, infer, infer_in};
 use std::alloc::Global as Heap;
-use vsi_lattice::{Classes, Lattice, read_lattice};
+use vsi_lattice::{Class, Classes, Lattice, read_lattice};
 use vsi_scope::{Entry, Global, Resolved, resolve};
 use vsi_syntax::{lex, parse};
 use vsi_types::Profile;
@@ -35,15 +35,23 @@ fn are_classes<C: Classes>(lattice: &C, globals: &[Global<'_>]) -> bool
     true
 }
 
+// Whether a declared class is one of the lattice.
+fn is_within<C: Classes>(lattice: &C, class: Option<Class>) -> bool
+    ensures { result ≡ true → IfSome class (IsClass (C.lattice lattice.now)) }
+{
+    match class {
+        Some(class) => class.index() < lattice.count(),
+        None => true,
+    }
+}
+
 // Whether each declared class of the letvars is one of the lattice.
 fn are_declared<C: Classes>(lattice: &C, letvars: &[Entry<'_>]) -> bool
     ensures { result ≡ true → AreClasses (C.lattice lattice.now) (map (λ e. e.class) letvars.now) }
 {
     for e in letvars {
-        if let Some(class) = e.class {
-            if class.index() >= lattice.count() {
-                return false;
-            }
+        if !is_within(lattice, e.class) {
+            return false;
         }
     }
     true

@@ -16,7 +16,8 @@ use vsi_lattice::{Class, Classes};
 use vsi_scope::{Resolved, Var};
 use vsi_types::{Profile, Step};
 
-/// Flow steps, each going on where the one before it ended.
+/// Flow steps in the order in which they are walked. A walk that `infer` answers is bad; one that is made elsewhere
+/// may be anything, and `check_walk` tells.
 #[derive(Debug, Drop)]
 pub struct Walk {
     pub steps: Vec<Step>,

@@ -1,8 +1,7 @@
 -- Words that are those of a tree, spans apart, are written by a tree that is the same, spans apart.
-use Rattle.std.proofs.Common.{◌≡◌, ℕ, ◌+◌, ◌≤◌, List, [], ◌∷◌, ◌++◌, map, Option, Some, None, refl, sym, ap, subst, ◌∙◌, arith}
+use Rattle.std.proofs.Common.{◌≡◌, List, [], ◌∷◌, ◌++◌, map, Option, Some, None, refl, ap, ◌∙◌}
 use Rattle.vsi_syntax.specs.declared.token.Kind.{Kind}
 use Rattle.vsi_syntax.specs.declared.token.Kind.TheVariants as k
-use Rattle.vsi_syntax.specs.declared.operator.Op.{Op}
 use Rattle.vsi_syntax.specs.Tree.{Named, Word, Called, Sign, Tree, Literal, Read, Round, Both, Command, Set, Choose, Loop, Local, Braces, Body, Done, Then, Declared, Whole, sign, write, write_class, write_command, write_body, write_rest, write_globals, write_program, nowhere}
 use Rattle.vsi_syntax.specs.Spelling.{bare}
 use Rattle.vsi_syntax.specs.Apart.{apart, class_apart, command_apart, body_apart, global_apart, program_apart}
@@ -21,10 +20,12 @@ record Front (w : Word) (more ws : List Word) : Type 0 where
   heads : bare head ≡ bare w
   tails : map bare tail ≡ map bare more
 
+-- words that are these, spans apart, begin with a word that is the first, spans apart
 front : (w : Word) (more ws : List Word) → map bare ws ≡ bare w ∷ map bare more → Front w more ws
 front w more [] h = absurd cc
 front w more (v ∷ ws) h = record { head = v; tail = ws; parts = refl; heads = cc; tails = cc }
 
+-- two parts of words that are these two lists, spans apart
 record Parts (xs ys ws : List Word) : Type 0 where
   one : List Word
   two : List Word
@@ -32,6 +33,7 @@ record Parts (xs ys ws : List Word) : Type 0 where
   ones : map bare one ≡ map bare xs
   twos : map bare two ≡ map bare ys
 
+-- words that are two lists in a row, spans apart, have two such parts
 split : (xs ys ws : List Word) → map bare ws ≡ map bare (xs ++ ys) → Parts xs ys ws
 split [] ys ws h = record { one = []; two = ws; parts = refl; ones = refl; twos = h }
 split (x ∷ xs) ys ws h =
@@ -45,22 +47,27 @@ split (x ∷ xs) ys ws h =
       twos = s.twos;
     }
 
+-- words that are none, spans apart, are none
 nothing_is : (ws : List Word) → map bare ws ≡ [] → ws ≡ []
 nothing_is [] h = refl
 nothing_is (w ∷ ws) h = absurd cc
 
+-- a word that is no name is itself without its place
 sign_is : (kind : Kind) (w : Word) → bare w ≡ Sign kind → w ≡ Sign kind
 sign_is kind (Sign other) h = h
 sign_is kind (Called x) h = absurd cc
 
+-- a word that is this name, its place apart
 record NameAgain (x : Named) (w : Word) : Type 0 where
   name : Named
   is : w ≡ Called name
   same : nowhere name ≡ nowhere x
 
+-- words that are names without places name the same
 called_same : (y x : Named) → Called (nowhere y) ≡ Called (nowhere x) → nowhere y ≡ nowhere x
 called_same y x h = cc
 
+-- a word that is a name without its place is that name somewhere
 name_is : (x : Named) (w : Word) → bare w ≡ Called (nowhere x) → NameAgain x w
 name_is x (Called y) h = record { name = y; is = refl; same = called_same y x h }
 name_is x (Sign kind) h = absurd cc
@@ -71,10 +78,16 @@ record Behind (kind : Kind) (more ws : List Word) : Type 0 where
   parts : ws ≡ Sign kind ∷ rest
   rests : map bare rest ≡ map bare more
 
+-- words that are a sign and more, spans apart, begin with that sign
 behind : (kind : Kind) (more ws : List Word) → map bare ws ≡ Sign kind ∷ map bare more → Behind kind more ws
 behind kind more ws h =
     let f = front (Sign kind) more ws h in
-    record { rest = f.tail; parts = f.parts ∙ ap (λ (z : Word). z ∷ f.tail) (sign_is kind f.head f.heads); rests = f.tails }
+    record {
+      rest = f.tail;
+      parts = f.parts ∙ ap (λ (z : Word). z ∷ f.tail) (sign_is kind f.head f.heads);
+      rests =
+          f.tails;
+    }
 
 -- a name and then more
 record After (x : Named) (more ws : List Word) : Type 0 where
@@ -84,25 +97,45 @@ record After (x : Named) (more ws : List Word) : Type 0 where
   same : nowhere name ≡ nowhere x
   rests : map bare rest ≡ map bare more
 
+-- words that are a name and more, spans apart, begin with that name somewhere
 after : (x : Named) (more ws : List Word) → map bare ws ≡ Called (nowhere x) ∷ map bare more → After x more ws
 after x more ws h =
     let f = front (Called x) more ws h in
     let n = name_is x f.head f.heads in
-    record { name = n.name; rest = f.tail; parts = f.parts ∙ ap (λ (z : Word). z ∷ f.tail) n.is; same = n.same; rests = f.tails }
+    record {
+      name = n.name;
+      rest = f.tail;
+      parts = f.parts ∙ ap (λ (z : Word). z ∷ f.tail) n.is;
+      same = n.same;
+      rests = f.tails;
+    }
 
+-- the same words behind one word
 push : (w : Word) (ws rest xs : List Word) → ws ≡ w ∷ rest → rest ≡ xs → ws ≡ w ∷ xs
 push w ws rest xs p e = p ∙ ap (λ (z : List Word). w ∷ z) e
 
+-- the same words in two parts
 cat : (ws one two a b : List Word) → ws ≡ one ++ two → one ≡ a → two ≡ b → ws ≡ a ++ b
 cat ws one two a b p i j = p ∙ rw (i, j) refl
 
+-- words of an expression, spans apart, are written by one that is the same, spans apart
 tree_again : (t : Tree) (ws : List Word) → map bare ws ≡ map bare (write t) → Again Tree write apart t ws
 tree_again (Literal n) ws h =
     let b = behind (k.Number n) [] ws h in
-    record { other = Literal n; writes = b.parts ∙ ap (λ (z : List Word). Sign (k.Number n) ∷ z) (nothing_is b.rest b.rests); same = refl }
+    record {
+      other = Literal n;
+      writes = b.parts ∙ ap (λ (z : List Word). Sign (k.Number n) ∷ z)
+          (nothing_is b.rest b.rests);
+      same = refl;
+    }
 tree_again (Read x) ws h =
     let a = after x [] ws h in
-    record { other = Read a.name; writes = a.parts ∙ ap (λ (z : List Word). Called a.name ∷ z) (nothing_is a.rest a.rests); same = ap (λ (z : Named). Read z) a.same }
+    record {
+      other = Read a.name;
+      writes = a.parts ∙ ap (λ (z : List Word). Called a.name ∷ z)
+          (nothing_is a.rest a.rests);
+      same = ap (λ (z : Named). Read z) a.same;
+    }
 tree_again (Round e) ws h =
     let b = behind k.Open (write e ++ Sign k.Close ∷ []) ws h in
     let s = split (write e) (Sign k.Close ∷ []) b.rest b.rests in
@@ -110,7 +143,8 @@ tree_again (Round e) ws h =
     let c = behind k.Close [] s.two s.twos in
     record {
       other = Round i.other;
-      writes = push _ _ _ _ b.parts (cat _ _ _ _ _ s.parts i.writes (push _ _ _ _ c.parts (nothing_is c.rest c.rests)));
+      writes = push _ _ _ _ b.parts
+          (cat _ _ _ _ _ s.parts i.writes (push _ _ _ _ c.parts (nothing_is c.rest c.rests)));
       same = ap (λ (z : Tree). Round z) i.same;
     }
 tree_again (Both op x y) ws h =
@@ -124,20 +158,33 @@ tree_again (Both op x y) ws h =
       same = rw (i.same, j.same) refl;
     }
 
-class_again : (c : Option Named) (ws : List Word) → map bare ws ≡ map bare (write_class c) → Again (Option Named) write_class class_apart c ws
+-- words of a class, spans apart, are written by one that is the same, spans apart
+class_again : (c : Option Named) (ws : List Word) → map bare ws ≡ map bare (write_class c) →
+    Again (Option Named) write_class class_apart c ws
 class_again None ws h = record { other = None; writes = nothing_is ws h; same = refl }
 class_again (Some x) ws h =
     let b = behind k.Colon (Called x ∷ []) ws h in
     let a = after x [] b.rest b.rests in
-    record { other = Some a.name; writes = push _ _ _ _ b.parts (push _ _ _ _ a.parts (nothing_is a.rest a.rests)); same = ap (λ (z : Named). Some z) a.same }
+    record {
+      other = Some a.name;
+      writes = push _ _ _ _ b.parts (push _ _ _ _ a.parts (nothing_is a.rest a.rests));
+      same = ap (λ (z : Named). Some z) a.same;
+    }
 
 mutual
-  command_again : (c : Command) (ws : List Word) → map bare ws ≡ map bare (write_command c) → Again Command write_command command_apart c ws
+  -- words of a command, spans apart, are written by one that is the same, spans apart
+  command_again : (c : Command) (ws : List Word) → map bare ws ≡ map bare (write_command c) →
+      Again Command write_command command_apart c ws
   command_again (Set x e) ws h =
       let a = after x (Sign k.Assign ∷ write e) ws h in
       let b = behind k.Assign (write e) a.rest a.rests in
       let i = tree_again e b.rest b.rests in
-      record { other = Set a.name i.other; writes = push _ _ _ _ a.parts (push _ _ _ _ b.parts (i.writes)); same = rw (a.same, i.same) refl }
+      record {
+        other = Set a.name i.other;
+        writes = push _ _ _ _ a.parts (push _ _ _ _ b.parts (i.writes));
+        same =
+            rw (a.same, i.same) refl;
+      }
   command_again (Choose e c d) ws h =
       let a = behind k.If (write e ++ Sign k.Then ∷ (write_command c ++ Sign k.Else ∷ write_command d)) ws h in
       let s = split (write e) (Sign k.Then ∷ (write_command c ++ Sign k.Else ∷ write_command d)) a.rest a.rests in
@@ -147,17 +194,31 @@ mutual
       let j = command_again c t.one t.ones in
       let g = behind k.Else (write_command d) t.two t.twos in
       let l = command_again d g.rest g.rests in
-      record { other = Choose i.other j.other l.other; writes = push _ _ _ _ a.parts (cat _ _ _ _ _ s.parts i.writes (push _ _ _ _ b.parts (cat _ _ _ _ _ t.parts j.writes (push _ _ _ _ g.parts (l.writes))))); same = rw (i.same, j.same, l.same) refl }
+      record {
+        other = Choose i.other j.other l.other;
+        writes = push _ _ _ _ a.parts
+            (cat _ _ _ _ _ s.parts i.writes
+            (push _ _ _ _ b.parts (cat _ _ _ _ _ t.parts j.writes (push _ _ _ _ g.parts (l.writes)))));
+        same =
+            rw (i.same, j.same, l.same) refl;
+      }
   command_again (Loop e c) ws h =
       let a = behind k.While (write e ++ Sign k.Do ∷ write_command c) ws h in
       let s = split (write e) (Sign k.Do ∷ write_command c) a.rest a.rests in
       let i = tree_again e s.one s.ones in
       let b = behind k.Do (write_command c) s.two s.twos in
       let j = command_again c b.rest b.rests in
-      record { other = Loop i.other j.other; writes = push _ _ _ _ a.parts (cat _ _ _ _ _ s.parts i.writes (push _ _ _ _ b.parts (j.writes))); same = rw (i.same, j.same) refl }
+      record {
+        other = Loop i.other j.other;
+        writes = push _ _ _ _ a.parts
+            (cat _ _ _ _ _ s.parts i.writes (push _ _ _ _ b.parts (j.writes)));
+        same = rw (i.same, j.same) refl;
+      }
   command_again (Local x class e c) ws h =
-      let a = behind k.Letvar (Called x ∷ (write_class class ++ Sign k.Assign ∷ (write e ++ Sign k.In ∷ write_command c))) ws h in
-      let n = after x (write_class class ++ Sign k.Assign ∷ (write e ++ Sign k.In ∷ write_command c)) a.rest a.rests in
+      let a = behind k.Letvar
+      (Called x ∷ (write_class class ++ Sign k.Assign ∷ (write e ++ Sign k.In ∷ write_command c))) ws h in
+      let n = after x (write_class class ++ Sign k.Assign ∷ (write e ++ Sign k.In ∷ write_command c)) a.rest a.rests
+      in
       let s = split (write_class class) (Sign k.Assign ∷ (write e ++ Sign k.In ∷ write_command c)) n.rest n.rests in
       let g = class_again class s.one s.ones in
       let b = behind k.Assign (write e ++ Sign k.In ∷ write_command c) s.two s.twos in
@@ -165,32 +226,62 @@ mutual
       let i = tree_again e t.one t.ones in
       let d = behind k.In (write_command c) t.two t.twos in
       let j = command_again c d.rest d.rests in
-      record { other = Local n.name g.other i.other j.other; writes = push _ _ _ _ a.parts (push _ _ _ _ n.parts (cat _ _ _ _ _ s.parts g.writes (push _ _ _ _ b.parts (cat _ _ _ _ _ t.parts i.writes (push _ _ _ _ d.parts (j.writes)))))); same = rw (n.same, g.same, i.same, j.same) refl }
+      record {
+        other = Local n.name g.other i.other j.other;
+        writes = push _ _ _ _ a.parts
+            (push _ _ _ _ n.parts
+            (cat _ _ _ _ _ s.parts g.writes
+            (push _ _ _ _ b.parts (cat _ _ _ _ _ t.parts i.writes (push _ _ _ _ d.parts (j.writes))))));
+        same =
+            rw (n.same, g.same, i.same, j.same) refl;
+      }
   command_again (Braces cs) ws h =
       let a = behind k.OpenBrace (write_body cs ++ Sign k.CloseBrace ∷ []) ws h in
       let s = split (write_body cs) (Sign k.CloseBrace ∷ []) a.rest a.rests in
       let i = body_again cs s.one s.ones in
       let b = behind k.CloseBrace [] s.two s.twos in
-      record { other = Braces i.other; writes = push _ _ _ _ a.parts (cat _ _ _ _ _ s.parts i.writes (push _ _ _ _ b.parts (nothing_is b.rest b.rests))); same = rw (i.same) refl }
+      record {
+        other = Braces i.other;
+        writes = push _ _ _ _ a.parts
+            (cat _ _ _ _ _ s.parts i.writes (push _ _ _ _ b.parts (nothing_is b.rest b.rests)));
+        same =
+            rw (i.same) refl;
+      }
 
-  body_again : (cs : Body) (ws : List Word) → map bare ws ≡ map bare (write_body cs) → Again Body write_body body_apart cs ws
+  -- words of a sequence, spans apart, are written by one that is the same, spans apart
+  body_again : (cs : Body) (ws : List Word) → map bare ws ≡ map bare (write_body cs) →
+      Again Body write_body body_apart cs ws
   body_again Done ws h = record { other = Done; writes = nothing_is ws h; same = refl }
   body_again (Then c cs) ws h =
       let s = split (write_command c) (write_rest cs) ws h in
       let i = command_again c s.one s.ones in
       let j = rest_again cs s.two s.twos in
-      record { other = Then i.other j.other; writes = cat _ _ _ _ _ s.parts i.writes (j.writes); same = rw (i.same, j.same) refl }
+      record {
+        other = Then i.other j.other;
+        writes = cat _ _ _ _ _ s.parts i.writes (j.writes);
+        same =
+            rw (i.same, j.same) refl;
+      }
 
-  rest_again : (cs : Body) (ws : List Word) → map bare ws ≡ map bare (write_rest cs) → Again Body write_rest body_apart cs ws
+  -- words of the commands behind the first, spans apart, are written by such that are the same, spans apart
+  rest_again : (cs : Body) (ws : List Word) → map bare ws ≡ map bare (write_rest cs) →
+      Again Body write_rest body_apart cs ws
   rest_again Done ws h = record { other = Done; writes = nothing_is ws h; same = refl }
   rest_again (Then c cs) ws h =
       let b = behind k.Semicolon (write_command c ++ write_rest cs) ws h in
       let s = split (write_command c) (write_rest cs) b.rest b.rests in
       let i = command_again c s.one s.ones in
       let j = rest_again cs s.two s.twos in
-      record { other = Then i.other j.other; writes = push _ _ _ _ b.parts (cat _ _ _ _ _ s.parts i.writes (j.writes)); same = rw (i.same, j.same) refl }
+      record {
+        other = Then i.other j.other;
+        writes = push _ _ _ _ b.parts
+            (cat _ _ _ _ _ s.parts i.writes (j.writes));
+        same = rw (i.same, j.same) refl;
+      }
 
-globals_again : (gs : List Declared) (ws : List Word) → map bare ws ≡ map bare (write_globals gs) → Again (List Declared) write_globals (map global_apart) gs ws
+-- words of globals, spans apart, are written by such that are the same, spans apart
+globals_again : (gs : List Declared) (ws : List Word) → map bare ws ≡ map bare (write_globals gs) →
+    Again (List Declared) write_globals (map global_apart) gs ws
 globals_again [] ws h = record { other = []; writes = nothing_is ws h; same = refl }
 globals_again (g ∷ gs) ws h =
     let a = behind k.Var (Called g.name ∷ Sign k.Colon ∷ Called g.class ∷ Sign k.Semicolon ∷ write_globals gs) ws h in
@@ -201,11 +292,14 @@ globals_again (g ∷ gs) ws h =
     let i = globals_again gs d.rest d.rests in
     record {
       other = (record { name = n.name; class = m.name }) ∷ i.other;
-      writes = push _ _ _ _ a.parts (push _ _ _ _ n.parts (push _ _ _ _ b.parts (push _ _ _ _ m.parts (push _ _ _ _ d.parts (i.writes)))));
+      writes = push _ _ _ _ a.parts
+          (push _ _ _ _ n.parts (push _ _ _ _ b.parts (push _ _ _ _ m.parts (push _ _ _ _ d.parts (i.writes)))));
       same = rw (n.same, m.same, i.same) refl;
     }
 
-pub program_relabel : (p : Whole) (ws : List Word) → map bare ws ≡ map bare (write_program p) → Again Whole write_program program_apart p ws
+-- words of a program, spans apart, are written by one that is the same, spans apart
+pub program_relabel : (p : Whole) (ws : List Word) → map bare ws ≡ map bare (write_program p) →
+    Again Whole write_program program_apart p ws
 program_relabel p ws h =
     let s = split (write_globals p.globals) (write_body p.body) ws h in
     let i = globals_again p.globals s.one s.ones in

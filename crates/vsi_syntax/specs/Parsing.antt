@@ -1,5 +1,7 @@
--- Reading an expression from the left, as a function on words.
-use Rattle.std.specs.Prelude.{◌≡◌, ℕ, zero, suc, Bool, true, false, ◌&&◌, nat_le, nat_lt, if◌then◌else◌, List, [], ◌∷◌, Option, Some, None, option_and_then, Result, Ok, Err}
+-- Reading an expression from the left, as a function on words. This is a stepping stone of the proof alone: the code is
+-- compared with it, and it is proved to find exactly the levelled trees of a bounded depth that write the words. What
+-- `parse` promises speaks of `write_program`, levels and depth, and of none of the readers here.
+use Rattle.std.specs.Prelude.{◌≡◌, ℕ, zero, suc, Bool, ◌&&◌, nat_le, nat_lt, if◌then◌else◌, List, [], ◌∷◌, Option, Some, None, Result, Ok, Err}
 use Rattle.vsi_syntax.specs.declared.token.Kind.{Kind}
 use Rattle.vsi_syntax.specs.declared.token.Kind.TheVariants as k
 use Rattle.vsi_syntax.specs.declared.operator.Op.{Op}
@@ -8,21 +10,24 @@ use Rattle.vsi_syntax.specs.declared.parser.ParseError.{ParseError}
 use Rattle.vsi_syntax.specs.declared.parser.ParseError.TheVariants as errors
 use Rattle.vsi_syntax.specs.Tree.{Word, Called, Sign, Tree, Literal, Read, Round, Both, level, left_level, right_level, depth}
 
+-- the second reader goes on where the first found something
 infixl 10 ◌>>=◌
 abbrev pub ◌>>=◌ : {A B : Type 0} → Option A → (A → Option B) → Option B
 None >>= f = None
 (Some x) >>= f = f x
 
--- what a function returned, seen by view, is what reading gives, unless memory ran out
+-- an error other than want of memory says that reading gives nothing
 abbrev pub Fails : {Y : Type 0} → ParseError → Option Y → Type 0
 Fails errors.Memory read = Unit {0}
 Fails (errors.Unexpected _) read = read ≡ None
 Fails (errors.TooDeep _) read = read ≡ None
 
+-- what a function returned, seen by view, is what reading gives, unless memory ran out
 abbrev pub Gives : {X Y : Type 0} → (X → Y) → Result X ParseError → Option Y → Type 0
 Gives view (Ok x) read = read ≡ Some (view x)
 Gives view (Err e) read = Fails e read
 
+-- the operator of a symbol
 abbrev pub operator : Kind → Option Op
 operator k.Plus = Some o.Add
 operator k.Minus = Some o.Sub
@@ -42,6 +47,7 @@ own_level (Both op a b) = level op
 abbrev pub goes_on : ℕ → ℕ → Op → Bool
 goes_on l left op = nat_le l (level op) && nat_le (left_level op) left
 
+-- the operator that was found, only where it goes on at this level
 abbrev pub only_if : ℕ → ℕ → List Word → Option Op → Option (Op × List Word)
 only_if l left rest None = None
 only_if l left rest (Some op) = if goes_on l left op then Some (op, rest) else None
@@ -56,6 +62,7 @@ next l left (Sign kind ∷ ws) = only_if l left ws (operator kind)
 abbrev pub Reads : Type 0
 Reads = ℕ → List Word → Option (Tree × List Word)
 
+-- reads no tree at all
 abbrev pub nothing : Reads
 nothing l ws = None
 
@@ -70,6 +77,7 @@ closing (Sign _ ∷ ws) = None
 abbrev pub rounded : Tree × List Word → Option (Tree × List Word)
 rounded r = closing r.1 >>= λ rest. Some (Round r.0, rest)
 
+-- an atom that begins with this word, which is no name
 abbrev pub sign_first : Reads → Kind → List Word → Option (Tree × List Word)
 sign_first inner (k.Number n) ws = Some (Literal n, ws)
 sign_first inner k.Open ws = inner 0 ws >>= rounded
@@ -81,6 +89,7 @@ first inner [] = None
 first inner (Called x ∷ ws) = Some (Read x, ws)
 first inner (Sign kind ∷ ws) = sign_first inner kind ws
 
+-- one answer where no operator goes on, and another from the operator and the words behind it
 abbrev pub go : {X : Type 0} → X → (Op → List Word → X) → Option (Op × List Word) → X
 go stop more None = stop
 go stop more (Some p) = more p.0 p.1
@@ -90,9 +99,11 @@ unfoldable pub more : Reads → ℕ → ℕ → ℕ → Tree → List Word → O
 more inner zero room l left ws = go (Some (left, ws)) (λ op rest. None) (next l (own_level left) ws)
 more inner (suc turns) room l left ws =
     go (Some (left, ws))
-    (λ op rest. if nat_lt (depth left) room then (inner (right_level op) rest >>= λ r. more inner turns room l (Both op left r.0) r.1) else None)
+    (λ op rest. if nat_lt (depth left) room then
+    (inner (right_level op) rest >>= λ r. more inner turns room l (Both op left r.0) r.1) else None)
     (next l (own_level left) ws)
 
+-- an expression at a level: an atom, and then the operators that go on
 abbrev pub whole : Reads → ℕ → Reads
 whole inner room l ws = first inner ws >>= λ r. more inner room room l r.0 r.1
 

@@ -1,4 +1,10 @@
-//! Words, tokens and trees of the language.
+//! Tokens and trees of the language: a text goes in, `lex` gives its tokens, `parse` the program that writes them, and
+//! `print` the canonical text of a program.
+//!
+//! `lex` promises the cut of the text or its first fault, `parse` the one program that writes the tokens, `print`
+//! exactly the canonical text. `laws` states what follows from the definitions alone: one text has one cut and one
+//! program, and what is printed reads back as the same program. `Op::apply` is the meaning of the operators for all
+//! layers above.
 #![tactic(auto)]
 
 pub mod laws;
@@ -11,12 +17,12 @@ mod program;
 mod token;
 mod tree;
 
-pub use lexer::{LexError, is_name, lex};
+pub use lexer::{LexError, MAX_TEXT_LENGTH, is_name, lex};
 pub use lines::line_column;
 pub use operator::Op;
 pub use parser::{ParseError, parse};
 pub use printer::print;
-pub use program::Program;
+pub use program::{MAX_DEPTH, Program};
 pub use token::{Kind, Span, Token};
 pub use tree::{Declaration, Expr, Name, Stmt};
 

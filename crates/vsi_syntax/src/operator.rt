@@ -3,13 +3,18 @@
 ghost use Rattle.std.specs.Prelude.{◌≡◌};
 ghost use Rattle.vsi_syntax.specs.Operators.{apply};
 
-/// An operator of an expression.
+/// An operator of an expression on two words of 64 bits.
 #[derive(Clone, Copy, Debug, PartialEq, Eq)]
 pub enum Op {
+    /// `+`, which wraps.
     Add,
+    /// `-`, which wraps.
     Sub,
+    /// `*`, which wraps.
     Mul,
+    /// `=`: 1 where both are equal, else 0.
     Eq,
+    /// `<`: 1 where the left word is less as a signed number, else 0.
     Lt,
 }
 

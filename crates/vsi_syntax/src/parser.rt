@@ -1,20 +1,25 @@
-//! The tree that writes the tokens.
+//! Finds the program that writes the tokens, or the first token where there can be none.
+//!
+//! Commands and expressions are read from the left. `room` is how many levels a tree may still have below the place
+//! where reading stands, and `end` is where the last token stops.
 
-ghost use Rattle.std.specs.Prelude.{◌≡◌, ◌≤◌, ℕ, IfOk, Some, None, option_map};
+ghost use Rattle.std.specs.Prelude.{◌≡◌};
 ghost use Rattle.vsi_syntax.specs.declared.parser.ParseError.TheVariants.{Memory};
-ghost use Rattle.vsi_syntax.specs.Tree.{level, left_level, right_level, depth};
-ghost use Rattle.vsi_syntax.specs.View.{words, tree};
 
-use crate::operator::Op;
-use crate::token::{Kind, Span, Token};
-use crate::tree::{Expr, Name};
-use std::alloc::{AllocError, AllocFailed, Global};
+use crate::token::Span;
+use std::alloc::{AllocError, AllocFailed};
 
 /// Why tokens are no program.
+///
+/// A fault stands at the first token such that no program begins with the tokens up to and with it.
 #[derive(Debug, Drop)]
 pub enum ParseError {
+    /// Memory ran out.
     Memory,
+    /// No program of any depth begins with the tokens up to and with this one. Where the tokens end too early this is
+    /// the empty span behind the last token, at 0 where there is none.
     Unexpected(Span),
+    /// Only programs deeper than `MAX_DEPTH` begin with the tokens up to and with this one.
     TooDeep(Span),
 }
 

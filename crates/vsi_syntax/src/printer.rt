@@ -1,4 +1,4 @@
-//! The canonical text of a program.
+//! Prints a program in its canonical form.
 
 ghost use Rattle.std.specs.Prelude.{◌≡◌, ◌≤◌, ◌+◌, ◌++◌, IfOk, OnOk, option_map, map};
 ghost use Rattle.std.specs.Fmt.{signed_decimal};
@@ -14,9 +14,14 @@ use crate::tree::{Declaration, Expr, Name, Stmt};
 use itoa::Buffer;
 use std::alloc::{AllocError, Global};
 
-/// The canonical text of a program.
+/// The canonical text of a program, which reads back as the same program, spans apart.
+///
+/// Each global has a line `var NAME : CLASS;`. Each command of a sequence has lines of its own, two spaces deeper in
+/// each block, and the text ends with a line feed. An operator has one space on each side. The text of a long program
+/// may be longer than `MAX_TEXT_LENGTH`, and is then not read again.
 pub fn print(alloc: Global, program: &Program) -> Result<Vec<u8>, AllocError>
-    ensures { IfOk result (λ text. text.items ≡ spec.canon (whole program.now)) }
+    // What is printed is the canonical text.
+    ensures canonical { IfOk result (λ text. text.items ≡ spec.canon (whole program.now)) }
 {
     let mut out = Vec::new(alloc);
     print_globals(&mut out, program.globals())?;
@@ -25,6 +30,7 @@ pub fn print(alloc: Global, program: &Program) -> Result<Vec<u8>, AllocError>
     Ok(out)
 }
 
+/// The line of a global.
 fn print_global(out: &mut Vec<u8>, g: &Declaration) -> Result<(), AllocError>
     ensures { OnOk result (out.new.items ≡ out.old.items ++ spec.canon_global (declared g.now)) }
 {
@@ -35,6 +41,7 @@ fn print_global(out: &mut Vec<u8>, g: &Declaration) -> Result<(), AllocError>
     out.extend_from_slice(b";\n")
 }
 
+/// The lines of the globals.
 fn print_globals(out: &mut Vec<u8>, globals: &[Declaration]) -> Result<(), AllocError>
     ensures { OnOk result (out.new.items ≡ out.old.items ++ spec.canon_globals (map declared globals.now)) }
 {
@@ -44,6 +51,7 @@ fn print_globals(out: &mut Vec<u8>, globals: &[Declaration]) -> Result<(), Alloc
     Ok(())
 }
 
+/// An operator with a space on each side.
 fn print_op(out: &mut Vec<u8>, op: Op) -> Result<(), AllocError>
     ensures { OnOk result (out.new.items ≡ out.old.items ++ spec.op_text op) }
 {
@@ -56,6 +64,7 @@ fn print_op(out: &mut Vec<u8>, op: Op) -> Result<(), AllocError>
     }
 }
 
+/// A number in decimal.
 fn print_number(out: &mut Vec<u8>, n: i64) -> Result<(), AllocError>
     ensures { OnOk result (out.new.items ≡ out.old.items ++ signed_decimal n) }
 {
@@ -63,6 +72,7 @@ fn print_number(out: &mut Vec<u8>, n: i64) -> Result<(), AllocError>
     out.extend_from_slice(buffer.format(n).as_bytes())
 }
 
+/// An expression.
 fn print_expression(out: &mut Vec<u8>, e: &Expr) -> Result<(), AllocError>
     ensures { OnOk result (out.new.items ≡ out.old.items ++ spec.canon_tree (tree e.now)) }
 {
@@ -82,6 +92,7 @@ fn print_expression(out: &mut Vec<u8>, e: &Expr) -> Result<(), AllocError>
     }
 }
 
+/// A class behind a colon, or nothing.
 fn print_class(out: &mut Vec<u8>, class: Option<Name>) -> Result<(), AllocError>
     ensures { OnOk result (out.new.items ≡ out.old.items ++ spec.canon_class (option_map named class.entry)) }
 {
@@ -94,6 +105,7 @@ fn print_class(out: &mut Vec<u8>, class: Option<Name>) -> Result<(), AllocError>
     }
 }
 
+/// Two spaces for each indent.
 fn print_spaces(out: &mut Vec<u8>, indent: u16) -> Result<(), AllocError>
     ensures { OnOk result (out.new.items ≡ out.old.items ++ spec.spaces indent) }
 {
@@ -106,7 +118,7 @@ fn print_spaces(out: &mut Vec<u8>, indent: u16) -> Result<(), AllocError>
 /// A sequence at an indent.
 #[cycle(printing)]
 fn print_body(out: &mut Vec<u8>, body: &[Stmt], indent: u16) -> Result<(), AllocError>
-    requires { indent + body_depth (body_of body.now) ≤ 1000 }
+    requires { indent + body_depth (body_of body.now) ≤ 200 }
     ensures { OnOk result (out.new.items ≡ out.old.items ++ spec.canon_body indent (body_of body.now)) }
 {
     let mut first = true;
@@ -124,7 +136,7 @@ fn print_body(out: &mut Vec<u8>, body: &[Stmt], indent: u16) -> Result<(), Alloc
 /// A command at an indent, without the spaces before it.
 #[cycle(printing)]
 fn print_command(out: &mut Vec<u8>, c: &Stmt, indent: u16) -> Result<(), AllocError>
-    requires { indent + command_depth (command c.now) ≤ 1000 }
+    requires { indent + command_depth (command c.now) ≤ 200 }
     ensures { OnOk result (out.new.items ≡ out.old.items ++ spec.canon_command indent (command c.now)) }
 {
     match c {

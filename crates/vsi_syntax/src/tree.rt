@@ -1,4 +1,4 @@
-//! The tree of a program.
+//! The tree of a program. Brackets and blocks are nodes of their own.
 
 use crate::operator::Op;
 use crate::token::Span;
@@ -10,24 +10,35 @@ pub struct Name<'a> {
     pub span: Span,
 }
 
+/// An expression.
 #[derive(Debug, Drop)]
 pub enum Expr<'a> {
+    /// A number, which is not negative in a `Program`.
     Number(i64),
+    /// A variable that is read.
     Name(Name<'a>),
+    /// An expression in round brackets.
     Bracket(Box<Expr<'a>>),
+    /// An operator between its left and its right operand.
     Binary(Op, Box<Expr<'a>>, Box<Expr<'a>>),
 }
 
+/// A command.
 #[derive(Debug, Drop)]
 pub enum Stmt<'a> {
+    /// `name := value`
     Assign(Name<'a>, Expr<'a>),
+    /// `if guard then yes else no`
     If(Expr<'a>, Box<Stmt<'a>>, Box<Stmt<'a>>),
+    /// `while guard do body`
     While(Expr<'a>, Box<Stmt<'a>>),
+    /// `letvar name : class := value in body`, where the class may be left out.
     Letvar(Name<'a>, Option<Name<'a>>, Expr<'a>, Box<Stmt<'a>>),
+    /// Commands in braces, at least one in a `Program`.
     Block(Vec<Stmt<'a>>),
 }
 
-/// A global with its class.
+/// A global with the name of its class: `var name : class;`.
 #[derive(Clone, Copy, Debug)]
 pub struct Declaration<'a> {
     pub name: Name<'a>,

@@ -3,6 +3,10 @@
 use super::{K2, K4, says};
 use vsi_types::Profile::{Base, Strict};
 
+// The walk by the initial value of `t` and the guard that reads it.
+const THROUGH_A_LETVAR: &[u8] =
+    b"1:24 h flows to t by LETVAR at 1:19\n1:35 t flows to (loop) by LOOP at 1:35\nh : H may not flow to (loop) : L\n";
+
 #[test]
 fn endings_of_loops(rt: HostRuntime) {
     let alloc = rt.alloc();
@@ -32,7 +36,7 @@ fn endings_of_loops(rt: HostRuntime) {
             Strict,
             K2,
             b"var h : H; letvar t := h in while t do t := 0",
-            b"1:24 h flows to t by LETVAR at 1:19\n1:35 t flows to (loop) by LOOP at 1:35\nh : H may not flow to (loop) : L\n"
+            THROUGH_A_LETVAR
         )
     );
     assert!(rt;

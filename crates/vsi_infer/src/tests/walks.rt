@@ -50,11 +50,32 @@ fn walks_are_checked(rt: HostRuntime) {
     let alloc = rt.alloc();
     let one = b"var h : H; var l : L; l := h";
     let two = b"var h : H; var l : L; letvar t := 0 in { if h then t := 1 else t := 0; l := t }";
-    let first = step(Rule::If, 0, 2, 44, 51);
-    let second = step(Rule::Assign, 2, 1, 76, 71);
-    assert_eq!(rt; judged(alloc, two, &[first, second]), Some(true));
-    assert_eq!(rt; judged(alloc, two, &[first]), Some(false));
-    assert_eq!(rt; judged(alloc, two, &[second, first]), Some(false));
+    assert_eq!(rt;
+        judged(
+            alloc,
+            two,
+            &[
+                step(Rule::If, 0, 2, 44, 51),
+                step(Rule::Assign, 2, 1, 76, 71)
+            ]
+        ),
+        Some(true)
+    );
+    assert_eq!(rt;
+        judged(alloc, two, &[step(Rule::If, 0, 2, 44, 51)]),
+        Some(false)
+    );
+    assert_eq!(rt;
+        judged(
+            alloc,
+            two,
+            &[
+                step(Rule::Assign, 2, 1, 76, 71),
+                step(Rule::If, 0, 2, 44, 51)
+            ]
+        ),
+        Some(false)
+    );
     assert_eq!(rt; judged(alloc, two, &[]), Some(false));
     assert_eq!(rt;
         judged(alloc, one, &[step(Rule::Assign, 0, 1, 27, 22)]),

@@ -1,4 +1,6 @@
-ghost use Rattle.std.specs.Prelude.{◌≡◌, ◌≤◌, ◌<◌, ℕ, IfOk, Some, None, option_map, ◌+◌, max};
+//! Reads expressions. Levels are 0 for a comparison, 1 for a sum, 2 for a product and 3 for an atom.
+
+ghost use Rattle.std.specs.Prelude.{◌≡◌, ◌≤◌, ◌<◌, IfOk, Some, None, option_map, ◌+◌, max};
 ghost use Rattle.vsi_syntax.specs.Tree.{level, left_level, right_level, depth, Both};
 ghost use Rattle.vsi_syntax.specs.View.{words, tree, IsMeasured};
 ghost use Rattle.vsi_syntax.specs.Parsing.{Gives};
@@ -18,6 +20,7 @@ pub struct Measured<'a> {
     pub level: u8,
 }
 
+/// The operator of a symbol.
 fn operator(kind: Kind) -> Option<Op>
     ensures { result ≡ spec.operator kind }
 {
@@ -31,6 +34,7 @@ fn operator(kind: Kind) -> Option<Op>
     }
 }
 
+/// The level of what an operator makes.
 fn level_of(op: Op) -> u8
     ensures { result ≡ level op }
 {
@@ -41,6 +45,7 @@ fn level_of(op: Op) -> u8
     }
 }
 
+/// The least level of what stands on the left of an operator.
 fn left_level_of(op: Op) -> u8
     ensures { result ≡ left_level op }
 {
@@ -50,6 +55,7 @@ fn left_level_of(op: Op) -> u8
     }
 }
 
+/// The least level of what stands on the right of an operator.
 fn right_level_of(op: Op) -> u8
     ensures { result ≡ right_level op }
 {
@@ -60,6 +66,7 @@ fn right_level_of(op: Op) -> u8
     }
 }
 
+/// The operator that goes on at this level with what is on its left, and what is behind it.
 #[tactic(auto, unfolding(crate::specs::Parsing::next))]
 fn next<'t, 'a>(least: u8, left: u8, tokens: &'t [Token<'a>]) -> Option<(Op, &'t [Token<'a>])>
     ensures { option_map (λ x. (x.0, words x.1.now)) result ≡ spec.next least left (words tokens.now) }
@@ -75,6 +82,7 @@ fn next<'t, 'a>(least: u8, left: u8, tokens: &'t [Token<'a>]) -> Option<(Op, &'t
     }
 }
 
+/// Where a fault at the front of the tokens is; `end` is where the last token stops.
 pub fn fault<'a>(tokens: &[Token<'a>], end: usize) -> Span {
     match tokens {
         [token, ..] => token.span,
@@ -85,12 +93,26 @@ pub fn fault<'a>(tokens: &[Token<'a>], end: usize) -> Span {
     }
 }
 
+/// What is behind a closing bracket.
 fn close<'t, 'a>(tokens: &'t [Token<'a>], end: usize) -> Result<&'t [Token<'a>], ParseError>
     ensures { Gives (λ x. words x.now) result (spec.closing (words tokens.now)) }
 {
     match tokens {
         [token, rest @ ..] if matches!(token.kind, Kind::Close) => Ok(rest),
         _ => Err(ParseError::Unexpected(fault(tokens, end))),
+    }
+}
+
+/// A number or a name, which has no parts.
+fn leaf<'a>(expr: Expr<'a>) -> Measured<'a>
+    ensures expr { result.expr ≡ expr.entry }
+    ensures depth { result.depth ≡ 0 }
+    ensures level { result.level ≡ 3 }
+{
+    Measured {
+        expr,
+        depth: 0,
+        level: 3,
     }
 }
 
@@ -104,7 +126,8 @@ fn atom<'t, 'a>(
     end: usize,
 ) -> Result<(Measured<'a>, &'t [Token<'a>]), ParseError>
     requires { room ≤ 200 }
-    ensures value { Gives (λ x. (tree x.0.expr, words x.1.now)) result (spec.first (spec.inside room) (words tokens.now)) }
+    ensures value { Gives (λ x. (tree x.0.expr, words x.1.now)) result
+        (spec.first (spec.inside room) (words tokens.now)) }
     ensures measured { IfOk result (λ x. IsMeasured room x.0) }
 {
     let [token, rest @ ..] = tokens else {
@@ -116,23 +139,9 @@ fn atom<'t, 'a>(
                 text: token.text,
                 span: token.span,
             };
-            Ok((
-                Measured {
-                    expr: Expr::Name(name),
-                    depth: 0,
-                    level: 3,
-                },
-                rest,
-            ))
+            Ok((leaf(Expr::Name(name)), rest))
         }
-        Kind::Number(n) => Ok((
-            Measured {
-                expr: Expr::Number(n),
-                depth: 0,
-                level: 3,
-            },
-            rest,
-        )),
+        Kind::Number(n) => Ok((leaf(Expr::Number(n)), rest)),
         Kind::Open => {
             if room == 0 {
                 return Err(ParseError::TooDeep(token.span));

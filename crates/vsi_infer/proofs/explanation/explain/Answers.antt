@@ -1,4 +1,4 @@
-use Rattle.std.proofs.Common.{◌≡◌, ◌-◌, ◌++◌, ◌∙◌, [], ap, get_or, length}
+use Rattle.std.proofs.Common.{◌++◌, ◌∙◌, ap, get_or, length}
 use Rattle.std.specs.List.{flat_map}
 use Rattle.vsi_types.specs.declared.rules.Step.{Step}
 use Rattle.vsi_infer.specs.Explanation.{step_line, last_text, explanation}

@@ -1,4 +1,4 @@
-use Rattle.std.proofs.Common.{◌≡◌, ◌<◌, ℕ, arith, length, get_or, vec_len, sym, ◌∙◌}
+use Rattle.std.proofs.Common.{◌≡◌, ◌<◌, arith, length, get_or, ◌∙◌}
 use Rattle.std.proofs.lemmas.List.{get_or_default}
 use Rattle.vsi_infer.proofs.least.everyone.Goals as goal
 

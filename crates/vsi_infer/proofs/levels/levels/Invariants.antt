@@ -8,6 +8,10 @@ invariant-loop-v g l =
     let L = g.C.Classes.lattice l.lattice in
     record {
       len : length l.rows.items ≡ L.count;
-      each : (k : ℕ) → (get_or (map (λ r. r.items) l.rows.items) k [] ≡ []) ⊎ AreDistances (g.F.Flow.flows l.flow) (goals_of L.leq l.declared k) (get_or (map (λ r. r.items) l.rows.items) k []);
-      done : (v c : ℕ) → v < l.v → slice_get l.declared v ≡ Some (Some c) → AreDistances (g.F.Flow.flows l.flow) (goals_of L.leq l.declared c) (get_or (map (λ r. r.items) l.rows.items) c []);
+      each : (k : ℕ) → (get_or (map (λ r. r.items) l.rows.items) k [] ≡ [])
+          ⊎ AreDistances (g.F.Flow.flows l.flow) (goals_of L.leq l.declared k)
+          (get_or (map (λ r. r.items) l.rows.items) k []);
+      done : (v c : ℕ) → v < l.v → slice_get l.declared v ≡ Some (Some c)
+          → AreDistances (g.F.Flow.flows l.flow) (goals_of L.leq l.declared c)
+          (get_or (map (λ r. r.items) l.rows.items) c []);
     }

@@ -1,4 +1,4 @@
-use Rattle.std.proofs.Common.{◌≡◌, ℕ, take, max, length, ◌+◌, ◌*◌}
+use Rattle.std.proofs.Common.{take, max, ◌+◌, ◌*◌}
 use denote.Param.Weighed.{most}
 use Rattle.vsi_scope.proofs.program.Cmd.TheLaws.{the_size}
 use Rattle.vsi_scope.specs.View.{sequence}
@@ -7,7 +7,8 @@ use Rattle.vsi_infer.specs.Seeking.{place_of, IsPassed}
 use Rattle.vsi_infer.proofs.seek.+walk.Given as goal
 
 abbrev pub invariant-seek_commands-loop-c : goal.invariant-seek_commands-loop-c
-invariant-seek_commands-loop-c g l = IsPassed l.profile (name_place l.entries l.first) (g.W.Wanted.wants l.wanted) (place_of l.initial.walk) (sequence (take l.c-index l.body)) (place_of l.walk)
+invariant-seek_commands-loop-c g l = IsPassed l.profile (name_place l.entries l.first) (g.W.Wanted.wants l.wanted)
+    (place_of l.initial.walk) (sequence (take l.c-index l.body)) (place_of l.walk)
 
 abbrev pub decreases-seek_if : goal.decreases-seek_if
 decreases-seek_if g l = 3 * max (most (λ x. the_size x) l.yes.now) (most (λ x. the_size x) l.other.now) + 2

@@ -1,4 +1,4 @@
-use Rattle.std.proofs.Common.{◌≡◌, ◌+◌, ◌<◌, ◌∷◌, ℕ, List, length, get_or}
+use Rattle.std.proofs.Common.{◌≡◌, ◌+◌, ◌<◌, ◌∷◌, List, length, get_or}
 use Rattle.vsi_types.specs.declared.rules.Step.{Step}
 use Rattle.vsi_types.specs.Security.{program, steps_of}
 use Rattle.vsi_infer.specs.Paths.{IsPath}
@@ -9,7 +9,8 @@ abbrev pub invariant-loop-left : goal.invariant-loop-left
 invariant-loop-left l = record {
   level : get_or l.row (row_of l.last l.at) 0 ≡ l.left;
   small : l.left < 65535;
-  path : (rest : List Step) × (l.steps.items ≡ l.fn.first ∷ rest) × IsPath (steps_of l.profile (program l.program)) l.fn.first.source (l.fn.first ∷ rest) l.at;
+  path : (rest : List Step) × (l.steps.items ≡ l.fn.first ∷ rest)
+      × IsPath (steps_of l.profile (program l.program)) l.fn.first.source (l.fn.first ∷ rest) l.at;
   size : length l.steps.items + l.left ≡ l.length + 1;
 }
 

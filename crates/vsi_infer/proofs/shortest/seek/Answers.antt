@@ -1,4 +1,4 @@
-use Rattle.std.proofs.Common.{rules, ◌≡◌, ◌<◌, ◌≤◌, ◌+◌, ◌⊎◌, ◌∙◌, ◌++◌, ◌∷◌, [], ℕ, List, Some, None, Option, map, take, length, get_or, slice_get, inl, inr, refl, sym, ap, subst, arith}
+use Rattle.std.proofs.Common.{length, sym, ap, subst}
 use Rattle.vsi_scope.specs.View.{sequence}
 use Rattle.vsi_types.specs.Security.{name_place}
 use Rattle.vsi_infer.specs.Seeking.{HasRoom, Sought, place_of}
@@ -8,13 +8,20 @@ use Rattle.vsi_infer.proofs.shortest.seek.Goals as goal
 
 pub seek_commands-requires : goal.seek_commands-requires
 seek_commands-requires g c =
-    subst (λ gs. HasRoom (length c.globals.result.now) (length c.letvars.result.now) (place c.in_ok-first_variables.field-0.items gs (length c.globals.result.now)) (sequence c.body-body.result.now)) (sym c.new.ensures.items)
-    (start_room c.args.program.now c.body-body.ensures.resolved c.in_ok-first_variables.field-0.items (length c.globals.result.now) c.letvars.result.now c.body-body.result.now
+    subst (λ gs. HasRoom (length c.globals.result.now) (length c.letvars.result.now)
+    (place c.in_ok-first_variables.field-0.items gs (length c.globals.result.now))
+    (sequence c.body-body.result.now)) (sym c.new.ensures.items)
+    (start_room c.args.program.now c.body-body.ensures.resolved c.in_ok-first_variables.field-0.items
+    (length c.globals.result.now) c.letvars.result.now c.body-body.result.now
     c.in_ok-first_variables.ensures (ap length c.globals.ensures) c.letvars.ensures c.body-body.ensures.value)
 
 pub returns : goal.returns
 returns g c =
-    start_sought c.args.program.now c.body-body.ensures.resolved c.in_ok-first_variables.field-0.items (length c.globals.result.now) c.letvars.result.now c.body-body.result.now
+    start_sought c.args.program.now c.body-body.ensures.resolved c.in_ok-first_variables.field-0.items
+    (length c.globals.result.now) c.letvars.result.now c.body-body.result.now
     c.in_ok-first_variables.ensures (ap length c.globals.ensures) c.letvars.ensures c.body-body.ensures.value
     c.args.profile (g.W.Wanted.wants c.args.wanted.now) (place_of c.seek_commands.new.walk) c.seek_commands.result
-    (subst (λ gs. Sought c.args.profile (name_place c.letvars.result.now (length c.globals.result.now)) (g.W.Wanted.wants c.args.wanted.now) (place c.in_ok-first_variables.field-0.items gs (length c.globals.result.now)) (sequence c.body-body.result.now) (place_of c.seek_commands.new.walk) c.seek_commands.result) c.new.ensures.items c.seek_commands.ensures)
+    (subst (λ gs. Sought c.args.profile (name_place c.letvars.result.now (length c.globals.result.now))
+    (g.W.Wanted.wants c.args.wanted.now) (place c.in_ok-first_variables.field-0.items gs
+    (length c.globals.result.now)) (sequence c.body-body.result.now)
+    (place_of c.seek_commands.new.walk) c.seek_commands.result) c.new.ensures.items c.seek_commands.ensures)

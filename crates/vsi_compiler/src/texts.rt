@@ -1,0 +1,151 @@
+//! The canonical text of a program, and the lines of its classes.
+
+ghost use Rattle.std.specs.Prelude.{◌≡◌, ◌++◌, ◌≤◌, length, map, decimal, IfOk, IfErr, OnOk};
+ghost use Rattle.std.specs.List.{All};
+ghost use Rattle.vsi_lattice.specs.Named.{class_named, names, order};
+ghost use Rattle.vsi_lattice.specs.Order.{IsClass};
+ghost use Rattle.vsi_scope.specs.Resolving.{variable};
+ghost use Rattle.vsi_syntax.specs.Programs.{declared};
+ghost use Rattle.vsi_types.specs.declared.rules.Profile.TheVariants.{Base};
+ghost use Rattle.vsi_syntax.specs.Tree.{Whole};
+ghost use Rattle.vsi_compiler.specs.declared.error.CompileError.TheVariants.{Memory};
+ghost use Rattle.vsi_compiler.specs.Acceptance.{IsAccepted};
+ghost use Rattle.vsi_compiler.specs.Classes.{place_text, class_line, global_lines, letvar_lines, IsClassText};
+ghost use Rattle.vsi_compiler.specs.Refusal.{Refuses, RefusesTree};
+ghost use Rattle.vsi_compiler.specs.Source.{Reads, IsCanonicalText};
+
+use crate::error::CompileError;
+use crate::source::read_program;
+use itoa::Buffer;
+use std::alloc::{AllocError, Global};
+use vsi_infer::infer_in;
+use vsi_lattice::{Class, Lattice};
+use vsi_scope::{Entry, resolve};
+use vsi_syntax::{Declaration, Span, line_column, print};
+use vsi_types::Profile;
+
+/// The canonical text of the program that a text writes; comments are dropped.
+///
+/// # Errors
+///
+/// The refusals of the words and the tree; names and classes aren't looked at.
+pub fn format_text(alloc: Global, text: &[u8]) -> Result<Vec<u8>, CompileError>
+    ensures canonical { IfOk result (λ out. IsCanonicalText text.now out.items) }
+    ensures refused { IfErr result (RefusesTree text.now) }
+    ensures exact { (tree : Whole) → Reads text.now tree → IfErr result (λ e. e ≡ Memory) }
+{
+    let program = read_program(alloc, text)?;
+    Ok(print(alloc, &program)?)
+}
+
+/// A number in decimal more.
+fn push_number(out: &mut Vec<u8>, n: usize) -> Result<(), AllocError>
+    ensures { OnOk result (out.new.items ≡ out.old.items ++ decimal n) }
+{
+    let mut buffer = Buffer::new();
+    out.extend_from_slice(buffer.format(n).as_bytes())
+}
+
+/// The line and the column of a place more.
+fn push_place(out: &mut Vec<u8>, text: &[u8], at: usize) -> Result<(), AllocError>
+    ensures { OnOk result (out.new.items ≡ out.old.items ++ place_text text.now at) }
+{
+    let (line, column) = line_column(text, at);
+    push_number(out, line)?;
+    out.extend_from_slice(b":")?;
+    push_number(out, column)
+}
+
+/// The line of a declaration more.
+fn push_line(
+    out: &mut Vec<u8>,
+    text: &[u8],
+    span: Span,
+    name: &[u8],
+    class: &[u8],
+) -> Result<(), AllocError>
+    ensures { OnOk result (out.new.items ≡ out.old.items ++ class_line text.now span name.now class.now) }
+{
+    push_place(out, text, span.start)?;
+    out.extend_from_slice(b" ")?;
+    out.extend_from_slice(name)?;
+    out.extend_from_slice(b" : ")?;
+    out.extend_from_slice(class)?;
+    out.extend_from_slice(b"\n")
+}
+
+/// The lines of the globals more.
+fn push_globals(out: &mut Vec<u8>, text: &[u8], globals: &[Declaration]) -> Result<(), AllocError>
+    ensures { OnOk result (out.new.items ≡ out.old.items ++ global_lines text.now (map declared globals.now)) }
+{
+    for global in globals {
+        push_line(
+            out,
+            text,
+            global.name.span,
+            global.name.text,
+            global.class.text,
+        )?;
+    }
+    Ok(())
+}
+
+/// The lines of the letvars more, with the classes that were chosen.
+fn push_letvars(
+    out: &mut Vec<u8>,
+    text: &[u8],
+    lattice: &Lattice,
+    letvars: &[Entry],
+    classes: &[Class],
+) -> Result<(), AllocError>
+    requires each { length letvars.now ≡ length classes.now }
+    requires within { All (IsClass (order lattice.now)) classes.now }
+    ensures { OnOk result (out.new.items ≡ out.old.items
+        ++ letvar_lines text.now (names lattice.now) (map variable letvars.now) classes.now) }
+{
+    for (i, entry) in letvars.iter().enumerate() {
+        push_line(out, text, entry.span, entry.name, lattice.name(classes[i]))?;
+    }
+    Ok(())
+}
+
+/// A line `LINE:COLUMN NAME : CLASS` for each declaration, globals first and then `letvar`s in the order of the text,
+/// with the least classes that are typable under a profile.
+///
+/// # Errors
+///
+/// The refusals of `compile_in`.
+pub fn classes_text_in(
+    alloc: Global,
+    profile: Profile,
+    lattice: &Lattice,
+    text: &[u8],
+) -> Result<Vec<u8>, CompileError>
+    ensures lines { IfOk result (λ out.
+        IsClassText (class_named lattice.now) (order lattice.now) profile (names lattice.now) text.now out.items) }
+    ensures refused { IfErr result (Refuses (class_named lattice.now) (order lattice.now) profile text.now) }
+    ensures exact {
+        IsAccepted (class_named lattice.now) (order lattice.now) profile text.now → IfErr result (λ e. e ≡ Memory)
+    }
+{
+    let program = read_program(alloc, text)?;
+    let resolved = resolve(alloc, &program, lattice)?;
+    let _body = resolved.body();
+    let classes = infer_in(alloc, profile, lattice, &resolved)?;
+    let mut out = Vec::new(alloc);
+    push_globals(&mut out, text, program.globals())?;
+    push_letvars(&mut out, text, lattice, resolved.letvars(), &classes)?;
+    Ok(out)
+}
+
+/// The class lines under the base profile.
+pub fn classes_text(alloc: Global, lattice: &Lattice, text: &[u8]) -> Result<Vec<u8>, CompileError>
+    ensures lines { IfOk result (λ out.
+        IsClassText (class_named lattice.now) (order lattice.now) Base (names lattice.now) text.now out.items) }
+    ensures refused { IfErr result (Refuses (class_named lattice.now) (order lattice.now) Base text.now) }
+    ensures exact {
+        IsAccepted (class_named lattice.now) (order lattice.now) Base text.now → IfErr result (λ e. e ≡ Memory)
+    }
+{
+    classes_text_in(alloc, Profile::Base, lattice, text)
+}
