@@ -138,3 +138,16 @@ module _ (known : Known) (text : List ℕ) (r : Source) (stands : Stands known t
 -- a valid image is within the limits of its format
 pub coded : (im : Image) → IsValid im → IsCoded im
 coded im valid = record { valid = valid; unlimited = no_limits (image.fields im) valid.allowed }
+
+-- two resolved programs of a text are one program for typing
+pub one_program : (known : Known) (text : List ℕ) (r other : Source) → Stands known text r → Stands known text other →
+    program other ≡ program r
+one_program known text r other stands others =
+    let tree = stands.only others.tree others.reads in
+    let commands = does_all_one _ _ (map command other.body) others.resolves.resolution.body
+          ∙ sym (does_all_one _ _ (map command r.body)
+            (subst (λ (t : Whole). IsResolution known t (map command r.body)) tree stands.resolves.resolution).body) in
+    program_is known others.tree other others.resolves
+    ∙ ap (λ (t : Whole). program_of known t (map command other.body)) (sym tree)
+    ∙ ap (λ cs. program_of known stands.tree cs) commands
+    ∙ sym (program_is known stands.tree r stands.resolves)

@@ -7,3 +7,4 @@ pub mod Headline
 pub mod Stands
 pub mod Run
 pub mod Classes
+pub mod Explaining

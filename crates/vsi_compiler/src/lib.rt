@@ -3,12 +3,14 @@
 
 mod compiler;
 mod error;
+mod refused;
 mod run;
 mod source;
 mod texts;
 
 pub use compiler::{compile, compile_in};
 pub use error::CompileError;
+pub use refused::explanation_text;
 pub use run::{RunError, run_source};
 pub use texts::{classes_text, classes_text_in, format_text};
 

@@ -1,2 +1,5 @@
+pub mod Builds
 pub mod Bytes
 pub mod Traces
+pub mod Outputs
+pub mod Refusals

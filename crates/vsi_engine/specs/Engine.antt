@@ -1,6 +1,11 @@
--- Which errors the calls that move whole texts may answer.
+-- What the calls over devices read, and which errors they may answer.
+use Rattle.std.specs.Prelude.{◌≡◌, ℕ, List, take, Option, IfSome}
 use Rattle.vsi_engine.specs.declared.error.EngineError.{EngineError}
 use Rattle.vsi_engine.specs.declared.error.EngineError.TheVariants.{ReadFault, WriteFault, Compile, Decode, Verify, Store, Memory}
+
+-- what is read of a reader that tells its bytes: all of them, or as many as the limit
+abbrev pub IsReadFrom : Option (List ℕ) → List ℕ → Type 0
+IsReadFrom remaining bytes = IfSome remaining (λ xs. bytes ≡ take 1048577 xs)
 
 -- a fault of the reader, or want of memory
 abbrev pub IsOfReading : EngineError → Type 0

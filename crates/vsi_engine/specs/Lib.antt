@@ -1,4 +1,6 @@
+pub mod Building
 pub mod Counted
 pub mod Engine
 pub mod Errors
+pub mod Refusing
 pub mod Running

@@ -1,7 +1,7 @@
-ghost use Rattle.std.specs.Prelude.{◌≡◌, ◌+◌, ◌<◌, ◌≤◌, ◌↔◌, ℕ, List, length, take, IfOk, IfErr, IfSome, OnOk, IsErrOf, vec_len};
+ghost use Rattle.std.specs.Prelude.{◌≡◌, ◌+◌, ◌<◌, ◌≤◌, ◌↔◌, ℕ, List, length, take, IfOk, IfErr, OnOk, IsErrOf, vec_len};
 ghost use Rattle.std.specs.Io.KnownBytes.{Appends, Consumes, Keeps};
 ghost use Rattle.vsi_engine.specs.Counted.{device_of, faults_of};
-ghost use Rattle.vsi_engine.specs.Engine.{IsOfReading};
+ghost use Rattle.vsi_engine.specs.Engine.{IsOfReading, IsReadFrom};
 
 use crate::counted::Counted;
 use crate::error::EngineError;
@@ -20,7 +20,7 @@ pub fn read_all<R: Read>(alloc: Global, reader: &mut Counted<R>) -> Result<Vec<u
     ensures count { faults_of reader.old ≤ faults_of reader.new }
     ensures once { faults_of reader.new ≤ faults_of reader.old + 1 }
     ensures only { IfErr result IsOfReading }
-    ensures bytes { IfOk result (λ bytes. IfSome (R.remaining (device_of reader.old)) (λ xs. bytes.items ≡ take 1048577 xs)) }
+    ensures bytes { IfOk result (λ bytes. IsReadFrom (R.remaining (device_of reader.old)) bytes.items) }
     ensures read { IfOk result (λ bytes. Consumes (R.remaining (device_of reader.old)) (R.remaining (device_of reader.new)) bytes.items) }
     ensures bound { (taken : List ℕ) × Consumes (R.remaining (device_of reader.old)) (R.remaining (device_of reader.new)) taken × (length taken ≤ 1048577) }
 {

@@ -9,12 +9,16 @@ use thiserror::Error;
 /// Why a store file is refused: it is no TOML, or the first faulty key in byte order has no number or is no global.
 #[derive(Debug, Drop, Error)]
 pub enum StoreError {
+    /// The text is no TOML document.
     #[error("the store file is no TOML")]
     NotToml,
+    /// The value of this key is no integer.
     #[error("the value of a key is no number")]
     NotANumber(Vec<u8>),
+    /// The image has no global of this name.
     #[error("a key is no global")]
     UnknownGlobal(Vec<u8>),
+    /// A growth was refused.
     #[error("out of memory")]
     Memory,
 }

@@ -10,10 +10,18 @@ use std::alloc::Global;
 use toml::{Table, Value};
 use vsi_image::Image;
 
+/// The number of a global that a store file doesn't name.
+const UNNAMED: i64 = 0;
+
 /// The words of the globals that a store file gives, in the order of the globals; a global without a key is 0.
 ///
 /// The file is a TOML document whose keys are globals and whose values are integers. A dotted key counts as its first
 /// part, whose value is no integer.
+///
+/// # Errors
+///
+/// `NotToml` where the text is no document, no UTF-8, or has an integer beyond 64 bits; else the fault of the first
+/// faulty key in byte order, `NotANumber` before `UnknownGlobal` at one key.
 pub fn read_store(alloc: Global, image: &Image, text: &[u8]) -> Result<Vec<i64>, StoreError>
     ensures words { IfOk result (λ words. Tells text.now (globals image.now.globals.items) words.items) }
     ensures refused { IfErr result (IsRefusal (globals image.now.globals.items) text.now) }
@@ -53,7 +61,9 @@ fn judge(
     key: &str,
     value: &Value,
 ) -> Result<(), StoreError>
-    ensures { MatchResult result (λ _. entry_fault (globals variables.now) key.now (view value.now) ≡ None) (IsEntryRefusal (globals variables.now) key.now (view value.now)) }
+    ensures { MatchResult result
+        (λ _. entry_fault (globals variables.now) key.now (view value.now) ≡ None)
+        (IsEntryRefusal (globals variables.now) key.now (view value.now)) }
 {
     if value.as_integer().is_none() {
         return Err(StoreError::NotANumber(Vec::from_slice(alloc, key.as_bytes())?));
@@ -82,8 +92,8 @@ fn number_of(table: &Table, name: &[u8]) -> i64
 {
     for (key, value) in table {
         if key.as_bytes() == name {
-            return value.as_integer().unwrap_or(0);
+            return value.as_integer().unwrap_or(UNNAMED);
         }
     }
-    0
+    UNNAMED
 }

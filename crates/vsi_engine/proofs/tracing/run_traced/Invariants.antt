@@ -11,8 +11,7 @@ invariant-loop-step g l =
     let contents = g.W.Write.contents in
     let code = l.fn.machine.image.code.items in
     record {
-      written : Appends (contents (device_of l.fn.writer)) (contents (device_of l.writer))
-          (trace_text code l._step l.fn.machine.state);
+      written : Appends (contents (device_of l.fn.writer)) (contents (device_of l.writer)) (trace_text code l._step l.fn.machine.state);
       reached : after code l._step l.fn.machine.state ≡ Some l.machine.state;
       image : l.machine.image ≡ l.fn.machine.image;
       count : faults_of l.writer ≡ faults_of l.fn.writer;

@@ -1,0 +1,134 @@
+//! Does what a command line asks for.
+
+ghost use Rattle.std.specs.Prelude.{◌<◌, ◌≤◌};
+ghost use Rattle.vsi_engine.specs.Counted.{faults_of};
+
+use crate::files::Files;
+use crate::reading::{read_stop, refused, two_classes};
+use crate::request::{Request, request_of};
+use crate::running::run_from_zeros;
+use crate::stop::{STREAM, Stop, write};
+use crate::subcommands::{build, check, format, list};
+use clap::error::ErrorKind;
+use std::alloc::Global;
+use std::io::{Read, Write};
+use vsi_compiler::compile;
+use vsi_engine::{Counted, read_all, write_out};
+
+/// The budget of a run without words, in instructions.
+const DEFAULT_BUDGET: u64 = 1_000_000;
+
+/// Does what the words ask for, and gives the status that the program ends with. The words leave out its name; without
+/// any, a source text is read from the input, compiled with the classes `L` below `H`, run from zeros with a budget of
+/// 1,000,000, and the text of its store is written to the output.
+///
+/// The status is 0 where all was done, 1 for a refusal, 2 for a mistake in the words, 3 where a run is out of budget, 4
+/// for a fault of a file or a stream, 5 for want of memory. For all but 0 a text that tells the cause goes to `error`,
+/// whose own faults leave the status as it is.
+pub fn command<F: Files, R: Read, W: Write, E: Write>(
+    alloc: Global,
+    words: &[String],
+    files: &mut F,
+    input: &mut Counted<R>,
+    output: &mut Counted<W>,
+    error: &mut Counted<E>,
+) -> u8
+    requires input { faults_of input.old < u64.MAX }
+    requires output { faults_of output.old < u64.MAX }
+    requires error { faults_of error.old < u64.MAX }
+    ensures status { result ≤ 5 }
+{
+    let answer = if words.is_empty() {
+        run_input(alloc, input, output)
+    } else {
+        match request_of(alloc, words) {
+            Ok(request) => perform(alloc, request, files, output),
+            Err(mistake) => show_usage(alloc, &mistake, output),
+        }
+    };
+    match answer {
+        Ok(()) => 0,
+        Err(stop) => report(alloc, &stop, error),
+    }
+}
+
+/// Writes why the program stops, and gives its status.
+fn report<E: Write>(alloc: Global, stop: &Stop<'_>, error: &mut Counted<E>) -> u8
+    requires { faults_of error.old < u64.MAX }
+    ensures { result ≤ 5 }
+{
+    match stop.text(alloc) {
+        Ok(text) => {
+            let _ = write_out(text.as_slice(), error);
+            stop.status()
+        }
+        Err(_) => {
+            let _ = write_out(b"out of memory\n", error);
+            Stop::Memory.status()
+        }
+    }
+}
+
+/// Help goes to the output; what is wrong with the words is told by the stop.
+fn show_usage<'a, W: Write>(
+    alloc: Global,
+    mistake: &clap::Error,
+    output: &mut Counted<W>,
+) -> Result<(), Stop<'a>>
+    requires { faults_of output.old < u64.MAX }
+{
+    if mistake.kind() == ErrorKind::OutOfMemory {
+        return Err(Stop::Memory);
+    }
+    let text = mistake.to_string(alloc)?;
+    if mistake.use_stderr() {
+        return Err(Stop::Usage(text));
+    }
+    write(text.as_bytes(), output)
+}
+
+/// The run without words.
+fn run_input<'a, R: Read, W: Write>(
+    alloc: Global,
+    input: &mut Counted<R>,
+    output: &mut Counted<W>,
+) -> Result<(), Stop<'a>>
+    requires input { faults_of input.old < u64.MAX }
+    requires output { faults_of output.old < u64.MAX }
+{
+    let lattice = two_classes(alloc)?;
+    let source = read_all(alloc, input).map_err(|error| read_stop(&error, STREAM))?;
+    match compile(alloc, &lattice, source.as_slice()) {
+        Ok(verified) => {
+            let text = run_from_zeros(alloc, &verified, DEFAULT_BUDGET)?;
+            write(text.as_slice(), output)
+        }
+        Err(error) => Err(refused(alloc, &lattice, source.as_slice(), &error)),
+    }
+}
+
+/// Does one subcommand.
+fn perform<'a, F: Files, W: Write>(
+    alloc: Global,
+    request: Request<'a>,
+    files: &mut F,
+    output: &mut Counted<W>,
+) -> Result<(), Stop<'a>>
+    requires { faults_of output.old < u64.MAX }
+{
+    match request {
+        Request::Check {
+            lattice,
+            source,
+            is_strict,
+        } => check(alloc, lattice, source, is_strict, files, output),
+        Request::Build {
+            lattice,
+            source,
+            image,
+            is_strict,
+        } => build(alloc, lattice, source, image, is_strict, files),
+        Request::List { image } => list(alloc, image, files, output),
+        Request::Format { source } => format(alloc, source, files, output),
+    }
+}

@@ -1,0 +1,21 @@
+//! The compiler, its machine and their texts as one library, and the command line over them.
+//!
+//! `compile` and `compile_in` give the image of a source text and promise what is kept of it; `run_source` runs it.
+//! `read_all`, `write_out` and `Counted` move texts through devices, and `refusal_text` and `fault_text` tell why a
+//! text or a file is refused. `command` does what the words of a command line ask for.
+#![tactic(auto)]
+
+mod command_line;
+mod files;
+mod reading;
+mod request;
+mod running;
+mod stop;
+mod subcommands;
+
+pub use command_line::command;
+pub use files::Files;
+pub use vsi_compiler::{CompileError, RunError, compile, compile_in, run_source};
+pub use vsi_engine::{Counted, EngineError, READ_LIMIT, read_all, write_out};
+pub use vsi_faults::{Fault, fault_text, refusal_text};
+pub use vsi_store::{StoreError, read_store, store_text};

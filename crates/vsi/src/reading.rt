@@ -1,0 +1,113 @@
+//! Files, read and judged.
+
+use crate::files::Files;
+use crate::stop::Stop;
+use std::alloc::Global;
+use vsi_compiler::CompileError;
+use vsi_engine::{Counted, EngineError, READ_LIMIT, read_all};
+use vsi_faults::{Fault, fault_text, refusal_text};
+use vsi_image::{DecodeError, Verified, decode, verify};
+use vsi_lattice::{Lattice, LatticeError, read_lattice};
+
+/// The lattice of a run without words.
+const TWO_CLASSES: &[u8] = b"classes = [\"L\", \"H\"]\nbelow = [[\"L\", \"H\"]]\n";
+
+/// What stands for an error of reading the file at the path.
+pub(crate) fn read_stop<'a>(error: &EngineError, path: &'a str) -> Stop<'a> {
+    match error {
+        EngineError::ReadFault => Stop::FileFault(path),
+        _ => Stop::Memory,
+    }
+}
+
+/// What stands for the refusal of a source text.
+pub(crate) fn refused<'a>(
+    alloc: Global,
+    lattice: &Lattice,
+    source: &[u8],
+    error: &CompileError,
+) -> Stop<'a> {
+    if let CompileError::Memory = error {
+        return Stop::Memory;
+    }
+    match refusal_text(alloc, lattice, source, error) {
+        Ok(text) => Stop::Refused(text),
+        Err(_) => Stop::Memory,
+    }
+}
+
+/// What stands for the refusal of another file.
+pub(crate) fn faulty<'a>(alloc: Global, fault: &Fault) -> Stop<'a> {
+    if let Fault::Lattice(LatticeError::Memory) | Fault::Decode(DecodeError::Memory) = fault {
+        return Stop::Memory;
+    }
+    match fault_text(alloc, fault) {
+        Ok(text) => Stop::Refused(text),
+        Err(_) => Stop::Memory,
+    }
+}
+
+/// A whole file, or its first `READ_LIMIT` bytes.
+pub(crate) fn bytes_in<'a, F: Files>(
+    alloc: Global,
+    path: &'a str,
+    files: &mut F,
+) -> Result<Vec<u8>, Stop<'a>> {
+    let Some(file) = files.open_file(path) else {
+        return Err(Stop::FileFault(path));
+    };
+    let mut reader = Counted::new(file);
+    read_all(alloc, &mut reader).map_err(|error| read_stop(&error, path))
+}
+
+/// A whole file that is shorter than `READ_LIMIT`; a longer one is a file fault.
+fn settings_in<'a, F: Files>(
+    alloc: Global,
+    path: &'a str,
+    files: &mut F,
+) -> Result<Vec<u8>, Stop<'a>> {
+    let bytes = bytes_in(alloc, path, files)?;
+    if bytes.len() >= READ_LIMIT {
+        return Err(Stop::FileFault(path));
+    }
+    Ok(bytes)
+}
+
+/// The lattice that a text declares.
+fn declared_lattice<'a>(alloc: Global, text: &[u8]) -> Result<Lattice, Stop<'a>> {
+    match read_lattice(alloc, text) {
+        Ok(lattice) => Ok(lattice),
+        Err(error) => Err(faulty(alloc, &Fault::Lattice(error))),
+    }
+}
+
+/// The lattice of `L` below `H`.
+pub(crate) fn two_classes<'a>(alloc: Global) -> Result<Lattice, Stop<'a>> {
+    declared_lattice(alloc, TWO_CLASSES)
+}
+
+/// The lattice of a file.
+pub(crate) fn lattice_in<'a, F: Files>(
+    alloc: Global,
+    path: &'a str,
+    files: &mut F,
+) -> Result<Lattice, Stop<'a>> {
+    let bytes = settings_in(alloc, path, files)?;
+    declared_lattice(alloc, bytes.as_slice())
+}
+
+/// The verified image of a file.
+pub(crate) fn image_in<'a, F: Files>(
+    alloc: Global,
+    path: &'a str,
+    files: &mut F,
+) -> Result<Verified, Stop<'a>> {
+    let bytes = bytes_in(alloc, path, files)?;
+    match decode(alloc, bytes.as_slice()) {
+        Ok(image) => match verify(image) {
+            Ok(verified) => Ok(verified),
+            Err((_image, error)) => Err(faulty(alloc, &Fault::Verify(error))),
+        },
+        Err(error) => Err(faulty(alloc, &Fault::Decode(error))),
+    }
+}
