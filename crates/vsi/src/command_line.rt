@@ -4,11 +4,11 @@ ghost use Rattle.std.specs.Prelude.{◌<◌, ◌≤◌};
 ghost use Rattle.vsi_engine.specs.Counted.{faults_of};
 
 use crate::files::Files;
-use crate::reading::{read_stop, refused, two_classes};
+use crate::reading::{device_stop, refused, two_classes};
 use crate::request::{Request, request_of};
-use crate::running::run_from_zeros;
+use crate::running::{run, run_from_zeros, view};
 use crate::stop::{STREAM, Stop, write};
-use crate::subcommands::{build, check, format, list};
+use crate::subcommands::{build, check, classes, format, list};
 use clap::error::ErrorKind;
 use std::alloc::Global;
 use std::io::{Read, Write};
@@ -97,7 +97,7 @@ fn run_input<'a, R: Read, W: Write>(
     requires output { faults_of output.old < u64.MAX }
 {
     let lattice = two_classes(alloc)?;
-    let source = read_all(alloc, input).map_err(|error| read_stop(&error, STREAM))?;
+    let source = read_all(alloc, input).map_err(|error| device_stop(alloc, error, STREAM))?;
     match compile(alloc, &lattice, source.as_slice()) {
         Ok(verified) => {
             let text = run_from_zeros(alloc, &verified, DEFAULT_BUDGET)?;
@@ -117,18 +117,16 @@ fn perform<'a, F: Files, W: Write>(
     requires { faults_of output.old < u64.MAX }
 {
     match request {
-        Request::Check {
+        Request::Check(compilation) => check(alloc, compilation, files, output),
+        Request::Classes(compilation) => classes(alloc, compilation, files, output),
+        Request::Build(compilation, image) => build(alloc, compilation, image, files),
+        Request::List(image) => list(alloc, image, files, output),
+        Request::Run(execution, has_trace) => run(alloc, execution, has_trace, files, output),
+        Request::View {
             lattice,
-            source,
-            is_strict,
-        } => check(alloc, lattice, source, is_strict, files, output),
-        Request::Build {
-            lattice,
-            source,
-            image,
-            is_strict,
-        } => build(alloc, lattice, source, image, is_strict, files),
-        Request::List { image } => list(alloc, image, files, output),
-        Request::Format { source } => format(alloc, source, files, output),
+            class,
+            execution,
+        } => view(alloc, lattice, class, execution, files, output),
+        Request::Format(source) => format(alloc, source, files, output),
     }
 }

@@ -15,7 +15,15 @@ mod subcommands;
 
 pub use command_line::command;
 pub use files::Files;
-pub use vsi_compiler::{CompileError, RunError, compile, compile_in, run_source};
-pub use vsi_engine::{Counted, EngineError, READ_LIMIT, read_all, write_out};
+pub use vsi_compiler::{
+    CompileError, RunError, classes_text, classes_text_in, compile, compile_in, format_text,
+    run_source,
+};
+pub use vsi_engine::{
+    Counted, EngineError, READ_LIMIT, build, build_in, read_all, run_image, write_out,
+};
 pub use vsi_faults::{Fault, fault_text, refusal_text};
-pub use vsi_store::{StoreError, read_store, store_text};
+pub use vsi_store::{StoreError, View, ViewError, read_store, store_text, view};
+
+#[cfg(test)]
+mod tests;

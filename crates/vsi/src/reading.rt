@@ -1,22 +1,27 @@
 //! Files, read and judged.
 
 use crate::files::Files;
-use crate::stop::Stop;
+use crate::stop::{STREAM, Stop};
 use std::alloc::Global;
 use vsi_compiler::CompileError;
 use vsi_engine::{Counted, EngineError, READ_LIMIT, read_all};
 use vsi_faults::{Fault, fault_text, refusal_text};
 use vsi_image::{DecodeError, Verified, decode, verify};
 use vsi_lattice::{Lattice, LatticeError, read_lattice};
+use vsi_store::{StoreError, ViewError};
 
 /// The lattice of a run without words.
 const TWO_CLASSES: &[u8] = b"classes = [\"L\", \"H\"]\nbelow = [[\"L\", \"H\"]]\n";
 
-/// What stands for an error of reading the file at the path.
-pub(crate) fn read_stop<'a>(error: &EngineError, path: &'a str) -> Stop<'a> {
+/// What stands for an error of a call that reads the file at the path. No such call compiles.
+pub(crate) fn device_stop<'a>(alloc: Global, error: EngineError, path: &'a str) -> Stop<'a> {
     match error {
         EngineError::ReadFault => Stop::FileFault(path),
-        _ => Stop::Memory,
+        EngineError::WriteFault => Stop::FileFault(STREAM),
+        EngineError::Decode(inner) => faulty(alloc, &Fault::Decode(inner)),
+        EngineError::Verify(inner) => faulty(alloc, &Fault::Verify(inner)),
+        EngineError::Store(inner) => faulty(alloc, &Fault::Store(inner)),
+        EngineError::Compile(_) | EngineError::Memory => Stop::Memory,
     }
 }
 
@@ -38,7 +43,11 @@ pub(crate) fn refused<'a>(
 
 /// What stands for the refusal of another file.
 pub(crate) fn faulty<'a>(alloc: Global, fault: &Fault) -> Stop<'a> {
-    if let Fault::Lattice(LatticeError::Memory) | Fault::Decode(DecodeError::Memory) = fault {
+    if let Fault::Lattice(LatticeError::Memory)
+    | Fault::Decode(DecodeError::Memory)
+    | Fault::Store(StoreError::Memory)
+    | Fault::View(ViewError::Memory) = fault
+    {
         return Stop::Memory;
     }
     match fault_text(alloc, fault) {
@@ -57,7 +66,7 @@ pub(crate) fn bytes_in<'a, F: Files>(
         return Err(Stop::FileFault(path));
     };
     let mut reader = Counted::new(file);
-    read_all(alloc, &mut reader).map_err(|error| read_stop(&error, path))
+    read_all(alloc, &mut reader).map_err(|error| device_stop(alloc, error, path))
 }
 
 /// A whole file that is shorter than `READ_LIMIT`; a longer one is a file fault.
@@ -71,6 +80,18 @@ fn settings_in<'a, F: Files>(
         return Err(Stop::FileFault(path));
     }
     Ok(bytes)
+}
+
+/// The bytes of a store file; without one there are none.
+pub(crate) fn store_in<'a, F: Files>(
+    alloc: Global,
+    path: Option<&'a str>,
+    files: &mut F,
+) -> Result<Vec<u8>, Stop<'a>> {
+    match path {
+        Some(path) => settings_in(alloc, path, files),
+        None => Ok(Vec::new(alloc)),
+    }
 }
 
 /// The lattice that a text declares.

@@ -1,79 +1,102 @@
 //! What the words of a command line ask for.
 
 use clap::error::ErrorKind;
-use clap::{Arg, ArgAction, ArgMatches, Command, Error};
+use clap::{Arg, ArgAction, ArgMatches, Command, Error, value_parser};
 use std::alloc::{AllocError, Global};
 
 /// What `--version` tells, behind the name of the program.
 const VERSION: &str = "0.1.0";
 
-/// What the words of a command line ask for: a subcommand with the paths that it is given.
+/// What is compiled: the paths of a lattice file and of a source text, and whether the strict profile judges it.
+#[derive(Clone, Copy, Debug, PartialEq, Eq)]
+pub(crate) struct Compilation<'a> {
+    pub lattice: &'a str,
+    pub source: &'a str,
+    pub is_strict: bool,
+}
+
+/// What is run: the path of an image, the most instructions that are done, and the path of a store file, without which
+/// the run begins from zeros.
+#[derive(Clone, Copy, Debug, PartialEq, Eq)]
+pub(crate) struct Execution<'a> {
+    pub image: &'a str,
+    pub budget: u64,
+    pub store: Option<&'a str>,
+}
+
+/// A subcommand with what it is given.
 #[derive(Clone, Copy, Debug, PartialEq, Eq)]
 pub(crate) enum Request<'a> {
-    Check {
+    Check(Compilation<'a>),
+    Classes(Compilation<'a>),
+    Build(Compilation<'a>, &'a str),
+    List(&'a str),
+    Run(Execution<'a>, bool),
+    View {
         lattice: &'a str,
-        source: &'a str,
-        is_strict: bool,
+        class: &'a str,
+        execution: Execution<'a>,
     },
-    Build {
-        lattice: &'a str,
-        source: &'a str,
-        image: &'a str,
-        is_strict: bool,
-    },
-    List {
-        image: &'a str,
-    },
-    Format {
-        source: &'a str,
-    },
+    Format(&'a str),
 }
 
 /// Reads the words after the program's name. An error is a mistake in them, a wish for help, or want of memory.
 pub(crate) fn request_of<'a>(alloc: Global, words: &'a [String]) -> Result<Request<'a>, Error> {
     let mut command = program(alloc)?;
     let matches = command.try_get_matches_from_mut(words)?;
+    if has_signed_budget(&matches) {
+        return Err(command.error(
+            ErrorKind::ValueValidation,
+            "a budget is written by digits alone",
+        )?);
+    }
     match matches.subcommand() {
-        Some(("check", inner)) => Ok(check_request(inner)),
-        Some(("build", inner)) => Ok(build_request(inner)),
-        Some(("list", inner)) => Ok(list_request(inner)),
-        Some((_, inner)) => Ok(format_request(inner)),
+        Some(("check", inner)) => Ok(Request::Check(compilation_in(inner))),
+        Some(("classes", inner)) => Ok(Request::Classes(compilation_in(inner))),
+        Some(("build", inner)) => Ok(Request::Build(compilation_in(inner), text(inner, "IMAGE"))),
+        Some(("list", inner)) => Ok(Request::List(text(inner, "IMAGE"))),
+        Some(("run", inner)) => Ok(Request::Run(execution_in(inner), inner.get_flag("trace"))),
+        Some(("view", inner)) => Ok(view_request(inner)),
+        Some((_, inner)) => Ok(Request::Format(text(inner, "SOURCE"))),
         None => Err(command.error(ErrorKind::MissingSubcommand, "a subcommand is needed")?),
     }
 }
 
-fn check_request<'a>(matches: &ArgMatches<'a>) -> Request<'a> {
-    Request::Check {
+fn view_request<'a>(matches: &ArgMatches<'a>) -> Request<'a> {
+    Request::View {
+        lattice: text(matches, "LATTICE"),
+        class: text(matches, "class"),
+        execution: execution_in(matches),
+    }
+}
+
+fn compilation_in<'a>(matches: &ArgMatches<'a>) -> Compilation<'a> {
+    Compilation {
         lattice: text(matches, "LATTICE"),
         source: text(matches, "SOURCE"),
         is_strict: matches.get_flag("strict"),
     }
 }
 
-fn build_request<'a>(matches: &ArgMatches<'a>) -> Request<'a> {
-    Request::Build {
-        lattice: text(matches, "LATTICE"),
-        source: text(matches, "SOURCE"),
+fn execution_in<'a>(matches: &ArgMatches<'a>) -> Execution<'a> {
+    Execution {
         image: text(matches, "IMAGE"),
-        is_strict: matches.get_flag("strict"),
-    }
-}
-
-fn list_request<'a>(matches: &ArgMatches<'a>) -> Request<'a> {
-    Request::List {
-        image: text(matches, "IMAGE"),
-    }
-}
-
-fn format_request<'a>(matches: &ArgMatches<'a>) -> Request<'a> {
-    Request::Format {
-        source: text(matches, "SOURCE"),
+        budget: matches.get_one::<u64>("budget").unwrap_or(0),
+        store: matches.get_str("store"),
     }
 }
 
 /// A required word, which a parse that succeeds has.
 fn text<'a>(matches: &ArgMatches<'a>, id: &str) -> &'a str {
     matches.get_str(id).unwrap_or("")
+}
+
+/// Whether the budget begins with a sign.
+fn has_signed_budget(matches: &ArgMatches<'_>) -> bool {
+    match matches.subcommand() {
+        Some(("run" | "view", inner)) => text(inner, "budget").starts_with('+'),
+        _ => false,
+    }
 }
 
 fn program<'a>(alloc: Global) -> Result<Command<'a>, AllocError> {
@@ -87,14 +110,25 @@ fn program<'a>(alloc: Global) -> Result<Command<'a>, AllocError> {
         )
         .subcommand_required(true)
         .subcommand(check_command(alloc)?)?
+        .subcommand(classes_command(alloc)?)?
         .subcommand(build_command(alloc)?)?
         .subcommand(list_command(alloc)?)?
+        .subcommand(run_command(alloc)?)?
+        .subcommand(view_command(alloc)?)?
         .subcommand(format_command(alloc)?)
 }
 
 fn check_command<'a>(alloc: Global) -> Result<Command<'a>, AllocError> {
     Command::new(alloc, "check")
         .about("Says whether a source text is accepted")
+        .arg(lattice_argument(alloc))?
+        .arg(source_argument(alloc))?
+        .arg(strict_argument(alloc))
+}
+
+fn classes_command<'a>(alloc: Global) -> Result<Command<'a>, AllocError> {
+    Command::new(alloc, "classes")
+        .about("Prints the class of each declaration, declared or inferred")
         .arg(lattice_argument(alloc))?
         .arg(source_argument(alloc))?
         .arg(strict_argument(alloc))
@@ -113,6 +147,25 @@ fn list_command<'a>(alloc: Global) -> Result<Command<'a>, AllocError> {
     Command::new(alloc, "list")
         .about("Prints the instructions of an image")
         .arg(image_argument(alloc))
+}
+
+fn run_command<'a>(alloc: Global) -> Result<Command<'a>, AllocError> {
+    Command::new(alloc, "run")
+        .about("Runs an image")
+        .arg(image_argument(alloc))?
+        .arg(budget_argument(alloc))?
+        .arg(store_argument(alloc))?
+        .arg(trace_argument(alloc))
+}
+
+fn view_command<'a>(alloc: Global) -> Result<Command<'a>, AllocError> {
+    Command::new(alloc, "view")
+        .about("Runs an image and prints what a class may see")
+        .arg(lattice_argument(alloc))?
+        .arg(image_argument(alloc))?
+        .arg(class_argument(alloc))?
+        .arg(budget_argument(alloc))?
+        .arg(store_argument(alloc))
 }
 
 fn format_command<'a>(alloc: Global) -> Result<Command<'a>, AllocError> {
@@ -146,3 +199,33 @@ fn strict_argument<'a>(alloc: Global) -> Arg<'a> {
         .help("Asks that halting tells nothing either")
 }
 
+fn trace_argument<'a>(alloc: Global) -> Arg<'a> {
+    Arg::new(alloc, "trace")
+        .long("trace")
+        .action(ArgAction::SetTrue)
+        .help("Prints each instruction before it is done")
+}
+
+fn class_argument<'a>(alloc: Global) -> Arg<'a> {
+    Arg::new(alloc, "class")
+        .long("class")
+        .value_name("C")
+        .required(true)
+        .help("The class that looks")
+}
+
+fn budget_argument<'a>(alloc: Global) -> Arg<'a> {
+    Arg::new(alloc, "budget")
+        .long("budget")
+        .value_name("N")
+        .required(true)
+        .value_parser(value_parser!(u64))
+        .help("The most instructions that are done")
+}
+
+fn store_argument<'a>(alloc: Global) -> Arg<'a> {
+    Arg::new(alloc, "store")
+        .long("store")
+        .value_name("FILE")
+        .help("The store file")
+}

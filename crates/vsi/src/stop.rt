@@ -17,8 +17,13 @@ pub(crate) enum Stop<'a> {
     Refused(Vec<u8>),
     /// With the text of the parser of command lines.
     Usage(String),
+    /// The lattice has no class of this name.
+    NoClass(&'a str),
+    /// A run spent its budget before it halted.
     OutOfBudget,
+    /// The file at this path, or a standard stream, doesn't open, or fails.
     FileFault(&'a str),
+    /// A growth was refused.
     Memory,
 }
 
@@ -41,7 +46,7 @@ impl Stop<'_> {
     {
         match self {
             Stop::Refused(_) => 1,
-            Stop::Usage(_) => 2,
+            Stop::Usage(_) | Stop::NoClass(_) => 2,
             Stop::OutOfBudget => 3,
             Stop::FileFault(_) => 4,
             Stop::Memory => 5,
@@ -53,6 +58,7 @@ impl Stop<'_> {
         match self {
             Stop::Refused(text) => text.clone(),
             Stop::Usage(text) => Vec::from_slice(alloc, text.as_bytes()),
+            Stop::NoClass(name) => line(alloc, b"no class ", name),
             Stop::OutOfBudget => Vec::from_slice(alloc, b"out of budget\n"),
             Stop::FileFault(path) => line(alloc, b"file fault: ", path),
             Stop::Memory => Vec::from_slice(alloc, b"out of memory\n"),

@@ -145,8 +145,8 @@ pub one_program : (known : Known) (text : List ℕ) (r other : Source) → Stand
 one_program known text r other stands others =
     let tree = stands.only others.tree others.reads in
     let commands = does_all_one _ _ (map command other.body) others.resolves.resolution.body
-          ∙ sym (does_all_one _ _ (map command r.body)
-            (subst (λ (t : Whole). IsResolution known t (map command r.body)) tree stands.resolves.resolution).body) in
+    ∙ sym (does_all_one _ _ (map command r.body)
+    (subst (λ (t : Whole). IsResolution known t (map command r.body)) tree stands.resolves.resolution).body) in
     program_is known others.tree other others.resolves
     ∙ ap (λ (t : Whole). program_of known t (map command other.body)) (sym tree)
     ∙ ap (λ cs. program_of known stands.tree cs) commands

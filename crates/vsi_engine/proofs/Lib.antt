@@ -3,3 +3,5 @@ pub mod Bytes
 pub mod Traces
 pub mod Outputs
 pub mod Refusals
+pub mod Slots
+pub mod Seen

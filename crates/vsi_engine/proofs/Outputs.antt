@@ -1,5 +1,5 @@
 -- What a run's parts write together.
-use Rattle.std.proofs.Common.{◌≡◌, ℕ, ◌≤◌, List, ◌++◌, Bool, length, take, drop, min, refl, sym, ap, subst, ◌∙◌, append_assoc, Option, Some, arith, take-append-drop, Result, Ok, Err, ◌⊎◌, inr}
+use Rattle.std.proofs.Common.{◌≡◌, ℕ, List, ◌++◌, Bool, length, take, drop, min, refl, sym, ap, subst, ◌∙◌, append_assoc, Option, Some, arith, take-append-drop, Result, Ok, Err, ◌⊎◌, inr}
 use Rattle.std.specs.Prelude.{ℤ, IfOk}
 use Rattle.std.specs.Io.KnownBytes.{Appends, Keeps}
 use Rattle.std.proofs.KnownBytes.{Appends-trans}

@@ -1,5 +1,5 @@
 -- Refusals of the layers are refusals of what was read.
-use Rattle.std.proofs.Common.{◌≡◌, ◌≢◌, ℕ, List, Option, Some, Ok, Err, refl}
+use Rattle.std.proofs.Common.{◌≡◌, ◌≢◌, ℕ, List, Option, Ok}
 use Rattle.vsi_image.specs.declared.instr.Image.{Image}
 use Rattle.vsi_image.specs.Fields.{fields, globals}
 use Rattle.vsi_image.specs.Reading.{image_of}

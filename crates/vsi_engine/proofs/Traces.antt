@@ -14,7 +14,8 @@ use Rattle.vsi_engine.specs.Running.{ended, line_at, trace_text}
 pub after_more : (code : List Instr) (i : ℕ) (s t u : State) → after code i s ≡ Some t → stepped code t ≡ Some u →
     after code (i + 1) s ≡ Some u
 after_more code i s t u reached step =
-    budgets_add code i 1 s ∙ ap (λ o. option_and_then (after code 1) o) reached ∙ ap (λ o. option_and_then (after code 0) o) step
+    budgets_add code i 1 s ∙ ap (λ o. option_and_then (after code 1) o) reached
+    ∙ ap (λ o. option_and_then (after code 0) o) step
 
 -- what has halted stays so
 pub after_halt : (code : List Instr) (i n : ℕ) (s t : State) → i ≤ n → after code i s ≡ Some t → t.halted ≡ true →
@@ -49,8 +50,11 @@ trace_halt code i (suc k) s t reached halted =
 -- what a longer trace has behind a shorter one
 pub trace_rest : (code : List Instr) (i k : ℕ) (s : State) →
     (rest : List ℕ) × (trace_text code (i + k) s ≡ trace_text code i s ++ rest)
-trace_rest code i zero s =
-    ([], ap (λ n. trace_text code n s) (let same : i + 0 ≡ i = omega arith in same) ∙ sym (append-nil (trace_text code i s)))
+trace_rest code i zero s = (
+  [],
+  ap (λ n. trace_text code n s) (let same : i + 0 ≡ i = omega arith in same)
+      ∙ sym (append-nil (trace_text code i s)),
+)
 trace_rest code i (suc k) s =
     let p = trace_rest code i k s in
     let line = line_at code (after code (i + k) s) in (
@@ -60,7 +64,8 @@ trace_rest code i (suc k) s =
     )
 
 -- the line that a machine gives is that of its state
-pub line_is : (o : Option (List ℕ)) (x : List ℕ) → Some x ≡ option_map (λ (text : List ℕ). text ++ 10 ∷ []) o → x ≡ ended o
+pub line_is : (o : Option (List ℕ)) (x : List ℕ) → Some x ≡ option_map (λ (text : List ℕ). text ++ 10 ∷ []) o →
+    x ≡ ended o
 line_is None x h = absurd cc
 line_is (Some line) x h = ap (λ (p : Option (List ℕ)). unwrap_or p x) h
 
@@ -75,10 +80,12 @@ cut_within a b c code i budget n s t text lt reached is before now =
     let split : trace_text code budget s ≡ done ++ (drop n text ++ rest.0) =
     ap (λ k. trace_text code k s) (let same : budget ≡ (i + 1) + (budget - (i + 1)) = omega (arith, lt) in same)
     ∙ rest.1
-    ∙ ap (λ l. l ++ rest.0) (trace_more code i s t reached ∙ ap (λ l. trace_text code i s ++ l) (sym is ∙ sym (take-append-drop n text)))
+    ∙ ap (λ l. l ++ rest.0)
+    (trace_more code i s t reached ∙ ap (λ l. trace_text code i s ++ l) (sym is ∙ sym (take-append-drop n text)))
     ∙ ap (λ l. l ++ rest.0) (sym (append_assoc (trace_text code i s) (take n text) (drop n text)))
     ∙ append_assoc done (drop n text) rest.0 in
-    let cut : take (length done) (trace_text code budget s) ≡ done = ap (take (length done)) split ∙ take-append_seam done _ in
+    let cut : take (length done) (trace_text code budget s) ≡ done =
+    ap (take (length done)) split ∙ take-append_seam done _ in
     (length done, subst (Appends a c) (sym cut) (Appends-trans a b c _ _ before now))
 
 -- the same, where the line is told by its machine
@@ -95,12 +102,14 @@ pub line_more : (a b c : Option (List ℕ)) (code : List Instr) (i : ℕ) (s t :
     Appends a b (trace_text code i s) → Appends b c text → Appends a c (trace_text code (i + 1) s)
 line_more a b c code i s t text reached is before now =
     subst (Appends a c)
-    (ap (λ (l : List ℕ). trace_text code i s ++ l) (line_is (trace_line code t) text is) ∙ sym (trace_more code i s t reached))
+    (ap (λ (l : List ℕ). trace_text code i s ++ l) (line_is (trace_line code t) text is)
+    ∙ sym (trace_more code i s t reached))
     (Appends-trans a b c _ _ before now)
 
 -- nothing more where the machine has halted
 pub halt_written : (a b : Option (List ℕ)) (code : List Instr) (i budget : ℕ) (s t : State) → i < budget →
-    after code i s ≡ Some t → t.halted ≡ true → Appends a b (trace_text code i s) → Appends a b (trace_text code budget s)
+    after code i s ≡ Some t → t.halted ≡ true → Appends a b (trace_text code i s) →
+    Appends a b (trace_text code budget s)
 halt_written a b code i budget s t lt reached halted written =
     subst (Appends a b)
     (sym (trace_halt code i (budget - i) s t reached halted)

@@ -108,7 +108,8 @@ fn compiled(
     lattice: &Lattice,
     text: &[u8],
 ) -> Result<Vec<u8>, EngineError>
-    ensures built { IfOk result (λ bytes. IsBuilt (class_named lattice.now) (order lattice.now) profile text.now bytes.items) }
+    ensures built { IfOk result (λ bytes.
+        IsBuilt (class_named lattice.now) (order lattice.now) profile text.now bytes.items) }
     ensures refused { IfErr result (RefusesText (class_named lattice.now) (order lattice.now) profile text.now) }
 {
     let verified = compile_in(alloc, profile, lattice, text)?;

@@ -1,3 +1,5 @@
+//! A device whose failed calls are counted.
+
 ghost use Rattle.std.specs.Prelude.{◌≡◌, ◌+◌, ◌<◌, min, length, take};
 ghost use Rattle.std.specs.Io.{ReadsAtMost, WritesAtMost};
 ghost use Rattle.std.specs.Io.KnownBytes.{Keeps, ReadConsumes, WriteAppends};
@@ -14,6 +16,7 @@ pub struct Counted<D> {
 }
 
 impl<D> Counted<D> {
+    /// Around a device, of which no call has failed yet.
     pub fn new(device: D) -> Counted<D>
         ensures device { device_of result ≡ device }
         ensures faults { faults_of result ≡ 0 }
@@ -21,12 +24,14 @@ impl<D> Counted<D> {
         Counted { device, faults: 0 }
     }
 
+    /// The device, and no count.
     pub fn into_inner(self) -> D
         ensures { result ≡ device_of self }
     {
         self.device
     }
 
+    /// How many calls answered an error, or took no byte of some.
     pub fn faults(&self) -> u64
         ensures { result ≡ faults_of self.now }
     {
@@ -39,7 +44,8 @@ impl<R: Read> Read for Counted<R> {
 
     fn read(&mut self, buf: &mut [u8]) -> io::Result<usize>
         ensures bound { ReadsAtMost result buf.new }
-        ensures bytes { ReadConsumes (R.remaining (device_of self.old)) (R.remaining (device_of self.new)) result buf.new }
+        ensures bytes { ReadConsumes (R.remaining (device_of self.old))
+            (R.remaining (device_of self.new)) result buf.new }
         ensures counts { CountsReads result (faults_of self.old) (faults_of self.new) }
     {
         let result = self.device.read(buf);
@@ -55,7 +61,8 @@ impl<W: Write> Write for Counted<W> {
 
     fn write(&mut self, buf: &[u8]) -> io::Result<usize>
         ensures bound { WritesAtMost result buf.now }
-        ensures bytes { WriteAppends (W.contents (device_of self.old)) (W.contents (device_of self.new)) result buf.now }
+        ensures bytes { WriteAppends (W.contents (device_of self.old))
+            (W.contents (device_of self.new)) result buf.now }
         ensures counts { CountsWrites result (length buf.now) (faults_of self.old) (faults_of self.new) }
     {
         let result = self.device.write(buf);

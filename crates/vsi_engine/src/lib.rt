@@ -1,10 +1,16 @@
-//! Devices whose faults are counted, and the calls that move whole texts through them.
+//! Devices whose faults are counted, and the calls that work over them.
+//!
+//! `read_all` and `write_out` move whole texts. `build` reads a source text and writes the bytes of its image;
+//! `run_image` reads an image and writes what its run shows. Their clauses say which device failed, what has been
+//! written then, and that what is written otherwise is what was promised: `specs/Building` and `specs/Running` say of
+//! which bytes, `specs/Refusing` what a refusal means.
 #![tactic(auto)]
 
 mod building;
 mod counted;
 mod engine;
 mod error;
+pub mod laws;
 mod running;
 mod tracing;
 

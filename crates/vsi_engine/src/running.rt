@@ -56,7 +56,8 @@ pub fn run_image<R: Read, W: Write>(
         (W.contents (device_of writer.old)) (W.contents (device_of writer.new)) }
     ensures untouched { IfErr result (λ e. e ≢ EngineError.WriteFault → e ≢ EngineError.Memory
         → Keeps (W.contents (device_of writer.old)) (W.contents (device_of writer.new))) }
-    ensures refused { IfErr result (RefusesRead (λ bytes. RefusesRun bytes store.now) (R.remaining (device_of reader.old))) }
+    ensures refused { IfErr result
+        (RefusesRead (λ bytes. RefusesRun bytes store.now) (R.remaining (device_of reader.old))) }
 {
     let (verified, words) = started(alloc, reader, store)?;
     run_verified(alloc, &verified, &words, budget, trace, writer)
@@ -74,7 +75,8 @@ fn started<R: Read>(
     ensures only { IfErr result (λ e. e ≢ EngineError.WriteFault) }
     ensures started { IfOk result (λ r. Started (R.remaining (device_of reader.old)) store.now r.0 r.1.items) }
     ensures room { IfOk result (λ r. length r.1.items ≡ length r.0.globals.items) }
-    ensures refused { IfErr result (RefusesRead (λ bytes. RefusesRun bytes store.now) (R.remaining (device_of reader.old))) }
+    ensures refused { IfErr result
+        (RefusesRead (λ bytes. RefusesRun bytes store.now) (R.remaining (device_of reader.old))) }
 {
     let bytes = read_all(alloc, reader)?;
     let verified = loaded(alloc, &bytes)?;

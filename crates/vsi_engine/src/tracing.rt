@@ -47,9 +47,14 @@ pub(crate) fn run_traced<W: Write>(
     ensures image { machine.new.image ≡ machine.old.image }
     ensures state { OnOk result (after machine.old.image.code.items budget machine.old.state ≡ Some machine.new.state) }
     ensures outcome { IfOk result (λ outcome. outcome ≡ outcome_of machine.new.state) }
-    ensures whole { OnOk result (Appends (W.contents (device_of writer.old)) (W.contents (device_of writer.new)) (trace_text machine.old.image.code.items budget machine.old.state)) }
-    ensures prefix { IsErrOf result EngineError.WriteFault → (n : ℕ) × Appends (W.contents (device_of writer.old)) (W.contents (device_of writer.new)) (take n (trace_text machine.old.image.code.items budget machine.old.state)) }
-    ensures memory { IsErrOf result EngineError.Memory → (k : ℕ) × Appends (W.contents (device_of writer.old)) (W.contents (device_of writer.new)) (trace_text machine.old.image.code.items k machine.old.state) }
+    ensures whole { OnOk result (Appends (W.contents (device_of writer.old)) (W.contents (device_of writer.new))
+        (trace_text machine.old.image.code.items budget machine.old.state)) }
+    ensures prefix { IsErrOf result EngineError.WriteFault
+        → (n : ℕ) × Appends (W.contents (device_of writer.old)) (W.contents (device_of writer.new))
+        (take n (trace_text machine.old.image.code.items budget machine.old.state)) }
+    ensures memory { IsErrOf result EngineError.Memory
+        → (k : ℕ) × Appends (W.contents (device_of writer.old)) (W.contents (device_of writer.new))
+        (trace_text machine.old.image.code.items k machine.old.state) }
 {
     for _step in 0..budget {
         match next_line(alloc, machine)? {

@@ -1,5 +1,5 @@
--- The lines of refused images and store files.
-use Rattle.std.specs.Prelude.{ℕ, List, codes, Option, Some, None}
+-- The lines of refused images, store files and views.
+use Rattle.std.specs.Prelude.{ℕ, List, codes, Option, None}
 use Rattle.vsi_image.specs.declared.decoder.DecodeError.{DecodeError}
 use Rattle.vsi_image.specs.declared.decoder.DecodeError.TheVariants as decoder
 use Rattle.vsi_image.specs.declared.limits.Limit.{Limit}
@@ -8,6 +8,8 @@ use Rattle.vsi_image.specs.declared.verifier.VerifyError.{VerifyError}
 use Rattle.vsi_image.specs.declared.verifier.VerifyError.TheVariants as verifier
 use Rattle.vsi_store.specs.declared.error.StoreError.{StoreError}
 use Rattle.vsi_store.specs.declared.error.StoreError.TheVariants as store
+use Rattle.vsi_store.specs.declared.views.ViewError.{ViewError}
+use Rattle.vsi_store.specs.declared.views.ViewError.TheVariants as views
 use Rattle.vsi_faults.specs.Line.{Field, nothing, number, word, numbered, Line}
 use Rattle.vsi_faults.specs.Source.{line}
 
@@ -50,3 +52,9 @@ store_line store.Memory = None
 store_line store.NotToml = line 40 (codes "NotToml") nothing
 store_line (store.NotANumber key) = line 41 (codes "NotANumber") (word key.items)
 store_line (store.UnknownGlobal key) = line 42 (codes "UnknownGlobal") (word key.items)
+
+-- of a refused view
+abbrev pub view_line : ViewError → Option Line
+view_line views.Memory = None
+view_line (views.WrongStore n) = line 39 (codes "WrongStore") (number n)
+view_line (views.ClassNotInLattice i) = line 43 (codes "ClassNotInLattice") (number i)

@@ -9,7 +9,7 @@ use Rattle.vsi_faults.specs.declared.texts.Fault.TheVariants as fault
 use Rattle.vsi_faults.specs.Line.{nothing, Line, line_text}
 use Rattle.vsi_faults.specs.Source.{line, lexical_line, syntactic_line, scoping_line}
 use Rattle.vsi_faults.specs.Lattice.{lattice_line}
-use Rattle.vsi_faults.specs.Files.{decode_line, verify_line, store_line}
+use Rattle.vsi_faults.specs.Files.{decode_line, verify_line, store_line, view_line}
 
 -- a line as text, and what stands for one where memory was wanting
 abbrev pub text_of : Option Line → List ℕ
@@ -30,6 +30,7 @@ fault_line (fault.Lattice e) = lattice_line e
 fault_line (fault.Decode e) = decode_line e
 fault_line (fault.Verify e) = Some (verify_line e)
 fault_line (fault.Store e) = store_line e
+fault_line (fault.View e) = view_line e
 
 -- what follows the line of a refused source text: for a flow the explanation of its walk
 abbrev pub Follows : Lattice → List ℕ → CompileError → List ℕ → Type 0

@@ -1,4 +1,4 @@
-//! The lines of refused images and store files.
+//! The lines of refused images, store files and views.
 
 ghost use Rattle.std.specs.Prelude.{◌≡◌, option_map};
 ghost use Rattle.vsi_faults.specs.View.{field_of, line_of};
@@ -6,7 +6,7 @@ ghost use Rattle.vsi_faults.specs.Files as spec;
 
 use crate::line::{Field, Line};
 use vsi_image::{DecodeError, Limit, VerifyError};
-use vsi_store::StoreError;
+use vsi_store::{StoreError, ViewError};
 
 /// The line of bytes that are no image; none where memory was wanting.
 pub(crate) fn decode_line(error: DecodeError) -> Option<Line<'static>>
@@ -124,6 +124,25 @@ pub(crate) fn store_line(error: &StoreError) -> Option<Line>
             refusal: 42,
             name: b"UnknownGlobal",
             field: Field::Word(key),
+        }),
+    }
+}
+
+/// The line of a refused view; none where memory was wanting.
+pub(crate) fn view_line(error: &ViewError) -> Option<Line<'static>>
+    ensures { option_map line_of result ≡ spec.view_line error.now }
+{
+    match error {
+        ViewError::Memory => None,
+        ViewError::WrongStore(count) => Some(Line {
+            refusal: 39,
+            name: b"WrongStore",
+            field: Field::Number(*count),
+        }),
+        ViewError::ClassNotInLattice(i) => Some(Line {
+            refusal: 43,
+            name: b"ClassNotInLattice",
+            field: Field::Number(*i),
         }),
     }
 }

@@ -4,7 +4,7 @@ ghost use Rattle.std.specs.Prelude.{◌≡◌, IfOk, option_map};
 ghost use Rattle.vsi_faults.specs.View.{line_of};
 ghost use Rattle.vsi_faults.specs.Texts as spec;
 
-use crate::files::{decode_line, store_line, verify_line};
+use crate::files::{decode_line, store_line, verify_line, view_line};
 use crate::lattice::lattice_line;
 use crate::line::{Field, Line, line_text};
 use crate::source::{lexical_line, scoping_line, syntactic_line};
@@ -12,7 +12,7 @@ use std::alloc::{AllocError, Global};
 use vsi_compiler::{CompileError, explanation_text};
 use vsi_image::{DecodeError, VerifyError};
 use vsi_lattice::{Lattice, LatticeError};
-use vsi_store::StoreError;
+use vsi_store::{StoreError, ViewError};
 
 /// What is told when memory was wanting.
 const OUT_OF_MEMORY: &[u8] = b"out of memory\n";
@@ -28,6 +28,8 @@ pub enum Fault {
     Verify(VerifyError),
     /// A store file gives no store.
     Store(StoreError),
+    /// A class sees nothing of a run.
+    View(ViewError),
 }
 
 /// The text of a line; without one memory was wanting.
@@ -101,10 +103,11 @@ fn fault_line(fault: &Fault) -> Option<Line>
         Fault::Decode(error) => decode_line(*error),
         Fault::Verify(error) => Some(verify_line(*error)),
         Fault::Store(error) => store_line(error),
+        Fault::View(error) => view_line(error),
     }
 }
 
-/// The text of the refusal of a lattice file, an image or a store file: the number and the name of the refusal, and
+/// The text of the refusal of a lattice file, an image, a store file or a view: the number and the name of the refusal, and
 /// what it names, in decimal or, for a key of a store file, as it is.
 pub fn fault_text(alloc: Global, fault: &Fault) -> Result<Vec<u8>, AllocError>
     ensures text { IfOk result (λ text. text.items ≡ spec.text_of (spec.fault_line fault.now)) }

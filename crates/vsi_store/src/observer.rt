@@ -32,7 +32,8 @@ pub fn view(
     ensures unknown { (i : ℕ) → first_unknown (class_named lattice.now) 0 (globals verified.now.globals.items) ≡ Some i
         → result ≡ Err (ViewError.ClassNotInLattice i) }
     ensures wrong { first_unknown (class_named lattice.now) 0 (globals verified.now.globals.items) ≡ None
-        → length words.now ≢ length verified.now.globals.items → result ≡ Err (ViewError.WrongStore (length words.now)) }
+        → length words.now ≢ length verified.now.globals.items
+        → result ≡ Err (ViewError.WrongStore (length words.now)) }
     ensures seen { first_unknown (class_named lattice.now) 0 (globals verified.now.globals.items) ≡ None
         → length words.now ≡ length verified.now.globals.items
         → MatchResult result
@@ -109,7 +110,8 @@ fn seen_text(
     requires class { IsClass (order lattice.now) class }
     requires words { length words.now ≡ length image.now.globals.items }
     ensures { IfOk result (λ text. text.items
-        ≡ view_text_of (class_named lattice.now) (order lattice.now) class (globals image.now.globals.items) words.now) }
+        ≡ view_text_of (class_named lattice.now) (order lattice.now) class
+        (globals image.now.globals.items) words.now) }
 {
     let variables = image.globals.as_slice();
     let mut text = Vec::new(alloc);

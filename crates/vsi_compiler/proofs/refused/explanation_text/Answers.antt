@@ -31,8 +31,8 @@ returns c =
     let l = c.args.lattice.now in
     inr (record {
       harmless = λ r stands bad.
-        let here = subst (λ p. IsBad (order l) Strict p c.args.walk.now.steps.items)
-              (one_program (class_named l) c.args.text.now c.in-Ok.resolved r c.in-Ok.ensures.stands stands) bad in
-        true≢false (sym (c.check_walk_in.ensures.1 here) ∙ c.if-check_walk_in.false);
+          let here = subst (λ p. IsBad (order l) Strict p c.args.walk.now.steps.items)
+          (one_program (class_named l) c.args.text.now c.in-Ok.resolved r c.in-Ok.ensures.stands stands) bad in
+          true≢false (sym (c.check_walk_in.ensures.1 here) ∙ c.if-check_walk_in.false);
       nothing = c.new-else-check_walk_in.ensures.items;
     })

@@ -81,7 +81,7 @@ returns-in_err-resolved-clause-exact c = λ a.
     let known = class_named c.args.lattice.now in
     let same = c.in_ok-program.ensures.exact a.tree a.reads in
     rw (p.1, p.2) (ap scoping (c.in_err-resolved.ensures.exact a.commands
-      (subst (λ t. IsResolution known t a.commands) (sym same) a.resolution)))
+    (subst (λ t. IsResolution known t a.commands) (sym same) a.resolution)))
 
 pub returns-in_err-classes-clause-exact : goal.returns-in_err-classes-clause-exact
 returns-in_err-classes-clause-exact c = λ a.
@@ -95,6 +95,6 @@ returns-in_err-classes-clause-exact c = λ a.
       resolves = c.in_ok-resolved.ensures.resolved;
     } in
     let ready = typing_ready (order l) r c.body-body.ensures.resolved
-          (c.in_ok-resolved.ensures.classes _ (known_below l)) in
+    (c.in_ok-resolved.ensures.classes _ (known_below l)) in
     rw (p.1, p.2) (flow_memory (class_named l) c.args.text.now r stands (order l) c.args.profile (lawful l) ready
-      c.in_err-classes.field-0.0 c.in_err-classes.ensures.refused a)
+    c.in_err-classes.field-0.0 c.in_err-classes.ensures.refused a)

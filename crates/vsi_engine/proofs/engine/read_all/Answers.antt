@@ -11,8 +11,11 @@ returns-in_err-map_err-in-Ok-clause-bound g c =
 
 pub returns-clause-bytes : goal.returns-clause-bytes
 returns-clause-bytes g c = elim c.loop-chunk-test.branch [
-  | else-loop-chunk-test w ↦ first_bytes _ _ _ 1048577 c.loop-chunk.invariant.taken (search (rules, w.loop-chunk-test))
+  | else-loop-chunk-test w ↦ first_bytes _ _ _ 1048577 c.loop-chunk.invariant.taken
+      (search (rules, w.loop-chunk-test))
   | then-loop-chunk-test+in-Ok-eq0 w ↦
-      all_bytes _ _ _ 1048577 (took_nothing _ _ _ _ _ w.in-Ok-eq0.field-0 c.loop-chunk.invariant.taken (search rules) w.in-Ok-eq0.ensures.bytes.0)
+      all_bytes _ _ _ 1048577
+      (took_nothing _ _ _ _ _ w.in-Ok-eq0.field-0 c.loop-chunk.invariant.taken (search rules)
+      w.in-Ok-eq0.ensures.bytes.0)
       (w.in-Ok-eq0.ensures.bytes.1 (search rules) (search (rules, places))) c.loop-chunk.invariant.bound
 ]

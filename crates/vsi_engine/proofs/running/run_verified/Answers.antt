@@ -1,4 +1,4 @@
-use Rattle.std.proofs.Common.{rules, ◌≡◌, sym}
+use Rattle.std.proofs.Common.{rules}
 use Rattle.vsi_engine.proofs.Outputs.{all_written, ending_cut, trace_cut}
 use Rattle.vsi_engine.proofs.running.run_verified.Goals as goal
 

@@ -1,7 +1,5 @@
-use Rattle.std.proofs.Common.{rules, ◌≡◌, sym, subst}
+use Rattle.std.proofs.Common.{rules}
 use Rattle.std.proofs.lemmas.Result.{err_from_is_err_and}
-use Rattle.vsi_store.specs.File.{IsRefusal}
-use Rattle.vsi_image.specs.Fields.{globals}
 use Rattle.vsi_engine.proofs.Refusals.{image_refused, store_refused}
 use Rattle.vsi_engine.proofs.running.started.Goals as goal
 
@@ -14,7 +12,8 @@ returns-in_err-verified-clause-refused g c =
 pub returns-in_err-words-clause-refused : goal.returns-in_err-words-clause-refused
 returns-in_err-words-clause-refused g c =
     let p = err_from_is_err_and c.from_residual-in_err-words.result c.from_residual-in_err-words.ensures.1 in
-    rw (p.1, p.2) (store_refused _ c.deref.result.now c.args.store.now c.in_ok-verified.verified c.in_err-words.field-0.0
+    rw (p.1, p.2)
+    (store_refused _ c.deref.result.now c.args.store.now c.in_ok-verified.verified c.in_err-words.field-0.0
     (search rules) c.in_ok-verified.ensures.decoded c.in_ok-verified.ensures.valid (search rules))
 
 pub returns-clause-started : goal.returns-clause-started

@@ -1,4 +1,4 @@
-use Rattle.std.proofs.Common.{rules, ◌≡◌, ◌+◌, ◌++◌, refl, sym, ap, subst, ◌∙◌, arith, option_map}
+use Rattle.std.proofs.Common.{rules, ◌∙◌, arith}
 use Rattle.vsi_engine.proofs.Traces.{after_more, after_halt, cut_line, line_more, halt_written}
 use Rattle.vsi_engine.proofs.tracing.run_traced.Goals as goal
 
@@ -12,7 +12,8 @@ returns-in_err-write_out-in-Some-clause-prefix g c _ =
 
 pub returns-in-None-clause-state : goal.returns-in-None-clause-state
 returns-in-None-clause-state g c =
-    after_halt _ c.loop-step._step c.args.budget _ _ (omega (arith, c.loop-step-test.true)) c.loop-step.invariant.reached
+    after_halt _ c.loop-step._step c.args.budget _ _ (omega (arith, c.loop-step-test.true))
+    c.loop-step.invariant.reached
     (c.in_ok-line.ensures.halted.0 (search rules))
 
 pub returns-in-None-clause-whole : goal.returns-in-None-clause-whole
@@ -25,7 +26,8 @@ loop-step-preserved g c =
     record {
       written = line_more _ _ _ _ c.loop-step._step _ c.loop-step.machine.state c.deref.result.now
           c.loop-step.invariant.reached (search rules) c.loop-step.invariant.written (search rules);
-      reached = after_more _ c.loop-step._step _ c.loop-step.machine.state _ c.loop-step.invariant.reached (search rules);
+      reached = after_more _ c.loop-step._step _ c.loop-step.machine.state _ c.loop-step.invariant.reached
+          (search rules);
       image = c.step.ensures.image ∙ c.loop-step.invariant.image;
       count = search rules;
     }

@@ -1,4 +1,4 @@
-use Rattle.std.proofs.Common.{◌≡◌, ◌≤◌, Some}
+use Rattle.std.proofs.Common.{◌≡◌, Some}
 use Rattle.std.specs.Io.KnownBytes.{Appends}
 use Rattle.vsi_image.specs.Meaning.{after}
 use Rattle.vsi_engine.specs.Counted.{device_of, faults_of}
@@ -11,7 +11,9 @@ invariant-loop-step g l =
     let contents = g.W.Write.contents in
     let code = l.fn.machine.image.code.items in
     record {
-      written : Appends (contents (device_of l.fn.writer)) (contents (device_of l.writer)) (trace_text code l._step l.fn.machine.state);
+      written :
+          Appends (contents (device_of l.fn.writer)) (contents (device_of l.writer))
+          (trace_text code l._step l.fn.machine.state);
       reached : after code l._step l.fn.machine.state ≡ Some l.machine.state;
       image : l.machine.image ≡ l.fn.machine.image;
       count : faults_of l.writer ≡ faults_of l.fn.writer;
