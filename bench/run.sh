@@ -16,7 +16,8 @@ for crate in vsi_syntax vsi_image vsi_machine; do
   cp -r "$top/crates/$crate" "$work/crates/"
   grep "^$crate:" "$top/crates.txt" >> "$work/crates.txt"
 done
-cp -r "$here/machine" "$work/crates/machine"
+mkdir -p "$work/crates/machine/src"
+cp "$here/machine.rt.txt" "$work/crates/machine/src/main.rt"
 echo "machine: vsi_image vsi_machine anyhow" >> "$work/crates.txt"
 
 python3 "$here/images.py" "$work"
