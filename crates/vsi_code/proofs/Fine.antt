@@ -117,7 +117,13 @@ module _ (image : Image) where
   -- A HALT is fine behind no operand.
   halt_fine : (pc : ℕ) → depth pc ≡ 0 → IsFine image Halt (depth pc)
   halt_fine pc e =
-      record { slot = tt; target = tt; operands = omega arith; room = omega (arith, e); empty = λ h. omega (arith, e) }
+      record {
+        slot = tt;
+        target = tt;
+        operands = omega arith;
+        room = omega (arith, e);
+        empty = λ h. omega (arith, e);
+      }
 
   -- Some place has this depth.
   abbrev Peak : ℕ → Type 0

@@ -60,7 +60,8 @@ fits_next cs i pc k c lt e f =
     record { size = omega (arith, f.size, s, s'); slots = omega (arith, f.slots, n, n') }
 
 -- A command with branches of its own is a choice of their sequences.
-pub choice_is : (x : Cmd) (e : Ex) (v w : Vec Cmd Global) (a b : List Cmd) → x ≡ If e v w → a ≡ v.items → b ≡ w.items →
+pub choice_is : (x : Cmd) (e : Ex) (v w : Vec Cmd Global) (a b : List Cmd) → x ≡ If e v w → a ≡ v.items →
+    b ≡ w.items →
     command x ≡ Choose (phrase e) (sequence a) (sequence b)
 choice_is x e v w a b is ha hb =
     ap command is ∙ command_If e v w

@@ -203,7 +203,8 @@ module _ (code : List Instr) where
       let A = code_at first k a in
       let B = code_at second k b in
       let he = has_front code pc (phrase_code e) _ h in
-      let h1 = has_back code pc (phrase_code e) (Jz second ∷ (A ++ (Jmp end ∷ B))) (phrase_size e) (phrase_long e) h in
+      let h1 = has_back code pc (phrase_code e) (Jz second ∷ (A ++ (Jmp end ∷ B))) (phrase_size e) (phrase_long e) h
+      in
       let ha = has_front code first A _ h1.1 in
       let h2 = has_back code first A (Jmp end ∷ B) (size a) (command_long a first k) h1.1 in
       let at : end ≡ pc + (phrase_size e + size a + size b + 2) = omega arith in

@@ -98,7 +98,8 @@ module _ (known : Known) (text : List ℕ) (r : Source) (stands : Stands known t
       let here : IsTypable L P (program_of known stands.tree (map command r.body)) a.choice =
       subst (λ t. IsTypable L P (program_of known t (map command r.body)) a.choice) (sym one.0)
       (subst (λ cs. IsTypable L P (program_of known a.tree cs) a.choice) one.1 a.typable) in
-      none a.choice (subst (λ p. IsTypable L P p a.choice) (sym (program_is known stands.tree r stands.resolves)) here)
+      none a.choice
+      (subst (λ p. IsTypable L P p a.choice) (sym (program_is known stands.tree r stands.resolves)) here)
 
   -- the image's globals are the text's
   pub globals_kept : (im : Image) → image.globals im.globals.items ≡ all_named r.globals → HasGlobals text im

@@ -132,7 +132,8 @@ pub global_classes : (L : Lattice) (r : Source) → HasClassesBelow L.count r �
 global_classes L r below = All-map (IsClass L) (λ (g : Global). g.class) r.globals below.globals
 
 -- lists that are related element by element are as long
-pub zip_length : {A B : Type 0} (R : A → B → Type 0) (xs : List A) (ys : List B) → AllZip R xs ys → length xs ≡ length ys
+pub zip_length : {A B : Type 0} (R : A → B → Type 0) (xs : List A) (ys : List B) → AllZip R xs ys →
+    length xs ≡ length ys
 zip_length R [] [] h = refl
 zip_length R [] (y ∷ ys) h = absurd h
 zip_length R (x ∷ xs) [] h = absurd h

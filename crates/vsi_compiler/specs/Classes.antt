@@ -35,7 +35,8 @@ letvar_lines text names (v ∷ vs) (c ∷ cs) =
     class_line text v.span v.name (unwrap_or (slice_get names c) []) ++ letvar_lines text names vs cs
 
 -- the lines of the least choice of classes for the program of the text
-pub record IsClassText (known : Known) (L : Lattice) (P : Profile) (names : List (List ℕ)) (text out : List ℕ) : Type 0 where
+pub record IsClassText (known : Known) (L : Lattice) (P : Profile) (names : List (List ℕ)) (text out : List ℕ) : Type
+    0 where
   pub tree : Whole
   pub commands : List Command
   pub reads : Reads text tree

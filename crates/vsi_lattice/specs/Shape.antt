@@ -41,7 +41,8 @@ pair_of d = option_and_then pair_items (as_array d)
 abbrev pub array_at : {X : Type 0} → (Data → Option X) → List ℕ → Members → Option (List X)
 array_at f key ms = option_and_then (all_of f) (option_and_then as_array (get_member key ms))
 
--- the names and the pairs, where the table has just the two keys, an array of strings and an array of pairs of strings
+-- the names and the pairs, where the table has just the two keys, an array of strings and an array of pairs of
+-- strings
 abbrev pub file_of : Members → Option File
 file_of ms =
     if member_count ms == 2

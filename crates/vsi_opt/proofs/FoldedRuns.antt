@@ -90,7 +90,8 @@ pub turns_same : (n : ℕ) (g h : Store → ℤ) (f k : Store → Option Store) 
     ((m : Store) → f m ≡ k m) → (m : Store) → turns n g f m ≡ turns n h k m
 turns_same zero g h f k e d m = ap (λ x. at_zero x (Some m) None) (e m)
 turns_same (suc n) g h f k e d m =
-    at_zero_same (g m) (h m) (Some m) (and_then (f m) (turns n g f)) (Some m) (and_then (k m) (turns n h k)) (e m) refl
+    at_zero_same (g m) (h m) (Some m) (and_then (f m) (turns n g f)) (Some m) (and_then (k m) (turns n h k)) (e m)
+    refl
     (and_then_same (f m) (k m) (turns n g f) (turns n h k) (d m) (turns_same n g h f k e d))
 
 -- a folded command does what the command does

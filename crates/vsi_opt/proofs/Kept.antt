@@ -154,7 +154,8 @@ fold_if_folded : (e : Phrase) (a b : Command) → IsFoldedPhrase e → IsFolded 
 fold_if_folded (Literal (pos zero)) a b f x y = y
 fold_if_folded (Literal (pos (suc k))) a b f x y = x
 fold_if_folded (Literal (negsuc k)) a b f x y = x
-fold_if_folded (Contents l s) a b f x y = one_whole IsFolded folded_parts (Choose (Contents l s) a b) (f, λ h. h, x, y)
+fold_if_folded (Contents l s) a b f x y =
+    one_whole IsFolded folded_parts (Choose (Contents l s) a b) (f, λ h. h, x, y)
 fold_if_folded (Apply o p q) a b f x y = one_whole IsFolded folded_parts (Choose (Apply o p q) a b) (f, λ h. h, x, y)
 
 -- a test that literal 0 alone passes
@@ -351,7 +352,8 @@ fold_letvars (Put l s e) = omega arith
 fold_letvars (Then a b) = omega (arith, append_letvars (fold a) (fold b), fold_letvars a, fold_letvars b)
 fold_letvars (Choose e a b) = omega
     (arith, fold_if_letvars (truth_of (folded e)) (folded e) (fold a) (fold b), fold_letvars a, fold_letvars b)
-fold_letvars (Repeat e c) = omega (arith, fold_while_letvars (truth_of (folded e)) (folded e) (fold c), fold_letvars c)
+fold_letvars (Repeat e c) =
+    omega (arith, fold_while_letvars (truth_of (folded e)) (folded e) (fold c), fold_letvars c)
 fold_letvars (Allocate e c) = omega (arith, fold_letvars c)
 
 -- locations below a number within the limit are within the limit

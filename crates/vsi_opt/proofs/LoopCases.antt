@@ -102,14 +102,16 @@ adds_while k n n₁ c e b live live₁ live₂ own own₁ is add f =
     (joined_twice live (reads (phrase e)) (all_reads (sequence b.items)) live₁ live₂ add f.0, f.1, f.2)
 
 -- a location that was in a set is put back after a walk without it
-pub put_back : (a r b d : Locations) (k : ℕ) → a k ≡ true → b ≡ joined (with_bit a k false) r → d ≡ with_bit b k true →
+pub put_back : (a r b d : Locations) (k : ℕ) → a k ≡ true → b ≡ joined (with_bit a k false) r →
+    d ≡ with_bit b k true →
     d ≡ joined a r
 put_back a r b d k was e f = f ∙ (λ i l. go l i)
   where
     go : (l : ℕ) → with_bit b k true l ≡ joined a r l
     go l =
         ⊎_elim
-        (λ is. ap (with_bit b k true) is ∙ bit_same b k true ∙ sym (ap (λ x. x || r k) was) ∙ sym (ap (joined a r) is))
+        (λ is. ap (with_bit b k true) is ∙ bit_same b k true ∙ sym (ap (λ x. x || r k) was)
+        ∙ sym (ap (joined a r) is))
         (λ other. bit_other b k true l other ∙ ap (λ x. x l) e ∙ ap (λ x. x || r l) (bit_other a k false l other))
         (cases_eq l k)
 

@@ -149,7 +149,8 @@ remaining_below (Repeat e c) n k le =
     list_if_all (λ i. i < k) (may_be_true (truth_of (folded e))) (remaining c n)
     (remaining_below c n k (omega (arith, le)))
 remaining_below (Allocate e c) n k le =
-    All-cons (λ i. i < k) n (remaining c (n + 1)) (omega (arith, le)) (remaining_below c (n + 1) k (omega (arith, le)))
+    All-cons (λ i. i < k) n (remaining c (n + 1)) (omega (arith, le))
+    (remaining_below c (n + 1) k (omega (arith, le)))
 
 -- each number that a walk has added has an entry
 pub number_below : (ns ms old : List ℕ) (c : Command) (k i : ℕ) → ns ≡ ms → ms ≡ old ++ remaining c 0 → old ≡ [] →

@@ -128,10 +128,12 @@ fold_reads (Choose e a b) l h =
     (fold_reads b l))
     (branch_reads (truth_of (folded e)) (folded e) (fold a) (fold b) l h)
 fold_reads (Repeat e c) l h =
-    or_both (reads (folded e) l) (all_reads (fold c) l) (reads e l) (all_reads c l) (folded_reads e l) (fold_reads c l)
+    or_both (reads (folded e) l) (all_reads (fold c) l) (reads e l) (all_reads c l) (folded_reads e l)
+    (fold_reads c l)
     (loop_reads (truth_of (folded e)) (folded e) (fold c) l h)
 fold_reads (Allocate e c) l h =
-    or_both (reads (folded e) l) (all_reads (fold c) l) (reads e l) (all_reads c l) (folded_reads e l) (fold_reads c l)
+    or_both (reads (folded e) l) (all_reads (fold c) l) (reads e l) (all_reads c l) (folded_reads e l)
+    (fold_reads c l)
     (one_reads (reads (folded e) l || all_reads (fold c) l) h)
 
 -- a location that is in a set without another is in the set

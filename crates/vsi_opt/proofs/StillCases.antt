@@ -51,7 +51,8 @@ module _ (k : ℕ) (live : Locations) where
       ∙ sym (ap (λ x. still k (command x) live) is ∙ ap (λ x. still k x live) (command_While e b)))
 
   -- a letvar, within which its own variable is live where its scope reads it
-  pub still_letvar : (c : Cmd) (e v : Ex) (b b' : Vec Cmd Global) (bs out out' : List Cmd) (r : Bool) (a : Locations) →
+  pub still_letvar : (c : Cmd) (e v : Ex) (b b' : Vec Cmd Global) (bs out out' : List Cmd) (r : Bool)
+      (a : Locations) →
       c ≡ Letvar e b → bs ≡ b.items → phrase v ≡ phrase e → r ≡ all_reads (sequence b.items) k → a ≡ with_bit live
       k r →
       sequence b'.items ≡ still (k + 1) (sequence bs) a → out' ≡ out ++ Letvar v b' ∷ [] →

@@ -11,4 +11,5 @@ pub record Halfway (known : Known) (list : List Global) (names : List (Bor (List
   pub few : length names ≤ 256
   pub named : global_names all ≡ map (λ x. x.now) names ++ global_names rest
   pub listed : map (global_of known) all ≡ map shown list ++ map (global_of known) rest
-  pub faults : first_fault known (global_marks [] all) ≡ first_fault known (global_marks (map (λ x. x.now) names) rest)
+  pub faults : first_fault known (global_marks [] all) ≡ first_fault known
+      (global_marks (map (λ x. x.now) names) rest)

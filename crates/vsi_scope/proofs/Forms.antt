@@ -26,7 +26,8 @@ module _ (known : Known) (s : Scope) (n : ℕ) (e : tree.Tree) where
     choose_guard x p = refuses_first x known (uses s e) (marks s n c ++ marks s (n + locals c) d) p
 
     -- A fault of the first branch is that of the choice where the guard has none.
-    pub choose_first : (x : ScopeError) → Good (uses s e) → Bad x (marks s n c) → Bad x (marks s n (tree.Choose e c d))
+    pub choose_first : (x : ScopeError) → Good (uses s e) → Bad x (marks s n c) →
+        Bad x (marks s n (tree.Choose e c d))
     choose_first x g p =
         refuses_behind x known (uses s e) (marks s n c ++ marks s (n + locals c) d) g
         (refuses_first x known (marks s n c) (marks s (n + locals c) d) p)

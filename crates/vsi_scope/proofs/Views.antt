@@ -39,7 +39,8 @@ command_If e v w =
     (sequence_of e w)
 
 -- The command of a `While`.
-pub command_While : (e : Ex) (body : Vec Cmd Global) → command (While e body) ≡ Repeat (phrase e) (sequence body.items)
+pub command_While : (e : Ex) (body : Vec Cmd Global) → command (While e body) ≡ Repeat (phrase e)
+    (sequence body.items)
 unfolding row_of
 command_While e body = ap (Repeat (phrase e)) (sequence_of e body)
 

@@ -5,19 +5,16 @@ mod places;
 
 use crate::{ScopeError, resolve, size};
 use std::alloc::{AllocError, Global};
-use vsi_lattice::Lattice;
+use vsi_lattice::{Lattice, read_lattice};
 use vsi_syntax::{lex, parse};
 
 // The lattice of two classes, L below H.
 fn two_classes(alloc: Global) -> Option<Lattice> {
-    let mut low = Vec::new(alloc);
-    low.push(b'L').ok()?;
-    let mut high = Vec::new(alloc);
-    high.push(b'H').ok()?;
-    let mut names = Vec::new(alloc);
-    names.push(low).ok()?;
-    names.push(high).ok()?;
-    Some(Lattice::new(names))
+    read_lattice(
+        alloc,
+        b"classes = [\"L\", \"H\"]\nbelow = [[\"L\", \"H\"]]\n",
+    )
+    .ok()
 }
 
 // The number of a refusal and its span.

@@ -104,7 +104,8 @@ more_sound (suc n) inner room l t ws u rest sound lv fits h =
           let g = guard_some (ltb (depth t) room)
           (inner (right_level op) after >>= λ r. more inner n room l (Both op t r.0) r.1) (u, rest) s.2 in
           let low : depth t < room = ltb-true (depth t) room g.0 in
-          let b = bind_some (inner (right_level op) after) (λ r. more inner n room l (Both op t r.0) r.1) (u, rest) g.1
+          let b = bind_some (inner (right_level op) after) (λ r. more inner n room l (Both op t r.0) r.1) (u, rest)
+          g.1
           in
           let p = next_is l (own_level t) ws op after s.1 in
           let q = sound (right_level op) after b.0.0 b.0.1 b.1 in

@@ -36,7 +36,8 @@ module _ (L : Lattice) (laws : IsLattice L) (classes : ℕ → ℕ) (within' : (
       total q all n c t' d (λ b. not (laws.transitive t t' L.bottom w
       (cmd_class L laws Strict classes within' q all n c t' d) laws.bottom_within le b)) k m
 
-  -- Where a loop ends from one store within j turns, it ends from every store that agrees with it on the bottom class.
+  -- Where a loop ends from one store within j turns, it ends from every store that agrees with it on the bottom
+  -- class.
   turns_end : (q : Locations) (j : ℕ) (guard : Store → ℤ) (f : Store → Option Store) →
       ((m₁ m₂ : Store) → Agree L q L.bottom m₁ m₂ → guard m₁ ≡ guard m₂) →
       ((m m' : Store) → f m ≡ Some m' → length m' ≡ length m) →

@@ -130,7 +130,8 @@ emit_one-emit_all-requires-in-While t c =
     let old = c.args.code.now.items in
     let e = phrase c.in-While.guard in
     let a = sequence c.as_slice-in-While.result.now in
-    let is = loop_is c.args.c.now c.in-While.guard c.in-While.body _ c.in-While.is c.as_slice-in-While.ensures.value in
+    let is = loop_is c.args.c.now c.in-While.guard c.in-While.body _ c.in-While.is c.as_slice-in-While.ensures.value
+    in
     let n1 = guard_long old c.emit_guard-in-While.new.code.items e _ c.in_ok-test-in-While.ensures.code in (
       first_of (search (rules, the_lemmas), grind (arith, the_lemmas, common_steps), omega (arith, c.decreases)),
       fits_loop (length old) c.args.scope (command c.args.c.now) c.requires e a is _ n1,
@@ -155,7 +156,8 @@ emit_one-aim_test-requires-in-While-clause-small t c =
     let a = sequence c.as_slice-in-While.result.now in
     let c1 = c.emit_guard-in-While.new.code.items in
     let c2 = c.emit_all-in-While.new.code.items in
-    let is = loop_is c.args.c.now c.in-While.guard c.in-While.body _ c.in-While.is c.as_slice-in-While.ensures.value in
+    let is = loop_is c.args.c.now c.in-While.guard c.in-While.body _ c.in-While.is c.as_slice-in-While.ensures.value
+    in
     let fits = fits_as (length old) c.args.scope (command c.args.c.now) c.requires (Repeat e a) is in
     let n1 = guard_long old c1 e _ c.in_ok-test-in-While.ensures.code in
     let n2 = part_long c1 c2 a _ _ c.in_ok-emit_all-in-While.ensures in
@@ -168,7 +170,8 @@ emit_one-returns-in_ok-put-in-While t c =
     let k = c.args.scope in
     let e = phrase c.in-While.guard in
     let a = sequence c.as_slice-in-While.result.now in
-    let is = loop_is c.args.c.now c.in-While.guard c.in-While.body _ c.in-While.is c.as_slice-in-While.ensures.value in
+    let is = loop_is c.args.c.now c.in-While.guard c.in-While.body _ c.in-While.is c.as_slice-in-While.ensures.value
+    in
     let start : c.len-start.result ≡ length old = omega (arith, c.len-start.ensures, c.args.code.now.ok.0) in
     loop_patched old k e a _ _ _ _ _ _ start c.in_ok-test-in-While.ensures.code c.in_ok-test-in-While.ensures.place
     c.in_ok-emit_all-in-While.ensures c.in_ok-put-in-While.ensures c.aim_test-in-While.ensures

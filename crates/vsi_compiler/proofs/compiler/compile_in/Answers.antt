@@ -34,7 +34,8 @@ returns-in_err-_classes-clause-exact c = λ a.
     rw (p.1, p.2)
     (flow_memory (class_named l) c.args.text.now c.in_ok-resolved.resolved c.in_ok-resolved.ensures.stands
     (order l) c.args.profile (lawful l)
-    (typing_ready (order l) c.in_ok-resolved.resolved c.in_ok-resolved.ensures.kept (c.in_ok-resolved.ensures.classes _ (known_below l)))
+    (typing_ready (order l) c.in_ok-resolved.resolved c.in_ok-resolved.ensures.kept
+    (c.in_ok-resolved.ensures.classes _ (known_below l)))
     c.in_err-_classes.field-0.0 c.in_err-_classes.ensures.refused a)
 
 pub returns-clause-accepted : goal.returns-clause-accepted

@@ -58,7 +58,8 @@ returns-clause-lines c =
     } in
     let classes = c.in_ok-classes.classes.items in
     let globals = global_lines text (map declared c.in_ok-program.program.globals.items) in
-    let made : c.push_letvars.new.out.items ≡ globals ++ letvar_lines text (names l) (map variable r.letvars) classes =
+    let made : c.push_letvars.new.out.items ≡ globals ++ letvar_lines text (names l) (map variable r.letvars)
+    classes =
     search rules in
     record {
       tree = stands.tree;
@@ -67,7 +68,8 @@ returns-clause-lines c =
       resolution = stands.resolves.resolution;
       choice = c.in_ok-classes.classes.items;
       least = least_tree (class_named l) text r stands (order l) c.args.profile _ c.in_ok-classes.ensures.ok;
-      lines = made ∙ ap (λ (vs : List Variable). globals ++ letvar_lines text (names l) vs classes) stands.resolves.letvars;
+      lines = made ∙ ap (λ (vs : List Variable). globals ++ letvar_lines text (names l) vs classes)
+          stands.resolves.letvars;
     }
 
 pub returns-in_err-program-clause-exact : goal.returns-in_err-program-clause-exact

@@ -69,7 +69,8 @@ pick_one-returns-in_ok-pick_if-in-If t c =
 pub pick_one-returns-in-While : goal.pick_one-returns-in-While
 pick_one-returns-in-While t c =
     on_ok_weaker c.pick_if-in-While.result
-    (picks_while c.args.c.now c.in-While.guard c.in-While.body _ _ _ _ _ _ c.in-While.is c.deref-in-While.ensures.value
+    (picks_while c.args.c.now c.in-While.guard c.in-While.body _ _ _ _ _ _ c.in-While.is
+    c.deref-in-While.ensures.value
     c.can_be_true-in-While.ensures)
     c.pick_if-in-While.ensures
 

@@ -16,5 +16,6 @@ returns-in-Op t c =
     joined_twice old (reads (phrase c.in-Op.a.value)) (reads (phrase c.in-Op.b.value)) (bits c.add_reads.new.live)
     (bits c.add_reads-in-Op.new.live)
     (c.add_reads.ensures ∙ ap (λ x. joined old (reads (phrase x))) c.deref.ensures)
-    (c.add_reads-in-Op.ensures ∙ ap (λ x. joined (bits c.add_reads.new.live) (reads (phrase x))) c.deref-in-Op.ensures)
+    (c.add_reads-in-Op.ensures ∙ ap (λ x. joined (bits c.add_reads.new.live) (reads (phrase x)))
+    c.deref-in-Op.ensures)
     ∙ ap (λ e. joined old (reads (phrase e))) (sym c.in-Op.is)

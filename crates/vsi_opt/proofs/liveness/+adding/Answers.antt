@@ -133,7 +133,8 @@ add_one-returns-in-If t c =
     (adds_list c.args.scope c.args.next.now c.add_all.new.next c.in-If.yes.items _ (bits c.add_reads-in-If.new.live)
     (bits c.add_all.new.live) (bits c.args.own.now) (bits c.add_all.new.own) c.deref.ensures.value c.add_all.ensures)
     (adds_list c.args.scope c.add_all.new.next c.add_all-in-If.new.next c.in-If.no.items _ (bits c.add_all.new.live)
-    (bits c.add_all-in-If.new.live) (bits c.add_all.new.own) (bits c.add_all-in-If.new.own) c.deref-in-If.ensures.value
+    (bits c.add_all-in-If.new.live) (bits c.add_all.new.own) (bits c.add_all-in-If.new.own)
+    c.deref-in-If.ensures.value
     c.add_all-in-If.ensures)
 
 pub add_one-returns-in-While : goal.add_one-returns-in-While

@@ -11,4 +11,5 @@ invariant-loop-key l =
     ≡ store_fault (globals l.variables) (members_view l.initial.key-iterator)
 
 abbrev pub invariant-loop-variable : goal.invariant-loop-variable
-invariant-loop-variable l = l.words.items ≡ store_of (globals (take l.variable-index l.variables)) (table_view l.table)
+invariant-loop-variable l =
+    l.words.items ≡ store_of (globals (take l.variable-index l.variables)) (table_view l.table)

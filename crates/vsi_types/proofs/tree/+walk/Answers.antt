@@ -300,7 +300,8 @@ check_letvar-check_commands-requires g t c κs within =
     let n : length c.args.walk.now.scope.items + 1 ≡ length c.push.new.self.items =
     sym (ap length pushed ∙ length_push c.args.walk.now.scope.items c.args.walk.now.next) in
     let p = subst (λ k. HasPlaces k (sequence c.args.body.now)) n c.requires.places.1 in
-    let l : c.args.walk.now.next + 1 + letvars (sequence c.args.body.now) ≤ 1024 = omega (arith, c.requires.limit) in (
+    let l : c.args.walk.now.next + 1 + letvars (sequence c.args.body.now) ≤ 1024 =
+    omega (arith, c.requires.limit) in (
       first_of (search (rules, the_lemmas), grind (arith, the_lemmas, common_steps), omega (arith, c.decreases)),
       search (rules, c.requires.classes),
     )

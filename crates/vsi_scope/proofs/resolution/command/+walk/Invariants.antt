@@ -22,4 +22,5 @@ decreases-statement l = 2 * weight (syntax.command l.c.now) + 1
 
 abbrev pub invariant-sequence-loop-c : goal.invariant-sequence-loop-c
 invariant-sequence-loop-c l =
-    Midway (class_named l.lattice) l.initial.walk l.walk l.initial.out.items l.out.items l.body (drop l.c-index l.body)
+    Midway (class_named l.lattice) l.initial.walk l.walk l.initial.out.items l.out.items l.body
+    (drop l.c-index l.body)
