@@ -1,7 +1,7 @@
-//! Which texts are refused, and with which walks.
+//! Which texts are refused, and by which rule.
 
 use super::{four, judged, two};
-use crate::{CompileError, compile, compile_in};
+use crate::compile_in;
 use std::alloc::Global;
 use std::test::Fail;
 use vsi_lattice::Lattice;
@@ -114,22 +114,5 @@ fn judges_endings_under_the_strict_profile(rt: HostRuntime) -> Result<(), Fail> 
     assert!(rt; is_strict(alloc, &lattice, b"var x : L; x := 1 + 2"));
     let middle = four(alloc)?;
     assert!(rt; !is_strict(alloc, &middle, b"var a : A; while a < 3 do a := a + 1"));
-    Ok(())
-}
-
-#[test]
-fn refuses_with_a_walk(rt: HostRuntime) -> Result<(), Fail> {
-    let alloc = rt.alloc();
-    let lattice = two(alloc)?;
-    let text = b"var h : H; var l : L; letvar t := 0 in { if h then t := 1 else t := 0; l := t }";
-    match compile(alloc, &lattice, text) {
-        Err(CompileError::Flow(walk)) => {
-            let steps = walk.steps.as_slice();
-            assert_eq!(rt; steps.len(), 2);
-            assert_eq!(rt; (steps[0].read.start, steps[0].written.start), (44, 51));
-            assert_eq!(rt; (steps[1].read.start, steps[1].written.start), (76, 71));
-        }
-        _ => assert!(rt; false, "a flow is wanted"),
-    }
     Ok(())
 }
