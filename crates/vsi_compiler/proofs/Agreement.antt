@@ -1,7 +1,7 @@
 -- Agreement by class names is agreement by the classes of the globals.
-use Rattle.std.proofs.Common.{◌≡◌, ℕ, ◌<◌, ◌≤◌, pos, List, map, length, refl, sym, ap, subst, ◌∙◌, Option, Some, None, slice_get, slice_index, slice_index_or, ◌⊎◌, inl, inr, arith, unwrap_or}
+use Rattle.std.proofs.Common.{◌≡◌, ℕ, List, map, sym, ap, subst, ◌∙◌, Some, None, slice_get, slice_index, inl, inr, arith, unwrap_or}
 use Rattle.std.specs.Option.{option_map}
-use Rattle.std.proofs.lemmas.Option.{slice_get-map, slice_get_cases, get_or_from_slice_get, slice_get_within}
+use Rattle.std.proofs.lemmas.Option.{slice_get-map, slice_get_cases, get_or_from_slice_get}
 use Rattle.std.proofs.lemmas.List.{length-map}
 use Rattle.vsi_image.specs.declared.instr.Image.{Image}
 use Rattle.vsi_image.specs.Fields as image
@@ -12,36 +12,36 @@ use Rattle.vsi_types.specs.Security.{Agree}
 use Rattle.vsi_code.specs.Names.{named, all_named}
 use Rattle.vsi_compiler.specs.Observation.{Known, AgreeAt}
 
--- each global's class is what its class name stands for
+-- Each global's class is what its class name stands for.
 abbrev pub HaveClasses : Known → List Global → Type 0
 HaveClasses known gs = (i : ℕ) (g : Global) → slice_get gs i ≡ Some g → known g.class_name.now ≡ Some g.class
 
--- the class of each global
+-- The class of each global.
 abbrev pub classes : List Global → List ℕ
 classes gs = map (λ g. g.class) gs
 
--- the class at the place of a global
+-- The class at the place of a global.
 class_at : (gs : List Global) (i : ℕ) (g : Global) → slice_get gs i ≡ Some g → slice_index (classes gs) i ≡ g.class
 class_at gs i g h =
     get_or_from_slice_get (classes gs) i g.class 0
     (slice_get-map (λ (x : Global). x.class) gs i ∙ ap (option_map (λ (x : Global). x.class)) h)
 
--- the names at the place of a global
+-- The names at the place of a global.
 named_at : (gs : List Global) (i : ℕ) (g : Global) → slice_get gs i ≡ Some g → slice_get (all_named gs) i
     ≡ Some (named g)
 named_at gs i g h = slice_get-map named gs i ∙ ap (option_map named) h
 
--- what is there is one
+-- What is there is one.
 some_is : {X : Type 0} {x y : X} → Some x ≡ Some y → x ≡ y
 some_is {x = x} h = ap (λ o. unwrap_or o x) h
 
--- none is not there
+-- None is not there.
 none_is : {X : Type 0} {x : X} → None ≡ Some x → ⊥
 none_is h = cc
 
 module _ (known : Known) (L : Lattice) (gs : List Global) (im : Image) (has : HaveClasses known gs)
     (names : image.globals im.globals.items ≡ all_named gs) (a : ℕ) (m m' : Store) where
-  -- where the names' classes agree, the globals' classes do
+  -- Where the names' classes agree, the globals' classes do.
   pub agree_typed : AgreeAt known L im a m m' → Agree L (classes gs) a m m'
   agree_typed h l lt below = elim ((slice_get_cases gs l).1) [
     | inl p ↦
@@ -52,7 +52,7 @@ module _ (known : Known) (L : Lattice) (gs : List Global) (im : Image) (has : Ha
     | inr p ↦ absurd (omega (arith, lt, p.0, length-map gs (λ (x : Global). x.class)))
   ]
 
-  -- where the globals' classes agree, the names' classes do
+  -- Where the globals' classes agree, the names' classes do.
   pub agree_named : Agree L (classes gs) a m m' → AgreeAt known L im a m m'
   agree_named h i g c at is below = elim ((slice_get_cases gs i).1) [
     | inl p ↦

@@ -1,10 +1,9 @@
 -- What the layers promise of a text together.
-use Rattle.std.proofs.Common.{◌≡◌, ◌≢◌, ℕ, ◌<◌, List, map, length, refl, sym, ap, subst, ◌∙◌, Option, Some, None, IfSome, arith}
+use Rattle.std.proofs.Common.{◌≡◌, ℕ, ◌<◌, List, map, length, refl, sym, ap, subst, ◌∙◌, Option, Some, None, IfSome, arith}
 use Rattle.vsi_syntax.specs.Tree.{Whole}
 use Rattle.vsi_lattice.specs.Order.{Lattice as Order, IsLattice}
 use Rattle.vsi_lattice.specs.declared.lattice.Lattice.{Lattice}
 use Rattle.vsi_lattice.specs.Named.{class_named, order, names}
-use Rattle.vsi_lattice.specs.Names.{place_in}
 use Rattle.vsi_lattice.specs.Laws.{lawful_is_lattice}
 use Rattle.vsi_lattice.proofs.NameLemmas.{found}
 use Rattle.vsi_scope.specs.Faults.{Known}
@@ -26,18 +25,16 @@ use Rattle.vsi_code.specs.Names.{all_named}
 use Rattle.vsi_compiler.specs.Source.{Reads}
 use Rattle.vsi_compiler.specs.Stands.{Stands}
 use Rattle.vsi_compiler.specs.Acceptance.{IsAccepted, program_of}
-use Rattle.vsi_compiler.specs.Headline.{HasGlobals, KeepsMeaning, IsCoded, named}
+use Rattle.vsi_compiler.specs.Headline.{HasGlobals, KeepsMeaning, named}
 use Rattle.vsi_compiler.specs.Refusal.{HasBadWalk, Refuses}
 use Rattle.vsi_compiler.specs.Errors.{flowing}
 use Rattle.vsi_compiler.specs.declared.error.CompileError.TheVariants.{Memory}
 use Rattle.vsi_infer.specs.declared.error.InferError.{InferError}
 use Rattle.vsi_infer.specs.declared.error.InferError.TheVariants as infer
 use Rattle.vsi_infer.specs.Inference as inference
-use Rattle.vsi_image.specs.Valid.{IsValid}
-use Rattle.vsi_image.proofs.Limited.{no_limits}
 use Rattle.vsi_compiler.proofs.Programs.{program_is, names_are, count_is, body_is}
 
--- a class that a name stands for is one of the lattice
+-- A class that a name stands for is one of the lattice.
 pub known_below : (l : Lattice) → AreBelow (order l).count (class_named l)
 known_below l x = below (class_named l x) refl
   where
@@ -45,12 +42,12 @@ known_below l x = below (class_named l x) refl
     below None e = tt
     below (Some c) e = omega (arith, (found (names l) x c e).0, l.named.one_each)
 
--- the order of a lattice with names has the laws
+-- The order of a lattice with names has the laws.
 pub lawful : (l : Lattice) → IsLattice (order l)
 lawful l = lawful_is_lattice (order l) l.order.lawful
 
 module _ (known : Known) (text : List ℕ) (r : Source) (stands : Stands known text r) where
-  -- there is one tree and one resolution of it
+  -- There is one tree and one resolution of it.
   one_resolution : (tree : Whole) (commands : List Command) → Reads text tree → IsResolution known tree commands →
       (stands.tree ≡ tree) × (commands ≡ map command r.body)
   one_resolution tree commands reads resolution =
@@ -61,12 +58,12 @@ module _ (known : Known) (text : List ℕ) (r : Source) (stands : Stands known t
             ∙ sym (does_all_one _ _ (map command r.body) stands.resolves.resolution.body),
       )
 
-  -- what types the resolved program types that of the tree
+  -- What types the resolved program types that of the tree.
   pub typed_tree : (L : Order) (P : Profile) (s : List ℕ) → IsTypable L P (program r) s →
       IsTypable L P (program_of known stands.tree (map command r.body)) s
   typed_tree L P s = subst (λ p. IsTypable L P p s) (program_is known stands.tree r stands.resolves)
 
-  -- a text whose program is typable is accepted
+  -- A text whose program is typable is accepted.
   pub accepted : (L : Order) (P : Profile) (s : List ℕ) → IsTypable L P (program r) s → IsAccepted known L P text
   accepted L P s typable =
       record {
@@ -78,7 +75,7 @@ module _ (known : Known) (text : List ℕ) (r : Source) (stands : Stands known t
         typable = typed_tree L P s typable;
       }
 
-  -- a shortest bad walk of the resolved program is one of the tree's
+  -- A shortest bad walk of the resolved program is one of the tree's.
   pub walk_refused : (L : Order) (P : Profile) (steps : List Step) → IsShortest L P (program r) steps →
       HasBadWalk known L P text steps
   walk_refused L P steps shortest =
@@ -90,7 +87,7 @@ module _ (known : Known) (text : List ℕ) (r : Source) (stands : Stands known t
         shortest = subst (λ p. IsShortest L P p steps) (program_is known stands.tree r stands.resolves) shortest;
       }
 
-  -- a text whose program is not typable is not accepted
+  -- A text whose program is not typable is not accepted.
   pub not_accepted : (L : Order) (P : Profile) → ((s : List ℕ) → ¬ (IsTypable L P (program r) s)) →
       IsAccepted known L P text → ⊥
   not_accepted L P none a =
@@ -101,13 +98,13 @@ module _ (known : Known) (text : List ℕ) (r : Source) (stands : Stands known t
       none a.choice
       (subst (λ p. IsTypable L P p a.choice) (sym (program_is known stands.tree r stands.resolves)) here)
 
-  -- the image's globals are the text's
+  -- The image's globals are the text's.
   pub globals_kept : (im : Image) → image.globals im.globals.items ≡ all_named r.globals → HasGlobals text im
   globals_kept im e tree reads =
       e ∙ names_are known stands.tree r stands.resolves ∙ ap (λ (t : Whole). map named t.globals)
       (stands.only tree reads)
 
-  -- what does the resolved body does the text's
+  -- What does the resolved body does the text's.
   pub meaning_kept : (im : Image) → Behaves (length r.globals) (sequence r.body) im → KeepsMeaning known text im
   meaning_kept im behaves tree commands reads resolution =
       let one = one_resolution tree commands reads resolution in
@@ -118,29 +115,25 @@ module _ (known : Known) (text : List ℕ) (r : Source) (stands : Stands known t
       subst (λ n. Behaves n (in_sequence commands) im) count
       (subst (λ c. Behaves (length r.globals) c im) body behaves)
 
-  -- the least choice for the resolved program is that for the tree's
+  -- The least choice for the resolved program is that for the tree's.
   pub least_tree : (L : Order) (P : Profile) (s : List ℕ) → IsLeast L P (program r) s →
       IsLeast L P (program_of known stands.tree (map command r.body)) s
   least_tree L P s = subst (λ p. IsLeast L P p s) (program_is known stands.tree r stands.resolves)
 
-  -- a refusal of the inference is one of the text
+  -- A refusal of the inference is one of the text.
   pub flow_refused : (L : Order) (P : Profile) (e : InferError) → inference.Refuses L P (program r) e →
       Refuses known L P text (flowing e)
   flow_refused L P infer.Memory h = tt
   flow_refused L P (infer.Refused walk) h = walk_refused L P walk.steps.items h
 
-  -- an accepted text is refused by the inference for want of memory alone
+  -- An accepted text is refused by the inference for want of memory alone.
   pub flow_memory : (L : Order) (P : Profile) → IsLattice L → IsResolved L (program r) → (e : InferError) →
       inference.Refuses L P (program r) e → IsAccepted known L P text → flowing e ≡ Memory
   flow_memory L P laws ready infer.Memory h a = refl
   flow_memory L P laws ready (infer.Refused walk) h a =
       absurd (not_accepted L P (λ s. bad_walks_refute L P (program r) walk.steps.items s laws ready h.0) a)
 
--- a valid image is within the limits of its format
-pub coded : (im : Image) → IsValid im → IsCoded im
-coded im valid = record { valid = valid; unlimited = no_limits (image.fields im) valid.allowed }
-
--- two resolved programs of a text are one program for typing
+-- Two resolved programs of a text are one program for typing.
 pub one_program : (known : Known) (text : List ℕ) (r other : Source) → Stands known text r → Stands known text other →
     program other ≡ program r
 one_program known text r other stands others =

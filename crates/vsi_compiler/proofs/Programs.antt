@@ -1,5 +1,5 @@
 -- The program that typing speaks of is that of the tree.
-use Rattle.std.proofs.Common.{◌≡◌, ℕ, suc, ◌+◌, ◌-◌, ◌<◌, ◌≤◌, List, [], ◌∷◌, map, length, refl, sym, ap, subst, ◌∙◌, Option, Some, None, unwrap_or, slice_get, slice_index_or, IfSome}
+use Rattle.std.proofs.Common.{◌≡◌, ℕ, suc, ◌+◌, ◌-◌, ◌≤◌, List, [], ◌∷◌, map, length, refl, sym, ap, subst, ◌∙◌, Option, Some, None, unwrap_or, slice_get, slice_index_or, IfSome}
 use Rattle.std.specs.Option.{option_map}
 use Rattle.std.specs.List.{All, AllZip}
 use Rattle.std.proofs.lemmas.List.{length-map}
@@ -21,59 +21,58 @@ use Rattle.vsi_scope.proofs.Views.{sequence_in}
 use Rattle.vsi_types.specs.Security.{Program, program, name_place}
 use Rattle.vsi_types.specs.Security as types
 use Rattle.vsi_infer.specs.Inference.{AreClasses}
-use Rattle.vsi_image.specs.Fields as image
 use Rattle.vsi_code.specs.Names.{all_named}
-use Rattle.vsi_compiler.specs.Acceptance.{program_of, place_of}
+use Rattle.vsi_compiler.specs.Acceptance.{program_of}
 use Rattle.vsi_compiler.specs.Headline.{named}
 use Rattle.vsi_compiler.proofs.Agreement.{HaveClasses}
 
--- a function of what another list shows is a function of the list
+-- A function of what another list shows is a function of the list.
 seen : {X Y Z : Type 0} (f : Y → Z) (g : X → Y) (xs : List X) → map f (map g xs) ≡ map (λ x. f (g x)) xs
 seen f g [] = refl
 seen f g (x ∷ xs) = ap (λ l. f (g x) ∷ l) (seen f g xs)
 
--- what two lists show alike, every function of that shows alike
+-- What two lists show alike, every function of that shows alike.
 alike : {X Y Z W : Type 0} (f : Z → W) (g : X → Z) (h : Y → Z) (xs : List X) (ys : List Y) → map g xs ≡ map h ys →
     map (λ x. f (g x)) xs ≡ map (λ y. f (h y)) ys
 alike f g h xs ys e = sym (seen f g xs) ∙ ap (map f) e ∙ seen f h ys
 
--- a program of these parts
+-- A program of these parts.
 made : List ℕ → List (Option ℕ) → (ℕ → Span) → Command → Program
 made globals declared names body = record { globals = globals; declared = declared; names = names; body = body }
 
--- the place of a declaration's name among spans
+-- The place of a declaration's name among spans.
 at_place : List Span → ℕ → ℕ → Span
 at_place spans globals v = slice_index_or spans (v - globals) (record { start = 0; stop = 0 })
 
 module _ (known : Known) (tree : Whole) (r : Source) (resolves : Resolves known tree r) where
-  -- the classes of the globals
+  -- The classes of the globals.
   globals_are : map (λ (g : Global). g.class) r.globals ≡ map (λ (g : Declared). unwrap_or (known g.class.text) 0)
       tree.globals
   globals_are = alike (λ (s : Shown). unwrap_or s.class 0) shown (global_of known) r.globals tree.globals
       resolves.globals
 
-  -- the classes of the letvars
+  -- The classes of the letvars.
   declared_are : map (λ (e : Entry). e.class) r.letvars ≡ map (λ (v : Variable). v.class)
       (all_variables known tree.body)
   declared_are =
       sym (seen (λ (v : Variable). v.class) variable r.letvars) ∙ ap (map (λ (v : Variable). v.class))
       resolves.letvars
 
-  -- where the letvars' names stand
+  -- Where the letvars' names stand.
   spans_are : map (λ (e : Entry). e.span) r.letvars ≡ map (λ (v : Variable). v.span) (all_variables known tree.body)
   spans_are =
       sym (seen (λ (v : Variable). v.span) variable r.letvars) ∙ ap (map (λ (v : Variable). v.span)) resolves.letvars
 
-  -- the number of globals
+  -- The number of globals.
   pub count_is : length r.globals ≡ length tree.globals
   count_is =
       sym (length-map r.globals shown) ∙ ap length resolves.globals ∙ length-map tree.globals (global_of known)
 
-  -- the body
+  -- The body.
   pub body_is : sequence r.body ≡ in_sequence (map command r.body)
   body_is = sequence_in r.body
 
-  -- the program of the resolved commands is that of the tree
+  -- The program of the resolved commands is that of the tree.
   pub program_is : program r ≡ program_of known tree (map command r.body)
   unfolding made at_place
   program_is =
@@ -91,12 +90,12 @@ module _ (known : Known) (tree : Whole) (r : Source) (resolves : Resolves known 
       (map (λ (v : Variable). v.class) (all_variables known tree.body))
       (at_place (map (λ (v : Variable). v.span) (all_variables known tree.body)) (length tree.globals)) c) body_is
 
-  -- the names of the image's globals
+  -- The names of the image's globals.
   pub names_are : all_named r.globals ≡ map named tree.globals
   names_are = alike (λ (s : Shown). (s.name, s.class_name)) shown (global_of known) r.globals tree.globals
       resolves.globals
 
-  -- each global's class is what its class name stands for
+  -- Each global's class is what its class name stands for.
   pub have_classes : HaveClasses known r.globals
   have_classes i g h =
       let here : slice_get (map shown r.globals) i ≡ Some (shown g) =
@@ -111,7 +110,7 @@ module _ (known : Known) (tree : Whole) (r : Source) (resolves : Resolves known 
           let same : global_of known d ≡ shown g = ap (λ o. unwrap_or o (shown g)) e in
           ap known (ap (λ (s : Shown). s.class_name) (sym same)) ∙ ap (λ (s : Shown). s.class) same
 
--- what typing asks of a resolved program
+-- What typing asks of a resolved program.
 pub typing_ready : (L : Lattice) (r : Source) → scope.IsResolved r → HasClassesBelow L.count r →
     types.IsResolved L (program r)
 typing_ready L r kept below =
@@ -123,15 +122,15 @@ typing_ready L r kept below =
       limit = subst (λ n. n + letvars (sequence r.body) ≤ 1024) (sym count) kept.few_declarations;
     }
 
--- the declared classes of the letvars are classes
+-- The declared classes of the letvars are classes.
 pub declared_classes : (L : Lattice) (r : Source) → HasClassesBelow L.count r → AreClasses L (program r).declared
 declared_classes L r below = All-map (λ d. IfSome d (IsClass L)) (λ (e : Entry). e.class) r.letvars below.letvars
 
--- the classes of the globals are classes
+-- The classes of the globals are classes.
 pub global_classes : (L : Lattice) (r : Source) → HasClassesBelow L.count r → All (IsClass L) (program r).globals
 global_classes L r below = All-map (IsClass L) (λ (g : Global). g.class) r.globals below.globals
 
--- lists that are related element by element are as long
+-- Lists that are related element by element are as long.
 pub zip_length : {A B : Type 0} (R : A → B → Type 0) (xs : List A) (ys : List B) → AllZip R xs ys →
     length xs ≡ length ys
 zip_length R [] [] h = refl

@@ -1,5 +1,5 @@
 -- What a compiled text's run answers.
-use Rattle.std.proofs.Common.{◌≡◌, ◌≢◌, ℕ, ℤ, List, length, refl, sym, ap, ◌∙◌, Result, Ok, Err}
+use Rattle.std.proofs.Common.{◌≡◌, ◌≢◌, ℕ, ℤ, List, length, ap, Result, Ok, Err}
 use Rattle.vsi_lattice.specs.Order.{Lattice}
 use Rattle.vsi_scope.specs.Faults.{Known}
 use Rattle.vsi_types.specs.declared.rules.Profile.{Profile}
@@ -10,13 +10,16 @@ use Rattle.vsi_machine.specs.declared.interpreter.StartError.TheVariants as star
 use Rattle.vsi_compiler.specs.Acceptance.{IsAccepted}
 use Rattle.vsi_compiler.specs.Headline.{HasGlobals, KeepsMeaning, IsCoded, IsCompiled}
 use Rattle.vsi_compiler.specs.Observation.{IsNoninterfering}
-use Rattle.vsi_compiler.specs.Run.{starting, HasWrongStore, RefusesRun}
+use Rattle.vsi_compiler.specs.Refusal.{Refuses, IsRefused}
+use Rattle.vsi_compiler.specs.Run.{compiling, starting, RefusesRun}
+use Rattle.vsi_compiler.specs.declared.error.CompileError.{CompileError}
+use Rattle.vsi_compiler.specs.declared.error.CompileError.TheVariants as compiler
 
--- the profiles differ
+-- The profiles differ.
 base_is_not_strict : ◌≡◌ {A = Profile} Base Strict → ⊥
 base_is_not_strict h = cc
 
--- what the compiler promises of an image, in one
+-- What the compiler promises of an image, in one.
 pub compiled_of : (known : Known) (L : Lattice) (text : List ℕ) (im : Image) → IsAccepted known L Base text →
     HasGlobals text im → KeepsMeaning known text im → IsNoninterfering known L im → IsCoded im →
     IsCompiled known L Base text im
@@ -30,21 +33,21 @@ compiled_of known L text im accepted globals meaning noninterference coded =
       coded = coded;
     }
 
--- a wrong store isn't want of memory
+-- A wrong store isn't want of memory.
 wrong_is_not_memory : (n : ℕ) → ◌≡◌ {A = StartError} (start.WrongStore n) start.Memory → ⊥
 wrong_is_not_memory n h = cc
 
--- the number of words that is told
+-- The number of words that is told.
 abbrev words_told : StartError → ℕ
 words_told start.Memory = 0
 words_told (start.WrongStore n) = n
 
--- the error of an answer, or another one
+-- The error of an answer, or another one.
 abbrev error_of : {X : Type 0} → StartError → Result X StartError → StartError
 error_of d (Ok x) = d
 error_of d (Err e) = e
 
--- a machine that was not started is a refusal of the run
+-- A machine that was not started is a refusal of the run.
 pub start_refused : {X : Type 0} (known : Known) (L : Lattice) (text : List ℕ) (store : List ℤ) (im : Image) →
     IsCompiled known L Base text im → (e : StartError) →
     (length store ≢ length im.globals.items → ◌≡◌ {A = Result X StartError} (Err e)
@@ -63,3 +66,24 @@ start_refused {X} known L text store im compiled (start.WrongStore n) wrong memo
     told : ◌≡◌ {A = Result X StartError} (Err (start.WrongStore n)) (Err (start.WrongStore (length store))) →
         n ≡ length store
     told h = ap words_told (ap (error_of start.Memory) h)
+
+-- What is refused for another reason than want of memory isn't accepted.
+pub is_refused : (known : Known) (L : Lattice) (P : Profile) (text : List ℕ) (e : CompileError) →
+    e ≢ compiler.Memory → Refuses known L P text e → (IsAccepted known L P text → e ≡ compiler.Memory) →
+    IsRefused known L P text e
+is_refused known L P text e other told exact =
+    record { other = other; told = told; unaccepted = λ a. other (exact a) }
+
+-- A refusal of the compiler is one of the run.
+pub compile_refused : (known : Known) (L : Lattice) (text : List ℕ) (store : List ℤ) (e : CompileError) →
+    Refuses known L Base text e → (IsAccepted known L Base text → e ≡ compiler.Memory) →
+    RefusesRun known L text store (compiling e)
+compile_refused known L text store compiler.Memory told exact = tt
+compile_refused known L text store (compiler.Lex e) told exact =
+    is_refused known L Base text (compiler.Lex e) (λ q. cc) told exact
+compile_refused known L text store (compiler.Parse e) told exact =
+    is_refused known L Base text (compiler.Parse e) (λ q. cc) told exact
+compile_refused known L text store (compiler.Scope e) told exact =
+    is_refused known L Base text (compiler.Scope e) (λ q. cc) told exact
+compile_refused known L text store (compiler.Flow walk) told exact =
+    is_refused known L Base text (compiler.Flow walk) (λ q. cc) told exact

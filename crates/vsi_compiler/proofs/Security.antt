@@ -1,26 +1,26 @@
 -- What typing promises of a program is promised of an image that does what the program does.
-use Rattle.std.proofs.Common.{◌≡◌, ℕ, ◌≤◌, List, map, length, refl, sym, ap, subst, ◌∙◌, Some, arith}
+use Rattle.std.proofs.Common.{◌≡◌, ℕ, List, length, sym, ap, subst, ◌∙◌, arith}
 use Rattle.std.proofs.lemmas.List.{length-map}
 use Rattle.vsi_image.specs.declared.instr.Image.{Image}
 use Rattle.vsi_image.specs.Fields as image
-use Rattle.vsi_lattice.specs.Order.{Lattice, IsLattice, IsClass, Below}
+use Rattle.vsi_lattice.specs.Order.{Lattice, IsLattice}
 use Rattle.vsi_scope.specs.declared.resolved.Global.{Global}
 use Rattle.vsi_scope.specs.Phrase.{Command}
-use Rattle.vsi_scope.specs.Meaning.{Store, runs, Evaluates}
+use Rattle.vsi_scope.specs.Meaning.{Store, Evaluates}
 use Rattle.vsi_scope.specs.Program.{Source}
 use Rattle.vsi_scope.specs.View.{sequence}
 use Rattle.vsi_types.specs.declared.rules.Profile.{Profile}
-use Rattle.vsi_types.specs.declared.rules.Profile.TheVariants.{Base, Strict}
-use Rattle.vsi_types.specs.Security.{program, IsTypable, Agree, IsResolved}
+use Rattle.vsi_types.specs.declared.rules.Profile.TheVariants.{Strict}
+use Rattle.vsi_types.specs.Security.{program, IsTypable, IsResolved}
 use Rattle.vsi_types.proofs.Secure.{noninterference}
 use Rattle.vsi_types.proofs.Endings.{same_ending}
 use Rattle.vsi_opt.specs.Optimised.{RunsAlike}
 use Rattle.vsi_code.specs.Names.{all_named}
 use Rattle.vsi_code.specs.Behaves.{Halts, Behaves}
-use Rattle.vsi_compiler.specs.Observation.{Known, AgreeAt, IsNoninterfering, EndsAlike}
+use Rattle.vsi_compiler.specs.Observation.{Known, IsNoninterfering, EndsAlike}
 use Rattle.vsi_compiler.proofs.Agreement.{HaveClasses, classes, agree_typed, agree_named}
 
--- code of the optimised body does what the source body does
+-- Code of the optimised body does what the source body does.
 pub behaves_alike : (k : ℕ) (optimised source : Command) (im : Image) → RunsAlike k optimised source →
     Behaves k optimised im → Behaves k source im
 behaves_alike k optimised source im alike b =
@@ -33,23 +33,23 @@ module _ (known : Known) (L : Lattice) (laws : IsLattice L) (P : Profile) (r : S
     (resolved : IsResolved L (program r)) (typed : IsTypable L P (program r) s)
     (has : HaveClasses known r.globals) (names : image.globals im.globals.items ≡ all_named r.globals)
     (behaves : Behaves (length r.globals) (sequence r.body) im) where
-  -- the image has as many globals as the program
+  -- The image has as many globals as the program.
   count : length im.globals.items ≡ length r.globals
   count =
       sym (length-map im.globals.items image.global) ∙ ap length names
       ∙ length-map r.globals (λ (g : Global). (g.name.now, g.class_name.now))
 
-  -- a store of the image has a word per global of the program
+  -- A store of the image has a word per global of the program.
   words : (m : Store) → length m ≡ length im.globals.items → length m ≡ length (classes r.globals)
   words m len = len ∙ count ∙ sym (length-map r.globals (λ (g : Global). g.class))
 
-  -- where a run ends, the program evaluates to that store
+  -- Where a run ends, the program evaluates to that store.
   evaluated : (m m' : Store) (budget : ℕ) → length m ≡ length im.globals.items →
       Halts im (length im.globals.items) m budget m' → Evaluates (sequence r.body) m m'
   evaluated m m' budget len h =
       behaves.sound m m' budget (len ∙ count) (subst (λ k. Halts im k m budget m') count h)
 
-  -- the image lets nothing flow where it may not
+  -- The image lets nothing flow where it may not.
   pub noninterfering : IsNoninterfering known L im
   noninterfering a within m₁ m₂ m₁' m₂' b₁ b₂ len₁ len₂ agree h₁ h₂ =
       agree_named known L r.globals im has names a m₁' m₂'
@@ -57,7 +57,7 @@ module _ (known : Known) (L : Lattice) (laws : IsLattice L) (P : Profile) (r : S
       (agree_typed known L r.globals im has names a m₁ m₂ agree)
       (evaluated m₁ m₁' b₁ len₁ h₁) (evaluated m₂ m₂' b₂ len₂ h₂))
 
--- a program of the strict profile ends alike on stores that agree on the bottom class
+-- A program of the strict profile ends alike on stores that agree on the bottom class.
 pub ends_alike : (known : Known) (L : Lattice) → IsLattice L → (r : Source) (s : List ℕ) (im : Image) →
     IsResolved L (program r) → IsTypable L Strict (program r) s → HaveClasses known r.globals →
     image.globals im.globals.items ≡ all_named r.globals → Behaves (length r.globals) (sequence r.body) im →
@@ -72,7 +72,7 @@ ends_alike known L laws r s im resolved typed has names behaves m₁ m₂ m₁' 
     let b = behaves.complete m₂ other.0 (len₂ ∙ k) other.1 in
     (b.0, other.0, subst (λ n. Halts im n m₂ b.0 other.0) (sym k) (b.1 b.0 (omega arith)))
 
--- code of the optimised program does what the source program does
+-- Code of the optimised program does what the source program does.
 pub behaves_source : (optimised source : Source) (im : Image) → optimised.globals ≡ source.globals →
     RunsAlike (length optimised.globals) (sequence optimised.body) (sequence source.body) →
     Behaves (length optimised.globals) (sequence optimised.body) im → Behaves (length source.globals)

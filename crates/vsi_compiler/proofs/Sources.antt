@@ -1,82 +1,80 @@
 -- What the tokens of a text say of the trees that read it.
-use Rattle.std.proofs.Common.{◌≡◌, ℕ, ◌≤◌, List, [], ◌∷◌, map, length, refl, sym, ap, ◌∙◌, Result, Ok, Err, Some, None, MatchResult, Option, unwrap_or}
+use Rattle.std.proofs.Common.{◌≡◌, ℕ, ◌≤◌, List, [], ◌∷◌, map, length, refl, sym, ap, ◌∙◌, Some, None, Option, unwrap_or}
 use Rattle.vsi_syntax.specs.declared.token.Token.{Token}
 use Rattle.vsi_syntax.specs.declared.lexer.LexError.{LexError}
 use Rattle.vsi_syntax.specs.declared.lexer.LexError.TheVariants as lexer
 use Rattle.vsi_syntax.specs.declared.parser.ParseError.{ParseError}
 use Rattle.vsi_syntax.specs.declared.parser.ParseError.TheVariants as parser
-use Rattle.vsi_syntax.specs.Cut.{Piece, IsCut, Cuts, pieces, Explains}
+use Rattle.vsi_syntax.specs.Cut.{IsCut, pieces, Explains}
 use Rattle.vsi_syntax.specs.View.{word, words}
 use Rattle.vsi_syntax.specs.Tree.{Whole, Word, IsProgram, write_program}
-use Rattle.vsi_syntax.specs.Parsing.{Gives, Fails}
+use Rattle.vsi_syntax.specs.Parsing.{Fails}
 use Rattle.vsi_syntax.specs.Spelling.{word_at}
 use Rattle.vsi_syntax.proofs.Unique.{one_cut}
-use Rattle.vsi_compiler.specs.declared.error.CompileError.{CompileError}
 use Rattle.vsi_compiler.specs.declared.error.CompileError.TheVariants.{Memory}
 use Rattle.vsi_compiler.specs.Errors.{lexical, syntactic}
 use Rattle.vsi_compiler.specs.Source.{Reads}
 use Rattle.vsi_compiler.specs.Refusal.{HasNoTree, RefusesTree}
 
--- the words of tokens are those of their pieces
+-- The words of tokens are those of their pieces.
 words_at : (ts : List Token) → words ts ≡ map word_at (pieces ts)
 words_at [] = refl
 words_at (t ∷ ts) = ap (λ (ws : List Word). word t ∷ ws) (words_at ts)
 
--- a tree that writes the tokens of a text reads it
+-- A tree that writes the tokens of a text reads it.
 pub reads_from : (text : List ℕ) (ts : List Token) (tree : Whole) → length text ≤ 1048576 → IsCut text (pieces ts) →
     IsProgram tree.body → write_program tree ≡ words ts → Reads text tree
 reads_from text ts tree short cut program written =
     record { short = short; tokens = pieces ts; cut = cut; program = program; written = written ∙ words_at ts }
 
--- a tree that reads a text writes its tokens
+-- A tree that reads a text writes its tokens.
 pub reads_tokens : (text : List ℕ) (ts : List Token) (tree : Whole) → IsCut text (pieces ts) → Reads text tree →
     write_program tree ≡ words ts
 reads_tokens text ts tree cut r =
     r.written ∙ ap (map word_at) (one_cut text r.tokens (pieces ts) r.cut cut) ∙ sym (words_at ts)
 
--- a refusal of the words is one of the text
+-- A refusal of the words is one of the text.
 pub words_refused : (text : List ℕ) (e : LexError) → Explains text e → RefusesTree text (lexical e)
 words_refused text lexer.Memory h = tt
-words_refused text lexer.TooLong h = h
-words_refused text (lexer.BadByte at) h = h
-words_refused text (lexer.BadWord span) h = h
-words_refused text (lexer.BadNumber span) h = h
+words_refused text lexer.TooLong h = (λ q. cc, h)
+words_refused text (lexer.BadByte at) h = (λ q. cc, h)
+words_refused text (lexer.BadWord span) h = (λ q. cc, h)
+words_refused text (lexer.BadNumber span) h = (λ q. cc, h)
 
--- want of memory is the compiler's own
+-- Want of memory is the compiler's own.
 pub lexical_memory : (e : LexError) → e ≡ lexer.Memory → lexical e ≡ Memory
 lexical_memory e h = ap lexical h
 
--- a tree is not none
+-- A tree is not none.
 some_tree : (tree : Whole) → Some tree ≡ None → ⊥
 some_tree tree h = absurd cc
 
--- tokens that no tree writes are those of a text that no tree reads
+-- A text whose tokens no tree writes has no tree.
+has_no_tree : (text : List ℕ) (ts : List Token) → length text ≤ 1048576 → IsCut text (pieces ts) →
+    ((tree : Whole) → IsProgram tree.body → write_program tree ≡ words ts → Some tree ≡ None) → HasNoTree text
+has_no_tree text ts short cut only =
+    record {
+      short = short;
+      tokens = pieces ts;
+      cut = cut;
+      treeless = λ tree r. some_tree tree (only tree r.program (reads_tokens text ts tree cut r));
+    }
+
+-- Tokens that no tree writes are those of a text that no tree reads.
 pub tree_refused : (text : List ℕ) (ts : List Token) (e : ParseError) → length text ≤ 1048576 →
     IsCut text (pieces ts) →
     ((tree : Whole) → IsProgram tree.body → write_program tree ≡ words ts → Fails e (Some tree)) →
     RefusesTree text (syntactic e)
 tree_refused text ts parser.Memory short cut only = tt
-tree_refused text ts (parser.Unexpected span) short cut only =
-    record {
-      short = short;
-      tokens = pieces ts;
-      cut = cut;
-      treeless = λ tree r. some_tree tree (only tree r.program (reads_tokens text ts tree cut r));
-    }
-tree_refused text ts (parser.TooDeep span) short cut only =
-    record {
-      short = short;
-      tokens = pieces ts;
-      cut = cut;
-      treeless = λ tree r. some_tree tree (only tree r.program (reads_tokens text ts tree cut r));
-    }
+tree_refused text ts (parser.Unexpected span) short cut only = (λ q. cc, has_no_tree text ts short cut only)
+tree_refused text ts (parser.TooDeep span) short cut only = (λ q. cc, has_no_tree text ts short cut only)
 
--- where a tree is there, nothing but want of memory is answered
+-- Where a tree is there, nothing but want of memory is answered.
 pub syntactic_memory : (e : ParseError) (tree : Whole) → Fails e (Some tree) → syntactic e ≡ Memory
 syntactic_memory parser.Memory tree h = refl
 syntactic_memory (parser.Unexpected span) tree h = absurd (some_tree tree h)
 syntactic_memory (parser.TooDeep span) tree h = absurd (some_tree tree h)
 
--- what is found is the tree
+-- What is found is the tree.
 pub found_is : (tree found : Whole) → Some tree ≡ Some found → found ≡ tree
 found_is tree found h = sym (ap (λ (o : Option Whole). unwrap_or o tree) h)

@@ -1,5 +1,5 @@
 -- Which texts are accepted.
-use Rattle.std.specs.Prelude.{◌≡◌, ℕ, ◌-◌, List, length, map, Option, unwrap_or, slice_index_or}
+use Rattle.std.specs.Prelude.{ℕ, ◌-◌, List, length, map, unwrap_or, slice_index_or}
 use Rattle.vsi_lattice.specs.Order.{Lattice}
 use Rattle.vsi_syntax.specs.declared.token.Span.{Span}
 use Rattle.vsi_syntax.specs.Tree.{Whole}
@@ -11,11 +11,11 @@ use Rattle.vsi_types.specs.declared.rules.Profile.{Profile}
 use Rattle.vsi_types.specs.Security.{Program, IsTypable}
 use Rattle.vsi_compiler.specs.Source.{Reads}
 
--- where the name of a declaration stands, the first letvar's number being that of the globals
+-- Where the name of a declaration stands, the first letvar's number being that of the globals.
 abbrev pub place_of : List Variable → ℕ → ℕ → Span
 place_of vs globals v = slice_index_or (map (λ x. x.span) vs) (v - globals) (record { start = 0; stop = 0 })
 
--- the program that the typing rules speak of: the declared classes, where names stand, and the body
+-- The program that the typing rules speak of: the declared classes, where names stand, and the body.
 abbrev pub program_of : Known → Whole → List Command → Program
 program_of known tree commands =
     record {
@@ -25,7 +25,7 @@ program_of known tree commands =
       body = in_sequence commands;
     }
 
--- a tree reads the text, these commands over locations are its resolution, and some choice of classes types them
+-- A tree reads the text, these commands over locations are its resolution, and some choice of classes types them.
 pub record IsAccepted (known : Known) (L : Lattice) (P : Profile) (text : List ℕ) : Type 0 where
   pub tree : Whole
   pub commands : List Command

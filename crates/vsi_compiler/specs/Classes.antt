@@ -12,29 +12,29 @@ use Rattle.vsi_infer.specs.Inference.{IsLeast}
 use Rattle.vsi_compiler.specs.Source.{Reads}
 use Rattle.vsi_compiler.specs.Acceptance.{program_of}
 
--- `LINE:COLUMN` of a place
+-- `LINE:COLUMN` of a place.
 abbrev pub place_text : List ℕ → ℕ → List ℕ
 place_text text at =
     decimal (1 + breaks (take at text)) ++ codes ":" ++ decimal (1 + length (last_line (take at text)))
 
--- `LINE:COLUMN NAME : CLASS` and a line feed, for a name that stands there
+-- `LINE:COLUMN NAME : CLASS` and a line feed, for a name that stands there.
 abbrev pub class_line : List ℕ → Span → List ℕ → List ℕ → List ℕ
 class_line text span name class =
     place_text text span.start ++ codes " " ++ name ++ codes " : " ++ class ++ 10 ∷ []
 
--- a line for each global, with its declared class
+-- A line for each global, with its declared class.
 abbrev pub global_lines : List ℕ → List Declared → List ℕ
 global_lines text [] = []
 global_lines text (g ∷ gs) = class_line text g.name.span g.name.text g.class.text ++ global_lines text gs
 
--- a line for each letvar, with the name of the class that was chosen for it
+-- A line for each letvar, with the name of the class that was chosen for it.
 abbrev pub letvar_lines : List ℕ → List (List ℕ) → List Variable → List ℕ → List ℕ
 letvar_lines text names [] cs = []
 letvar_lines text names (v ∷ vs) [] = []
 letvar_lines text names (v ∷ vs) (c ∷ cs) =
     class_line text v.span v.name (unwrap_or (slice_get names c) []) ++ letvar_lines text names vs cs
 
--- the lines of the least choice of classes for the program of the text
+-- The lines of the least choice of classes for the program of the text.
 pub record IsClassText (known : Known) (L : Lattice) (P : Profile) (names : List (List ℕ)) (text out : List ℕ) : Type
     0 where
   pub tree : Whole

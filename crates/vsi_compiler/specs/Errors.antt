@@ -10,22 +10,22 @@ use Rattle.vsi_infer.specs.declared.error.InferError.TheVariants as infer
 use Rattle.vsi_compiler.specs.declared.error.CompileError.{CompileError}
 use Rattle.vsi_compiler.specs.declared.error.CompileError.TheVariants.{Lex, Parse, Scope, Flow, Memory}
 
--- an error of the words
+-- An error of the words.
 abbrev pub lexical : LexError → CompileError
 lexical lexer.Memory = Memory
 lexical e = Lex e
 
--- an error of the tree
+-- An error of the tree.
 abbrev pub syntactic : ParseError → CompileError
 syntactic parser.Memory = Memory
 syntactic e = Parse e
 
--- an error of the scopes
+-- An error of the scopes.
 abbrev pub scoping : ScopeError → CompileError
 scoping scope.Memory = Memory
 scoping e = Scope e
 
--- an error of the inference
+-- An error of the inference.
 abbrev pub flowing : InferError → CompileError
 flowing infer.Memory = Memory
 flowing (infer.Refused walk) = Flow walk

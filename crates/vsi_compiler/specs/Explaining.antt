@@ -10,18 +10,18 @@ use Rattle.vsi_types.specs.Walks.{IsBad}
 use Rattle.vsi_infer.specs.Explanation.{explanation}
 use Rattle.vsi_compiler.specs.Stands.{Stands}
 
--- the steps are a bad walk of the text's program under the strict profile, and this is their explanation
+-- The steps are a bad walk of the text's program under the strict profile, and this is their explanation.
 pub record IsExplained (l : Lattice) (text : List ℕ) (steps : List Step) (out : List ℕ) : Type 0 where
   pub resolved : Source
   pub stands : Stands (class_named l) text resolved
   pub bad : IsBad (order l) Strict (program resolved) steps
   pub lines : out ≡ explanation l text resolved steps
 
--- the steps are no bad walk of the text, and nothing is told
+-- The steps are no bad walk of the text, and nothing is told.
 pub record IsUnexplained (l : Lattice) (text : List ℕ) (steps : List Step) (out : List ℕ) : Type 0 where
   pub harmless : (r : Source) → Stands (class_named l) text r → ¬ (IsBad (order l) Strict (program r) steps)
   pub nothing : out ≡ []
 
--- a bad walk is explained, and no other
+-- A bad walk is explained, and no other.
 abbrev pub Explains : Lattice → List ℕ → List Step → List ℕ → Type 0
 Explains l text steps out = IsExplained l text steps out ⊎ IsUnexplained l text steps out

@@ -1,5 +1,5 @@
 -- What is promised of a compiled image, of the text that it was compiled from, and of a refusal.
-use Rattle.std.specs.Prelude.{◌≡◌, ℕ, List, length, map, None}
+use Rattle.std.specs.Prelude.{◌≡◌, ℕ, List, length, map}
 use Rattle.vsi_lattice.specs.Order.{Lattice}
 use Rattle.vsi_syntax.specs.Tree.{Whole, Declared}
 use Rattle.vsi_scope.specs.Faults.{Known}
@@ -10,33 +10,34 @@ use Rattle.vsi_types.specs.declared.rules.Profile.{Profile}
 use Rattle.vsi_types.specs.declared.rules.Profile.TheVariants.{Strict}
 use Rattle.vsi_image.specs.declared.instr.Image.{Image}
 use Rattle.vsi_image.specs.Fields as image
-use Rattle.vsi_image.specs.Limits.{first_limit}
 use Rattle.vsi_image.specs.Valid.{IsValid}
 use Rattle.vsi_code.specs.Behaves.{Behaves}
 use Rattle.vsi_compiler.specs.Source.{Reads}
 use Rattle.vsi_compiler.specs.Acceptance.{IsAccepted}
 use Rattle.vsi_compiler.specs.Observation.{IsNoninterfering, EndsAlike}
 
--- the name and the class name of a declared global
+-- The name and the class name of a declared global.
 abbrev pub named : Declared → image.Global
 named g = (g.name.text, g.class.text)
 
--- the image's globals are those that the text declares, in order, with their class names
+-- The image's globals are those that the text declares, in order, with their class names.
 abbrev pub HasGlobals : List ℕ → Image → Type 0
 HasGlobals text im = (tree : Whole) → Reads text tree → image.globals im.globals.items ≡ map named tree.globals
 
--- the image does what the body of the text does, from each store with one word per global
+-- The image does what the body of the text does, from each store with one word per global.
 abbrev pub KeepsMeaning : Known → List ℕ → Image → Type 0
 KeepsMeaning known text im =
     (tree : Whole) (commands : List Command) → Reads text tree → resolving.IsResolution known tree commands →
     Behaves (length tree.globals) (in_sequence commands) im
 
--- the image is valid and within the limits of its format, so that it is encoded, decoded to itself and verified again
+-- The image has bytes, and each image that they spell is the same and valid: so it is encoded, decoded to itself and
+-- verified again.
 pub record IsCoded (im : Image) : Type 0 where
-  pub valid : IsValid im
-  pub unlimited : first_limit (image.fields im) ≡ None
+  pub spelled : image.Spells (image.bytes_of 2 (image.fields im)) (image.fields im)
+  pub again : (other : Image) → image.Spells (image.bytes_of 2 (image.fields im)) (image.fields other) →
+      (image.fields other ≡ image.fields im) × IsValid other
 
--- an image that was compiled from a text under a profile
+-- An image that was compiled from a text under a profile.
 pub record IsCompiled (known : Known) (L : Lattice) (P : Profile) (text : List ℕ) (im : Image) : Type 0 where
   pub accepted : IsAccepted known L P text
   pub globals : HasGlobals text im

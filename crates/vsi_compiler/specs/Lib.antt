@@ -8,3 +8,4 @@ pub mod Stands
 pub mod Run
 pub mod Classes
 pub mod Explaining
+pub mod Laws

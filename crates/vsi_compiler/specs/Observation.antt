@@ -6,31 +6,31 @@ use Rattle.vsi_lattice.specs.Order.{Lattice, IsClass, Below}
 use Rattle.vsi_scope.specs.Meaning.{Store}
 use Rattle.vsi_code.specs.Behaves.{Halts}
 
--- the class that a name stands for, if any
+-- The class that a name stands for, if any.
 abbrev pub Known : Type 0
 Known = List ℕ → Option ℕ
 
--- two stores have equal words in every global whose class name stands for a class at or below a
+-- Two stores have equal words in every global whose class name stands for a class at or below a.
 abbrev pub AgreeAt : Known → Lattice → Image → ℕ → Store → Store → Type 0
 AgreeAt known L image a m m' =
     (i : ℕ) (g : Global) (c : ℕ) → slice_get (globals image.globals.items) i ≡ Some g → known g.1 ≡ Some c →
     Below L c a → slice_index_or m i (pos 0) ≡ slice_index_or m' i (pos 0)
 
--- a store of the image: one word per global
+-- A store of the image: one word per global.
 abbrev pub IsStoreOf : Image → Store → Type 0
 IsStoreOf image m = length m ≡ length image.globals.items
 
--- a run of the image with this budget halts with these words in the globals
+-- A run of the image with this budget halts with these words in the globals.
 abbrev pub Ends : Image → Store → ℕ → Store → Type 0
 Ends image m budget m' = Halts image (length image.globals.items) m budget m'
 
--- two stores that agree at and below a class end in agreement there whenever both runs halt
+-- Two stores that agree at and below a class end in agreement there whenever both runs halt.
 abbrev pub IsNoninterfering : Known → Lattice → Image → Type 0
 IsNoninterfering known L image =
     (a : ℕ) → IsClass L a → (m₁ m₂ m₁' m₂' : Store) (b₁ b₂ : ℕ) → IsStoreOf image m₁ → IsStoreOf image m₂ →
     AgreeAt known L image a m₁ m₂ → Ends image m₁ b₁ m₁' → Ends image m₂ b₂ m₂' → AgreeAt known L image a m₁' m₂'
 
--- of two stores that agree on the bottom class, where some budget halts the one some budget halts the other
+-- Of two stores that agree on the bottom class, where some budget halts the one some budget halts the other.
 abbrev pub EndsAlike : Known → Lattice → Image → Type 0
 EndsAlike known L image =
     (m₁ m₂ m₁' : Store) (b₁ : ℕ) → IsStoreOf image m₁ → IsStoreOf image m₂ → AgreeAt known L image L.bottom m₁ m₂ →

@@ -1,5 +1,5 @@
 -- What a refusal says of the text.
-use Rattle.std.specs.Prelude.{◌≡◌, ◌≢◌, ℕ, ◌≤◌, List, length}
+use Rattle.std.specs.Prelude.{◌≢◌, ℕ, ◌≤◌, List, length}
 use Rattle.vsi_lattice.specs.Order.{Lattice}
 use Rattle.vsi_scope.specs.Phrase.{Command}
 use Rattle.vsi_types.specs.declared.rules.Profile.{Profile}
@@ -9,36 +9,38 @@ use Rattle.vsi_syntax.specs.Cut as cut
 use Rattle.vsi_syntax.specs.Tree.{Whole}
 use Rattle.vsi_compiler.specs.declared.error.CompileError.{CompileError}
 use Rattle.vsi_compiler.specs.declared.error.CompileError.TheVariants.{Lex, Parse, Scope, Flow, Memory}
+use Rattle.vsi_syntax.specs.declared.lexer.LexError.TheVariants as lexer
+use Rattle.vsi_syntax.specs.declared.parser.ParseError.TheVariants as parser
 use Rattle.vsi_scope.specs.declared.resolution.ScopeError.TheVariants as scope
 use Rattle.vsi_scope.specs.Faults.{Known}
 use Rattle.vsi_scope.specs.Resolving.{Explains, IsResolution}
 use Rattle.vsi_compiler.specs.Source.{Reads}
-use Rattle.vsi_compiler.specs.Acceptance.{program_of}
+use Rattle.vsi_compiler.specs.Acceptance.{IsAccepted, program_of}
 
--- the text is within its limit and has a cut, and no tree reads it
+-- The text is within its limit and has a cut, and no tree reads it.
 pub record HasNoTree (text : List ℕ) : Type 0 where
   pub short : length text ≤ 1048576
   pub tokens : List cut.Piece
   pub cut : cut.IsCut text tokens
   pub treeless : (tree : Whole) → ¬ (Reads text tree)
 
--- a refusal of the words or of the tree
+-- A refusal of the words or of the tree, where want of memory is never one that the layer below names.
 abbrev pub RefusesTree : List ℕ → CompileError → Type 0
 RefusesTree text Memory = Unit {0}
-RefusesTree text (Lex e) = cut.Explains text e
-RefusesTree text (Parse e) = HasNoTree text
+RefusesTree text (Lex e) = (e ≢ lexer.Memory) × cut.Explains text e
+RefusesTree text (Parse e) = (e ≢ parser.Memory) × HasNoTree text
 RefusesTree text (Scope e) = ⊥
 RefusesTree text (Flow walk) = ⊥
 
--- a refusal of the words, of the tree or of the scopes
+-- A refusal of the words, of the tree or of the scopes.
 abbrev pub RefusesProgram : Known → List ℕ → CompileError → Type 0
 RefusesProgram known text Memory = Unit {0}
-RefusesProgram known text (Lex e) = cut.Explains text e
-RefusesProgram known text (Parse e) = HasNoTree text
+RefusesProgram known text (Lex e) = RefusesTree text (Lex e)
+RefusesProgram known text (Parse e) = RefusesTree text (Parse e)
 RefusesProgram known text (Scope e) = (e ≢ scope.Memory) × ((tree : Whole) × Reads text tree × Explains known tree e)
 RefusesProgram known text (Flow walk) = ⊥
 
--- the text has a tree and its resolution, of which these steps are a bad walk, and no bad walk has fewer
+-- The text has a tree and its resolution, of which these steps are a bad walk, and no bad walk has fewer.
 pub record HasBadWalk (known : Known) (L : Lattice) (P : Profile) (text : List ℕ) (steps : List Step) : Type 0 where
   pub tree : Whole
   pub commands : List Command
@@ -46,10 +48,16 @@ pub record HasBadWalk (known : Known) (L : Lattice) (P : Profile) (text : List �
   pub resolution : IsResolution known tree commands
   pub shortest : IsShortest L P (program_of known tree commands) steps
 
--- a refusal of the compiler: the first in the order text, words, tree, scopes, size, flow
+-- A refusal of the compiler: the first in the order text, words, tree, scopes, size, flow.
 abbrev pub Refuses : Known → Lattice → Profile → List ℕ → CompileError → Type 0
 Refuses known L P text Memory = Unit {0}
 Refuses known L P text (Lex e) = RefusesProgram known text (Lex e)
 Refuses known L P text (Parse e) = RefusesProgram known text (Parse e)
 Refuses known L P text (Scope e) = RefusesProgram known text (Scope e)
 Refuses known L P text (Flow walk) = HasBadWalk known L P text walk.steps.items
+
+-- A refusal of the compiler that a caller passes on: it isn't want of memory, and the text isn't accepted.
+pub record IsRefused (known : Known) (L : Lattice) (P : Profile) (text : List ℕ) (e : CompileError) : Type 0 where
+  pub other : e ≢ Memory
+  pub told : Refuses known L P text e
+  pub unaccepted : ¬ (IsAccepted known L P text)

@@ -14,19 +14,19 @@ use Rattle.vsi_compiler.specs.declared.error.CompileError.TheVariants as compile
 use Rattle.vsi_compiler.specs.declared.run.RunError.{RunError}
 use Rattle.vsi_compiler.specs.declared.run.RunError.TheVariants.{Compile, Start, Memory}
 use Rattle.vsi_compiler.specs.Headline.{IsCompiled}
-use Rattle.vsi_compiler.specs.Refusal.{Refuses}
+use Rattle.vsi_compiler.specs.Refusal.{IsRefused}
 
--- a refusal of the compiler
+-- A refusal of the compiler.
 abbrev pub compiling : CompileError → RunError
 compiling compiler.Memory = Memory
 compiling e = Compile e
 
--- a machine that was not started
+-- A machine that was not started.
 abbrev pub starting : StartError → RunError
 starting start.Memory = Memory
 starting e = Start e
 
--- the text is compiled, and its image's run from the store with this budget ends so
+-- The text is compiled, and its image's run from the store with this budget ends so.
 pub record Ran (known : Known) (L : Lattice) (text : List ℕ) (store : List ℤ) (budget : ℕ) (outcome : Outcome)
     (words : List ℤ) : Type 0 where
   pub image : Image
@@ -36,16 +36,16 @@ pub record Ran (known : Known) (L : Lattice) (text : List ℕ) (store : List ℤ
   pub ends : outcome ≡ outcome_of last
   pub globals : words ≡ globals_of image last
 
--- the text is compiled, and the store hasn't one word per global
+-- The text is compiled, and the store hasn't one word per global.
 pub record HasWrongStore (known : Known) (L : Lattice) (text : List ℕ) (store : List ℤ) (words : ℕ) : Type 0 where
   pub image : Image
   pub compiled : IsCompiled known L Base text image
   pub wrong : length store ≢ length image.globals.items
   pub told : words ≡ length store
 
--- a refusal of a run
+-- A refusal of a run: the text isn't accepted, or the store hasn't one word per global.
 abbrev pub RefusesRun : Known → Lattice → List ℕ → List ℤ → RunError → Type 0
 RefusesRun known L text store Memory = Unit {0}
-RefusesRun known L text store (Compile e) = (e ≢ compiler.Memory) × Refuses known L Base text e
+RefusesRun known L text store (Compile e) = IsRefused known L Base text e
 RefusesRun known L text store (Start start.Memory) = ⊥
 RefusesRun known L text store (Start (start.WrongStore n)) = HasWrongStore known L text store n

@@ -6,7 +6,7 @@ use Rattle.vsi_syntax.specs.Tree.{Whole, IsProgram, write_program}
 use Rattle.vsi_syntax.specs.Spelling.{word_at}
 use Rattle.vsi_syntax.specs.Canon.{canon}
 
--- the text is within its limit, and a levelled tree of depth at most 200 writes the tokens of its cut
+-- The text is within its limit, and a levelled tree of depth at most 200 writes the tokens of its cut.
 pub record Reads (text : List ℕ) (tree : Whole) : Type 0 where
   pub short : length text ≤ 1048576
   pub tokens : List Piece
@@ -14,6 +14,6 @@ pub record Reads (text : List ℕ) (tree : Whole) : Type 0 where
   pub program : IsProgram tree.body
   pub written : write_program tree ≡ map word_at tokens
 
--- the canonical text of the tree that reads the text
+-- The canonical text of the tree that reads the text.
 abbrev pub IsCanonicalText : List ℕ → List ℕ → Type 0
 IsCanonicalText text out = (tree : Whole) × Reads text tree × (out ≡ canon tree)

@@ -1,12 +1,12 @@
 -- What a text stands for, as the compiler holds it.
-use Rattle.std.specs.Prelude.{◌≡◌, ◌≢◌, ℕ, List}
+use Rattle.std.specs.Prelude.{◌≡◌, ℕ, List}
 use Rattle.vsi_syntax.specs.Tree.{Whole}
 use Rattle.vsi_scope.specs.Faults.{Known}
-use Rattle.vsi_scope.specs.Program.{Source, IsResolved}
+use Rattle.vsi_scope.specs.Program.{Source}
 use Rattle.vsi_scope.specs.Resolving.{Resolves}
 use Rattle.vsi_compiler.specs.Source.{Reads}
 
--- the resolved program is that of the one tree that reads the text
+-- The resolved program is that of the one tree that reads the text.
 pub record Stands (known : Known) (text : List ℕ) (r : Source) : Type 0 where
   pub tree : Whole
   pub reads : Reads text tree

@@ -10,6 +10,7 @@ ghost use Rattle.vsi_compiler.specs.Observation.{IsNoninterfering, EndsAlike};
 ghost use Rattle.vsi_compiler.specs.Refusal.{Refuses};
 
 use crate::error::CompileError;
+use crate::operands::have_opcodes;
 use crate::source::resolved_program;
 use std::alloc::Global;
 use vsi_code::generate;
@@ -32,7 +33,8 @@ pub fn compile_in(
 ) -> Result<Verified, CompileError>
     ensures accepted { IfOk result (λ _. IsAccepted (class_named lattice.now) (order lattice.now) profile text.now) }
     ensures refused { IfErr result (Refuses (class_named lattice.now) (order lattice.now) profile text.now) }
-    ensures exact { IsAccepted (class_named lattice.now) (order lattice.now) profile text.now → IfErr result (λ e. e ≡ Memory) }
+    ensures exact { IsAccepted (class_named lattice.now) (order lattice.now) profile text.now
+        → IfErr result (λ e. e ≡ Memory) }
     ensures globals { IfOk result (HasGlobals text.now) }
     ensures meaning { IfOk result (KeepsMeaning (class_named lattice.now) text.now) }
     ensures noninterference { IfOk result (IsNoninterfering (class_named lattice.now) (order lattice.now)) }
@@ -43,7 +45,7 @@ pub fn compile_in(
     let _classes = infer_in(alloc, profile, lattice, &resolved)?;
     let optimised = optimise(alloc, &resolved)?;
     let verified = generate(alloc, &optimised)?;
-    let _image = verified.image();
+    have_opcodes(&verified.image().code);
     Ok(verified)
 }
 
@@ -51,7 +53,8 @@ pub fn compile_in(
 pub fn compile(alloc: Global, lattice: &Lattice, text: &[u8]) -> Result<Verified, CompileError>
     ensures accepted { IfOk result (λ _. IsAccepted (class_named lattice.now) (order lattice.now) Base text.now) }
     ensures refused { IfErr result (Refuses (class_named lattice.now) (order lattice.now) Base text.now) }
-    ensures exact { IsAccepted (class_named lattice.now) (order lattice.now) Base text.now → IfErr result (λ e. e ≡ Memory) }
+    ensures exact { IsAccepted (class_named lattice.now) (order lattice.now) Base text.now
+        → IfErr result (λ e. e ≡ Memory) }
     ensures globals { IfOk result (HasGlobals text.now) }
     ensures meaning { IfOk result (KeepsMeaning (class_named lattice.now) text.now) }
     ensures noninterference { IfOk result (IsNoninterfering (class_named lattice.now) (order lattice.now)) }

@@ -3,6 +3,8 @@
 
 mod compiler;
 mod error;
+pub mod laws;
+mod operands;
 mod refused;
 mod run;
 mod source;

@@ -81,7 +81,8 @@ pub fn run_source(
     store: &[i64],
     budget: u64,
 ) -> Result<(Outcome, Vec<i64>), RunError>
-    ensures ran { IfOk result (λ r. Ran (class_named lattice.now) (order lattice.now) text.now store.now budget r.0 r.1.items) }
+    ensures ran { IfOk result (λ r.
+        Ran (class_named lattice.now) (order lattice.now) text.now store.now budget r.0 r.1.items) }
     ensures refused { IfErr result (RefusesRun (class_named lattice.now) (order lattice.now) text.now store.now) }
 {
     let verified = compile(alloc, lattice, text)?;

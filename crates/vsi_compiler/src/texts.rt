@@ -124,7 +124,8 @@ pub fn classes_text_in(
     ensures lines { IfOk result (λ out.
         IsClassText (class_named lattice.now) (order lattice.now) profile (names lattice.now) text.now out.items) }
     ensures refused { IfErr result (Refuses (class_named lattice.now) (order lattice.now) profile text.now) }
-    ensures exact { IsAccepted (class_named lattice.now) (order lattice.now) profile text.now → IfErr result (λ e. e ≡ Memory) }
+    ensures exact { IsAccepted (class_named lattice.now) (order lattice.now) profile text.now
+        → IfErr result (λ e. e ≡ Memory) }
 {
     let program = read_program(alloc, text)?;
     let resolved = resolve(alloc, &program, lattice)?;
@@ -141,7 +142,8 @@ pub fn classes_text(alloc: Global, lattice: &Lattice, text: &[u8]) -> Result<Vec
     ensures lines { IfOk result (λ out.
         IsClassText (class_named lattice.now) (order lattice.now) Base (names lattice.now) text.now out.items) }
     ensures refused { IfErr result (Refuses (class_named lattice.now) (order lattice.now) Base text.now) }
-    ensures exact { IsAccepted (class_named lattice.now) (order lattice.now) Base text.now → IfErr result (λ e. e ≡ Memory) }
+    ensures exact { IsAccepted (class_named lattice.now) (order lattice.now) Base text.now
+        → IfErr result (λ e. e ≡ Memory) }
 {
     classes_text_in(alloc, Profile::Base, lattice, text)
 }

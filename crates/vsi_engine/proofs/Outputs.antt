@@ -12,9 +12,9 @@ use Rattle.vsi_machine.specs.declared.interpreter.Outcome.{Outcome}
 use Rattle.vsi_machine.specs.Runs.{outcome_of, run_of}
 use Rattle.vsi_machine.proofs.Progress.{never_stuck}
 use Rattle.vsi_engine.specs.declared.error.EngineError.{EngineError}
-use Rattle.vsi_engine.specs.Running.{Ends, Runs, Started, Traces, WrittenPartly, WrittenSome, WrittenWhole, ending_of, trace_of}
+use Rattle.vsi_engine.specs.Running.{Ends, Runs, Started, Traces, WrittenPartly, WrittenSome, WrittenSteps, WrittenWhole, ending_of, trace_of}
 
--- a prefix of a text is one of every text that begins with it
+-- A prefix of a text is one of every text that begins with it.
 pub longer_text : (a b : Option (List ℕ)) (text rest : List ℕ) → ((n : ℕ) × Appends a b (take n text)) →
     (m : ℕ) × Appends a b (take m (text ++ rest))
 longer_text a b text rest p =
@@ -23,7 +23,7 @@ longer_text a b text rest p =
     sym (take_min p.0 text) ∙ sym (take-append-le n text rest (omega arith)) in
     (n, subst (Appends a b) same p.1)
 
--- a text and then a prefix of another are a prefix of both
+-- A text and then a prefix of another are a prefix of both.
 pub text_then : (a b c : Option (List ℕ)) (text rest : List ℕ) → Appends a b text →
     ((n : ℕ) × Appends b c (take n rest)) → (m : ℕ) × Appends a c (take m (text ++ rest))
 text_then a b c text rest written p =
@@ -34,23 +34,23 @@ text_then a b c text rest written p =
     (length done, subst (Appends a c) (sym cut) (Appends-trans a b c _ _ written p.1))
 
 module _ (traced : Bool) (image : Image) (words : List ℤ) (budget : ℕ) where
-  -- the trace of a machine that began at the start of the image
+  -- The trace of a machine that began at the start of the image.
   abbrev begun : Image → State → List ℕ
   begun held s = trace_of traced held.code.items budget s
 
-  -- the trace is that of the image from its start
+  -- The trace is that of the image from its start.
   begun_is : (held : Image) (s : State) → held ≡ image → s ≡ start image words →
       begun held s ≡ begun image (start image words)
   begun_is held s same from = ap (λ i. begun i s) same ∙ ap (begun image) from
 
-  -- the run is that of the image from its start
+  -- The run is that of the image from its start.
   run_is : (held : Image) (s t : State) → held ≡ image → s ≡ start image words →
       after held.code.items budget s ≡ Some t → run_of image words budget ≡ Some t
   run_is held s t same from reached =
       subst (λ u. after image.code.items budget u ≡ Some t) from
       (subst (λ i. after i.code.items budget s ≡ Some t) same reached)
 
-  -- a run whose output is whole
+  -- A run whose output is whole.
   pub all_written : (a b c : Option (List ℕ)) (held shown : Image) (s t : State) (outcome : Outcome) → held ≡ image →
       shown ≡ image → s ≡ start image words → after held.code.items budget s ≡ Some t → outcome ≡ outcome_of t →
       Appends a b (begun held s) → Appends b c (ending_of shown t) →
@@ -67,7 +67,7 @@ module _ (traced : Bool) (image : Image) (words : List ℤ) (budget : ℕ) where
         (subst (λ i. Appends b c (ending_of i t)) same' ending),
   )
 
-  -- a run whose last lines are cut
+  -- A run whose last lines are cut.
   pub ending_cut : (a b c : Option (List ℕ)) (held shown : Image) (s t : State) → held ≡ image →
       shown ≡ image → s ≡ start image words → after held.code.items budget s ≡ Some t →
       Appends a b (begun held s) → ((n : ℕ) × Appends b c (take n (ending_of shown t))) →
@@ -85,7 +85,7 @@ module _ (traced : Bool) (image : Image) (words : List ℤ) (budget : ℕ) where
         (subst (λ i. (n : ℕ) × Appends b c (take n (ending_of i t))) same' ending),
   )
 
-  -- a run whose trace is cut
+  -- A run whose trace is cut.
   pub trace_cut : (a b : Option (List ℕ)) (held : Image) (s : State) → held ≡ image → s ≡ start image words →
       IsValid image → length words ≡ length image.globals.items →
       ((n : ℕ) × Appends a b (take n (begun held s))) → WrittenPartly (Ends traced image words budget) a b
@@ -95,7 +95,7 @@ module _ (traced : Bool) (image : Image) (words : List ℤ) (budget : ℕ) where
         begun image (start image words) ++ ending_of image last.0,
         record {
           last = last.0;
-          reached = last.1;
+          reached = last.1.reached;
           ends = refl;
           written = refl;
         },
@@ -104,7 +104,7 @@ module _ (traced : Bool) (image : Image) (words : List ℤ) (budget : ℕ) where
 
 module _ (traced : Bool) (remaining : Option (List ℕ)) (store : List ℕ) (budget : ℕ) (image : Image)
     (words told : List ℤ) (same : told ≡ words) (started : Started remaining store image words) where
-  -- the run that is asked for
+  -- The run that is asked for.
   asked : (outcome : Outcome) (output : List ℕ) → Ends traced image told budget outcome output →
       Runs traced remaining store budget outcome output
   asked outcome output ends =
@@ -115,22 +115,22 @@ module _ (traced : Bool) (remaining : Option (List ℕ)) (store : List ℕ) (bud
         ends = subst (λ ws. Ends traced image ws budget outcome output) same ends;
       }
 
-  -- a whole output is that of the run that is asked for
+  -- A whole output is that of the run that is asked for.
   pub asked_whole : (a b : Option (List ℕ)) (r : Result Outcome EngineError) →
       IfOk r (WrittenWhole (Ends traced image told budget) a b) →
       IfOk r (WrittenWhole (Runs traced remaining store budget) a b)
   asked_whole a b (Ok outcome) p = (p.0, asked outcome p.0 p.1, p.2)
   asked_whole a b (Err e) p = tt
 
-  -- a cut output is that of the run that is asked for
+  -- A cut output is that of the run that is asked for.
   pub asked_partly : (a b : Option (List ℕ)) → WrittenPartly (Ends traced image told budget) a b →
       WrittenPartly (Runs traced remaining store budget) a b
   asked_partly a b p = (p.0, p.1, asked p.0 p.1 p.2, p.3)
 
-  -- a trace is that of the run that is asked for
+  -- A trace is that of the run that is asked for.
   pub asked_trace : (a b : Option (List ℕ)) →
-      ((k : ℕ) × Appends a b (trace_of traced image.code.items k (start image told))) →
-      Keeps a b ⊎ WrittenSome (Traces traced remaining store) a b
+      WrittenSteps (λ k. trace_of traced image.code.items k (start image told)) budget a b →
+      Keeps a b ⊎ WrittenSome (Traces traced remaining store budget) a b
   asked_trace a b p =
       inr (
         _,
@@ -139,7 +139,8 @@ module _ (traced : Bool) (remaining : Option (List ℕ)) (store : List ℕ) (bud
           words = words;
           started = started;
           steps = p.0;
+          within = p.1;
           is = refl;
         },
-        subst (λ ws. Appends a b (trace_of traced image.code.items p.0 (start image ws))) same p.1,
+        subst (λ ws. Appends a b (trace_of traced image.code.items p.0 (start image ws))) same p.2,
       )

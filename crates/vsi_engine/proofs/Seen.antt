@@ -8,10 +8,11 @@ use Rattle.vsi_machine.specs.Runs.{globals_of}
 use Rattle.vsi_store.specs.Text.{line_of}
 use Rattle.vsi_store.specs.View.{Known, line_seen, view_text_of}
 use Rattle.vsi_compiler.specs.Observation.{Ends}
+use Rattle.vsi_compiler.proofs.Coded.{coded_valid}
 use Rattle.vsi_engine.specs.Laws.{SameView}
 use Rattle.vsi_engine.proofs.Slots.{words_last}
 
--- the lines of a global whose words are equal where its class is seen
+-- The lines of a global whose words are equal where its class is seen.
 same_line_at : (L : Lattice) (a : ℕ) (g : Global) (w w' : ℤ) (o : Option ℕ) →
     ((c : ℕ) → o ≡ Some c → Below L c a → w ≡ w') →
     (if option_map_or (λ c. L.leq c a) o false then line_of g.0 w else [])
@@ -23,7 +24,7 @@ same_line_at L a g w w' (Some c) h =
       | false ↦ λ e. refl
     ] refl
 
--- words that are equal for each global that is seen give one text
+-- Words that are equal for each global that is seen give one text.
 same_text : (known : Known) (L : Lattice) (a : ℕ) (gs : List Global) (m m' : List ℤ) → length m ≡ length m' →
     ((i : ℕ) (g : Global) (c : ℕ) → slice_get gs i ≡ Some g → known g.1 ≡ Some c → Below L c a →
     slice_index_or m i (pos 0) ≡ slice_index_or m' i (pos 0)) →
@@ -38,7 +39,7 @@ same_text known L a (g ∷ gs) (w ∷ ws) (w' ∷ ws') same agree =
     same_line_at L a g w w' (known g.1) (λ c is below. agree zero g c refl is below) in
     ap (λ l. line_seen known L a g w ++ l) rest ∙ ap (λ l. l ++ view_text_of known L a gs ws') line
 
--- the law that stores that agree are seen alike
+-- The law that stores that agree are seen alike.
 pub same_view : SameView
 same_view known L P text image a compiled class m₁ m₂ b₁ b₂ t₁ t₂ full₁ full₂ agree v₁ v₂ =
     let ends₁ : Ends image m₁ b₁ (globals_of image v₁.0) =
@@ -46,8 +47,9 @@ same_view known L P text image a compiled class m₁ m₂ b₁ b₂ t₁ t₂ fu
     let ends₂ : Ends image m₂ b₂ (globals_of image v₂.0) =
     record { state = v₂.0; reached = v₂.1; halted = v₂.2.0; words = refl } in
     let later = compiled.noninterference a class m₁ m₂ _ _ b₁ b₂ full₁ full₂ agree ends₁ ends₂ in
-    let many₁ = words_last image m₁ b₁ v₁.0 compiled.coded.valid full₁ v₁.1 in
-    let many₂ = words_last image m₂ b₂ v₂.0 compiled.coded.valid full₂ v₂.1 in
+    let valid = coded_valid image compiled.coded in
+    let many₁ = words_last image m₁ b₁ v₁.0 valid full₁ v₁.1 in
+    let many₂ = words_last image m₂ b₂ v₂.0 valid full₂ v₂.1 in
     v₁.2.1
     ∙ same_text known L a (globals image.globals.items) (globals_of image v₁.0) (globals_of image v₂.0)
     (many₁ ∙ sym many₂) later

@@ -3,11 +3,11 @@ use Rattle.std.specs.Prelude.{◌≡◌, ℕ, List, take, Option, IfSome}
 use Rattle.vsi_engine.specs.declared.error.EngineError.{EngineError}
 use Rattle.vsi_engine.specs.declared.error.EngineError.TheVariants.{ReadFault, WriteFault, Compile, Decode, Verify, Store, Memory}
 
--- what is read of a reader that tells its bytes: all of them, or as many as the limit
+-- What is read of a reader that tells its bytes: all of them, or as many as the limit.
 abbrev pub IsReadFrom : Option (List ℕ) → List ℕ → Type 0
 IsReadFrom remaining bytes = IfSome remaining (λ xs. bytes ≡ take 1048577 xs)
 
--- a fault of the reader, or want of memory
+-- A fault of the reader, or want of memory.
 abbrev pub IsOfReading : EngineError → Type 0
 IsOfReading ReadFault = Unit {0}
 IsOfReading WriteFault = ⊥
@@ -17,7 +17,7 @@ IsOfReading (Verify e) = ⊥
 IsOfReading (Store e) = ⊥
 IsOfReading Memory = Unit {0}
 
--- a fault of the writer, or want of memory
+-- A fault of the writer, or want of memory.
 abbrev pub IsOfWriting : EngineError → Type 0
 IsOfWriting ReadFault = ⊥
 IsOfWriting WriteFault = Unit {0}

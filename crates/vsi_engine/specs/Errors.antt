@@ -8,17 +8,17 @@ use Rattle.vsi_store.specs.declared.error.StoreError.TheVariants as store
 use Rattle.vsi_engine.specs.declared.error.EngineError.{EngineError}
 use Rattle.vsi_engine.specs.declared.error.EngineError.TheVariants.{Compile, Decode, Store, Memory}
 
--- a refusal of the compiler
+-- A refusal of the compiler.
 abbrev pub compiling : CompileError → EngineError
 compiling compiler.Memory = Memory
 compiling e = Compile e
 
--- a refusal of the decoder
+-- A refusal of the decoder.
 abbrev pub decoding : DecodeError → EngineError
 decoding decoder.Memory = Memory
 decoding e = Decode e
 
--- a refusal of the store file
+-- A refusal of the store file.
 abbrev pub storing : StoreError → EngineError
 storing store.Memory = Memory
 storing e = Store e

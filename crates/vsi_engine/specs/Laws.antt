@@ -9,7 +9,7 @@ use Rattle.vsi_store.specs.declared.views.View.TheVariants.{Text}
 use Rattle.vsi_compiler.specs.Headline.{IsCompiled}
 use Rattle.vsi_compiler.specs.Observation.{Known, AgreeAt, IsStoreOf}
 
--- two stores that agree at and below a class give it the same view of a compiled image, whenever both runs halt
+-- Two stores that agree at and below a class give it the same view of a compiled image, whenever both runs halt.
 abbrev pub SameView : Type 0
 SameView =
     (known : Known) (L : Lattice) (P : Profile) (text : List ℕ) (image : Image) (a : ℕ) →

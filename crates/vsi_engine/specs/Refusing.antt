@@ -11,13 +11,12 @@ use Rattle.vsi_image.specs.Reading.{image_of}
 use Rattle.vsi_image.specs.Valid.{IsValid}
 use Rattle.vsi_store.specs.declared.error.StoreError.TheVariants as store
 use Rattle.vsi_store.specs.File.{IsRefusal}
-use Rattle.vsi_compiler.specs.declared.error.CompileError.TheVariants as compiler
-use Rattle.vsi_compiler.specs.Refusal.{Refuses}
+use Rattle.vsi_compiler.specs.Refusal.{IsRefused}
 use Rattle.vsi_engine.specs.Engine.{IsReadFrom}
 use Rattle.vsi_engine.specs.declared.error.EngineError.{EngineError}
 use Rattle.vsi_engine.specs.declared.error.EngineError.TheVariants.{ReadFault, WriteFault, Compile, Decode, Verify, Store, Memory}
 
--- a refusal of bytes as an image: the decoder's, or the verifier's of the image that they are
+-- A refusal of bytes as an image: the decoder's, or the verifier's of the image that they are.
 abbrev pub RefusesImage : List ℕ → EngineError → Type 0
 RefusesImage bytes ReadFault = ⊥
 RefusesImage bytes WriteFault = ⊥
@@ -27,7 +26,7 @@ RefusesImage bytes (Verify e) = (image : Image) × (image_of bytes ≡ Ok (field
 RefusesImage bytes (Store e) = ⊥
 RefusesImage bytes Memory = Unit {0}
 
--- a refusal of bytes as an image, or of a store file for the valid image that the bytes are
+-- A refusal of bytes as an image, or of a store file for the valid image that the bytes are.
 abbrev pub RefusesRun : List ℕ → List ℕ → EngineError → Type 0
 RefusesRun bytes file ReadFault = ⊥
 RefusesRun bytes file WriteFault = ⊥
@@ -40,17 +39,17 @@ RefusesRun bytes file (Store e) =
     × IsRefusal (globals image.globals.items) file e)
 RefusesRun bytes file Memory = Unit {0}
 
--- a refusal of a text by the compiler
+-- A refusal of a text by the compiler.
 abbrev pub RefusesText : Known → Lattice → Profile → List ℕ → EngineError → Type 0
 RefusesText known L P text ReadFault = ⊥
 RefusesText known L P text WriteFault = ⊥
-RefusesText known L P text (Compile e) = (e ≢ compiler.Memory) × Refuses known L P text e
+RefusesText known L P text (Compile e) = IsRefused known L P text e
 RefusesText known L P text (Decode e) = ⊥
 RefusesText known L P text (Verify e) = ⊥
 RefusesText known L P text (Store e) = ⊥
 RefusesText known L P text Memory = Unit {0}
 
--- a fault of a device, want of memory, or a refusal of the bytes that were read
+-- A fault of a device, want of memory, or a refusal of the bytes that were read.
 abbrev pub RefusesRead : (List ℕ → EngineError → Type 0) → Option (List ℕ) → EngineError → Type 0
 RefusesRead refuses remaining ReadFault = Unit {0}
 RefusesRead refuses remaining WriteFault = Unit {0}

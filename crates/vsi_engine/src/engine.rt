@@ -31,6 +31,7 @@ pub fn read_all<R: Read>(alloc: Global, reader: &mut Counted<R>) -> Result<Vec<u
     ensures bytes { IfOk result (λ bytes. IsReadFrom (R.remaining (device_of reader.old)) bytes.items) }
     ensures read { IfOk result (λ bytes.
         Consumes (R.remaining (device_of reader.old)) (R.remaining (device_of reader.new)) bytes.items) }
+    ensures limit { IfOk result (λ bytes. length bytes.items ≤ 1048577) }
     ensures bound { (taken : List ℕ)
         × Consumes (R.remaining (device_of reader.old)) (R.remaining (device_of reader.new)) taken
         × (length taken ≤ 1048577) }

@@ -10,7 +10,7 @@ ghost use Rattle.vsi_machine.specs.Runs.{outcome_of};
 ghost use Rattle.vsi_engine.specs.Counted.{device_of, faults_of};
 ghost use Rattle.vsi_engine.specs.Engine.{IsOfWriting};
 ghost use Rattle.vsi_engine.specs.Refusing.{RefusesImage, RefusesRead, RefusesRun};
-ghost use Rattle.vsi_engine.specs.Running.{Ends, Runs, Started, Traces, WrittenPartly, WrittenSome, WrittenWhole, ending_of, trace_of};
+ghost use Rattle.vsi_engine.specs.Running.{Ends, Runs, Started, Traces, WrittenPartly, WrittenSome, WrittenSteps, WrittenWhole, ending_of, trace_of};
 
 use crate::counted::Counted;
 use crate::engine::{read_all, write_out};
@@ -30,7 +30,7 @@ use vsi_store::{read_store, store_text};
 ///
 /// `ReadFault`, `Decode`, `Verify` and `Store`, in this order and before anything is written; `WriteFault` with a
 /// prefix of the output written; `Memory` at any time before the store's lines, with the trace of some first steps
-/// written.
+/// written, of at most `budget`.
 pub fn run_image<R: Read, W: Write>(
     alloc: Global,
     reader: &mut Counted<R>,
@@ -52,7 +52,7 @@ pub fn run_image<R: Read, W: Write>(
         (W.contents (device_of writer.old)) (W.contents (device_of writer.new)) }
     ensures memory { IsErrOf result EngineError.Memory →
         Keeps (W.contents (device_of writer.old)) (W.contents (device_of writer.new))
-        ⊎ WrittenSome (Traces trace (R.remaining (device_of reader.old)) store.now)
+        ⊎ WrittenSome (Traces trace (R.remaining (device_of reader.old)) store.now budget)
         (W.contents (device_of writer.old)) (W.contents (device_of writer.new)) }
     ensures untouched { IfErr result (λ e. e ≢ EngineError.WriteFault → e ≢ EngineError.Memory
         → Keeps (W.contents (device_of writer.old)) (W.contents (device_of writer.new))) }
@@ -117,8 +117,8 @@ fn run_verified<W: Write>(
         WrittenPartly (Ends trace verified.now words.now budget)
         (W.contents (device_of writer.old)) (W.contents (device_of writer.new)) }
     ensures memory { IsErrOf result EngineError.Memory →
-        (k : ℕ) × Appends (W.contents (device_of writer.old)) (W.contents (device_of writer.new))
-        (trace_of trace verified.now.code.items k (start verified.now words.now)) }
+        WrittenSteps (λ k. trace_of trace verified.now.code.items k (start verified.now words.now)) budget
+        (W.contents (device_of writer.old)) (W.contents (device_of writer.new)) }
 {
     let image = verified.image();
     let mut machine = match Machine::new(alloc, verified, words) {
@@ -151,8 +151,8 @@ fn run_shown<W: Write>(
         (n : ℕ) × Appends (W.contents (device_of writer.old)) (W.contents (device_of writer.new))
         (take n (trace_of trace machine.old.image.code.items budget machine.old.state)) }
     ensures memory { IsErrOf result EngineError.Memory →
-        (k : ℕ) × Appends (W.contents (device_of writer.old)) (W.contents (device_of writer.new))
-        (trace_of trace machine.old.image.code.items k machine.old.state) }
+        WrittenSteps (λ k. trace_of trace machine.old.image.code.items k machine.old.state) budget
+        (W.contents (device_of writer.old)) (W.contents (device_of writer.new)) }
 {
     if trace {
         run_traced(alloc, machine, budget, writer)

@@ -8,7 +8,7 @@ ghost use Rattle.vsi_image.specs.Meaning.{after};
 ghost use Rattle.vsi_machine.specs.Runs.{outcome_of};
 ghost use Rattle.vsi_engine.specs.Counted.{device_of, faults_of};
 ghost use Rattle.vsi_engine.specs.Engine.{IsOfWriting};
-ghost use Rattle.vsi_engine.specs.Running.{trace_text};
+ghost use Rattle.vsi_engine.specs.Running.{WrittenSteps, trace_text};
 
 use crate::counted::Counted;
 use crate::engine::write_out;
@@ -53,8 +53,8 @@ pub(crate) fn run_traced<W: Write>(
         → (n : ℕ) × Appends (W.contents (device_of writer.old)) (W.contents (device_of writer.new))
         (take n (trace_text machine.old.image.code.items budget machine.old.state)) }
     ensures memory { IsErrOf result EngineError.Memory
-        → (k : ℕ) × Appends (W.contents (device_of writer.old)) (W.contents (device_of writer.new))
-        (trace_text machine.old.image.code.items k machine.old.state) }
+        → WrittenSteps (λ k. trace_text machine.old.image.code.items k machine.old.state) budget
+        (W.contents (device_of writer.old)) (W.contents (device_of writer.new)) }
 {
     for _step in 0..budget {
         match next_line(alloc, machine)? {

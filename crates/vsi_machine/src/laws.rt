@@ -17,7 +17,8 @@ pub fn one_ending()
     ensures { OneEnding }
 {}
 
-/// Every run of a valid image has a state: it never lacks an operand, room, a slot or an instruction.
+/// Every run of a valid image has a state: no instruction lacks an operand or a slot. In each state that a run reaches
+/// the operands have room on the image's stack, and the next instruction is in the code.
 pub fn never_stuck()
     ensures { NeverStuck }
 {}

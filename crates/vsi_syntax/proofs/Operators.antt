@@ -9,7 +9,7 @@ use Rattle.vsi_syntax.specs.Tree.{Word, Called, Sign, sign, Tree, Literal, Read,
 use Rattle.vsi_syntax.proofs.Pairs.{some_left, some_right}
 use Rattle.vsi_syntax.specs.Parsing.{own_level, operator, goes_on, only_if, next}
 
--- a symbol that is an operator is the symbol of that operator
+-- A symbol that is an operator is the symbol of that operator.
 pub operator_is : (kind : Kind) (op : Op) → operator kind ≡ Some op → kind ≡ sign op
 operator_is k.Plus op h = let e : o.Add ≡ op = cc in ap sign e
 operator_is k.Minus op h = let e : o.Sub ≡ op = cc in ap sign e
@@ -18,7 +18,7 @@ operator_is k.Equal op h = let e : o.Eq ≡ op = cc in ap sign e
 operator_is k.Less op h = let e : o.Lt ≡ op = cc in ap sign e
 operator_is _ op h = absurd cc
 
--- the symbol of an operator is that operator
+-- The symbol of an operator is that operator.
 pub operator_sign : (op : Op) → operator (sign op) ≡ Some op
 operator_sign o.Add = refl
 operator_sign o.Sub = refl
@@ -26,7 +26,7 @@ operator_sign o.Mul = refl
 operator_sign o.Eq = refl
 operator_sign o.Lt = refl
 
--- what an operator makes is no atom
+-- What an operator makes is no atom.
 pub level_low : (op : Op) → level op < 3
 level_low o.Add = lit< tt
 level_low o.Sub = lit< tt
@@ -34,7 +34,7 @@ level_low o.Mul = lit< tt
 level_low o.Eq = lit< tt
 level_low o.Lt = lit< tt
 
--- what stands on the left of an operator has at least its level
+-- What stands on the left of an operator has at least its level.
 pub level_left : (op : Op) → level op ≤ left_level op
 level_left o.Add = lit≤ tt
 level_left o.Sub = lit≤ tt
@@ -42,7 +42,7 @@ level_left o.Mul = lit≤ tt
 level_left o.Eq = lit≤ tt
 level_left o.Lt = lit≤ tt
 
--- what stands on the right of an operator has a higher level than it
+-- What stands on the right of an operator has a higher level than it.
 pub level_right : (op : Op) → level op < right_level op
 level_right o.Add = lit< tt
 level_right o.Sub = lit< tt
@@ -50,7 +50,7 @@ level_right o.Mul = lit< tt
 level_right o.Eq = lit< tt
 level_right o.Lt = lit< tt
 
--- an atom may stand on the left of each operator
+-- An atom may stand on the left of each operator.
 pub left_low : (op : Op) → left_level op ≤ 3
 left_low o.Add = lit≤ tt
 left_low o.Sub = lit≤ tt
@@ -58,7 +58,7 @@ left_low o.Mul = lit≤ tt
 left_low o.Eq = lit≤ tt
 left_low o.Lt = lit≤ tt
 
--- an atom may stand on the right of each operator
+-- An atom may stand on the right of each operator.
 pub right_low : (op : Op) → right_level op ≤ 3
 right_low o.Add = lit≤ tt
 right_low o.Sub = lit≤ tt
@@ -66,47 +66,47 @@ right_low o.Mul = lit≤ tt
 right_low o.Eq = lit≤ tt
 right_low o.Lt = lit≤ tt
 
--- an expression stands at each level up to its own
+-- An expression stands at each level up to its own.
 pub relevel : (l m : ℕ) (t : Tree) → IsLevelled l t → m ≤ own_level t → IsLevelled m t
 relevel l m (Literal n) h le = tt
 relevel l m (Read x) h le = tt
 relevel l m (Round e) h le = h
 relevel l m (Both op a b) h le = (le, h.1, h.2)
 
--- a levelled tree has at least the level that was asked for
+-- A levelled tree has at least the level that was asked for.
 pub own_over : (l : ℕ) (t : Tree) → IsLevelled l t → l ≤ 3 → l ≤ own_level t
 own_over l (Literal n) h le = le
 own_over l (Read x) h le = le
 own_over l (Round e) h le = le
 own_over l (Both op a b) h le = h.0
 
--- ---- the next operator
+-- ---- the next operator.
 
--- an operator of a level high enough, with what may stand on its left, goes on
+-- An operator of a level high enough, with what may stand on its left, goes on.
 pub goes_true : (l left : ℕ) (op : Op) → l ≤ level op → left_level op ≤ left → goes_on l left op ≡ true
 goes_true l left op h k = grind (arith, common_steps)
 
--- an operator that goes on has a level high enough, and on its left what may stand there
+-- An operator that goes on has a level high enough, and on its left what may stand there.
 pub true_goes : (l left : ℕ) (op : Op) → goes_on l left op ≡ true → (l ≤ level op) × (left_level op ≤ left)
 true_goes l left op h = (grind (arith, common_steps), grind (arith, common_steps))
 
--- the symbol of an operator that goes on is read as that operator
+-- The symbol of an operator that goes on is read as that operator.
 pub next_sign : (l left : ℕ) (op : Op) (ws : List Word) → l ≤ level op → left_level op ≤ left →
     next l left (Sign (sign op) ∷ ws) ≡ Some (op, ws)
 unfolding next
 next_sign l left op ws h k = rw (operator_sign op) (rw (goes_true l left op h k) refl)
 
--- an operator and what is behind it, where a test holds
+-- An operator and what is behind it, where a test holds.
 abbrev pub only : Bool → Op → List Word → Option (Op × List Word)
 only b op rest = cond b (Some (op, rest)) None
 
--- where that is something, the test held, and the operator and the words are these
+-- Where that is something, the test held, and the operator and the words are these.
 only_is : (b : Bool) (p op : Op) (rest ws : List Word) → only b p rest ≡ Some (op, ws) → (b ≡ true) × (p ≡ op)
     × (rest ≡ ws)
 only_is true p op rest ws h = (refl, some_left p op rest ws h, some_right p op rest ws h)
 only_is false p op rest ws h = absurd cc
 
--- where an operator goes on it is the one that was found, and what is behind it is left
+-- Where an operator goes on it is the one that was found, and what is behind it is left.
 only_if_is : (l left : ℕ) (op : Op) (rest ws : List Word) (o : Option Op) → only_if l left rest o ≡ Some (op, ws) →
     (o ≡ Some op) × (rest ≡ ws) × (goes_on l left op ≡ true)
 only_if_is l left op rest ws None h = absurd cc
@@ -114,7 +114,7 @@ only_if_is l left op rest ws (Some p) h =
     let k = only_is (goes_on l left p) p op rest ws h in
     (ap (λ (x : Op). Some x) k.1, k.2, rw (← k.1) (k.0))
 
--- where an operator goes on, the words begin with its symbol, and its levels fit
+-- Where an operator goes on, the words begin with its symbol, and its levels fit.
 pub next_is : (l left : ℕ) (ws : List Word) (op : Op) (rest : List Word) → next l left ws ≡ Some (op, rest) →
     (ws ≡ Sign (sign op) ∷ rest) × (l ≤ level op) × (left_level op ≤ left)
 unfolding next
@@ -125,67 +125,67 @@ next_is l left (Sign kind ∷ ws) op rest h =
     let g = true_goes l left op p.2 in
     (rw (operator_is kind op p.0, p.1) refl, g.0, g.1)
 
--- ---- what ends an expression: no operator from this level on
+-- ---- what ends an expression: no operator from this level on.
 
--- no operator was found, or one of a level below this one
+-- No operator was found, or one of a level below this one.
 abbrev pub EndsAt : ℕ → Option Op → Type 0
 EndsAt l None = Unit {0}
 EndsAt l (Some op) = level op < l
 
--- the words do not begin with an operator of this level or a higher one
+-- The words do not begin with an operator of this level or a higher one.
 abbrev pub Ends : ℕ → List Word → Type 0
 Ends l [] = Unit {0}
 Ends l (Called x ∷ ws) = Unit {0}
 Ends l (Sign kind ∷ ws) = EndsAt l (operator kind)
 
--- what ends an expression of one level ends those of higher levels: the case of an operator
+-- What ends an expression of one level ends those of higher levels: the case of an operator.
 ends_at_up : (l m : ℕ) (o : Option Op) → l ≤ m → EndsAt l o → EndsAt m o
 ends_at_up l m None le h = tt
 ends_at_up l m (Some op) le h = omega arith
 
--- what ends an expression of one level ends those of higher levels
+-- What ends an expression of one level ends those of higher levels.
 pub ends_up : (l m : ℕ) (ws : List Word) → l ≤ m → Ends l ws → Ends m ws
 ends_up l m [] le h = tt
 ends_up l m (Called x ∷ ws) le h = tt
 ends_up l m (Sign kind ∷ ws) le h = ends_at_up l m (operator kind) le h
 
--- an operator of a lower level does not go on
+-- An operator of a lower level does not go on.
 goes_false : (l left : ℕ) (op : Op) → level op < l → goes_on l left op ≡ false
 goes_false l left op h = grind (arith, common_steps)
 
--- behind what ends an expression no operator is taken
+-- Behind what ends an expression no operator is taken.
 only_if_none : (l left : ℕ) (rest : List Word) (o : Option Op) → EndsAt l o → only_if l left rest o ≡ None
 only_if_none l left rest None h = refl
 only_if_none l left rest (Some op) h = rw (goes_false l left op h) refl
 
--- words that end an expression have no operator that goes on
+-- Words that end an expression have no operator that goes on.
 pub ends_next : (l left : ℕ) (ws : List Word) → Ends l ws → next l left ws ≡ None
 unfolding next
 ends_next l left [] h = refl
 ends_next l left (Called x ∷ ws) h = refl
 ends_next l left (Sign kind ∷ ws) h = only_if_none l left ws (operator kind) h
 
--- the least level of an operator that its right edge would take
+-- The least level of an operator that its right edge would take.
 abbrev pub edge : Tree → ℕ
 edge (Literal n) = 3
 edge (Read x) = 3
 edge (Round e) = 3
 edge (Both op a b) = right_level op
 
--- a tree's own level is at most that of its right edge
+-- A tree's own level is at most that of its right edge.
 pub edge_own : (t : Tree) → own_level t ≤ edge t
 edge_own (Literal n) = lit≤ tt
 edge_own (Read x) = lit≤ tt
 edge_own (Round e) = lit≤ tt
 edge_own (Both op a b) = omega (arith, level_right op)
 
--- behind what may stand on its left, an operator has a lower level than the right edge of that
+-- Behind what may stand on its left, an operator has a lower level than the right edge of that.
 pub edge_over : (op : Op) (t : Tree) → left_level op ≤ own_level t → level op < edge t
 edge_over op (Literal n) h = level_low op
 edge_over op (Read x) h = level_low op
 edge_over op (Round e) h = level_low op
 edge_over op (Both p a b) h = omega (arith, level_left op, level_right p)
 
--- an operator of a lower level ends an expression
+-- An operator of a lower level ends an expression.
 pub sign_ends : (op : Op) (l : ℕ) (ws : List Word) → level op < l → Ends l (Sign (sign op) ∷ ws)
 sign_ends op l ws h = subst (λ (o : Option Op). EndsAt l o) (sym (operator_sign op)) h

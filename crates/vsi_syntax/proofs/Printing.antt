@@ -17,74 +17,74 @@ use Rattle.vsi_syntax.specs.Canon.{op_text, canon_tree, spaces, canon_class, can
 use Rattle.vsi_syntax.proofs.Laying.{Lays, token_lays, lead, join, before, blanks}
 use Rattle.vsi_syntax.proofs.Numerals.{decimal_kind, decimal_word}
 
--- ---- names and numbers
+-- ---- names and numbers.
 
--- the first of two tests that both hold
+-- The first of two tests that both hold.
 and_left : (a b : Bool) → (a && b) ≡ true → a ≡ true
 and_left true b h = refl
 and_left false b h = absurd cc
 
--- the second of two tests that both hold
+-- The second of two tests that both hold.
 and_right : (a b : Bool) → (a && b) ≡ true → b ≡ true
 and_right true b h = h
 and_right false b h = absurd cc
 
--- what tests as absent is not there
+-- What tests as absent is not there.
 absent : (x : Option Kind) → is_absent x ≡ true → x ≡ None
 absent None h = refl
 absent (Some y) h = absurd cc
 
--- a name is all word bytes
+-- A name is all word bytes.
 name_word : (t : List ℕ) → is_name t ≡ true → every is_word_byte t ≡ true
 unfolding is_name
 name_word t h = and_right (begins_with is_letter t) (every is_word_byte t) (and_left _ _ (and_left _ _ h))
 
--- a name is no keyword
+-- A name is no keyword.
 name_absent : (t : List ℕ) → is_name t ≡ true → keyword t ≡ None
 unfolding is_name
 name_absent t h = absent (keyword t) (and_right _ (is_absent (keyword t)) h)
 
--- a name has the kind of a name
+-- A name has the kind of a name.
 name_kind : (t : List ℕ) → is_name t ≡ true → kind_of t ≡ Some k.Name
 unfolding kind_of word_kind
 name_kind t h = rw (name_word t h, name_absent t h, h) refl
 
--- a word is whole where none goes on behind it
+-- A word is whole where none goes on behind it.
 whole_word : (t rest : List ℕ) → every is_word_byte t ≡ true → begins_with is_word_byte rest ≡ false → is_whole t rest
     ≡ true
 whole_word t rest all nb = rw (all, nb) refl
 
--- the text of a name lays out that name
+-- The text of a name lays out that name.
 name_lays : (x : Named) → IsNamed x → Lays x.text (Called x ∷ [])
 name_lays x h =
     token_lays x.text k.Name (Called x) (name_kind x.text h) (λ s. refl)
     (λ rest nb. whole_word x.text rest (name_word x.text h) nb)
 
--- the decimal text of a number lays out that number
+-- The decimal text of a number lays out that number.
 number_lays : (n : ℕ) → n ≤ 9223372036854775807 → Lays (decimal n) (Sign (k.Number (pos n)) ∷ [])
 number_lays n h = token_lays (decimal n) (k.Number (pos n)) (Sign (k.Number (pos n))) (decimal_kind n h) (λ s. refl)
     (λ rest nb. whole_word (decimal n) rest (decimal_word n h) nb)
 
--- ---- signs before more
+-- ---- signs before more.
 
--- an assignment sign and a space may stand before a text
+-- An assignment sign and a space may stand before a text.
 assign : (b : List ℕ) (ws : List Word) → Lays b ws → Lays (codes ":= " ++ b) (Sign k.Assign ∷ ws)
 unfolding kind_of
 assign b ws l = lead (codes ":=") k.Assign (Sign k.Assign) (codes " ") b ws refl (λ s. refl) refl (λ rest. refl) l
 
--- a colon and a space may stand before a text
+-- A colon and a space may stand before a text.
 colon : (b : List ℕ) (ws : List Word) → Lays b ws → Lays (codes ": " ++ b) (Sign k.Colon ∷ ws)
 unfolding kind_of byte_kind
 colon b ws l = lead (codes ":") k.Colon (Sign k.Colon) (codes " ") b ws refl (λ s. refl) refl (λ rest. refl) l
 
--- a keyword and a space may stand before a text
+-- A keyword and a space may stand before a text.
 keyword_before : (t : List ℕ) (kind : Kind) (b : List ℕ) (ws : List Word) → kind_of t ≡ Some kind →
     ((rest : List ℕ) → is_whole t (codes " " ++ (b ++ rest)) ≡ true) →
     ((s : Span) → bare (word_of kind t s) ≡ bare (Sign kind)) → Lays b ws → Lays (t ++ (codes " " ++ b))
     (Sign kind ∷ ws)
 keyword_before t kind b ws spelled whole same l = lead t kind (Sign kind) (codes " ") b ws spelled same refl whole l
 
--- the text of the symbol of an operator
+-- The text of the symbol of an operator.
 op_kind : (op : Op) → List ℕ
 op_kind o.Add = codes "+"
 op_kind o.Sub = codes "-"
@@ -92,11 +92,11 @@ op_kind o.Mul = codes "*"
 op_kind o.Eq = codes "="
 op_kind o.Lt = codes "<"
 
--- one space before
+-- One space before.
 spaced : (a b : List ℕ) (va vb : List Word) → Lays a va → Lays b vb → Lays (a ++ (codes " " ++ b)) (va ++ vb)
 spaced a b va vb la lb = join a (codes " ") b va vb refl (λ rest. refl) la lb
 
--- two operands with their operator between them lay out all three
+-- Two operands with their operator between them lay out all three.
 both_lays : (op : Op) (a b : List ℕ) (va vb : List Word) → Lays a va → Lays b vb → Lays (a ++ (op_text op ++ b))
     (va ++ Sign (sign op) ∷ vb)
 unfolding kind_of byte_kind
@@ -116,19 +116,19 @@ both_lays o.Lt a b va vb la lb =
     spaced a (codes "< " ++ b) va (Sign k.Less ∷ vb) la
     (keyword_before (codes "<") k.Less b vb refl (λ rest. refl) (λ s. refl) lb)
 
--- a closing bracket lays out itself
+-- A closing bracket lays out itself.
 close_lays : Lays (codes ")") (Sign k.Close ∷ [])
 unfolding kind_of byte_kind
 close_lays = token_lays (codes ")") k.Close (Sign k.Close) refl (λ s. refl) (λ rest nb. refl)
 
--- an expression in brackets lays out both and itself
+-- An expression in brackets lays out both and itself.
 round_lays : (e : List ℕ) (ve : List Word) → Lays e ve → Lays (codes "(" ++ (e ++ codes ")"))
     (Sign k.Open ∷ (ve ++ Sign k.Close ∷ []))
 unfolding kind_of byte_kind
 round_lays e ve le = lead (codes "(") k.Open (Sign k.Open) [] (e ++ codes ")") (ve ++ Sign k.Close ∷ []) refl
     (λ s. refl) refl (λ rest. refl) (join e [] (codes ")") ve (Sign k.Close ∷ []) refl (λ rest. refl) le close_lays)
 
--- the canonical text of an expression lays out what it writes
+-- The canonical text of an expression lays out what it writes.
 tree_lays : (t : Tree) → IsSpelled t → Lays (canon_tree t) (write t)
 tree_lays (Literal (pos n)) h = number_lays n h
 tree_lays (Literal (negsuc n)) h = absurd h
@@ -137,49 +137,49 @@ tree_lays (Round e) h = round_lays (canon_tree e) (write e) (tree_lays e h)
 tree_lays (Both op a b) h =
     both_lays op (canon_tree a) (canon_tree b) (write a) (write b) (tree_lays a h.0) (tree_lays b h.1)
 
--- ---- commands
+-- ---- commands.
 
--- `then` and a space may stand before a text
+-- `then` and a space may stand before a text.
 then_lays : (b : List ℕ) (ws : List Word) → Lays b ws → Lays (codes "then " ++ b) (Sign k.Then ∷ ws)
 unfolding kind_of word_kind keyword
 then_lays b ws l = keyword_before (codes "then") k.Then b ws refl (λ rest. refl) (λ s. refl) l
 
--- `else` and a space may stand before a text
+-- `else` and a space may stand before a text.
 else_lays : (b : List ℕ) (ws : List Word) → Lays b ws → Lays (codes "else " ++ b) (Sign k.Else ∷ ws)
 unfolding kind_of word_kind keyword
 else_lays b ws l = keyword_before (codes "else") k.Else b ws refl (λ rest. refl) (λ s. refl) l
 
--- `if` and a space may stand before a text
+-- `if` and a space may stand before a text.
 if_lays : (b : List ℕ) (ws : List Word) → Lays b ws → Lays (codes "if " ++ b) (Sign k.If ∷ ws)
 unfolding kind_of word_kind keyword
 if_lays b ws l = keyword_before (codes "if") k.If b ws refl (λ rest. refl) (λ s. refl) l
 
--- `while` and a space may stand before a text
+-- `while` and a space may stand before a text.
 while_lays : (b : List ℕ) (ws : List Word) → Lays b ws → Lays (codes "while " ++ b) (Sign k.While ∷ ws)
 unfolding kind_of word_kind keyword
 while_lays b ws l = keyword_before (codes "while") k.While b ws refl (λ rest. refl) (λ s. refl) l
 
--- `do` and a space may stand before a text
+-- `do` and a space may stand before a text.
 do_lays : (b : List ℕ) (ws : List Word) → Lays b ws → Lays (codes "do " ++ b) (Sign k.Do ∷ ws)
 unfolding kind_of word_kind keyword
 do_lays b ws l = keyword_before (codes "do") k.Do b ws refl (λ rest. refl) (λ s. refl) l
 
--- `in` and a space may stand before a text
+-- `in` and a space may stand before a text.
 in_lays : (b : List ℕ) (ws : List Word) → Lays b ws → Lays (codes "in " ++ b) (Sign k.In ∷ ws)
 unfolding kind_of word_kind keyword
 in_lays b ws l = keyword_before (codes "in") k.In b ws refl (λ rest. refl) (λ s. refl) l
 
--- `letvar` and a space may stand before a text
+-- `letvar` and a space may stand before a text.
 letvar_lays : (b : List ℕ) (ws : List Word) → Lays b ws → Lays (codes "letvar " ++ b) (Sign k.Letvar ∷ ws)
 unfolding kind_of word_kind keyword
 letvar_lays b ws l = keyword_before (codes "letvar") k.Letvar b ws refl (λ rest. refl) (λ s. refl) l
 
--- `var` and a space may stand before a text
+-- `var` and a space may stand before a text.
 var_lays : (b : List ℕ) (ws : List Word) → Lays b ws → Lays (codes "var " ++ b) (Sign k.Var ∷ ws)
 unfolding kind_of word_kind keyword
 var_lays b ws l = keyword_before (codes "var") k.Var b ws refl (λ rest. refl) (λ s. refl) l
 
--- a name, its class if any and an assignment sign lay out these
+-- A name, its class if any and an assignment sign lay out these.
 class_lays : (x : Named) (class : Option Named) (b : List ℕ) (ws : List Word) → IsNamed x → IsClassSpelled class →
     Lays b ws → Lays (x.text ++ (canon_class class ++ (codes " := " ++ b)))
     (Called x ∷ (write_class class ++ Sign k.Assign ∷ ws))
@@ -191,19 +191,19 @@ class_lays x (Some c) b ws h i l =
     (colon (c.text ++ (codes " := " ++ b)) (Called c ∷ Sign k.Assign ∷ ws)
     (spaced c.text (codes ":= " ++ b) (Called c ∷ []) (Sign k.Assign ∷ ws) (name_lays c i) (assign b ws l)))
 
--- a semicolon, a line break and more
+-- A semicolon, a line break and more.
 semicolon_lays : (h b : List ℕ) (ws : List Word) → is_gap false false h ≡ true → Lays b ws →
     Lays (codes ";" ++ (h ++ b)) (Sign k.Semicolon ∷ ws)
 unfolding kind_of byte_kind
 semicolon_lays h b ws gap l =
     lead (codes ";") k.Semicolon (Sign k.Semicolon) h b ws refl (λ s. refl) gap (λ rest. refl) l
 
--- a closing brace lays out itself
+-- A closing brace lays out itself.
 brace_lays : Lays (codes "}") (Sign k.CloseBrace ∷ [])
 unfolding kind_of byte_kind
 brace_lays = token_lays (codes "}") k.CloseBrace (Sign k.CloseBrace) refl (λ s. refl) (λ rest nb. refl)
 
--- a sequence between braces on lines of their own lays out both and itself
+-- A sequence between braces on lines of their own lays out both and itself.
 block_lays : (i : ℕ) (b : List ℕ) (ws : List Word) → Lays b ws →
     Lays (codes "{\n" ++ (b ++ (codes "\n" ++ (spaces i ++ codes "}"))))
     (Sign k.OpenBrace ∷ (ws ++ Sign k.CloseBrace ∷ []))
@@ -213,7 +213,7 @@ block_lays i b ws l =
     (ws ++ Sign k.CloseBrace ∷ []) refl (λ s. refl) refl (λ rest. refl)
     (join b (10 ∷ spaces i) (codes "}") ws (Sign k.CloseBrace ∷ []) (blanks (2 * i)) (λ rest. refl) l brace_lays)
 
--- two commands on lines of their own lay out both with a semicolon between them
+-- Two commands on lines of their own lay out both with a semicolon between them.
 more_lays : (i : ℕ) (a b : List ℕ) (va vb : List Word) → Lays a va → Lays b vb →
     Lays (a ++ (codes ";\n" ++ (spaces i ++ b))) (va ++ Sign k.Semicolon ∷ vb)
 more_lays i a b va vb la lb =
@@ -221,7 +221,7 @@ more_lays i a b va vb la lb =
     (semicolon_lays (10 ∷ spaces i) b vb (blanks (2 * i)) lb)
 
 mutual
-  -- the canonical text of a command lays out what it writes
+  -- The canonical text of a command lays out what it writes.
   command_lays : (i : ℕ) (c : Command) → IsCommandSpelled c → IsCommandLevelled c → Lays (canon_command i c)
       (write_command c)
   command_lays i (Set x e) h lv =
@@ -244,14 +244,14 @@ mutual
       (in_lays (canon_command i c) (write_command c) (command_lays i c h.1.1 lv.1))))
   command_lays i (Braces cs) h lv = block_lays i (canon_body (suc i) cs) (write_body cs) (body_lays (suc i) cs h lv)
 
-  -- the canonical text of a sequence lays out what it writes
+  -- The canonical text of a sequence lays out what it writes.
   body_lays : (i : ℕ) (cs : Body) → IsBodySpelled cs → IsBodyLevelled cs → Lays (canon_body i cs) (write_body cs)
   body_lays i Done h lv = absurd lv
   body_lays i (Then c cs) h lv =
       before (spaces i) (canon_command i c ++ canon_rest i cs) (write_command c ++ write_rest cs) (blanks (2 * i))
       (rest_lays i cs (canon_command i c) (write_command c) h.1 lv.1 (command_lays i c h.0 lv.0))
 
-  -- the canonical text of the commands behind the first, behind another text, lays out what both write
+  -- The canonical text of the commands behind the first, behind another text, lays out what both write.
   rest_lays : (i : ℕ) (cs : Body) (a : List ℕ) (va : List Word) → IsBodySpelled cs → IsRestLevelled cs → Lays a va →
       Lays (a ++ canon_rest i cs) (va ++ write_rest cs)
   rest_lays i Done a va h lv la =
@@ -261,9 +261,9 @@ mutual
       more_lays i a (canon_command i c ++ canon_rest i cs) va (write_command c ++ write_rest cs) la
       (rest_lays i cs (canon_command i c) (write_command c) h.1 lv.1 (command_lays i c h.0 lv.0))
 
--- ---- whole programs
+-- ---- whole programs.
 
--- the line of a global may stand before a text
+-- The line of a global may stand before a text.
 global_lays : (g : Declared) (b : List ℕ) (ws : List Word) → IsNamed g.name → IsNamed g.class → Lays b ws →
     Lays (codes "var " ++ (g.name.text ++ (codes " : " ++ (g.class.text ++ (codes ";\n" ++ b)))))
     (Sign k.Var ∷ Called g.name ∷ Sign k.Colon ∷ Called g.class ∷ Sign k.Semicolon ∷ ws)
@@ -276,7 +276,7 @@ global_lays g b ws h i l =
     (spaced g.name.text (codes ": " ++ (g.class.text ++ (codes ";\n" ++ b))) (Called g.name ∷ []) _
     (name_lays g.name h) (colon (g.class.text ++ (codes ";\n" ++ b)) _ c))
 
--- the lines of globals may stand before a text
+-- The lines of globals may stand before a text.
 globals_lays : (gs : List Declared) (b : List ℕ) (ws : List Word) → IsGlobalsSpelled gs → Lays b ws →
     Lays (canon_globals gs ++ b) (write_globals gs ++ ws)
 globals_lays [] b ws h l = l
@@ -287,7 +287,7 @@ globals_lays (g ∷ gs) b ws h l =
     subst (λ (z : List ℕ). Lays z (write_globals (g ∷ gs) ++ ws)) e
     (global_lays g (canon_globals gs ++ b) (write_globals gs ++ ws) h.0 h.1 (globals_lays gs b ws h.2 l))
 
--- the tokens of the canonical text of a program are the words that the program writes, spans apart
+-- The tokens of the canonical text of a program are the words that the program writes, spans apart.
 pub canon_text : (p : Whole) → IsProgram p.body → IsProgramSpelled p → IsTextOf (canon p) (write_program p)
 canon_text p good h =
     let l = globals_lays p.globals (canon_body 0 p.body) (write_body p.body) h.0 (body_lays 0 p.body h.1 good.0) 0 []

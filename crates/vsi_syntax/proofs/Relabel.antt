@@ -6,13 +6,13 @@ use Rattle.vsi_syntax.specs.Tree.{Named, Word, Called, Sign, Tree, Literal, Read
 use Rattle.vsi_syntax.specs.Spelling.{bare}
 use Rattle.vsi_syntax.specs.Apart.{apart, class_apart, command_apart, body_apart, global_apart, program_apart}
 
--- another one that writes these words, and is the same, spans apart
+-- Another one that writes these words, and is the same, spans apart.
 pub record Again (A : Type 0) (writes_of : A → List Word) (bare_of : A → A) (a : A) (ws : List Word) : Type 0 where
   pub other : A
   pub writes : ws ≡ writes_of other
   pub same : bare_of other ≡ bare_of a
 
--- the first word of these
+-- The first word of these.
 record Front (w : Word) (more ws : List Word) : Type 0 where
   head : Word
   tail : List Word
@@ -20,12 +20,12 @@ record Front (w : Word) (more ws : List Word) : Type 0 where
   heads : bare head ≡ bare w
   tails : map bare tail ≡ map bare more
 
--- words that are these, spans apart, begin with a word that is the first, spans apart
+-- Words that are these, spans apart, begin with a word that is the first, spans apart.
 front : (w : Word) (more ws : List Word) → map bare ws ≡ bare w ∷ map bare more → Front w more ws
 front w more [] h = absurd cc
 front w more (v ∷ ws) h = record { head = v; tail = ws; parts = refl; heads = cc; tails = cc }
 
--- two parts of words that are these two lists, spans apart
+-- Two parts of words that are these two lists, spans apart.
 record Parts (xs ys ws : List Word) : Type 0 where
   one : List Word
   two : List Word
@@ -33,7 +33,7 @@ record Parts (xs ys ws : List Word) : Type 0 where
   ones : map bare one ≡ map bare xs
   twos : map bare two ≡ map bare ys
 
--- words that are two lists in a row, spans apart, have two such parts
+-- Words that are two lists in a row, spans apart, have two such parts.
 split : (xs ys ws : List Word) → map bare ws ≡ map bare (xs ++ ys) → Parts xs ys ws
 split [] ys ws h = record { one = []; two = ws; parts = refl; ones = refl; twos = h }
 split (x ∷ xs) ys ws h =
@@ -47,38 +47,38 @@ split (x ∷ xs) ys ws h =
       twos = s.twos;
     }
 
--- words that are none, spans apart, are none
+-- Words that are none, spans apart, are none.
 nothing_is : (ws : List Word) → map bare ws ≡ [] → ws ≡ []
 nothing_is [] h = refl
 nothing_is (w ∷ ws) h = absurd cc
 
--- a word that is no name is itself without its place
+-- A word that is no name is itself without its place.
 sign_is : (kind : Kind) (w : Word) → bare w ≡ Sign kind → w ≡ Sign kind
 sign_is kind (Sign other) h = h
 sign_is kind (Called x) h = absurd cc
 
--- a word that is this name, its place apart
+-- A word that is this name, its place apart.
 record NameAgain (x : Named) (w : Word) : Type 0 where
   name : Named
   is : w ≡ Called name
   same : nowhere name ≡ nowhere x
 
--- words that are names without places name the same
+-- Words that are names without places name the same.
 called_same : (y x : Named) → Called (nowhere y) ≡ Called (nowhere x) → nowhere y ≡ nowhere x
 called_same y x h = cc
 
--- a word that is a name without its place is that name somewhere
+-- A word that is a name without its place is that name somewhere.
 name_is : (x : Named) (w : Word) → bare w ≡ Called (nowhere x) → NameAgain x w
 name_is x (Called y) h = record { name = y; is = refl; same = called_same y x h }
 name_is x (Sign kind) h = absurd cc
 
--- a sign and then more
+-- A sign and then more.
 record Behind (kind : Kind) (more ws : List Word) : Type 0 where
   rest : List Word
   parts : ws ≡ Sign kind ∷ rest
   rests : map bare rest ≡ map bare more
 
--- words that are a sign and more, spans apart, begin with that sign
+-- Words that are a sign and more, spans apart, begin with that sign.
 behind : (kind : Kind) (more ws : List Word) → map bare ws ≡ Sign kind ∷ map bare more → Behind kind more ws
 behind kind more ws h =
     let f = front (Sign kind) more ws h in
@@ -89,7 +89,7 @@ behind kind more ws h =
           f.tails;
     }
 
--- a name and then more
+-- A name and then more.
 record After (x : Named) (more ws : List Word) : Type 0 where
   name : Named
   rest : List Word
@@ -97,7 +97,7 @@ record After (x : Named) (more ws : List Word) : Type 0 where
   same : nowhere name ≡ nowhere x
   rests : map bare rest ≡ map bare more
 
--- words that are a name and more, spans apart, begin with that name somewhere
+-- Words that are a name and more, spans apart, begin with that name somewhere.
 after : (x : Named) (more ws : List Word) → map bare ws ≡ Called (nowhere x) ∷ map bare more → After x more ws
 after x more ws h =
     let f = front (Called x) more ws h in
@@ -110,15 +110,15 @@ after x more ws h =
       rests = f.tails;
     }
 
--- the same words behind one word
+-- The same words behind one word.
 push : (w : Word) (ws rest xs : List Word) → ws ≡ w ∷ rest → rest ≡ xs → ws ≡ w ∷ xs
 push w ws rest xs p e = p ∙ ap (λ (z : List Word). w ∷ z) e
 
--- the same words in two parts
+-- The same words in two parts.
 cat : (ws one two a b : List Word) → ws ≡ one ++ two → one ≡ a → two ≡ b → ws ≡ a ++ b
 cat ws one two a b p i j = p ∙ rw (i, j) refl
 
--- words of an expression, spans apart, are written by one that is the same, spans apart
+-- Words of an expression, spans apart, are written by one that is the same, spans apart.
 tree_again : (t : Tree) (ws : List Word) → map bare ws ≡ map bare (write t) → Again Tree write apart t ws
 tree_again (Literal n) ws h =
     let b = behind (k.Number n) [] ws h in
@@ -158,7 +158,7 @@ tree_again (Both op x y) ws h =
       same = rw (i.same, j.same) refl;
     }
 
--- words of a class, spans apart, are written by one that is the same, spans apart
+-- Words of a class, spans apart, are written by one that is the same, spans apart.
 class_again : (c : Option Named) (ws : List Word) → map bare ws ≡ map bare (write_class c) →
     Again (Option Named) write_class class_apart c ws
 class_again None ws h = record { other = None; writes = nothing_is ws h; same = refl }
@@ -172,7 +172,7 @@ class_again (Some x) ws h =
     }
 
 mutual
-  -- words of a command, spans apart, are written by one that is the same, spans apart
+  -- Words of a command, spans apart, are written by one that is the same, spans apart.
   command_again : (c : Command) (ws : List Word) → map bare ws ≡ map bare (write_command c) →
       Again Command write_command command_apart c ws
   command_again (Set x e) ws h =
@@ -248,7 +248,7 @@ mutual
             rw (i.same) refl;
       }
 
-  -- words of a sequence, spans apart, are written by one that is the same, spans apart
+  -- Words of a sequence, spans apart, are written by one that is the same, spans apart.
   body_again : (cs : Body) (ws : List Word) → map bare ws ≡ map bare (write_body cs) →
       Again Body write_body body_apart cs ws
   body_again Done ws h = record { other = Done; writes = nothing_is ws h; same = refl }
@@ -263,7 +263,7 @@ mutual
             rw (i.same, j.same) refl;
       }
 
-  -- words of the commands behind the first, spans apart, are written by such that are the same, spans apart
+  -- Words of the commands behind the first, spans apart, are written by such that are the same, spans apart.
   rest_again : (cs : Body) (ws : List Word) → map bare ws ≡ map bare (write_rest cs) →
       Again Body write_rest body_apart cs ws
   rest_again Done ws h = record { other = Done; writes = nothing_is ws h; same = refl }
@@ -279,7 +279,7 @@ mutual
         same = rw (i.same, j.same) refl;
       }
 
--- words of globals, spans apart, are written by such that are the same, spans apart
+-- Words of globals, spans apart, are written by such that are the same, spans apart.
 globals_again : (gs : List Declared) (ws : List Word) → map bare ws ≡ map bare (write_globals gs) →
     Again (List Declared) write_globals (map global_apart) gs ws
 globals_again [] ws h = record { other = []; writes = nothing_is ws h; same = refl }
@@ -297,7 +297,7 @@ globals_again (g ∷ gs) ws h =
       same = rw (n.same, m.same, i.same) refl;
     }
 
--- words of a program, spans apart, are written by one that is the same, spans apart
+-- Words of a program, spans apart, are written by one that is the same, spans apart.
 pub program_relabel : (p : Whole) (ws : List Word) → map bare ws ≡ map bare (write_program p) →
     Again Whole write_program program_apart p ws
 program_relabel p ws h =

@@ -8,30 +8,30 @@ use Rattle.vsi_syntax.specs.Parsing.{◌>>=◌, own_level, next, Reads, nothing,
 use Rattle.vsi_syntax.proofs.Pairs.{some_left, some_right, bind_some, guard_some, go_cases}
 use Rattle.vsi_syntax.proofs.Operators.{relevel, next_is}
 
--- what a reader took from the front
+-- What a reader took from the front.
 pub record Took (room l : ℕ) (ws : List Word) (t : Tree) (rest : List Word) : Type 0 where
   pub parts : ws ≡ write t ++ rest
   pub levelled : IsLevelled l t
   pub fits : depth t ≤ room
 
--- what was taken may be renamed along equations
+-- What was taken may be renamed along equations.
 took_along : (room l : ℕ) (ws : List Word) (t u : Tree) (rest behind : List Word) → t ≡ u → rest ≡ behind →
     Took room l ws t rest → Took room l ws u behind
 took_along room l ws t u rest behind e f h = rw (← e, ← f) h
 
--- what is read there is written so, and less deep
+-- What is read there is written so, and less deep.
 abbrev pub IsSoundBelow : ℕ → Reads → Type 0
 IsSoundBelow room inner = (l : ℕ) (ws : List Word) (t : Tree) (rest : List Word) → inner l ws ≡ Some (t, rest) →
     (ws ≡ write t ++ rest) × IsLevelled l t × (depth t < room)
 
--- where a closing bracket is read, the words begin with one
+-- Where a closing bracket is read, the words begin with one.
 pub closing_is : (ws rest : List Word) → closing ws ≡ Some rest → ws ≡ Sign k.Close ∷ rest
 closing_is [] rest h = absurd cc
 closing_is (Called x ∷ ws) rest h = absurd cc
 closing_is (Sign k.Close ∷ ws) rest h = cc
 closing_is (Sign _ ∷ ws) rest h = absurd cc
 
--- what is read as a bracket was written so
+-- What is read as a bracket was written so.
 bracket_sound : (inner : Reads) (room l : ℕ) (ws : List Word) (t : Tree) (rest : List Word) →
     IsSoundBelow room inner → (inner 0 ws >>= rounded) ≡ Some (t, rest) → Took room l (Sign k.Open ∷ ws) t rest
 bracket_sound inner room l ws t rest sound h =
@@ -49,7 +49,7 @@ bracket_sound inner room l ws t rest sound h =
       fits = omega (arith, s.2);
     })
 
--- an atom that begins with a word other than a name was written so
+-- An atom that begins with a word other than a name was written so.
 sign_sound : (inner : Reads) (room l : ℕ) (kind : Kind) (ws : List Word) (t : Tree) (rest : List Word) →
     IsSoundBelow room inner → sign_first inner kind ws ≡ Some (t, rest) → Took room l (Sign kind ∷ ws) t rest
 sign_sound inner room l (k.Number n) ws t rest sound h =
@@ -59,7 +59,7 @@ sign_sound inner room l (k.Number n) ws t rest sound h =
 sign_sound inner room l k.Open ws t rest sound h = bracket_sound inner room l ws t rest sound h
 sign_sound inner room l _ ws t rest sound h = absurd cc
 
--- what is read as an atom was written so
+-- What is read as an atom was written so.
 first_sound : (inner : Reads) (room l : ℕ) (ws : List Word) (t : Tree) (rest : List Word) → IsSoundBelow room inner →
     first inner ws ≡ Some (t, rest) → Took room l ws t rest
 unfolding first
@@ -70,13 +70,13 @@ first_sound inner room l (Called x ∷ ws) t rest sound h =
     rw (← e, ← f) (record { parts = refl; levelled = tt; fits = omega arith })
 first_sound inner room l (Sign kind ∷ ws) t rest sound h = sign_sound inner room l kind ws t rest sound h
 
--- what more was read
+-- What more was read.
 pub record Grew (room l : ℕ) (t : Tree) (ws : List Word) (u : Tree) (rest : List Word) : Type 0 where
   pub parts : write t ++ ws ≡ write u ++ rest
   pub levelled : IsLevelled l u
   pub fits : depth u ≤ room
 
--- what is read on from a tree is a tree that was written so from there
+-- What is read on from a tree is a tree that was written so from there.
 more_sound : (n : ℕ) (inner : Reads) (room l : ℕ) (t : Tree) (ws : List Word) (u : Tree) (rest : List Word) →
     IsSoundBelow room inner → IsLevelled l t → depth t ≤ room → more inner n room l t ws ≡ Some (u, rest) →
     Grew room l t ws u rest
@@ -117,7 +117,7 @@ more_sound (suc n) inner room l t ws u rest sound lv fits h =
           record { parts = e ∙ r.parts; levelled = r.levelled; fits = r.fits }
     ]
 
--- what is read as an expression was written so, where what is read inside was
+-- What is read as an expression was written so, where what is read inside was.
 whole_sound : (inner : Reads) (room l : ℕ) (ws : List Word) (t : Tree) (rest : List Word) → IsSoundBelow room inner →
     whole inner room l ws ≡ Some (t, rest) → Took room l ws t rest
 whole_sound inner room l ws t rest sound h =
@@ -126,7 +126,7 @@ whole_sound inner room l ws t rest sound h =
     let m = more_sound room inner room l a.0.0 a.0.1 t rest sound f.levelled f.fits a.2 in
     record { parts = f.parts ∙ m.parts; levelled = m.levelled; fits = m.fits }
 
--- what is read as an expression of bounded depth was written so, levelled and not deeper
+-- What is read as an expression of bounded depth was written so, levelled and not deeper.
 pub parse_sound : (room l : ℕ) (ws : List Word) (t : Tree) (rest : List Word) → parse room l ws ≡ Some (t, rest) →
     Took room l ws t rest
 unfolding parse

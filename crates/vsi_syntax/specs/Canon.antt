@@ -5,7 +5,7 @@ use Rattle.vsi_syntax.specs.declared.operator.Op.{Op}
 use Rattle.vsi_syntax.specs.declared.operator.Op.TheVariants as o
 use Rattle.vsi_syntax.specs.Tree.{Named, Tree, Literal, Read, Round, Both, Command, Set, Choose, Loop, Local, Braces, Body, Done, Then, Declared, Whole}
 
--- an operator has one space on each side
+-- An operator has one space on each side.
 abbrev pub op_text : Op → List ℕ
 op_text o.Add = codes " + "
 op_text o.Sub = codes " - "
@@ -13,25 +13,25 @@ op_text o.Mul = codes " * "
 op_text o.Eq = codes " = "
 op_text o.Lt = codes " < "
 
--- the text of an expression: a number in decimal, a name as it is, a bracket in round brackets, an operator between
--- its operands
+-- The text of an expression: a number in decimal, a name as it is, a bracket in round brackets, an operator between
+-- its operands.
 abbrev pub canon_tree : Tree → List ℕ
 canon_tree (Literal n) = signed_decimal n
 canon_tree (Read x) = x.text
 canon_tree (Round e) = codes "(" ++ (canon_tree e ++ codes ")")
 canon_tree (Both op a b) = canon_tree a ++ (op_text op ++ canon_tree b)
 
--- two spaces for each indent
+-- Two spaces for each indent.
 abbrev pub spaces : ℕ → List ℕ
 spaces k = replicate (2 * k) 32
 
--- a class stands behind a colon with a space on each side
+-- A class stands behind a colon with a space on each side.
 abbrev pub canon_class : Option Named → List ℕ
 canon_class None = []
 canon_class (Some class) = codes " : " ++ class.text
 
 abbrev mutual
-  -- a command at an indent, without the spaces before it
+  -- A command at an indent, without the spaces before it.
   pub canon_command : ℕ → Command → List ℕ
   canon_command k (Set x e) = x.text ++ (codes " := " ++ canon_tree e)
   canon_command k (Choose e c d) =
@@ -43,25 +43,25 @@ abbrev mutual
       ++ (x.text ++ (canon_class class ++ (codes " := " ++ (canon_tree e ++ (codes " in " ++ canon_command k c)))))
   canon_command k (Braces cs) = codes "{\n" ++ (canon_body (suc k) cs ++ (codes "\n" ++ (spaces k ++ codes "}")))
 
-  -- a sequence at an indent, each command on a line of its own
+  -- A sequence at an indent, each command on a line of its own.
   pub canon_body : ℕ → Body → List ℕ
   canon_body k Done = []
   canon_body k (Then c cs) = spaces k ++ (canon_command k c ++ canon_rest k cs)
 
-  -- the commands behind the first, each behind a semicolon and a line feed
+  -- The commands behind the first, each behind a semicolon and a line feed.
   pub canon_rest : ℕ → Body → List ℕ
   canon_rest k Done = []
   canon_rest k (Then c cs) = codes ";\n" ++ (spaces k ++ (canon_command k c ++ canon_rest k cs))
 
--- the line of a global
+-- The line of a global.
 abbrev pub canon_global : Declared → List ℕ
 canon_global g = codes "var " ++ (g.name.text ++ (codes " : " ++ (g.class.text ++ codes ";\n")))
 
--- the lines of the globals in order
+-- The lines of the globals in order.
 abbrev pub canon_globals : List Declared → List ℕ
 canon_globals [] = []
 canon_globals (g ∷ gs) = canon_global g ++ canon_globals gs
 
--- the canonical text of a program: the lines of its globals, its body at indent 0, and a line feed
+-- The canonical text of a program: the lines of its globals, its body at indent 0, and a line feed.
 abbrev pub canon : Whole → List ℕ
 canon p = canon_globals p.globals ++ (canon_body 0 p.body ++ codes "\n")

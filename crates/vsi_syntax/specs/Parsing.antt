@@ -11,24 +11,24 @@ use Rattle.vsi_syntax.specs.declared.parser.ParseError.{ParseError}
 use Rattle.vsi_syntax.specs.declared.parser.ParseError.TheVariants as errors
 use Rattle.vsi_syntax.specs.Tree.{Word, Called, Sign, Tree, Literal, Read, Round, Both, level, left_level, right_level, depth}
 
--- the second reader goes on where the first found something
+-- The second reader goes on where the first found something.
 infixl 10 ◌>>=◌
 abbrev pub ◌>>=◌ : {A B : Type 0} → Option A → (A → Option B) → Option B
 None >>= f = None
 (Some x) >>= f = f x
 
--- an error other than want of memory says that reading gives nothing
+-- An error other than want of memory says that reading gives nothing.
 abbrev pub Fails : {Y : Type 0} → ParseError → Option Y → Type 0
 Fails errors.Memory read = Unit {0}
 Fails (errors.Unexpected _) read = read ≡ None
 Fails (errors.TooDeep _) read = read ≡ None
 
--- what a function returned, seen by view, is what reading gives, unless memory ran out
+-- What a function returned, seen by view, is what reading gives, unless memory ran out.
 abbrev pub Gives : {X Y : Type 0} → (X → Y) → Result X ParseError → Option Y → Type 0
 Gives view (Ok x) read = read ≡ Some (view x)
 Gives view (Err e) read = Fails e read
 
--- the operator of a symbol
+-- The operator of a symbol.
 abbrev pub operator : Kind → Option Op
 operator k.Plus = Some o.Add
 operator k.Minus = Some o.Sub
@@ -37,65 +37,65 @@ operator k.Equal = Some o.Eq
 operator k.Less = Some o.Lt
 operator _ = None
 
--- the level of a tree by itself
+-- The level of a tree by itself.
 abbrev pub own_level : Tree → ℕ
 own_level (Literal n) = 3
 own_level (Read x) = 3
 own_level (Round e) = 3
 own_level (Both op a b) = level op
 
--- whether an operator goes on at this level with what is on its left
+-- Whether an operator goes on at this level with what is on its left.
 abbrev pub goes_on : ℕ → ℕ → Op → Bool
 goes_on l left op = nat_le l (level op) && nat_le (left_level op) left
 
--- the operator that was found, only where it goes on at this level
+-- The operator that was found, only where it goes on at this level.
 abbrev pub only_if : ℕ → ℕ → List Word → Option Op → Option (Op × List Word)
 only_if l left rest None = None
 only_if l left rest (Some op) = if goes_on l left op then Some (op, rest) else None
 
--- the operator that goes on, and what is behind it
+-- The operator that goes on, and what is behind it.
 unfoldable pub next : ℕ → ℕ → List Word → Option (Op × List Word)
 next l left [] = None
 next l left (Called x ∷ ws) = None
 next l left (Sign kind ∷ ws) = only_if l left ws (operator kind)
 
--- a tree is read at a level, and the words behind it are left
+-- A tree is read at a level, and the words behind it are left.
 abbrev pub Reads : Type 0
 Reads = ℕ → List Word → Option (Tree × List Word)
 
--- reads no tree at all
+-- Reads no tree at all.
 abbrev pub nothing : Reads
 nothing l ws = None
 
--- what is behind a closing bracket
+-- What is behind a closing bracket.
 abbrev pub closing : List Word → Option (List Word)
 closing [] = None
 closing (Called x ∷ ws) = None
 closing (Sign k.Close ∷ ws) = Some ws
 closing (Sign _ ∷ ws) = None
 
--- the bracket that closes behind what was read
+-- The bracket that closes behind what was read.
 abbrev pub rounded : Tree × List Word → Option (Tree × List Word)
 rounded r = closing r.1 >>= λ rest. Some (Round r.0, rest)
 
--- an atom that begins with this word, which is no name
+-- An atom that begins with this word, which is no name.
 abbrev pub sign_first : Reads → Kind → List Word → Option (Tree × List Word)
 sign_first inner (k.Number n) ws = Some (Literal n, ws)
 sign_first inner k.Open ws = inner 0 ws >>= rounded
 sign_first inner _ ws = None
 
--- an atom
+-- An atom.
 unfoldable pub first : Reads → List Word → Option (Tree × List Word)
 first inner [] = None
 first inner (Called x ∷ ws) = Some (Read x, ws)
 first inner (Sign kind ∷ ws) = sign_first inner kind ws
 
--- one answer where no operator goes on, and another from the operator and the words behind it
+-- One answer where no operator goes on, and another from the operator and the words behind it.
 abbrev pub go : {X : Type 0} → X → (Op → List Word → X) → Option (Op × List Word) → X
 go stop more None = stop
 go stop more (Some p) = more p.0 p.1
 
--- at most `turns` operators more, each with what stands on its right, up to the depth `room`
+-- At most `turns` operators more, each with what stands on its right, up to the depth `room`.
 unfoldable pub more : Reads → ℕ → ℕ → ℕ → Tree → List Word → Option (Tree × List Word)
 more inner zero room l left ws = go (Some (left, ws)) (λ op rest. None) (next l (own_level left) ws)
 more inner (suc turns) room l left ws =
@@ -104,16 +104,16 @@ more inner (suc turns) room l left ws =
     (inner (right_level op) rest >>= λ r. more inner turns room l (Both op left r.0) r.1) else None)
     (next l (own_level left) ws)
 
--- an expression at a level: an atom, and then the operators that go on
+-- An expression at a level: an atom, and then the operators that go on.
 abbrev pub whole : Reads → ℕ → Reads
 whole inner room l ws = first inner ws >>= λ r. more inner room room l r.0 r.1
 
--- an expression of at most this depth
+-- An expression of at most this depth.
 unfoldable pub parse : ℕ → Reads
 parse zero l ws = whole nothing zero l ws
 parse (suc room) l ws = whole (parse room) (suc room) l ws
 
--- what stands inside a bracket or on the right of an operator, where this depth is left
+-- What stands inside a bracket or on the right of an operator, where this depth is left.
 abbrev pub inside : ℕ → Reads
 inside zero = nothing
 inside (suc room) = parse room

@@ -8,17 +8,17 @@ use Rattle.vsi_syntax.specs.declared.token.Span.{Span}
 use Rattle.vsi_syntax.specs.declared.operator.Op.{Op}
 use Rattle.vsi_syntax.specs.declared.operator.Op.TheVariants as o
 
--- a name, and where it stands
+-- A name, and where it stands.
 pub record Named : Type 0 where
   pub text : List ℕ
   pub span : Span
 
--- a word or symbol that a tree writes: a name, or anything else by its kind
+-- A word or symbol that a tree writes: a name, or anything else by its kind.
 pub data Word : Type 0 where
   Called : (name : Named) → Word
   Sign : (kind : Kind) → Word
 
--- an expression
+-- An expression.
 pub data Tree : Type 0 where
   Literal : (number : ℤ) → Tree
   Read : (name : Named) → Tree
@@ -26,7 +26,7 @@ pub data Tree : Type 0 where
   Both : (op : Op) → (left : Tree) → (right : Tree) → Tree
 
 mutual
-  -- a command: an assignment, a choice, a loop, a local variable or a block
+  -- A command: an assignment, a choice, a loop, a local variable or a block.
   pub data Command : Type 0 where
     Set : (name : Named) → (value : Tree) → Command
     Choose : (guard : Tree) → (yes : Command) → (no : Command) → Command
@@ -34,12 +34,12 @@ mutual
     Local : (name : Named) → (class : Option Named) → (value : Tree) → (body : Command) → Command
     Braces : (body : Body) → Command
 
-  -- a sequence of commands
+  -- A sequence of commands.
   pub data Body : Type 0 where
     Done : Body
     Then : (first : Command) → (rest : Body) → Body
 
--- the symbol of an operator
+-- The symbol of an operator.
 abbrev pub sign : Op → Kind
 sign o.Add = k.Plus
 sign o.Sub = k.Minus
@@ -47,22 +47,22 @@ sign o.Mul = k.Star
 sign o.Eq = k.Equal
 sign o.Lt = k.Less
 
--- ---- what is written
+-- ---- what is written.
 
--- the words that an expression writes, in the order of the text
+-- The words that an expression writes, in the order of the text.
 abbrev pub write : Tree → List Word
 write (Literal n) = Sign (k.Number n) ∷ []
 write (Read name) = Called name ∷ []
 write (Round e) = Sign k.Open ∷ (write e ++ Sign k.Close ∷ [])
 write (Both op a b) = write a ++ Sign (sign op) ∷ write b
 
--- a class is written behind a colon
+-- A class is written behind a colon.
 abbrev pub write_class : Option Named → List Word
 write_class None = []
 write_class (Some class) = Sign k.Colon ∷ Called class ∷ []
 
 abbrev mutual
-  -- the words that a command writes
+  -- The words that a command writes.
   pub write_command : Command → List Word
   write_command (Set x e) = Called x ∷ Sign k.Assign ∷ write e
   write_command (Choose e c d) =
@@ -72,19 +72,19 @@ abbrev mutual
       Sign k.Letvar ∷ Called x ∷ (write_class class ++ Sign k.Assign ∷ (write e ++ Sign k.In ∷ write_command c))
   write_command (Braces cs) = Sign k.OpenBrace ∷ (write_body cs ++ Sign k.CloseBrace ∷ [])
 
-  -- the words that a sequence writes: its commands with semicolons between them
+  -- The words that a sequence writes: its commands with semicolons between them.
   pub write_body : Body → List Word
   write_body Done = []
   write_body (Then c cs) = write_command c ++ write_rest cs
 
-  -- the words of the commands behind the first, each behind a semicolon
+  -- The words of the commands behind the first, each behind a semicolon.
   pub write_rest : Body → List Word
   write_rest Done = []
   write_rest (Then c cs) = Sign k.Semicolon ∷ (write_command c ++ write_rest cs)
 
--- ---- levels: 0 where a comparison may stand, 1 a sum, 2 a term, 3 an atom
+-- ---- levels: 0 where a comparison may stand, 1 a sum, 2 a term, 3 an atom.
 
--- the level of what an operator makes
+-- The level of what an operator makes.
 abbrev pub level : Op → ℕ
 level o.Add = 1
 level o.Sub = 1
@@ -92,7 +92,7 @@ level o.Mul = 2
 level o.Eq = 0
 level o.Lt = 0
 
--- the least level of what may stand on the left of an operator
+-- The least level of what may stand on the left of an operator.
 abbrev pub left_level : Op → ℕ
 left_level o.Add = 1
 left_level o.Sub = 1
@@ -100,7 +100,7 @@ left_level o.Mul = 2
 left_level o.Eq = 1
 left_level o.Lt = 1
 
--- the least level of what may stand on the right of an operator: so operators of one level group to the left
+-- The least level of what may stand on the right of an operator: so operators of one level group to the left.
 abbrev pub right_level : Op → ℕ
 right_level o.Add = 2
 right_level o.Sub = 2
@@ -108,7 +108,7 @@ right_level o.Mul = 3
 right_level o.Eq = 1
 right_level o.Lt = 1
 
--- the expression may stand where this level is asked for, and so may all parts in their places
+-- The expression may stand where this level is asked for, and so may all parts in their places.
 abbrev pub IsLevelled : ℕ → Tree → Type 0
 IsLevelled l (Literal n) = Unit {0}
 IsLevelled l (Read name) = Unit {0}
@@ -116,7 +116,7 @@ IsLevelled l (Round e) = IsLevelled 0 e
 IsLevelled l (Both op a b) = (l ≤ level op) × IsLevelled (left_level op) a × IsLevelled (right_level op) b
 
 abbrev mutual
-  -- each expression of the command is levelled, and no sequence in it is empty
+  -- Each expression of the command is levelled, and no sequence in it is empty.
   pub IsCommandLevelled : Command → Type 0
   IsCommandLevelled (Set x e) = IsLevelled 0 e
   IsCommandLevelled (Choose e c d) = IsLevelled 0 e × IsCommandLevelled c × IsCommandLevelled d
@@ -124,19 +124,19 @@ abbrev mutual
   IsCommandLevelled (Local x class e c) = IsLevelled 0 e × IsCommandLevelled c
   IsCommandLevelled (Braces cs) = IsBodyLevelled cs
 
-  -- the sequence has a command, and all its commands are levelled
+  -- The sequence has a command, and all its commands are levelled.
   pub IsBodyLevelled : Body → Type 0
   IsBodyLevelled Done = ⊥
   IsBodyLevelled (Then c cs) = IsCommandLevelled c × IsRestLevelled cs
 
-  -- the commands behind the first, if any, are levelled
+  -- The commands behind the first, if any, are levelled.
   pub IsRestLevelled : Body → Type 0
   IsRestLevelled Done = Unit {0}
   IsRestLevelled (Then c cs) = IsCommandLevelled c × IsRestLevelled cs
 
--- ---- depth
+-- ---- depth.
 
--- each bracket and each operator lies one level above the deepest of its parts
+-- Each bracket and each operator lies one level above the deepest of its parts.
 abbrev pub depth : Tree → ℕ
 depth (Literal n) = 0
 depth (Read name) = 0
@@ -144,7 +144,7 @@ depth (Round e) = 1 + depth e
 depth (Both op a b) = 1 + max (depth a) (depth b)
 
 abbrev mutual
-  -- each `if`, `while`, `letvar` and block lies one level above the deepest of its parts, an assignment none
+  -- Each `if`, `while`, `letvar` and block lies one level above the deepest of its parts, an assignment none.
   pub command_depth : Command → ℕ
   command_depth (Set x e) = depth e
   command_depth (Choose e c d) = 1 + max (depth e) (max (command_depth c) (command_depth d))
@@ -152,41 +152,41 @@ abbrev mutual
   command_depth (Local x class e c) = 1 + max (depth e) (command_depth c)
   command_depth (Braces cs) = 1 + body_depth cs
 
-  -- a sequence is as deep as the deepest of its commands
+  -- A sequence is as deep as the deepest of its commands.
   pub body_depth : Body → ℕ
   body_depth Done = 0
   body_depth (Then c cs) = max (command_depth c) (body_depth cs)
 
--- a global, by its name and the name of its class
+-- A global, by its name and the name of its class.
 pub record Declared : Type 0 where
   pub name : Named
   pub class : Named
 
--- a whole program: its globals and its body
+-- A whole program: its globals and its body.
 pub record Whole : Type 0 where
   pub globals : List Declared
   pub body : Body
 
--- the words that globals write, each with its `var` and its semicolon
+-- The words that globals write, each with its `var` and its semicolon.
 abbrev pub write_globals : List Declared → List Word
 write_globals [] = []
 write_globals (g ∷ gs) = Sign k.Var ∷ Called g.name ∷ Sign k.Colon ∷ Called g.class ∷ Sign k.Semicolon ∷ write_globals
     gs
 
--- the words that a program writes: its globals, then its body
+-- The words that a program writes: its globals, then its body.
 abbrev pub write_program : Whole → List Word
 write_program p = write_globals p.globals ++ write_body p.body
 
--- the name without where it stands
+-- The name without where it stands.
 abbrev pub nowhere : Named → Named
 nowhere x = record { text = x.text; span = record { start = 0; stop = 0 } }
 
--- what every program keeps: its sums, comparisons and atoms stand where they may, no sequence is empty, and it is not
--- deep
+-- What every program keeps: its sums, comparisons and atoms stand where they may, no sequence is empty, and it is not
+-- deep.
 abbrev pub IsProgram : Body → Type 0
 IsProgram b = IsBodyLevelled b × (body_depth b ≤ 200)
 
--- that an expression is levelled has one proof, so that a type can keep it; the same holds of the facts below
+-- That an expression is levelled has one proof, so that a type can keep it; the same holds of the facts below.
 pub tree_prop : (l : ℕ) (t : Tree) → IsProp (IsLevelled l t)
 tree_prop l (Literal n) = Unit-prop
 tree_prop l (Read x) = Unit-prop
@@ -194,7 +194,7 @@ tree_prop l (Round e) = tree_prop 0 e
 tree_prop l (Both op a b) = ×₃_prop le_prop (tree_prop (left_level op) a) (tree_prop (right_level op) b)
 
 mutual
-  -- that a command is levelled has one proof
+  -- That a command is levelled has one proof.
   pub command_prop : (c : Command) → IsProp (IsCommandLevelled c)
   command_prop (Set x e) = tree_prop 0 e
   command_prop (Choose e c d) = ×₃_prop (tree_prop 0 e) (command_prop c) (command_prop d)
@@ -202,16 +202,16 @@ mutual
   command_prop (Local x class e c) = ×_prop (tree_prop 0 e) (command_prop c)
   command_prop (Braces cs) = body_prop cs
 
-  -- that a sequence is levelled has one proof
+  -- That a sequence is levelled has one proof.
   pub body_prop : (cs : Body) → IsProp (IsBodyLevelled cs)
   body_prop Done = λ a b. absurd a
   body_prop (Then c cs) = ×_prop (command_prop c) (rest_prop cs)
 
-  -- that the commands behind the first are levelled has one proof
+  -- That the commands behind the first are levelled has one proof.
   pub rest_prop : (cs : Body) → IsProp (IsRestLevelled cs)
   rest_prop Done = Unit-prop
   rest_prop (Then c cs) = ×_prop (command_prop c) (rest_prop cs)
 
--- that a body is one of a program has one proof
+-- That a body is one of a program has one proof.
 pub program_prop : (b : Body) → IsProp (IsProgram b)
 program_prop b = ×_prop (body_prop b) le_prop

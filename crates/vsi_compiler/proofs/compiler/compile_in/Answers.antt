@@ -1,9 +1,12 @@
-use Rattle.std.proofs.Common.{rules, ◌≡◌, refl, sym, ap, subst, ◌∙◌}
+use Rattle.std.proofs.Common.{All, ap, subst, ◌∙◌}
 use Rattle.std.proofs.lemmas.Result.{err_from_is_err_and}
 use Rattle.vsi_lattice.specs.Named.{class_named, order}
 use Rattle.vsi_types.specs.Security.{program, IsTypable}
 use Rattle.vsi_code.specs.Names.{all_named}
-use Rattle.vsi_compiler.proofs.Compiled.{known_below, lawful, accepted, globals_kept, meaning_kept, flow_refused, flow_memory, coded}
+use Rattle.vsi_image.specs.declared.instr.Image.{Image}
+use Rattle.vsi_image.specs.Fields.{HasOpcode}
+use Rattle.vsi_compiler.proofs.Compiled.{known_below, lawful, accepted, globals_kept, meaning_kept, flow_refused, flow_memory}
+use Rattle.vsi_compiler.proofs.Coded.{coded}
 use Rattle.vsi_compiler.proofs.Programs.{typing_ready, declared_classes, have_classes}
 use Rattle.vsi_compiler.proofs.Security.{behaves_source, noninterfering, ends_alike}
 use Rattle.vsi_compiler.proofs.compiler.compile_in.Goals as goal
@@ -89,4 +92,7 @@ returns-clause-endings c = λ strict.
     c.in_ok-optimised.ensures.globals c.in_ok-optimised.ensures.same c.in_ok-verified.ensures.behaves)
 
 pub returns-clause-coded : goal.returns-clause-coded
-returns-clause-coded c = coded c.in_ok-verified.verified c.image-image.ensures.valid
+returns-clause-coded c =
+    coded c.in_ok-verified.verified c.image.ensures.valid
+    (subst (λ (im : Image). All (HasOpcode 2) im.code.items) c.image.ensures.same
+    (subst (All (HasOpcode 2)) c.deref.ensures.value c.have_opcodes.ensures))

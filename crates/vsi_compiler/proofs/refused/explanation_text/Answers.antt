@@ -1,4 +1,4 @@
-use Rattle.std.proofs.Common.{rules, ◌≡◌, refl, sym, ap, subst, ◌∙◌, inr, true≢false}
+use Rattle.std.proofs.Common.{sym, subst, ◌∙◌, inr, true≢false}
 use Rattle.vsi_lattice.specs.Named.{class_named, order}
 use Rattle.vsi_types.specs.declared.rules.Profile.TheVariants.{Strict}
 use Rattle.vsi_types.specs.Walks.{IsBad}

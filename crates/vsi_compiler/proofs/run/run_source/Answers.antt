@@ -1,8 +1,15 @@
-use Rattle.std.proofs.Common.{rules, ◌≡◌, refl, sym, ap, subst, ◌∙◌}
+use Rattle.std.proofs.Common.{rules}
 use Rattle.std.proofs.lemmas.Result.{err_from_is_err_and}
 use Rattle.vsi_lattice.specs.Named.{class_named, order}
-use Rattle.vsi_compiler.proofs.Runs.{compiled_of, start_refused}
+use Rattle.vsi_compiler.proofs.Runs.{compiled_of, compile_refused, start_refused}
 use Rattle.vsi_compiler.proofs.run.run_source.Goals as goal
+
+pub returns-in_err-verified-clause-refused : goal.returns-in_err-verified-clause-refused
+returns-in_err-verified-clause-refused c =
+    let l = c.args.lattice.now in
+    let p = err_from_is_err_and c.from_residual.result c.from_residual.ensures.1 in
+    rw (p.1, p.2) (compile_refused (class_named l) (order l) c.args.text.now c.args.store.now
+    c.in_err-verified.field-0.0 c.in_err-verified.ensures.refused c.in_err-verified.ensures.exact)
 
 pub returns-in_err-machine-clause-refused : goal.returns-in_err-machine-clause-refused
 returns-in_err-machine-clause-refused c =

@@ -1,4 +1,3 @@
-use Rattle.std.proofs.Common.{rules, ◌≡◌, refl, sym, ap, ◌∙◌}
 use Rattle.std.proofs.lemmas.Result.{err_from_is_err_and}
 use Rattle.vsi_compiler.proofs.Sources.{reads_from, reads_tokens, words_refused, lexical_memory, tree_refused, syntactic_memory, found_is}
 use Rattle.vsi_compiler.proofs.source.read_program.Goals as goal

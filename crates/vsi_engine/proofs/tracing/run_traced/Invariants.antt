@@ -5,7 +5,7 @@ use Rattle.vsi_engine.specs.Counted.{device_of, faults_of}
 use Rattle.vsi_engine.specs.Running.{trace_text}
 use Rattle.vsi_engine.proofs.tracing.run_traced.Given as goal
 
--- so many steps are done, and their lines are written
+-- So many steps are done, and their lines are written.
 abbrev pub invariant-loop-step : goal.invariant-loop-step
 invariant-loop-step g l =
     let contents = g.W.Write.contents in
