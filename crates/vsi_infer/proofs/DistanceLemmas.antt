@@ -22,7 +22,7 @@ module _ (flows : ℕ → ℕ → Bool) (goals : List Bool) (level : ℕ) (small
       | inr n ↦ omega (arith, other v n)
     ]
 
-    -- a number that is small was there before
+    -- A number that is small was there before.
     old_there : (v x : ℕ) → x ≤ level → get_or (set far from (level + 1)) v 0 ≡ x → get_or far v 0 ≡ x
     old_there v x le e = elim (cases_eq v from) [
       | inl q ↦ absurd (omega (arith, ap (λ (u : ℕ). get_or (set far from (level + 1)) u 0) q, same, e, le))
@@ -77,7 +77,7 @@ module _ (flows : ℕ → ℕ → Bool) (goals : List Bool) (level : ℕ) (small
           omega (arith, sums, a, b, m.fewer);
     }
 
-  -- one step after another
+  -- One step after another.
   pub moved_on : (old mid new : List ℕ) (x y : Bool) → Moved flows level old mid x → Moved flows level mid new y
       → Moved flows level old new (x || y)
   moved_on old mid new x y m n = record {
@@ -110,7 +110,7 @@ module _ (flows : ℕ → ℕ → Bool) (goals : List Bool) (level : ℕ) (small
         seen b (omega (arith, (within a b f).1, s.len)) e a f in omega (arith, q, e))
   ]
 
-  -- the next level
+  -- The next level.
   pub level_on : (old new : List ℕ) → AtMost flows goals level old → Spreads flows goals level new
       → ((b : ℕ) → b < length new → get_or new b 0 ≡ level → IsSeen flows level new b)
       → AtMost flows goals (level + 1) new
@@ -125,7 +125,7 @@ module _ (flows : ℕ → ℕ → Bool) (goals : List Bool) (level : ℕ) (small
     within = s.below;
   }
 
-  -- the last level
+  -- The last level.
   pub level_last : (new : List ℕ) → level ≤ length goals → AtMost flows goals level new
       → ((b : ℕ) → b < length new → get_or new b 0 ≡ level → IsSeen flows level new b) → AreDistances flows goals new
   level_last new le w seen = record {
@@ -137,7 +137,7 @@ module _ (flows : ℕ → ℕ → Bool) (goals : List Bool) (level : ℕ) (small
         w.within b (omega (arith, (within a b f).1, w.spreads.len)) h in omega (arith, q));
   }
 
--- no walk to a goal is shorter, and some number was found
+-- No walk to a goal is shorter, and some number was found.
 pub fewest : (flows : ℕ → ℕ → Bool) (goals : List Bool) (far : List ℕ) → length goals ≤ 1025
     → ((a b : ℕ) → flows a b ≡ true → (a < length goals) × (b < length goals))
     → AreDistances flows goals far → (n v b : ℕ) → Leads flows n v b → IsGoal goals b → (get_or far v 0 < 65535)

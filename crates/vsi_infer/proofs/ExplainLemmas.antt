@@ -8,12 +8,12 @@ use Rattle.vsi_types.specs.declared.rules.Step.{Step}
 use Rattle.vsi_types.specs.Walks.{last_target}
 use Rattle.vsi_infer.specs.Explanation.{step_line, last_text, explanation}
 
--- where the last step of a walk goes
+-- Where the last step of a walk goes.
 last_at : (x d : Step) (xs : List Step) → (get_or (x ∷ xs) (length xs) d).target ≡ last_target x xs
 last_at x d [] = refl
 last_at x d (y ∷ xs) = last_at y d xs
 
--- the lines of the steps and the last line are the walk's text
+-- The lines of the steps and the last line are the walk's text.
 pub explained : (l : Lattice) (source : List ℕ) (r : Source) (items : List Step) (d e : Step) → 0 < length items
     → flat_map (step_line source r) items ++ last_text l r (get_or items 0 d).source
     (get_or items (length items - 1) e).target ≡ explanation l source r items

@@ -1,16 +1,10 @@
 -- Rows of distances, one after another, and the fewest steps.
-use Rattle.std.proofs.Common.{◌≡◌, ℕ, zero, suc, ◌+◌, ◌<◌, ◌≤◌, ◌⊎◌, ◌==◌, min, false, List, [], ◌∷◌, ◌++◌, map, take, length, get_or, set, get_or-set_other, get_or-set_same, Option, Some, None, slice_get, refl, sym, ap, ◌∙◌, subst, arith, inl, inr}
-use Rattle.std.proofs.lemmas.List.{take_more, map-append}
+use Rattle.std.proofs.Common.{◌≡◌, ℕ, zero, suc, ◌+◌, ◌<◌, ◌≤◌, ◌⊎◌, ◌==◌, min, false, List, [], ◌∷◌, ◌++◌, map, length, get_or, set, get_or-set_other, get_or-set_same, Option, Some, None, slice_get, refl, sym, ap, ◌∙◌, subst, arith, inl, inr}
 use Rattle.std.proofs.lemmas.Bool.{cases_eq, cases_lt, false≢true}
 use Rattle.std.proofs.lemmas.Option.{slice_get-get_or, slice_get_within}
 use Rattle.vsi_infer.specs.Shortest.{far_at}
 
-pub map_more : {X Y : Type 0} (f : X → Y) (xs : List X) (i : ℕ) (x : X) → i < length xs → x ≡ get_or xs i x
-    → map f (take (i + 1) xs) ≡ map f (take i xs) ++ f x ∷ []
-map_more f xs i x lt is = ap (map f) (take_more xs i x lt) ∙ map-append f (take i xs) (get_or xs i x ∷ [])
-    ∙ ap (λ y. map f (take i xs) ++ f y ∷ []) (sym is)
-
--- a row is empty, or has what it is to have
+-- A row is empty, or has what it is to have.
 module _ (Q : ℕ → List ℕ → Type 0) where
   abbrev pub EmptyOr : List (List ℕ) → ℕ → Type 0
   EmptyOr rows k = (get_or rows k [] ≡ []) ⊎ Q k (get_or rows k [])
@@ -39,7 +33,7 @@ module _ (Q : ℕ → List ℕ → Type 0) where
       → Q k (get_or rows k [])
   has_filled rows k full h = elim h [ inl e ↦ absurd (full e) | inr q ↦ q ]
 
--- the rows are set as the vectors are
+-- The rows are set as the vectors are.
 pub map_set : {X : Type 0} (f : X → List ℕ) (xs : List X) (i : ℕ) (x : X)
     → map f (set xs i x) ≡ set (map f xs) i (f x)
 map_set f [] i x = refl
@@ -53,7 +47,7 @@ empty_more [] row e h (suc k) = refl
 empty_more (x ∷ rows) row e h zero = h 0
 empty_more (x ∷ rows) row e h (suc k) = empty_more rows row e (λ i. h (suc i)) k
 
--- a class that is declared at the next variable
+-- A class that is declared at the next variable.
 pub class_at : (ds : List (Option ℕ)) (v class c : ℕ) (o : Option ℕ) → v < length ds → get_or ds v o ≡ Some class
     → slice_get ds v ≡ Some (Some c) → class ≡ c
 class_at ds v class c o lt is e = unwrap (unwrap' (sym (slice_get-get_or ds v o lt ∙ ap Some is) ∙ e))
@@ -64,7 +58,7 @@ class_at ds v class c o lt is e = unwrap (unwrap' (sym (slice_get-get_or ds v o 
     unwrap' : {a b : Option ℕ} → Some a ≡ Some b → a ≡ b
     unwrap' {a} e = ap (λ o. elim o as (λ _. Option ℕ) [ None ↦ a | Some x ↦ x ]) e
 
--- what holds of each class declared at the first variables, with one variable more
+-- What holds of each class declared at the first variables, with one variable more.
 pub next_none : (R : ℕ → Type 0) (ds : List (Option ℕ)) (v : ℕ) (o : Option ℕ) → v < length ds
     → ((x : ℕ) → get_or ds v o ≡ Some x → ⊥) → ((u c : ℕ) → u < v → slice_get ds u ≡ Some (Some c) → R c)
     → (u c : ℕ) → u < v + 1 → slice_get ds u ≡ Some (Some c) → R c
@@ -86,12 +80,12 @@ next_some R R' weaker ds v class o lt is here h u c le e = elim (cases_eq u v) [
   | inr n ↦ weaker c (h u c (omega (arith, le, n)) e)
 ]
 
--- a row with distances isn't empty
+-- A row with distances isn't empty.
 pub filled : (row items : List ℕ) → row ≡ items → false ≡ (length items == 0) → row ≡ [] → ⊥
 filled row items e t q = false≢true (t ∙ ap (λ l. length l == 0) (sym e ∙ q))
 
 module _ (ds : List (Option ℕ)) (rows : List (List ℕ)) where
-  -- the number is no more than the distance of any of the first declared variables
+  -- The number is no more than the distance of any of the first declared variables.
   abbrev pub Lower : ℕ → ℕ → Type 0
   Lower best v = (u c : ℕ) → u < v → slice_get ds u ≡ Some (Some c) → best ≤ far_at rows c u
 
@@ -118,7 +112,7 @@ module _ (ds : List (Option ℕ)) (rows : List (List ℕ)) where
     | inr n ↦ (let r = h u c (omega (arith, le, n)) e in omega (arith, r, less))
   ]
 
-  -- the number is some declared variable's distance, or none was found
+  -- The number is some declared variable's distance, or none was found.
   abbrev pub Attained : ℕ → Type 0
   Attained n = (n ≡ 65535) ⊎ ((v : ℕ) × (c : ℕ) × (slice_get ds v ≡ Some (Some c)) × (far_at rows c v ≡ n))
 

@@ -1,6 +1,7 @@
 -- How answers on parts make an answer on the whole, and what they say of a program's steps.
-use Rattle.std.proofs.Common.{◌≡◌, ℕ, zero, suc, ◌+◌, ◌<◌, ◌≤◌, Bool, true, false, ◌||◌, List, [], ◌∷◌, ◌++◌, take, length, get_or, refl, sym, ap, ◌∙◌, subst, arith}
+use Rattle.std.proofs.Common.{◌≡◌, ℕ, zero, suc, ◌+◌, ◌<◌, ◌≤◌, Bool, false, ◌||◌, List, [], ◌∷◌, ◌++◌, take, length, get_or, refl, sym, ap, ◌∙◌, subst, arith}
 use Rattle.std.proofs.lemmas.List.{take_more, take_all}
+use Rattle.std.proofs.Math.Bool.{or-false, or_assoc}
 use Rattle.vsi_syntax.specs.declared.token.Span.{Span}
 use Rattle.vsi_scope.specs.declared.program.Cmd.{Cmd}
 use Rattle.vsi_scope.specs.Phrase.{letvars, nesting, HasPlaces}
@@ -11,40 +12,32 @@ use Rattle.vsi_types.specs.declared.rules.Step.{Step}
 use Rattle.vsi_types.proofs.Judging.{places_at, letvars_at}
 use Rattle.vsi_infer.specs.Membership.{passes, Stand, IsFor, IsPast}
 
--- a command of a list nests no deeper than the list
+-- A command of a list nests no deeper than the list.
 pub nesting_at : (cs : List Cmd) (i : ℕ) (c : Cmd) → i < length cs → c ≡ get_or cs i c
     → nesting (command c) ≤ nesting (sequence cs)
 nesting_at [] i c lt is = absurd (omega arith)
 nesting_at (x ∷ cs) zero c lt is = let e = ap (λ y. nesting (command y)) is in omega arith
 nesting_at (x ∷ cs) (suc i) c lt is = let r = nesting_at cs i c (omega arith) is in omega arith
 
-or_false : (x : Bool) → (x || false) ≡ x
-or_false true = refl
-or_false false = refl
-
-or_assoc : (x y z : Bool) → (x || (y || z)) ≡ ((x || y) || z)
-or_assoc true y z = refl
-or_assoc false y z = refl
-
 module _ (x : Step) (P : Profile) (names : ℕ → Span) (around : Bool) (scope : List ℕ) where
-  -- the answer for a list with one command more at its end
+  -- The answer for a list with one command more at its end.
   pub passes_push : (n : ℕ) (cs : List Cmd) (c : Cmd) → passes x P names around scope n (sequence (cs ++ c ∷ []))
       ≡ (passes x P names around scope n (sequence cs) || passes x P names around scope (n + letvars (sequence cs))
       (command c))
   passes_push n [] c =
       let e : n ≡ n + 0 = omega arith in
-      or_false (passes x P names around scope n (command c)) ∙ ap (λ k. passes x P names around scope k (command c)) e
+      or-false (passes x P names around scope n (command c)) ∙ ap (λ k. passes x P names around scope k (command c)) e
   passes_push n (y ∷ cs) c =
       let r = passes_push (n + letvars (command y)) cs c in
       let e : n + letvars (command y) + letvars (sequence cs) ≡ n + (letvars (command y) + letvars (sequence cs)) =
       omega arith in
       ap (λ b. passes x P names around scope n (command y) || b) r
-      ∙ or_assoc (passes x P names around scope n (command y))
-      (passes x P names around scope (n + letvars (command y)) (sequence cs)) _
+      ∙ sym (or_assoc (passes x P names around scope n (command y))
+      (passes x P names around scope (n + letvars (command y)) (sequence cs)) _)
       ∙ ap (λ k. (passes x P names around scope n (command y) || passes x P names around scope
       (n + letvars (command y)) (sequence cs)) || passes x P names around scope k (command c)) e
 
-  -- the answer for the first commands of a list, and for one more
+  -- The answer for the first commands of a list, and for one more.
   pub passes_more : (n : ℕ) (cs : List Cmd) (i : ℕ) (c : Cmd) → i < length cs → c ≡ get_or cs i c
       → passes x P names around scope n (sequence (take (i + 1) cs))
       ≡ (passes x P names around scope n (sequence (take i cs)) || passes x P names around scope
@@ -55,7 +48,7 @@ module _ (x : Step) (P : Profile) (names : ℕ → Span) (around : Bool) (scope 
       ∙ ap (λ y. passes x P names around scope n (sequence (take i cs)) || passes x P names around scope
       (n + letvars (sequence (take i cs))) (command y)) (sym is)
 
--- the next command of a list has what it needs
+-- The next command of a list has what it needs.
 pub for_next : (x : Step) (P : Profile) (names : ℕ → Span) (around : Bool) (first count : ℕ) (a b : Stand)
     (cs : List Cmd) (i : ℕ) (c : Cmd) (found : Bool) → i < length cs → c ≡ get_or cs i c
     → IsFor first count a (sequence cs) → IsPast x P names around a (sequence (take i cs)) b found
@@ -72,12 +65,12 @@ for_next x P names around first count a b cs i c found lt is f p =
       room = omega (arith, f.room, d, ap length p.scope);
     }
 
--- nothing was passed yet
+-- Nothing was passed yet.
 pub past_none : (x : Step) (P : Profile) (names : ℕ → Span) (around : Bool) (a : Stand)
     → IsPast x P names around a (sequence []) a false
 past_none x P names around a = record { answer = refl; scope = refl; next = omega arith }
 
--- one command more was passed
+-- One command more was passed.
 pub past_more : (x : Step) (P : Profile) (names : ℕ → Span) (around : Bool) (a b d : Stand) (cs : List Cmd) (i : ℕ)
     (c : Cmd) (found one : Bool) → i < length cs → c ≡ get_or cs i c
     → IsPast x P names around a (sequence (take i cs)) b found → IsPast x P names around b (command c) d one
@@ -93,7 +86,7 @@ past_more x P names around a b d cs i c found one lt is p q = record {
   next = (let e = letvars_more cs i c lt is in omega (arith, q.next, p.next, e));
 }
 
--- all were passed
+-- All were passed.
 pub past_all : (x : Step) (P : Profile) (names : ℕ → Span) (around : Bool) (a b : Stand) (cs : List Cmd) (i : ℕ)
     (found : Bool) → length cs ≤ i
     → IsPast x P names around a (sequence (take i cs)) b found → IsPast x P names around a (sequence cs) b found

@@ -4,6 +4,8 @@ use Rattle.std.specs.Prelude.{slice_index}
 use Rattle.std.specs.List.{All}
 use Rattle.std.proofs.lemmas.List.{take_more, take_all, length_push}
 use Rattle.std.proofs.lemmas.List.Elements.{All-push}
+use Rattle.std.proofs.Math.Bool.{or-false, or_assoc}
+use Rattle.std.proofs.Math.Seq.{take-append_seam}
 use Rattle.vsi_syntax.specs.declared.token.Span.{Span}
 use Rattle.vsi_scope.specs.declared.program.Cmd.{Cmd}
 use Rattle.vsi_scope.specs.Phrase.{Phrase, Command, Nothing, Put, Then, Choose, Repeat, Allocate, letvars, has_loop, HasPlaces}
@@ -12,15 +14,7 @@ use Rattle.vsi_types.specs.declared.rules.Profile.{Profile}
 use Rattle.vsi_infer.specs.FlowRows.{flow_has}
 use Rattle.vsi_infer.specs.Leading.{leads, inside, minds, reads_it, Spot, IsReady, IsNoted}
 
--- tests
-pub or_assoc : (x y z : Bool) → ((x || y) || z) ≡ (x || (y || z))
-or_assoc true y z = refl
-or_assoc false y z = refl
-
-pub or_nothing : (x : Bool) → x ≡ (x || false)
-or_nothing true = refl
-or_nothing false = refl
-
+-- Tests.
 or_swap : (x y z : Bool) → ((x || y) || z) ≡ (x || (z || y))
 or_swap true y z = refl
 or_swap false true true = refl
@@ -33,7 +27,7 @@ both_to true t r g = refl
 both_to false true r g = refl
 both_to false false r g = refl
 
--- guards that read the same
+-- Guards that read the same.
 pub leads_same : (P : Profile) (k : ℕ) (f g : ℕ → Bool) → ((v : ℕ) → f v ≡ g v)
     → (scope : List ℕ) (n : ℕ) (c : Command) (a b : ℕ) → leads P k f scope n c a b ≡ leads P k g scope n c a b
 leads_same P k f g h scope n Nothing a b = refl
@@ -56,14 +50,14 @@ leads_same P k f g h scope n (Repeat e c) a b =
 leads_same P k f g h scope n (Allocate e c) a b =
     ap (λ x. ((b == n) && reads_it scope e a) || x) (leads_same P k f g h (scope ++ n ∷ []) (n + 1) c a b)
 
--- one command more of a list
+-- One command more of a list.
 module _ (P : Profile) (k : ℕ) (around : ℕ → Bool) (scope : List ℕ) (a b : ℕ) where
   leads_push : (n : ℕ) (cs : List Cmd) (c : Cmd) → leads P k around scope n (sequence (cs ++ c ∷ [])) a b ≡
       (leads P k around scope n (sequence cs) a b || leads P k around scope (n + letvars (sequence cs))
       (command c) a b)
   leads_push n [] c =
       let e : n ≡ n + 0 = omega arith in
-      sym (or_nothing (leads P k around scope n (command c) a b))
+      or-false (leads P k around scope n (command c) a b)
       ∙ ap (λ m. leads P k around scope m (command c) a b) e
   leads_push n (x ∷ cs) c =
       let e : n + letvars (command x) + letvars (sequence cs) ≡ n + (letvars (command x) + letvars (sequence cs)) =
@@ -84,18 +78,6 @@ module _ (P : Profile) (k : ℕ) (around : ℕ → Bool) (scope : List ℕ) (a b
       ∙ ap (λ y. leads P k around scope n (sequence (take i cs)) a b || leads P k around scope
       (n + letvars (sequence (take i cs))) (command y) a b) (sym is)
 
-loop_push : (cs : List Cmd) (c : Cmd) → has_loop (sequence (cs ++ c ∷ [])) ≡
-    (has_loop (sequence cs) || has_loop (command c))
-loop_push [] c = sym (or_nothing (has_loop (command c)))
-loop_push (x ∷ cs) c = ap (λ t. has_loop (command x) || t) (loop_push cs c)
-    ∙ sym (or_assoc (has_loop (command x)) (has_loop (sequence cs)) (has_loop (command c)))
-
-pub loop_more : (cs : List Cmd) (i : ℕ) (c : Cmd) → i < length cs → c ≡ get_or cs i c
-    → has_loop (sequence (take (i + 1) cs)) ≡ (has_loop (sequence (take i cs)) || has_loop (command c))
-loop_more cs i c lt is = ap (λ l. has_loop (sequence l)) (take_more cs i c lt)
-    ∙ loop_push (take i cs) (get_or cs i c) ∙ ap (λ y. has_loop (sequence (take i cs)) || has_loop (command y))
-    (sym is)
-
 abbrev pub spot : List ℕ → List ℕ → ℕ → Spot
 spot r s n = record { rows = r; scope = s; next = n }
 
@@ -104,17 +86,17 @@ module _ (P : Profile) (k : ℕ) (around : ℕ → Bool) where
       → leads P k around s n c x y ≡ leads P k around s' n' c x y
   moved s s' n n' c x y p q = ap (λ z. leads P k around z n c x y) p ∙ ap (λ m. leads P k around s' m c x y) q
 
-  -- nothing yet
+  -- Nothing yet.
   pub noted_none : (a : Spot) → IsNoted P k around a Nothing a
   noted_none a = record {
     scope = refl;
     next = omega arith;
     room = refl;
     rows =
-        λ x y. or_nothing (flow_has a.rows y x);
+        λ x y. sym (or-false (flow_has a.rows y x));
   }
 
-  -- one command after another
+  -- One command after another.
   pub noted_then : (a b d : Spot) (c₁ c₂ : Command) → IsNoted P k around a c₁ b → IsNoted P k around b c₂ d
       → IsNoted P k around a (Then c₁ c₂) d
   noted_then a b d c₁ c₂ h g = record {
@@ -128,7 +110,7 @@ module _ (P : Profile) (k : ℕ) (around : ℕ → Bool) where
         ∙ or_assoc (flow_has a.rows y x) (leads P k around a.scope a.next c₁ x y) _;
   }
 
-  -- a list of commands, up to a place in it
+  -- A list of commands, up to a place in it.
   pub noted_more : (a b d : Spot) (cs : List Cmd) (i : ℕ) (c : Cmd) → i < length cs → c ≡ get_or cs i c
       → letvars (sequence (take (i + 1) cs)) ≡ letvars (sequence (take i cs)) + letvars (command c)
       → IsNoted P k around a (sequence (take i cs)) b → IsNoted P k around b (command c) d
@@ -147,7 +129,7 @@ module _ (P : Profile) (k : ℕ) (around : ℕ → Bool) where
       → IsNoted P k around a (sequence (take i cs)) b → IsNoted P k around a (sequence cs) b
   noted_all a b cs i le h = subst (λ l. IsNoted P k around a (sequence l) b) (take_all i cs le) h
 
-  -- an assignment
+  -- An assignment.
   pub noted_put : (a b : Spot) (mid : List ℕ) (l : ℕ) (s : Span) (e : Phrase) (to : ℕ) → to ≡ slice_index a.scope l
       → b.scope ≡ a.scope → b.next ≡ a.next → length b.rows ≡ length a.rows
       → ((x y : ℕ) → flow_has mid y x ≡ (flow_has a.rows y x || ((y == to) && reads_it a.scope e x)))
@@ -162,7 +144,7 @@ module _ (P : Profile) (k : ℕ) (around : ℕ → Bool) where
         ∙ ap (λ (t : ℕ). flow_has a.rows y x || ((y == t) && (reads_it a.scope e x || around x))) at;
   }
 
-  -- a choice: both branches under its guard, and then its ending
+  -- A choice: both branches under its guard, and then its ending.
   pub noted_if : (inner : ℕ → Bool) (a b d : Spot) (e : Phrase) (c₁ c₂ : Command) (looping : Bool)
       → ((v : ℕ) → inner v ≡ inside around a.scope e v) → looping ≡ (has_loop c₁ || has_loop c₂)
       → IsNoted P k inner a (Then c₁ c₂) b → d.scope ≡ b.scope → d.next ≡ b.next → length d.rows ≡ length b.rows
@@ -185,7 +167,7 @@ module _ (P : Profile) (k : ℕ) (around : ℕ → Bool) where
         (inside around a.scope e) same a.scope a.next (Then c₁ c₂) x y);
   }
 
-  -- a loop: its ending, and then its body under its guard
+  -- A loop: its ending, and then its body under its guard.
   pub noted_while : (inner : ℕ → Bool) (a b d : Spot) (e : Phrase) (c : Command)
       → ((v : ℕ) → inner v ≡ inside around b.scope e v) → b.scope ≡ a.scope → b.next ≡ a.next
       → length b.rows ≡ length a.rows
@@ -205,14 +187,14 @@ module _ (P : Profile) (k : ℕ) (around : ℕ → Bool) where
         ∙ or_assoc (flow_has a.rows y x) _ _;
   }
 
-  -- a letvar: its initial value, and then its body in a longer scope
+  -- A letvar: its initial value, and then its body in a longer scope.
   pub noted_letvar : (a b d f : Spot) (e : Phrase) (c : Command) → b.scope ≡ a.scope ++ a.next ∷ []
       → b.next ≡ a.next + 1 → length b.rows ≡ length a.rows
       → ((x y : ℕ) → flow_has b.rows y x ≡ (flow_has a.rows y x || ((y == a.next) && reads_it a.scope e x)))
       → IsNoted P k around b c d → f.scope ≡ take (length a.scope) d.scope → f.next ≡ d.next → f.rows ≡ d.rows
       → IsNoted P k around a (Allocate e c) f
   noted_letvar a b d f e c sc ne len bits h fs fn fr = record {
-    scope = fs ∙ ap (take (length a.scope)) (h.scope ∙ sc) ∙ take_front a.scope (a.next ∷ []);
+    scope = fs ∙ ap (take (length a.scope)) (h.scope ∙ sc) ∙ take-append_seam a.scope (a.next ∷ []);
     next = omega (arith, fn, ne, h.next);
     room = ap length fr ∙ h.room ∙ len;
     rows = λ x y.
@@ -221,12 +203,8 @@ module _ (P : Profile) (k : ℕ) (around : ℕ → Bool) where
         (moved b.scope (a.scope ++ a.next ∷ []) b.next (a.next + 1) c x y sc ne)
         ∙ or_assoc (flow_has a.rows y x) _ _;
   }
-    where
-      take_front : {A : Type 0} (xs ys : List A) → take (length xs) (xs ++ ys) ≡ xs
-      take_front [] ys = refl
-      take_front (x ∷ xs) ys = ap (λ l. x ∷ l) (take_front xs ys)
 
--- where the rows have room for a command, they have it for its parts
+-- Where the rows have room for a command, they have it for its parts.
 module _ (k : ℕ) where
   pub ready_same : (a b : Spot) (c d : Command) → HasPlaces (length a.scope) d → letvars d ≤ letvars c
       → IsReady k a c → b.scope ≡ a.scope → b.next ≡ a.next → length b.rows ≡ length a.rows → IsReady k b d

@@ -4,46 +4,32 @@ use Rattle.std.specs.Prelude.{⊤, Ok}
 use Rattle.std.specs.Option.{option_or}
 use Rattle.std.specs.List.{find}
 use Rattle.std.proofs.lemmas.List.Folds.{find-append}
+use Rattle.std.proofs.Math.Seq.{take-append_seam}
 use Rattle.vsi_syntax.specs.declared.token.Span.{Span}
 use Rattle.vsi_scope.specs.declared.program.Cmd.{Cmd}
 use Rattle.vsi_scope.specs.Phrase.{Phrase, Command, Put, Choose, Repeat, Allocate, letvars, has_loop, HasPlaces}
 use Rattle.vsi_scope.specs.View.{command, sequence}
 use Rattle.vsi_scope.proofs.Views.{letvars_more}
 use Rattle.vsi_types.specs.declared.rules.Profile.{Profile}
-use Rattle.vsi_types.specs.declared.rules.Rule.{Rule}
 use Rattle.vsi_types.specs.declared.rules.Rule.TheVariants.{If, While, Letvar}
 use Rattle.vsi_types.specs.declared.rules.Guard.{Guard}
 use Rattle.vsi_types.specs.declared.rules.Step.{Step}
 use Rattle.vsi_types.specs.Steps.{reads, guarded, flows, endings, steps}
 use Rattle.vsi_types.proofs.Judging.{places_at, letvars_at, steps_at, steps_more}
-use Rattle.vsi_infer.specs.Seeking.{Place, HasRoom, IsPassed, Sought}
+use Rattle.vsi_types.specs.Walker.{Place}
+use Rattle.vsi_types.proofs.Places.{place, inside, within_letvar}
+use Rattle.vsi_infer.specs.Seeking.{HasRoom, IsPassed, Sought}
 use Rattle.vsi_infer.proofs.SeekLemmas.{found_left}
 
-take_front : {A : Type 0} (xs ys : List A) → take (length xs) (xs ++ ys) ≡ xs
-take_front [] ys = refl
-take_front (x ∷ xs) ys = ap (λ l. x ∷ l) (take_front xs ys)
-
--- a place by its parts
-abbrev pub place : List ℕ → List Guard → ℕ → Place
-place s g n = record { scope = s; guards = g; next = n }
-
--- the place under a guard
-abbrev pub inside : Rule → Phrase → Place → Place
-inside rule e a = record { scope = a.scope; guards = a.guards ++ guarded rule (reads a.scope e); next = a.next }
-
--- the place in a letvar
-abbrev pub within_letvar : Place → Place
-within_letvar a = record { scope = a.scope ++ a.next ∷ []; guards = a.guards; next = a.next + 1 }
-
 module _ (P : Profile) (names : ℕ → Span) (p : Step → Bool) where
-  -- the steps of a command at a place
+  -- The steps of a command at a place.
   abbrev pub here : Place → Command → List Step
   here a c = steps P names a.guards a.scope a.next c
 
   pub passed_then : (xs ys : List Step) (o : Option Step) → find p xs ≡ None → find p ys ≡ o → find p (xs ++ ys) ≡ o
   passed_then xs ys o e f = find-append p xs ys ∙ ap (λ x. option_or x (find p ys)) e ∙ f
 
-  -- what an answer says where a step was found, and where none was
+  -- What an answer says where a step was found, and where none was.
   pub sought_some : (a b : Place) (c : Command) (o : Option Step) (s : Step) → o ≡ Some s
       → Sought {E = ⊤} P names p a c b (Ok o) → find p (here a c) ≡ Some s
   sought_some a b c o s e h = subst (λ x. Sought {E = ⊤} P names p a c b (Ok x)) e h
@@ -52,7 +38,7 @@ module _ (P : Profile) (names : ℕ → Span) (p : Step → Bool) where
       → IsPassed P names p a c b
   sought_none a b c o e h = subst (λ x. Sought {E = ⊤} P names p a c b (Ok x)) e h
 
-  -- the same at a place whose parts are known
+  -- The same at a place whose parts are known.
   pub some_at : (t t' : List ℕ) (g g' : List Guard) (n : ℕ) (b : Place) (c : Command) (o : Option Step) (s : Step)
       → t ≡ t' → g ≡ g' → o ≡ Some s → Sought {E = ⊤} P names p (place t g n) c b (Ok o)
       → find p (here (place t' g' n) c) ≡ Some s
@@ -66,7 +52,7 @@ module _ (P : Profile) (names : ℕ → Span) (p : Step → Bool) where
       subst (λ u. IsPassed P names p (place u g' n) c b) f (subst (λ l. IsPassed P names p (place t l n) c b) e
       (sought_none (place t g n) b c o i h))
 
-  -- an assignment's answer
+  -- An assignment's answer.
   pub put_answer : (a : Place) (k : Command) (l : ℕ) (s : Span) (e : Phrase) (o : Option Step) → k ≡ Put l s e
       → o ≡ find p (here a (Put l s e)) → Sought {E = ⊤} P names p a k a (Ok o)
   put_answer a k l s e o is h =
@@ -76,7 +62,7 @@ module _ (P : Profile) (names : ℕ → Span) (p : Step → Bool) where
       of_put None h = record { nothing = sym h; scope = refl; guards = refl; next = omega arith }
       of_put (Some x) h = sym h
 
-  -- the same place
+  -- The same place.
   pub moved : (a b : Place) (c : Command) (o : Option Step) → b.scope ≡ a.scope → b.guards ≡ a.guards → (n : ℕ)
       → b.next ≡ n → find p (here b c) ≡ o → find p (steps P names a.guards a.scope n c) ≡ o
   moved a b c o s g n e h =
@@ -107,7 +93,7 @@ module _ (P : Profile) (names : ℕ → Span) (p : Step → Bool) where
       nothing = choose_second b None i j.nothing;
       scope = s ∙ j.scope ∙ i.scope;
       guards = g ∙ ap (take (length a.guards)) (j.guards ∙ i.guards)
-          ∙ take_front a.guards (guarded If (reads a.scope e));
+          ∙ take-append_seam a.guards (guarded If (reads a.scope e));
       next = omega (arith, n, j.next, i.next);
     }
 
@@ -120,7 +106,7 @@ module _ (P : Profile) (names : ℕ → Span) (p : Step → Bool) where
     repeat_none b z i s g n = record {
       nothing = repeat_some None i.nothing;
       scope = s ∙ i.scope;
-      guards = g ∙ ap (take (length a.guards)) i.guards ∙ take_front a.guards (guarded While (reads a.scope e));
+      guards = g ∙ ap (take (length a.guards)) i.guards ∙ take-append_seam a.guards (guarded While (reads a.scope e));
       next = n ∙ i.next;
     }
 
@@ -141,12 +127,12 @@ module _ (P : Profile) (names : ℕ → Span) (p : Step → Bool) where
           → IsPassed P names p a (Allocate e c) z
       allocate_none b z i s g n = record {
         nothing = allocate_some None i.nothing;
-        scope = s ∙ ap (take (length a.scope)) i.scope ∙ take_front a.scope (a.next ∷ []);
+        scope = s ∙ ap (take (length a.scope)) i.scope ∙ take-append_seam a.scope (a.next ∷ []);
         guards = g ∙ i.guards;
         next = omega (arith, n, i.next);
       }
 
-  -- the commands of a list, up to a place in it
+  -- The commands of a list, up to a place in it.
   module _ (a b : Place) (cs : List Cmd) (i : ℕ) (c : Cmd) (lt : i < length cs) (is : c ≡ get_or cs i c)
       (h : IsPassed P names p a (sequence (take i cs)) b) where
     pub list_some : (s : Step) → find p (here b (command c)) ≡ Some s → find p (here a (sequence cs)) ≡ Some s

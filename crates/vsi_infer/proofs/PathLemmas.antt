@@ -1,10 +1,11 @@
 -- Paths and bad walks, and when a step is one of a list.
-use Rattle.std.proofs.Common.{◌≡◌, ℕ, zero, suc, ◌+◌, ◌<◌, ◌==◌, ◌&&◌, ◌||◌, cond, Bool, true, false, not, List, [], ◌∷◌, ◌++◌, take, length, get_or, slice_get, Option, Some, None, refl, sym, ap, ◌∙◌, subst, arith, inl, inr, eq-eqb}
+use Rattle.std.proofs.Common.{◌≡◌, ℕ, zero, suc, ◌+◌, ◌<◌, ◌==◌, ◌&&◌, ◌||◌, cond, Bool, true, false, not, List, [], ◌∷◌, ◌++◌, take, length, get_or, slice_get, Some, None, refl, sym, ap, ◌∙◌, subst, arith, inl, inr, eq-eqb}
 use Rattle.std.specs.Prelude.{slice_index}
 use Rattle.std.specs.List.{All, Contains, list_any, find}
 use Rattle.std.proofs.lemmas.List.{take_more}
 use Rattle.std.proofs.lemmas.List.Folds.{list_any_at, list_any-append}
 use Rattle.std.proofs.lemmas.List.Elements.{All-nil, All-cons, All-head, All-tail}
+use Rattle.std.proofs.Math.Bool.{or-false, or_assoc}
 use Rattle.std.proofs.lemmas.Bool.{and_parts, or_cases, and_from, false≢true}
 use Rattle.std.proofs.lemmas.Bool.Decides.{nat_tests}
 use Rattle.vsi_lattice.specs.Order.{Lattice, Below}
@@ -25,13 +26,13 @@ use Rattle.vsi_infer.specs.Membership.{same_rule, same_span, read_is, written_is
 use Rattle.vsi_infer.specs.Paths.{IsPath}
 
 module _ (ss : List Step) where
-  -- a path goes on with a step
+  -- A path goes on with a step.
   pub path_push : (a b : ℕ) (xs : List Step) (s : Step) → IsPath ss a xs b → s.source ≡ b → Contains ss s
       → IsPath ss a (xs ++ s ∷ []) s.target
   path_push a b [] s p e c = (e ∙ sym p, c, refl)
   path_push a b (x ∷ xs) s p e c = (p.0, p.1, path_push x.target b xs s p.2 e c)
 
-  -- the steps up to one of a path, and that step
+  -- The steps up to one of a path, and that step.
   pub path_at : (a b : ℕ) (xs : List Step) (i : ℕ) (s : Step) → i < length xs → s ≡ get_or xs i s → IsPath ss a xs b
       → (m : ℕ) × IsPath ss a (take i xs) m × (s.source ≡ m) × Contains ss s
   path_at a b [] i s lt is p = absurd (omega arith)
@@ -46,26 +47,26 @@ module _ (ss : List Step) where
       let r = path_at x.target b xs i s (omega (arith, lt)) is p.2 in
       (r.0, (p.0, p.1, r.1), r.2, r.3)
 
-  -- a path has one end
+  -- A path has one end.
   pub path_end : (a b d : ℕ) (xs : List Step) → IsPath ss a xs b → IsPath ss a xs d → b ≡ d
   path_end a b d [] p q = sym p ∙ q
   path_end a b d (x ∷ xs) p q = path_end x.target b d xs p.2 q.2
 
-  -- one step more of a path
+  -- One step more of a path.
   pub path_more : (a b : ℕ) (xs : List Step) (i : ℕ) (s : Step) → i < length xs → s ≡ get_or xs i s
       → IsPath ss a (take i xs) b → s.source ≡ b → Contains ss s → IsPath ss a (take (i + 1) xs) s.target
   path_more a b xs i s lt is p e c =
       subst (λ l. IsPath ss a l s.target) (ap (λ y. take i xs ++ y ∷ []) is ∙ sym (take_more xs i s lt))
       (path_push a b (take i xs) s p e c)
 
-  -- a path that isn't there
+  -- A path that isn't there.
   pub path_turns : (a b m : ℕ) (xs : List Step) (i : ℕ) (s : Step) → i < length xs → s ≡ get_or xs i s
       → IsPath ss a (take i xs) m → (s.source ≡ m → Contains ss s → ⊥) → IsPath ss a xs b → ⊥
   path_turns a b m xs i s lt is p never q =
       let r = path_at a b xs i s lt is q in
       never (r.2 ∙ path_end a r.0 m (take i xs) r.1 p) r.3
 
-  -- a path is a chain of steps of the list
+  -- A path is a chain of steps of the list.
   pub path_steps : (a b : ℕ) (xs : List Step) → IsPath ss a xs b → All (Contains ss) xs
   path_steps a b [] p = All-nil (Contains ss)
   path_steps a b (x ∷ xs) p = All-cons (Contains ss) x xs p.1 (path_steps x.target b xs p.2)
@@ -84,7 +85,7 @@ module _ (ss : List Step) where
       let r = chain_path t rest (All-tail (Contains ss) s (t ∷ rest) all) c.1 in
       (refl, All-head (Contains ss) s (t ∷ rest) all, (sym c.0, r.1, r.2))
 
--- a path between declared variables is a bad walk where their classes are not in order
+-- A path between declared variables is a bad walk where their classes are not in order.
 pub path_bad : (L : Lattice) (P : Profile) (p : Program) (s : Step) (rest : List Step) (b low high : ℕ)
     → IsPath (steps_of P p) s.source (s ∷ rest) b
     → declared_class L p s.source ≡ Some low → declared_class L p b ≡ Some high → (Below L low high → ⊥)
@@ -101,7 +102,7 @@ path_bad L P p s rest b low high w l h down =
       down = down;
     }
 
--- the same of steps whose first one is known
+-- The same of steps whose first one is known.
 pub bad_steps : (L : Lattice) (P : Profile) (p : Program) (xs : List Step) (s : Step) (b low high : ℕ)
     → slice_get xs 0 ≡ Some s → IsPath (steps_of P p) s.source xs b
     → declared_class L p s.source ≡ Some low → declared_class L p b ≡ Some high → (Below L low high → ⊥)
@@ -113,7 +114,7 @@ bad_steps L P p (x ∷ xs) s b low high e w l h down =
     path_bad L P p x xs b low high (subst (λ (y : Step). IsPath (steps_of P p) y.source (x ∷ xs) b) (sym q) w)
     (subst (λ (y : Step). declared_class L p y.source ≡ Some low) (sym q) l) h down
 
--- a bad walk is a path between declared variables whose classes are not in order
+-- A bad walk is a path between declared variables whose classes are not in order.
 pub record Bad (L : Lattice) (P : Profile) (p : Program) (xs : List Step) (s : Step) : Type 0 where
   pub end : ℕ
   pub low : ℕ
@@ -138,7 +139,7 @@ bad_parts L P p (x ∷ xs) s e bad =
       down = bad.down;
     })
 
--- what is found is there and is wanted
+-- What is found is there and is wanted.
 pub found_there : (p : Step → Bool) (xs : List Step) (s : Step) → find p xs ≡ Some s → Contains xs s × (p s ≡ true)
 found_there p [] s e = absurd (subst (λ o. elim o as (λ _. Type 0) [ None ↦ Unit {0} | Some z ↦ ⊥ ]) e tt)
 found_there p (x ∷ xs) s e = by (p x) refl (λ f. found_there p xs s f) e
@@ -151,7 +152,7 @@ found_there p (x ∷ xs) s e = by (p x) refl (λ f. found_there p xs s f) e
     by true t rest e = let q = some_is x s e in ((0, omega arith, q), ap p (sym q) ∙ t)
     by false t rest e = let r = rest e in ((suc r.0.0, omega (arith, r.0.1), r.0.2), r.1)
 
--- where nothing is found nothing is wanted
+-- Where nothing is found nothing is wanted.
 pub found_none : (p : Step → Bool) (xs : List Step) → find p xs ≡ None → (s : Step) → Contains xs s → p s ≡ true → ⊥
 found_none p [] e s c t = omega (arith, c.1)
 found_none p (x ∷ xs) e s c t = by (p x) refl (λ f d. found_none p xs f s d t) e c
@@ -162,7 +163,7 @@ found_none p (x ∷ xs) e s c t = by (p x) refl (λ f d. found_none p xs f s d t
     by false u rest e (zero, lt, is) = false≢true (sym u ∙ ap p is ∙ t)
     by false u rest e (suc k, lt, is) = rest e (k, omega (arith, lt), is)
 
--- steps that are the same are equal
+-- Steps that are the same are equal.
 rule_is : (r q : Rule) → same_rule r q ≡ true → r ≡ q
 rule_is Assign Assign e = refl
 rule_is If If e = refl
@@ -200,18 +201,12 @@ rule_self Loop = refl
 pub equal : (a b : ℕ) → (a == b) ≡ true → a ≡ b
 equal a b t = grind (arith, nat_tests)
 
--- what a test of two numbers tells
+-- What a test of two numbers tells.
 pub same_from : (a b : ℕ) → false ≡ not (a == b) → a ≡ b
 same_from a b t = grind (arith, nat_tests)
 
 pub differ_from : (a b : ℕ) → true ≡ not (a == b) → a ≡ b → ⊥
 differ_from a b t e = false≢true (sym (t ∙ ap not (eq-eqb a b e)))
-
-pub some_same : (a b : ℕ) → Some a ≡ Some b → a ≡ b
-some_same a b e = ap (λ o. elim o as (λ _. ℕ) [ None ↦ a | Some x ↦ x ]) e
-
-pub none_some : (a : ℕ) → None ≡ Some a → ⊥
-none_some a e = subst (λ (o : Option ℕ). elim o as (λ _. Type 0) [ None ↦ Unit {0} | Some z ↦ ⊥ ]) e tt
 
 pub not_true : (a b : Bool) → a ≡ b → not a ≡ true → b ≡ true → ⊥
 not_true true b e n t = false≢true n
@@ -257,7 +252,7 @@ step_self x =
     (and_from (x.target == x.target) (same_span x.written x.written) (eq-eqb x.target x.target refl)
     (span_self x.written))
 
--- a step is in a list exactly where a step of the list is the same
+-- A step is in a list exactly where a step of the list is the same.
 pub same_there : (x : Step) (ss : List Step) → list_any (same_step x) ss ≡ true → Contains ss x
 same_there x [] e = absurd (false≢true e)
 same_there x (s ∷ ss) e = elim (or_cases (same_step x s) (list_any (same_step x) ss) e) [
@@ -269,18 +264,14 @@ pub there_same : (x : Step) (ss : List Step) → Contains ss x → list_any (sam
 there_same x ss c = list_any_at (same_step x) ss c.0 x c.1 (subst (λ y. same_step x y ≡ true) (sym c.2) (step_self x))
 
 module _ (x : Step) where
-  -- some guard reads what the step reads
+  -- Some guard reads what the step reads.
   abbrev pub guards_pass : List Guard → Bool
   guards_pass gs = list_any (λ g. read_is x g.rule g.read.variable g.read.place) gs
-
-  or_false : (t : Bool) → (t || false) ≡ t
-  or_false true = refl
-  or_false false = refl
 
   reads_as : (rule : Rule) (scope : List ℕ) (e : Phrase) → guards_pass
       (guarded rule (reads scope e)) ≡ reads_pass x rule scope e
   reads_as rule scope (Literal z) = refl
-  reads_as rule scope (Contents l s) = or_false (read_is x rule (slice_index scope l) s)
+  reads_as rule scope (Contents l s) = or-false (read_is x rule (slice_index scope l) s)
   reads_as rule scope (Apply o a b) =
       more rule (reads scope a) (reads scope b) ∙ ap (λ t. t || guards_pass (guarded rule (reads scope b)))
       (reads_as rule scope a)
@@ -290,17 +281,13 @@ module _ (x : Step) where
           (guards_pass (guarded rule rs) || guards_pass (guarded rule qs))
       more rule [] qs = refl
       more rule (r ∷ rs) qs = ap (λ t. read_is x rule r.variable r.place || t) (more rule rs qs)
-          ∙ or_assoc (read_is x rule r.variable r.place) (guards_pass (guarded rule rs))
-          (guards_pass (guarded rule qs))
-        where
-          or_assoc : (x y z : Bool) → (x || (y || z)) ≡ ((x || y) || z)
-          or_assoc true y z = refl
-          or_assoc false y z = refl
+          ∙ sym (or_assoc (read_is x rule r.variable r.place) (guards_pass (guarded rule rs))
+          (guards_pass (guarded rule qs)))
 
   ends_as : (scope : List ℕ) (e : Phrase) → list_any (same_step x)
       (endings Strict true (reads scope e)) ≡ ends_pass x scope e
   ends_as scope (Literal z) = refl
-  ends_as scope (Contents l s) = or_false (read_is x Loop (slice_index scope l) s && written_is x sink s)
+  ends_as scope (Contents l s) = or-false (read_is x Loop (slice_index scope l) s && written_is x sink s)
   ends_as scope (Apply o a b) = more (reads scope a) (reads scope b)
       ∙ ap (λ t. t || list_any (same_step x) (endings Strict true (reads scope b))) (ends_as scope a)
       ∙ ap (λ t. ends_pass x scope a || t) (ends_as scope b)
@@ -309,12 +296,8 @@ module _ (x : Step) where
           (list_any (same_step x) (endings Strict true rs) || list_any (same_step x) (endings Strict true qs))
       more [] qs = refl
       more (r ∷ rs) qs = ap (λ t. (read_is x Loop r.variable r.place && written_is x sink r.place) || t)
-          (more rs qs) ∙ or_assoc (read_is x Loop r.variable r.place && written_is x sink r.place)
-          (list_any (same_step x) (endings Strict true rs)) (list_any (same_step x) (endings Strict true qs))
-        where
-          or_assoc : (x y z : Bool) → (x || (y || z)) ≡ ((x || y) || z)
-          or_assoc true y z = refl
-          or_assoc false y z = refl
+          (more rs qs) ∙ sym (or_assoc (read_is x Loop r.variable r.place && written_is x sink r.place)
+          (list_any (same_step x) (endings Strict true rs)) (list_any (same_step x) (endings Strict true qs)))
 
   and_true : (t : Bool) → t ≡ (t && true)
   and_true true = refl
@@ -350,7 +333,7 @@ module _ (x : Step) where
   guards_append : (gs hs : List Guard) → guards_pass (gs ++ hs) ≡ (guards_pass gs || guards_pass hs)
   guards_append gs hs = list_any-append (λ (g : Guard). read_is x g.rule g.read.variable g.read.place) gs hs
 
-  -- the walk over the commands tells which steps are theirs
+  -- The walk over the commands tells which steps are theirs.
   pub steps_pass : (P : Profile) (names : ℕ → Span) (gs : List Guard) (scope : List ℕ) (n : ℕ) (c : Command)
       → list_any (same_step x) (steps P names gs scope n c) ≡ passes x P names (guards_pass gs) scope n c
   steps_pass P names gs scope n Nothing = refl

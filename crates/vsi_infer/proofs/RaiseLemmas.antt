@@ -12,7 +12,7 @@ use Rattle.vsi_infer.specs.Choices.{IsChoice, IsJustified, IsRaised, IsProgram, 
 use Rattle.vsi_infer.specs.Ranks.{distance}
 use Rattle.vsi_infer.proofs.RankLemmas.{distance_falls}
 
--- what a place holds after the raise
+-- What a place holds after the raise.
 at_other : (s s' : List ℕ) (to j v : ℕ) → s' ≡ set s to j → v ≢ to → get_or s' v 0 ≡ get_or s v 0
 at_other s s' to j v e n = ap (λ l. get_or l v 0) e ∙ rw get_or-set_other refl
 
@@ -106,7 +106,7 @@ module _ (size : ℕ) (leq : ℕ → ℕ → Bool) (bottom top : ℕ) (laws : Or
       ];
     })
 
-  -- a flow that is in order, is not there, or goes to a declared variable
+  -- A flow that is in order, is not there, or goes to a declared variable.
   pub quiet_waits : (s w : List ℕ) (from to : ℕ) → (slice_get declared to ≡ Some None → flows from to ≡ true
       → leq (get_or s from 0) (get_or s to 0) ≡ true)
       → Waits size leq flows declared s w from to → Waits size leq flows declared s w from (to + 1)
@@ -139,7 +139,7 @@ module _ (size : ℕ) (leq : ℕ → ℕ → Bool) (bottom top : ℕ) (laws : Or
       (laws.reflexive r.class r.is_join.within) (λ k hk le. laws.transitive k
       (get_or s to 0) r.class hk hs r.is_join.within le r.is_join.right)
 
-  -- the last of those that wait is taken
+  -- The last of those that wait is taken.
   pub pop_waits : (s w w' : List ℕ) (old from : ℕ) → w ≡ w' ++ from ∷ []
       → Waits size leq flows declared s w old (length declared) → Waits size leq flows declared s w' from 0
   pop_waits s w w' old from e h = record {
@@ -159,7 +159,7 @@ module _ (size : ℕ) (leq : ℕ → ℕ → Bool) (bottom top : ℕ) (laws : Or
   last_within s w w' old from e h = h.within from (subst (λ l. Contains l from) (sym e)
       (Contains-append_right w' (from ∷ []) from (0, omega arith, refl)))
 
-  -- where none waits, the flows are in order
+  -- Where none waits, the flows are in order.
   pub all_raised : (s w : List ℕ) (old : ℕ) → length w ≡ 0 → Waits size leq flows declared s w old (length declared)
       → IsRaised size leq flows declared s
   all_raised s w old e h a b none fl = elim (h.each a b none fl) [
@@ -167,14 +167,14 @@ module _ (size : ℕ) (leq : ℕ → ℕ → Bool) (bottom top : ℕ) (laws : Or
     | inr p ↦ absurd (let lt = (program.flows_within a b fl).1 in omega (arith, lt, p.1))
   ]
 
-  -- at first all wait
+  -- At first all wait.
   pub all_wait : (s w : List ℕ) → ((v : ℕ) → v < length declared → Contains w v)
       → ((v : ℕ) → Contains w v → v < length declared) → Waits size leq flows declared s w 0 (length declared)
   all_wait s w h k = record { each = λ a b none fl. inl (inl (h a (program.flows_within a b fl).0)); within = k }
 
-  -- ---- what the raised choice is
+  -- ---- what the raised choice is.
 
-  -- along a walk a typable choice climbs
+  -- Along a walk a typable choice climbs.
   walk_climbs : (t : List ℕ) → IsTypable size leq flows declared t → (n a v : ℕ) → a < length declared
       → Walk flows n a v → (v < length declared) × (leq (get_or t a 0) (get_or t v 0) ≡ true)
   walk_climbs t w zero a v ha e = (
@@ -192,14 +192,14 @@ module _ (size : ℕ) (leq : ℕ → ℕ → Bool) (bottom top : ℕ) (laws : Or
   declared_place : (v c : ℕ) → slice_get declared v ≡ Some (Some c) → v < length declared
   declared_place v c e = slice_get_within declared v (Some c) e
 
-  -- a justified choice is below every typable one
+  -- A justified choice is below every typable one.
   pub justified_least : (s : List ℕ) → IsJustified size leq flows declared s → (t : List ℕ)
       → IsTypable size leq flows declared t → (v : ℕ) → v < length declared → leq (get_or s v 0) (get_or t v 0) ≡ true
   justified_least s j t w v hv = j v (get_or t v 0) hv (w.choice.within v hv) (λ n a c d walk.
       let ha = declared_place a c d in
       ap (λ x. leq x (get_or t v 0)) (sym (w.choice.keeps a c d)) ∙ (walk_climbs t w n a v ha walk).1)
 
-  -- where a bad walk is, no choice is typable
+  -- Where a bad walk is, no choice is typable.
   pub bad_walk_refuses : (n a b : ℕ) → IsBadWalk size leq flows declared n a b → (t : List ℕ)
       → IsTypable size leq flows declared t → ⊥
   bad_walk_refuses n a b w t ty =
@@ -208,7 +208,7 @@ module _ (size : ℕ) (leq : ℕ → ℕ → Bool) (bottom top : ℕ) (laws : Or
       ∙ ap (leq (get_or t a 0)) (sym (ty.choice.keeps b w.to_class w.to_declared))
       ∙ (walk_climbs t ty n a b (declared_place a w.from_class w.from_declared) w.walk).1)
 
-  -- where a raised, justified choice has a flow out of order, not all walks to there are good
+  -- Where a raised, justified choice has a flow out of order, not all walks to there are good.
   pub broken_has_bad : (s : List ℕ) → IsChoice size leq flows declared s → IsJustified size leq flows declared s
       → (a b c : ℕ) → flows a b ≡ true → slice_get declared b ≡ Some (Some c) → leq (get_or s a 0) c ≡ false
       → ((n x : ℕ) → ¬ (IsBadWalk size leq flows declared n x b)) → ⊥
@@ -228,7 +228,7 @@ module _ (size : ℕ) (leq : ℕ → ℕ → Bool) (bottom top : ℕ) (laws : Or
         }))
       ]))
 
-  -- the choice to begin with: the declared classes, and the bottom for the others
+  -- The choice to begin with: the declared classes, and the bottom for the others.
   pub start_choice : (s : List ℕ) → length s ≡ length declared
       → ((v : ℕ) → v < length declared → ((c : ℕ) × (slice_get declared v ≡ Some (Some c)) × (get_or s v 0 ≡ c))
       ⊎ ((slice_get declared v ≡ Some None) × (get_or s v 0 ≡ bottom)))
@@ -251,7 +251,7 @@ module _ (size : ℕ) (leq : ℕ → ℕ → Bool) (bottom top : ℕ) (laws : Or
     ],
   )
 
-  -- the choice to begin with, from the code's list
+  -- The choice to begin with, from the code's list.
   pub start_facts : (s : List ℕ) → s ≡ map (λ o. unwrap_or o bottom) declared → IsChoice size leq flows declared s
       × IsJustified size leq flows declared s
   start_facts s e = start_choice s (ap length e ∙ simp length-map refl) (λ v hv.
@@ -265,7 +265,7 @@ module _ (size : ℕ) (leq : ℕ → ℕ → Bool) (bottom top : ℕ) (laws : Or
       by_class v None d f = inr (d, f)
       by_class v (Some c) d f = inl (c, d, f)
 
-  -- in order everywhere: the least typable choice
+  -- In order everywhere: the least typable choice.
   pub is_least : (s : List ℕ) → IsChoice size leq flows declared s → IsJustified size leq flows declared s
       → ((a b : ℕ) → a < length s → b < length s → flows a b ≡ true → leq (get_or s a 0) (get_or s b 0) ≡ true)
       → IsLeastTypable size leq flows declared s
@@ -278,7 +278,7 @@ module _ (size : ℕ) (leq : ℕ → ℕ → Bool) (bottom top : ℕ) (laws : Or
     least = justified_least s j;
   }
 
-  -- out of order somewhere: no choice is typable
+  -- Out of order somewhere: no choice is typable.
   pub none_typable : (s : List ℕ) → IsChoice size leq flows declared s → IsJustified size leq flows declared s
       → IsRaised size leq flows declared s → (a b : ℕ) → IsOutOfOrder leq flows s a b
       → (t : List ℕ) → IsTypable size leq flows declared t → ⊥
@@ -295,7 +295,7 @@ module _ (size : ℕ) (leq : ℕ → ℕ → Bool) (bottom top : ℕ) (laws : Or
           ∙ laws.transitive _ _ _ (ch.within a fits.0) (ty.choice.within a fits.0) (ty.choice.within b fits.1)
           (justified_least s j t ty a fits.0) (ty.in_order a b fl))
 
-  -- out of order somewhere: there is a bad walk
+  -- Out of order somewhere: there is a bad walk.
   pub has_bad : (s : List ℕ) → IsChoice size leq flows declared s → IsJustified size leq flows declared s
       → IsRaised size leq flows declared s → (a b : ℕ) → IsOutOfOrder leq flows s a b
       → ¬ ((n x y : ℕ) → ¬ (IsBadWalk size leq flows declared n x y))
@@ -308,7 +308,7 @@ module _ (size : ℕ) (leq : ℕ → ℕ → Bool) (bottom top : ℕ) (laws : Or
       by_class (Some c) d = broken_has_bad s ch j a b c fl d (ap (leq (get_or s a 0)) (sym (ch.keeps b c d)) ∙ un)
           (λ n x. none n x b)
 
--- what is written back to a vector
+-- What is written back to a vector.
 pub written_back : (n : ℕ) (old new : List ℕ) → length new ≡ n → length old ≡ n
     → take n (new ++ drop (length new) old) ≡ new
 written_back n old new e f =

@@ -1,5 +1,5 @@
 -- What is found in one list after another.
-use Rattle.std.proofs.Common.{◌≡◌, ℕ, zero, suc, ◌+◌, ◌<◌, cond, Bool, true, false, List, [], ◌∷◌, ◌++◌, take, length, get_or, Option, Some, None, refl, sym, ap, ◌∙◌, subst, arith}
+use Rattle.std.proofs.Common.{◌≡◌, ℕ, zero, suc, ◌+◌, ◌<◌, cond, Bool, true, false, List, [], ◌∷◌, ◌++◌, take, length, get_or, Option, Some, None, sym, ap, ◌∙◌, subst, arith}
 use Rattle.std.specs.Option.{option_or}
 use Rattle.std.specs.List.{find}
 use Rattle.std.proofs.lemmas.List.{take_more, map-append}
@@ -9,9 +9,8 @@ use Rattle.vsi_types.specs.declared.rules.Rule.{Rule}
 use Rattle.vsi_types.specs.declared.rules.Step.{Step}
 use Rattle.vsi_types.specs.declared.rules.Guard.{Guard}
 use Rattle.vsi_types.specs.declared.rules.Read.{Read}
-use Rattle.vsi_types.specs.Steps.{flows, guarded, endings, sink}
+use Rattle.vsi_types.specs.Steps.{flow, flows, guarded, ending, endings}
 use Rattle.vsi_types.specs.declared.rules.Profile.TheVariants.{Strict}
-use Rattle.vsi_types.specs.declared.rules.Rule.TheVariants.{Loop}
 
 pub found_left : (p : Step → Bool) (xs ys : List Step) (s : Step) → find p xs ≡ Some s → find p (xs ++ ys) ≡ Some s
 found_left p xs ys s e = find-append p xs ys ∙ ap (λ o. option_or o (find p ys)) e
@@ -20,7 +19,7 @@ pub found_right : (p : Step → Bool) (xs ys : List Step) (o : Option Step) → 
     → o ≡ find p (xs ++ ys)
 found_right p xs ys o e f = f ∙ sym (find-append p xs ys ∙ ap (λ x. option_or x (find p ys)) e)
 
--- one more guard, which isn't wanted
+-- One more guard, which isn't wanted.
 pub guards_passed : (p : Step → Bool) (target : ℕ) (written : Span) (gs : List Guard) (i : ℕ) (g : Guard)
     → i < length gs → g ≡ get_or gs i g → find p (flows target written (take i gs)) ≡ None
     → p (record {
@@ -91,49 +90,22 @@ guards_found p target written (x ∷ gs) (suc i) g lt is none hit =
     later true x y xs ys e f = absurd (subst (λ o. elim o as (λ _. Type 0) [ None ↦ ⊥ | Some z ↦ Unit {0} ]) e tt)
     later false x y xs ys e f = f e
 
--- the reads of two operands
+-- The reads of two operands.
 pub flows_both : (target : ℕ) (written : Span) (rule : Rule) (xs ys : List Read)
     → flows target written (guarded rule (xs ++ ys)) ≡ flows target written (guarded rule xs)
     ++ flows target written (guarded rule ys)
-flows_both target written rule [] ys = refl
-flows_both target written rule (x ∷ xs) ys = ap (λ l. record {
-  rule = rule;
-  source = x.variable;
-  target =
-      target;
-  read = x.place;
-  written = written;
-} ∷ l) (flows_both target written rule xs ys)
+flows_both target written rule xs ys = ap (flows target written) (map-append _ xs ys)
+    ∙ map-append (flow target written) (guarded rule xs) (guarded rule ys)
 
 pub endings_both : (xs ys : List Read) → endings Strict true (xs ++ ys) ≡ endings Strict true xs
     ++ endings Strict true ys
-endings_both [] ys = refl
-endings_both (x ∷ xs) ys = ap (λ l. record {
-  rule = Loop;
-  source = x.variable;
-  target = sink;
-  read =
-      x.place;
-  written = x.place;
-} ∷ l) (endings_both xs ys)
-
-flows_more : (target : ℕ) (written : Span) (xs ys : List Guard)
-    → flows target written (xs ++ ys) ≡ flows target written xs ++ flows target written ys
-flows_more target written [] ys = refl
-flows_more target written (x ∷ xs) ys = ap (λ l. record {
-  rule = x.rule;
-  source = x.read.variable;
-  target =
-      target;
-  read = x.read.place;
-  written = written;
-} ∷ l) (flows_more target written xs ys)
+endings_both xs ys = map-append ending xs ys
 
 pub assign_left : (p : Step → Bool) (target target' : ℕ) → target ≡ target' → (written : Span) (xs xs' : List Guard)
     → xs ≡ xs' → (gs : List Guard) (s : Step) → Some s ≡ find p (flows target written xs)
     → Some s ≡ find p (flows target' written (xs' ++ gs))
 assign_left p target target' at written xs xs' same gs s h =
-    sym (ap (find p) (flows_more target' written xs' gs) ∙ found_left p (flows target' written xs')
+    sym (ap (find p) (map-append (flow target' written) xs' gs) ∙ found_left p (flows target' written xs')
     (flows target' written gs) s (sym (h ∙ ap (λ (t : ℕ). find p (flows t written xs)) at
     ∙ ap (λ l. find p (flows target' written l)) same)))
 
@@ -145,4 +117,4 @@ assign_right p target target' at written xs xs' same gs gs' same' o h k =
     found_right p (flows target' written xs') (flows target' written gs') o
     (sym (h ∙ ap (λ (t : ℕ). find p (flows t written xs)) at ∙ ap (λ l. find p (flows target' written l)) same))
     (k ∙ ap (λ (t : ℕ). find p (flows t written gs)) at ∙ ap (λ l. find p (flows target' written l)) same')
-    ∙ sym (ap (find p) (flows_more target' written xs' gs'))
+    ∙ sym (ap (find p) (map-append (flow target' written) xs' gs'))

@@ -4,7 +4,7 @@ use Rattle.std.specs.Prelude.{IfSome}
 use Rattle.std.specs.List.{All, Contains}
 use Rattle.std.proofs.lemmas.List.{get_or_past, get_or-map, length-map}
 use Rattle.std.proofs.lemmas.List.Elements.{All-contains, All-head, All-tail, All-nil, All-cons, All-append}
-use Rattle.std.proofs.lemmas.Option.{slice_get-get_or, slice_get_within}
+use Rattle.std.proofs.lemmas.Option.{none-some, slice_get-get_or, slice_get_within}
 use Rattle.std.proofs.lemmas.Bool.{cases_eq, cases_lt, and_parts, and_from, false≢true, true≢false}
 use Rattle.vsi_lattice.specs.Order.{Lattice, IsLattice, IsClass, Below}
 use Rattle.vsi_types.specs.declared.rules.Profile.{Profile}
@@ -12,6 +12,7 @@ use Rattle.vsi_types.specs.declared.rules.Step.{Step}
 use Rattle.vsi_types.specs.Steps.{sink}
 use Rattle.vsi_types.specs.Security.{Program, IsResolved, steps_of}
 use Rattle.vsi_types.specs.Walks.{IsChain, last_target, IsBadFrom, IsBad, declared_class}
+use Rattle.vsi_types.proofs.Walking.{some_same}
 use Rattle.vsi_infer.specs.Leading.{has_step}
 use Rattle.vsi_infer.specs.Flowing.{size_of, variable_at, AreFlowsOf}
 use Rattle.vsi_infer.specs.Inference.{table, AreClasses, IsShortest}
@@ -22,9 +23,9 @@ use Rattle.vsi_infer.specs.Shortest.{is_high, goals_of, far_at, AreLevels, IsFew
 use Rattle.vsi_infer.proofs.TargetLemmas.{HasTarget}
 use Rattle.vsi_infer.proofs.Bridge.{all_targets, step_there, there_step, at_place, table_length, table_declares, is_program}
 use Rattle.vsi_infer.proofs.DistanceLemmas.{fewest}
-use Rattle.vsi_infer.proofs.PathLemmas.{path_bad, equal, some_same, none_some}
+use Rattle.vsi_infer.proofs.PathLemmas.{path_bad, equal}
 
--- the class of a goal
+-- The class of a goal.
 high_is : (leq : ℕ → ℕ → Bool) (low : ℕ) (d : Option ℕ) → is_high leq low d ≡ true → (h : ℕ) × (d ≡ Some h)
     × (leq low h ≡ true → ⊥)
 high_is leq low None e = absurd (false≢true e)
@@ -38,7 +39,7 @@ is_high_of leq low d h e n = ap (is_high leq low) e ∙ by (leq low h) n
     by true n = absurd (n refl)
     by false n = refl
 
--- flows from the first on
+-- Flows from the first on.
 leads_push : (flows : ℕ → ℕ → Bool) (n a b c : ℕ) → Leads flows n a b → flows b c ≡ true → Leads flows (suc n) a c
 leads_push flows zero a b c w f = (c, ap (λ (x : ℕ). flows x c) w ∙ f, refl)
 leads_push flows (suc n) a b c (d, g, w) f = (d, g, leads_push flows n d b c w f)
@@ -47,7 +48,7 @@ leads_of : (flows : ℕ → ℕ → Bool) (n a b : ℕ) → Walk flows n a b →
 leads_of flows zero a b w = w
 leads_of flows (suc n) a b (c, w, f) = leads_push flows n a c b (leads_of flows n a c w) f
 
--- what a step that begins a walk tells
+-- What a step that begins a walk tells.
 pub begin_parts : (rows : List (List ℕ)) (last now after : ℕ) (o : Option ℕ) (s : Step)
     → steps_from rows last now after o s ≡ true
     → (c : ℕ) × (o ≡ Some c) × (far_at rows c s.source ≡ now) × (far_at rows c (row_of last s.target) ≡ after)
@@ -85,10 +86,10 @@ module _ (L : Lattice) (laws : IsLattice L) (P : Profile) (p : Program) (res : I
   is_goal c v h e n = elim (cases_lt v (length (table L p))) [
     | inl lt ↦ get_or-map (is_high L.leq c) (table L p) v None false lt
         ∙ is_high_of L.leq c (get_or (table L p) v None) h e n
-    | inr ge ↦ absurd (none_some h (sym (get_or_past (table L p) v None ge) ∙ e))
+    | inr ge ↦ absurd (none-some h (sym (get_or_past (table L p) v None ge) ∙ e))
   ]
 
-  -- a variable and its row
+  -- A variable and its row.
   row_back : (b : ℕ) → b ≤ size_of p → row_of (size_of p) (variable_at (size_of p) b) ≡ b
   row_back b le = elim (cases_eq b (size_of p)) [
     | inl e ↦ ap (λ t. row_of (size_of p) (cond t sink b)) (eq-eqb b (size_of p) e) ∙ sym e
@@ -104,7 +105,7 @@ module _ (L : Lattice) (laws : IsLattice L) (P : Profile) (p : Program) (res : I
   ]
 
   module _ (c : ℕ) (row : List ℕ) (d : AreDistances flows (goals_of L.leq (table L p) c) row) where
-    -- a step leads down
+    -- A step leads down.
     down_at : (i n : ℕ) → get_or row i 0 ≡ suc n → suc n < 65535 → (i < size_of p)
         × ((s : Step) × Contains (steps_of P p) s × (s.source ≡ i) × (get_or row (row_of (size_of p) s.target) 0 ≡ n))
     down_at i n e lt =
@@ -135,7 +136,7 @@ module _ (L : Lattice) (laws : IsLattice L) (P : Profile) (p : Program) (res : I
         let r = down_at (row_of (size_of p) v) n e lt in
         (r.1.0, r.1.1, r.1.2 ∙ row_plain v r.0, r.1.3)
 
-  -- a step as a flow
+  -- A step as a flow.
   step_flow : (x : Step) → Contains (steps_of P p) x → (b : ℕ) × (b ≤ size_of p)
       × (x.target ≡ variable_at (size_of p) b) × (flows x.source b ≡ true)
   step_flow x there =
@@ -151,7 +152,7 @@ module _ (L : Lattice) (laws : IsLattice L) (P : Profile) (p : Program) (res : I
   pub source_within : (x : Step) → Contains (steps_of P p) x → x.source < size_of p
   source_within x there = let f = step_flow x there in (are.within x.source f.0 f.3).0
 
-  -- the place of a variable that is a source too
+  -- The place of a variable that is a source too.
   same_place : (b v : ℕ) → b ≤ size_of p → v < size_of p → variable_at (size_of p) b ≡ v → b ≡ v
   same_place b v le lt e = elim (cases_lt b (size_of p)) [
     | inl l ↦ sym (at_place L p res.entries res.limit b l) ∙ e
@@ -174,7 +175,7 @@ module _ (L : Lattice) (laws : IsLattice L) (P : Profile) (p : Program) (res : I
       let e = same_place f.0 t.source f.1 (are.within t.source h.0 h.3).0 (sym f.2 ∙ c.0) in
       (r.0, r.1, r.2, (t.source, subst (λ v. flows s.source v ≡ true) e f.3, r.3))
 
-  -- the end of a path is a place
+  -- The end of a path is a place.
   path_place : (a b : ℕ) (s : Step) (rest : List Step) → IsPath (steps_of P p) a (s ∷ rest) b → (i : ℕ)
       × (i ≤ size_of p) × (b ≡ variable_at (size_of p) i)
   path_place a b s [] w = let f = step_flow s w.1 in (f.0, f.1, sym w.2 ∙ f.2)
@@ -182,7 +183,7 @@ module _ (L : Lattice) (laws : IsLattice L) (P : Profile) (p : Program) (res : I
 
   module _ (rows : List (List ℕ)) (levels : AreLevels L flows (table L p) rows) (n : ℕ)
       (best : IsFewest (table L p) rows n) where
-    -- the distance of the source bounds a bad walk
+    -- The distance of the source bounds a bad walk.
     pub no_shorter : (s : Step) (rest : List Step) → IsBadFrom L P p s rest → n ≤ length (s ∷ rest)
     no_shorter s rest bad =
         let w = chain_leads s rest bad.steps bad.chain in
@@ -200,7 +201,7 @@ module _ (L : Lattice) (laws : IsLattice L) (P : Profile) (p : Program) (res : I
         let b = best.lower s.source bad.low g in
         omega (arith, f.1, b)
 
-    -- a program with a bad walk has a shortest length, and a step that begins such a walk
+    -- A program with a bad walk has a shortest length, and a step that begins such a walk.
     pub some_length : HasBadWalk L.count L.leq flows (table L p) → n < 65535
     some_length has = elim (cases_lt n 65535) [
       | inl lt ↦ lt
@@ -266,7 +267,7 @@ module _ (L : Lattice) (laws : IsLattice L) (P : Profile) (p : Program) (res : I
             class_within : (v c : ℕ) → slice_get (table L p) v ≡ Some (Some c) → IsClass L c
             class_within v c e = (is_program L laws P p res ds flows are).declared_within v c e
 
-    -- a walk that arrived is a shortest bad walk
+    -- A walk that arrived is a shortest bad walk.
     pub arrived_shortest : (s : Step) (rest : List Step) (c : ℕ) → Contains (steps_of P p) s
         → get_or (table L p) s.source None ≡ Some c → IsArrived (steps_of P p) (size_of p)
         (get_or rows c []) s.source n (s ∷ rest) → IsShortest L P p (s ∷ rest)
@@ -307,7 +308,7 @@ module _ (L : Lattice) (laws : IsLattice L) (P : Profile) (p : Program) (res : I
       all_some (x ∷ xs) h = All-cons (λ d. IfSome d (IsClass L)) (Some x) (map Some xs)
           (All-head (IsClass L) x xs h) (all_some xs (All-tail (IsClass L) x xs h))
 
-  -- the same for a list that is the table
+  -- The same for a list that is the table.
   module _ (T : List (Option ℕ)) (same : T ≡ table L p) (rows : List (List ℕ)) (levels : AreLevels L flows T rows)
       (n : ℕ) (best : IsFewest T rows n) (has : HasBadWalk L.count L.leq flows (table L p)) where
     levels' : AreLevels L flows (table L p) rows

@@ -12,11 +12,12 @@ use Rattle.vsi_types.specs.declared.rules.Profile.{Profile}
 use Rattle.vsi_types.specs.declared.rules.Step.{Step}
 use Rattle.vsi_types.specs.Steps.{steps}
 use Rattle.vsi_types.specs.Security.{count_from, program, name_place, steps_of}
-use Rattle.vsi_infer.specs.Seeking.{HasRoom, Sought, Place}
+use Rattle.vsi_types.specs.Walker.{Place}
+use Rattle.vsi_types.proofs.Places.{place}
+use Rattle.vsi_types.proofs.Programs.{length_count}
+use Rattle.vsi_infer.specs.Seeking.{HasRoom, Sought}
 use Rattle.vsi_infer.specs.Membership.{IsFor, same_step, passes}
-use Rattle.vsi_infer.proofs.PassingLemmas.{place}
 use Rattle.vsi_infer.proofs.PathLemmas.{steps_pass}
-use Rattle.vsi_infer.proofs.RowsOf.{length_count}
 
 module _ (r : Source) (res : IsResolved r) where
   at_start : HasPlaces (length (count_from 0 (length r.globals))) (sequence r.body)

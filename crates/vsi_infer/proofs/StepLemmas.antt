@@ -5,6 +5,7 @@ use Rattle.std.specs.List.{All, list_any}
 use Rattle.std.proofs.lemmas.List.{length_push}
 use Rattle.std.proofs.lemmas.List.Folds.{list_any-append}
 use Rattle.std.proofs.lemmas.List.Elements.{All-push, All-get_or}
+use Rattle.std.proofs.Math.Bool.{or-false, and-false}
 use Rattle.std.proofs.lemmas.Bool.{cases_eq, or_cases, and_parts, false≢true}
 use Rattle.std.proofs.lemmas.Bool.Decides.{nat_tests}
 use Rattle.vsi_syntax.specs.declared.token.Span.{Span}
@@ -21,20 +22,12 @@ use Rattle.vsi_infer.specs.Leading.{leads, inside, minds, reads_it, has_step, le
 use Rattle.vsi_infer.specs.Flowing.{variable_at}
 use Rattle.vsi_infer.proofs.NotingLemmas.{leads_same}
 
--- the guards read the variable
+-- The guards read the variable.
 abbrev pub guards_read : List Guard → ℕ → Bool
 guards_read gs v = list_any (λ g. g.read.variable == v) gs
 
 abbrev reads_list : List Read → ℕ → Bool
 reads_list rs v = list_any (λ r. r.variable == v) rs
-
-or_false : (x : Bool) → (x || false) ≡ x
-or_false true = refl
-or_false false = refl
-
-and_false : (x : Bool) → (x && false) ≡ false
-and_false true = refl
-and_false false = refl
 
 and_swap : (x y : Bool) → (x && y) ≡ (y && x)
 and_swap true true = refl
@@ -54,7 +47,7 @@ and_over false false false = refl
 
 reads_as : (scope : List ℕ) (e : Phrase) (v : ℕ) → reads_list (reads scope e) v ≡ reads_it scope e v
 reads_as scope (Literal z) v = refl
-reads_as scope (Contents l s) v = or_false (slice_index scope l == v)
+reads_as scope (Contents l s) v = or-false (slice_index scope l == v)
 reads_as scope (Apply o a b) v =
     list_any-append (λ (r : Read). r.variable == v) (reads scope a) (reads scope b)
     ∙ ap (λ x. x || reads_list (reads scope b) v) (reads_as scope a v)
@@ -75,12 +68,12 @@ more_guards gs rule scope e v = list_any-append (λ (g : Guard). g.read.variable
 
 flows_as : (target : ℕ) (written : Span) (gs : List Guard) (a b : ℕ)
     → has_step (flows target written gs) a b ≡ ((target == b) && guards_read gs a)
-flows_as target written [] a b = sym (and_false (target == b))
+flows_as target written [] a b = sym (and-false (target == b))
 flows_as target written (g ∷ gs) a b = ap (λ x. ((g.read.variable == a) && (target == b)) || x)
     (flows_as target written gs a b) ∙ and_over (g.read.variable == a) (guards_read gs a) (target == b)
 
 loops_as : (rs : List Read) (a b : ℕ) → has_step (endings Strict true rs) a b ≡ ((sink == b) && reads_list rs a)
-loops_as [] a b = sym (and_false (sink == b))
+loops_as [] a b = sym (and-false (sink == b))
 loops_as (r ∷ rs) a b = ap (λ x. ((r.variable == a) && (sink == b)) || x) (loops_as rs a b)
     ∙ and_over (r.variable == a) (reads_list rs a) (sink == b)
 
@@ -170,7 +163,7 @@ module _ (k : ℕ) (small : k ≤ 1024) where
         (steps_as gs (scope ++ n ∷ []) (n + 1) c (subst (λ m. HasPlaces m c) (sym size) places.1)
         (omega (arith, limit)) (All-push (λ v. v < k) scope n all lt))
 
-  -- what is read is a variable of the scope
+  -- What is read is a variable of the scope.
   reads_within : (scope : List ℕ) (e : Phrase) (v : ℕ) → HasLocations (length scope) e → All (λ v. v < k) scope
       → reads_it scope e v ≡ true → v < k
   reads_within scope (Literal z) v places all h = absurd (false≢true h)

@@ -15,7 +15,7 @@ use Rattle.vsi_types.specs.declared.rules.Step.{Step}
 use Rattle.vsi_types.specs.Steps.{sink, reads, guarded, flows, endings, steps}
 use Rattle.vsi_infer.specs.Flowing.{variable_at}
 
--- the target is a place
+-- The target is a place.
 abbrev pub HasTarget : ℕ → Step → Type 0
 HasTarget k s = (b : ℕ) × (b ≤ k) × (s.target ≡ variable_at k b)
 

@@ -3,32 +3,32 @@ use Rattle.std.specs.Prelude.{◌≡◌, ℕ, suc, zero, ◌<◌, Bool, true, fa
 use Rattle.vsi_lattice.specs.Order.{IsJoin}
 use Rattle.vsi_infer.specs.Orders.{Says}
 
--- what is known of a program: how many variables, which flow where, and which classes are declared
+-- What is known of a program: how many variables, which flow where, and which classes are declared.
 module _ (flows : ℕ → ℕ → Bool) where
-  -- n flows lead from a to b
+  -- As many as n flows lead from a to b.
   abbrev pub Walk : ℕ → ℕ → ℕ → Type 0
   Walk zero a b = a ≡ b
   Walk (suc n) a b = (c : ℕ) × Walk n a c × (flows c b ≡ true)
 
 module _ (size : ℕ) (leq : ℕ → ℕ → Bool) (flows : ℕ → ℕ → Bool) (declared : List (Option ℕ)) where
-  -- one class of the lattice for each variable, the declared ones kept
+  -- One class of the lattice for each variable, the declared ones kept.
   pub record IsChoice (s : List ℕ) : Type 0 where
     pub len : length s ≡ length declared
     pub within : (v : ℕ) → v < length declared → slice_index s v < size
     pub keeps : (v c : ℕ) → slice_get declared v ≡ Some (Some c) → slice_index s v ≡ c
 
-  -- and every flow is in order
+  -- And every flow is in order.
   pub record IsTypable (s : List ℕ) : Type 0 where
     pub choice : IsChoice s
     pub in_order : (a b : ℕ) → flows a b ≡ true → leq (slice_index s a) (slice_index s b) ≡ true
 
-  -- typable, and below every typable choice at each variable
+  -- Typable, and below every typable choice at each variable.
   pub record IsLeastTypable (s : List ℕ) : Type 0 where
     pub typable : IsTypable s
     pub least : (t : List ℕ) → IsTypable t → (v : ℕ) → v < length declared
         → leq (slice_index s v) (slice_index t v) ≡ true
 
-  -- a walk of n flows from one declared variable to another whose class is not above the first one's
+  -- A walk of n flows from one declared variable to another whose class is not above the first one's.
   pub record IsBadWalk (n a b : ℕ) : Type 0 where
     pub from_class : ℕ
     pub to_class : ℕ
@@ -37,44 +37,44 @@ module _ (size : ℕ) (leq : ℕ → ℕ → Bool) (flows : ℕ → ℕ → Bool
     pub walk : Walk flows n a b
     pub unordered : leq from_class to_class ≡ false
 
-  -- some walk is bad
+  -- Some walk is bad.
   abbrev pub HasBadWalk : Type 0
   HasBadWalk = ¬ ((n a b : ℕ) → ¬ (IsBadWalk n a b))
 
-  -- every declared class that flows to v is below x
+  -- Every declared class that flows to v is below x.
   abbrev pub ReachedBelow : ℕ → ℕ → Type 0
   ReachedBelow v x = (n a c : ℕ) → slice_get declared a ≡ Some (Some c) → Walk flows n a v → leq c x ≡ true
 
-  -- no class is higher than what flows there asks for
+  -- No class is higher than what flows there asks for.
   abbrev pub IsJustified : List ℕ → Type 0
   IsJustified s = (v x : ℕ) → v < length declared → x < size → ReachedBelow v x → leq (slice_index s v) x ≡ true
 
-  -- the flows into omitted variables are in order
+  -- The flows into omitted variables are in order.
   abbrev pub IsRaised : List ℕ → Type 0
   IsRaised s = (a b : ℕ) → slice_get declared b ≡ Some None → flows a b ≡ true
       → leq (slice_index s a) (slice_index s b) ≡ true
 
-  -- each flow into an omitted variable is in order, or waits to be seen to
+  -- Each flow into an omitted variable is in order, or waits to be seen to.
   pub record Waits (s waiting : List ℕ) (from next : ℕ) : Type 0 where
     pub each : (a b : ℕ) → slice_get declared b ≡ Some None → flows a b ≡ true
         → (Contains waiting a ⊎ (leq (slice_index s a) (slice_index s b) ≡ true)) ⊎ ((a ≡ from) × (next ≤ b))
     pub within : (v : ℕ) → Contains waiting v → v < length declared
 
-  -- the declared classes are of the lattice, and the flows are between variables
+  -- The declared classes are of the lattice, and the flows are between variables.
   pub record IsProgram : Type 0 where
     pub declared_within : (v c : ℕ) → slice_get declared v ≡ Some (Some c) → c < size
     pub flows_within : (a b : ℕ) → flows a b ≡ true → (a < length declared) × (b < length declared)
 
--- a flow, in order or not
+-- A flow, in order or not.
 abbrev pub IsInOrder : (ℕ → ℕ → Bool) → (ℕ → ℕ → Bool) → List ℕ → ℕ → ℕ → Type 0
 IsInOrder leq flows s a b = flows a b ≡ true → leq (slice_index s a) (slice_index s b) ≡ true
 
--- a flow between variables that is out of order
+-- A flow between variables that is out of order.
 abbrev pub IsOutOfOrder : (ℕ → ℕ → Bool) → (ℕ → ℕ → Bool) → List ℕ → ℕ → ℕ → Type 0
 IsOutOfOrder leq flows s a b = (a < length s) × (b < length s) × (flows a b ≡ true)
     × (leq (slice_index s a) (slice_index s b) ≡ false)
 
--- the class at one place became the join of two
+-- The class at one place became the join of two.
 pub record IsRaiseOf (size : ℕ) (leq : ℕ → ℕ → Bool) (old new : List ℕ) (from to : ℕ) : Type 0 where
   pub class : ℕ
   pub is_join : IsJoin size (Says leq) (slice_index old from) (slice_index old to) class

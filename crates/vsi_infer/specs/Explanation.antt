@@ -12,12 +12,12 @@ use Rattle.vsi_types.specs.Steps.{sink}
 use Rattle.vsi_types.specs.Security.{program}
 use Rattle.vsi_types.specs.Walks.{declared_class, last_target}
 
--- the line and the column of a place, both from 1
+-- The line and the column of a place, both from 1.
 abbrev pub place_text : List ℕ → ℕ → List ℕ
 place_text source at =
     decimal (1 + breaks (take at source)) ++ codes ":" ++ decimal (1 + length (last_line (take at source)))
 
--- the word of a rule
+-- The word of a rule.
 abbrev pub rule_text : Rule → List ℕ
 rule_text Assign = codes "ASSIGN"
 rule_text If = codes "IF"
@@ -25,33 +25,33 @@ rule_text While = codes "WHILE"
 rule_text Letvar = codes "LETVAR"
 rule_text Loop = codes "LOOP"
 
--- the name of a variable; the ending of a loop has none, and a word of its own
+-- The name of a variable; the ending of a loop has none, and a word of its own.
 abbrev pub name_of : Source → ℕ → List ℕ
 name_of r v =
     if v == sink then codes "(loop)"
     else if nat_lt v (length r.globals) then slice_index_or (map (λ g. g.name.now) r.globals) v []
     else slice_index_or (map (λ e. e.name.now) r.letvars) (v - length r.globals) []
 
--- the name of a class that is declared
+-- The name of a class that is declared.
 abbrev pub class_text : Lattice → Option ℕ → List ℕ
 class_text l None = []
 class_text l (Some c) = slice_index_or (names l) c []
 
--- the name of a variable, and that of its declared class
+-- The name of a variable, and that of its declared class.
 abbrev pub variable_text : Lattice → Source → ℕ → List ℕ
 variable_text l r v = name_of r v ++ codes " : " ++ class_text l (declared_class (order l) (program r) v)
 
--- the line of a step
+-- The line of a step.
 abbrev pub step_line : List ℕ → Source → Step → List ℕ
 step_line source r s =
     place_text source s.read.start ++ codes " " ++ name_of r s.source ++ codes " flows to " ++ name_of r s.target
     ++ codes " by " ++ rule_text s.rule ++ codes " at " ++ place_text source s.written.start ++ codes "\n"
 
--- the last line, from the first variable of a walk to its last one
+-- The last line, from the first variable of a walk to its last one.
 abbrev pub last_text : Lattice → Source → ℕ → ℕ → List ℕ
 last_text l r v w = variable_text l r v ++ codes " may not flow to " ++ variable_text l r w ++ codes "\n"
 
--- the lines of a walk
+-- The lines of a walk.
 abbrev pub explanation : Lattice → List ℕ → Source → List Step → List ℕ
 explanation l source r [] = []
 explanation l source r (s ∷ rest) =

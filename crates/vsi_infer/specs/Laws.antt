@@ -6,6 +6,6 @@ use Rattle.vsi_types.specs.declared.rules.Step.{Step}
 use Rattle.vsi_types.specs.Security.{Program}
 use Rattle.vsi_types.specs.Walks.{IsBad}
 
--- a walk that is bad under the base profile is bad under the strict one
+-- A walk that is bad under the base profile is bad under the strict one.
 abbrev pub BaseWalksStayBad : Type 0
 BaseWalksStayBad = (L : Lattice) (p : Program) (walk : List Step) → IsBad L Base p walk → IsBad L Strict p walk

@@ -10,7 +10,7 @@ use Rattle.vsi_types.specs.Steps.{sink}
 use Rattle.vsi_infer.specs.Leading.{minds}
 use Rattle.vsi_infer.specs.declared.membership.Cursor.{Cursor}
 
--- two rules are one
+-- Two rules are one.
 abbrev pub same_rule : Rule → Rule → Bool
 same_rule Assign Assign = true
 same_rule If If = true
@@ -19,35 +19,35 @@ same_rule Letvar Letvar = true
 same_rule Loop Loop = true
 same_rule _ _ = false
 
--- two places are one
+-- Two places are one.
 abbrev pub same_span : Span → Span → Bool
 same_span s t = (s.start == t.start) && (s.stop == t.stop)
 
--- the step reads this variable there by this rule
+-- The step reads this variable there by this rule.
 abbrev pub read_is : Step → Rule → ℕ → Span → Bool
 read_is x rule v place = same_rule rule x.rule && ((v == x.source) && same_span place x.read)
 
--- the step writes this variable there
+-- The step writes this variable there.
 abbrev pub written_is : Step → ℕ → Span → Bool
 written_is x v place = (v == x.target) && same_span place x.written
 
--- two steps are one
+-- Two steps are one.
 abbrev pub same_step : Step → Step → Bool
 same_step x s = read_is x s.rule s.source s.read && written_is x s.target s.written
 
--- the step reads what an expression reads
+-- The step reads what an expression reads.
 abbrev pub reads_pass : Step → Rule → List ℕ → Phrase → Bool
 reads_pass x rule scope (Literal z) = false
 reads_pass x rule scope (Contents l s) = read_is x rule (slice_index scope l) s
 reads_pass x rule scope (Apply o a b) = reads_pass x rule scope a || reads_pass x rule scope b
 
--- the step goes from what an expression reads to the ending of a loop
+-- The step goes from what an expression reads to the ending of a loop.
 abbrev pub ends_pass : Step → List ℕ → Phrase → Bool
 ends_pass x scope (Literal z) = false
 ends_pass x scope (Contents l s) = read_is x Loop (slice_index scope l) s && written_is x sink s
 ends_pass x scope (Apply o a b) = ends_pass x scope a || ends_pass x scope b
 
--- the step is one of the command's, where `around` says whether it reads what a guard around reads
+-- The step is one of the command's, where `around` says whether it reads what a guard around reads.
 abbrev pub passes : Step → Profile → (ℕ → Span) → Bool → List ℕ → ℕ → Command → Bool
 passes x P names around scope n Nothing = false
 passes x P names around scope n (Put l s e) =
@@ -63,16 +63,16 @@ passes x P names around scope n (Repeat e c) =
 passes x P names around scope n (Allocate e c) =
     (reads_pass x Letvar scope e && written_is x n (names n)) || passes x P names around (scope ++ n ∷ []) (n + 1) c
 
--- the variable of each location, and the next declaration
+-- The variable of each location, and the next declaration.
 pub record Stand : Type 0 where
   pub scope : List ℕ
   pub next : ℕ
 
--- where a cursor stands
+-- Where a cursor stands.
 abbrev pub stand_of : Cursor → Stand
 stand_of c = record { scope = c.scope.items; next = c.next }
 
--- the locations are there, and so are the names of the letvars, and the nesting isn't too deep
+-- The locations are there, and so are the names of the letvars, and the nesting isn't too deep.
 pub record IsFor (first count : ℕ) (a : Stand) (c : Command) : Type 0 where
   pub places : HasPlaces (length a.scope) c
   pub after : first ≤ a.next
@@ -80,7 +80,7 @@ pub record IsFor (first count : ℕ) (a : Stand) (c : Command) : Type 0 where
   pub small : first + count ≤ 1024
   pub room : length a.scope + nesting c ≤ 456
 
--- the answer for a command, and where the cursor stands after it
+-- The answer for a command, and where the cursor stands after it.
 pub record IsPast (x : Step) (P : Profile) (names : ℕ → Span) (around : Bool) (a : Stand) (c : Command) (b : Stand)
     (found : Bool) : Type 0 where
   pub answer : found ≡ passes x P names around a.scope a.next c

@@ -1,11 +1,11 @@
 -- What the search for classes needs of a lattice.
 use Rattle.std.specs.Prelude.{◌≡◌, ℕ, ◌<◌, Bool, true}
 
--- the test as a relation
+-- The test as a relation.
 abbrev pub Says : (ℕ → ℕ → Bool) → ℕ → ℕ → Type 0
 Says leq a b = leq a b ≡ true
 
--- a partial order with a least and a greatest class
+-- A partial order with a least and a greatest class.
 pub record OrderLaws (size : ℕ) (leq : ℕ → ℕ → Bool) (bottom top : ℕ) : Type 0 where
   pub reflexive : (a : ℕ) → a < size → leq a a ≡ true
   pub transitive : (a b c : ℕ) → a < size → b < size → c < size → leq a b ≡ true → leq b c ≡ true → leq a c ≡ true

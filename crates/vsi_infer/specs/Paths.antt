@@ -3,7 +3,7 @@ use Rattle.std.specs.Prelude.{◌≡◌, ℕ, List, [], ◌∷◌}
 use Rattle.std.specs.List.{Contains}
 use Rattle.vsi_types.specs.declared.rules.Step.{Step}
 
--- the steps lead from a to b, and each is one of the list
+-- The steps lead from a to b, and each is one of the list.
 abbrev pub IsPath : List Step → ℕ → List Step → ℕ → Type 0
 IsPath ss a [] b = a ≡ b
 IsPath ss a (s ∷ rest) b = (s.source ≡ a) × Contains ss s × IsPath ss s.target rest b

@@ -1,32 +1,21 @@
 -- What the search for a step answers.
-use Rattle.std.specs.Prelude.{◌≡◌, ℕ, ◌+◌, ◌≤◌, Bool, List, length, Option, Some, None, Result, Ok, Err}
+use Rattle.std.specs.Prelude.{◌≡◌, ℕ, ◌+◌, ◌≤◌, Bool, length, Option, Some, None, Result, Ok, Err}
 use Rattle.std.specs.List.{find}
 use Rattle.vsi_syntax.specs.declared.token.Span.{Span}
 use Rattle.vsi_scope.specs.Phrase.{Command, letvars, HasPlaces}
 use Rattle.vsi_types.specs.declared.rules.Profile.{Profile}
 use Rattle.vsi_types.specs.declared.rules.Step.{Step}
 use Rattle.vsi_types.specs.Steps.{steps}
-use Rattle.vsi_types.specs.declared.rules.Guard.{Guard}
-use Rattle.vsi_infer.specs.declared.walker.Walker.{Walker}
+use Rattle.vsi_types.specs.Walker.{Place}
 
--- a place in the program: the variable of each location, the guards around, and the next declaration
-pub record Place : Type 0 where
-  pub scope : List ℕ
-  pub guards : List Guard
-  pub next : ℕ
-
--- where a walker stands
-abbrev pub place_of : Walker → Place
-place_of w = record { scope = w.scope.items; guards = w.guards.items; next = w.next }
-
--- the locations are there, and the names of the letvars too
+-- The locations are there, and the names of the letvars too.
 pub record HasRoom (first count : ℕ) (a : Place) (c : Command) : Type 0 where
   pub places : HasPlaces (length a.scope) c
   pub after : first ≤ a.next
   pub limit : a.next + letvars c ≤ first + count
   pub small : first + count ≤ 1024
 
--- nothing was found, and the place after the command
+-- Nothing was found, and the place after the command.
 pub record IsPassed (P : Profile) (names : ℕ → Span) (wants : Step → Bool) (a : Place) (c : Command)
     (b : Place) : Type 0 where
   pub nothing : find wants (steps P names a.guards a.scope a.next c) ≡ None
@@ -34,7 +23,7 @@ pub record IsPassed (P : Profile) (names : ℕ → Span) (wants : Step → Bool)
   pub guards : b.guards ≡ a.guards
   pub next : b.next ≡ a.next + letvars c
 
--- the first step of the command that is wanted, if there is one
+-- The first step of the command that is wanted, if there is one.
 abbrev pub Sought : {E : Type 0} → Profile → (ℕ → Span) → (Step → Bool) → Place → Command → Place
     → Result (Option Step) E → Type 0
 Sought P names wants a c b (Ok (Some s)) = find wants (steps P names a.guards a.scope a.next c) ≡ Some s

@@ -7,54 +7,54 @@ use Rattle.vsi_types.specs.Steps.{sink}
 use Rattle.vsi_infer.specs.Distances.{AreDistances}
 use Rattle.vsi_infer.specs.Paths.{IsPath}
 
--- the class is declared, and isn't at or above `low`
+-- The class is declared, and isn't at or above `low`.
 abbrev pub is_high : (ℕ → ℕ → Bool) → ℕ → Option ℕ → Bool
 is_high leq low None = false
 is_high leq low (Some c) = not (leq low c)
 
--- the variables where a walk from class `low` is bad
+-- The variables where a walk from class `low` is bad.
 abbrev pub goals_of : (ℕ → ℕ → Bool) → List (Option ℕ) → ℕ → List Bool
 goals_of leq ds low = map (is_high leq low) ds
 
--- the distance of variable v in the row of a class
+-- The distance of variable v in the row of a class.
 abbrev pub far_at : List (List ℕ) → ℕ → ℕ → ℕ
 far_at rows c v = slice_index (slice_index_or rows c []) v
 
--- for each declared class a row of distances to the variables where a walk from that class is bad
+-- For each declared class a row of distances to the variables where a walk from that class is bad.
 abbrev pub AreLevels : Lattice → (ℕ → ℕ → Bool) → List (Option ℕ) → List (List ℕ) → Type 0
 AreLevels L flows ds rows =
     (v c : ℕ) → slice_get ds v ≡ Some (Some c) → AreDistances flows (goals_of L.leq ds c) (slice_index_or rows c [])
 
--- no declared variable has a distance below the number, and some has that distance unless none has any
+-- No declared variable has a distance below the number, and some has that distance unless none has any.
 pub record IsFewest (ds : List (Option ℕ)) (rows : List (List ℕ)) (n : ℕ) : Type 0 where
   pub lower : (v c : ℕ) → slice_get ds v ≡ Some (Some c) → n ≤ far_at rows c v
   pub attained : (n ≡ 65535) ⊎ ((v : ℕ) × (c : ℕ) × (slice_get ds v ≡ Some (Some c)) × (far_at rows c v ≡ n))
 
--- the number of a variable's row: the ending of a loop has the last
+-- The number of a variable's row: the ending of a loop has the last.
 abbrev pub row_of : ℕ → ℕ → ℕ
 row_of last v = cond (v == sink) last v
 
--- a step from a variable of this class, which is `now` away, to one that is `after` away
+-- A step from a variable of this class, which is `now` away, to one that is `after` away.
 abbrev pub steps_from : List (List ℕ) → ℕ → ℕ → ℕ → Option ℕ → Step → Bool
 steps_from rows last now after None s = false
 steps_from rows last now after (Some c) s =
     (far_at rows c s.source == now) && (far_at rows c (row_of last s.target) == after)
 
--- a step from some declared variable
+-- A step from some declared variable.
 abbrev pub begins : List (Option ℕ) → List (List ℕ) → ℕ → ℕ → ℕ → Step → Bool
 begins ds rows last now after s = steps_from rows last now after (slice_index_or ds s.source None) s
 
--- a step from this variable to one that is `after` away
+-- A step from this variable to one that is `after` away.
 abbrev pub goes_on : ℕ → List ℕ → ℕ → ℕ → Step → Bool
 goes_on at row last after s = (s.source == at) && (slice_index row (row_of last s.target) == after)
 
--- from each variable that is some steps away, a step leads to one that is a step less away
+-- From each variable that is some steps away, a step leads to one that is a step less away.
 abbrev pub LeadsDown : List Step → ℕ → List ℕ → Type 0
 LeadsDown ss last row =
     (v n : ℕ) → slice_index row (row_of last v) ≡ suc n → suc n < 65535 →
     (s : Step) × Contains ss s × (s.source ≡ v) × (slice_index row (row_of last s.target) ≡ n)
 
--- so many steps lead from a to a variable that is no step away
+-- So many steps lead from a to a variable that is no step away.
 pub record IsArrived (ss : List Step) (last : ℕ) (row : List ℕ) (a count : ℕ) (steps : List Step) : Type 0 where
   pub end : ℕ
   pub path : IsPath ss a steps end

@@ -16,7 +16,7 @@ use std::alloc::{AllocError, Global as Heap};
 use vsi_lattice::{Class, Lattice};
 use vsi_scope::{Resolved, Var};
 use vsi_syntax::line_column;
-use vsi_types::{Rule, Step};
+use vsi_types::{LOOP, Rule, Step};
 
 /// Adds a number in decimal.
 fn put_number(text: &mut Vec<u8>, number: usize) -> Result<(), AllocError>
@@ -53,7 +53,7 @@ fn rule_text(rule: Rule) -> &'static [u8]
 fn put_name(text: &mut Vec<u8>, program: &Resolved<'_>, variable: Var) -> Result<(), AllocError>
     ensures { OnOk result (text.new.items ≡ text.old.items ++ spec.name_of program.now variable) }
 {
-    if variable.0 == 65535 {
+    if variable == LOOP {
         return text.extend_from_slice(b"(loop)");
     }
     let number = variable.0 as usize;

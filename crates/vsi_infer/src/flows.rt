@@ -1,16 +1,16 @@
 //! The flows of a program, as rows.
 
-ghost use Rattle.std.specs.Prelude.{◌≡◌, ℕ, ◌+◌, ◌<◌, ◌≤◌, length, IfOk};
+ghost use Rattle.std.specs.Prelude.{ℕ, ◌+◌, ◌<◌, ◌≤◌, length, IfOk};
 ghost use Rattle.std.specs.List.{All};
-ghost use Rattle.vsi_types.specs.Security.{program as program_of, count_from};
+ghost use Rattle.vsi_types.specs.Security.{program as program_of};
 ghost use Rattle.vsi_infer.specs.Flowing.{AreFlowsOf};
 
 use crate::noting::{Noting, note_commands};
 use crate::raise::Flow;
 use crate::rows::has_bit;
 use std::alloc::{AllocError, Global as Heap};
-use vsi_scope::{Resolved, Var};
-use vsi_types::Profile;
+use vsi_scope::Resolved;
+use vsi_types::{Profile, first_variables};
 
 /// For each variable 16 words, a bit for each variable that flows to it; the last row is that of the loops' ending.
 #[derive(Drop)]
@@ -27,17 +27,6 @@ impl Flow for FlowRows {
     fn has(&self, from: usize, to: usize) -> bool {
         to < 1025 && has_bit(&self.rows, to, from)
     }
-}
-
-/// The variables of the globals.
-pub fn first_variables(alloc: Heap, count: u16) -> Result<Vec<Var>, AllocError>
-    ensures { IfOk result (λ s. s.items ≡ count_from 0 count) }
-{
-    let mut scope = Vec::new(alloc);
-    for i in 0..count {
-        scope.push(Var(i))?;
-    }
-    Ok(scope)
 }
 
 /// The rows of a program's flows.

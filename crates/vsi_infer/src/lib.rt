@@ -21,11 +21,11 @@ mod rows;
 mod seek;
 mod shortest;
 mod walk;
-mod walker;
 
 pub use error::InferError;
 pub use explanation::explain;
 pub use inference::{infer, infer_in};
+pub use vsi_types::Step;
 pub use walk::{Walk, check_walk, check_walk_in};
 
 #[cfg(test)]

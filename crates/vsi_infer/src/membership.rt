@@ -5,14 +5,13 @@ ghost use Rattle.vsi_scope.specs.Phrase.{HasLocations, Put, Choose, Repeat, Allo
 ghost use Rattle.vsi_scope.specs.View.{phrase, command, sequence};
 ghost use Rattle.vsi_types.specs.declared.rules.Rule.TheVariants.{Assign};
 ghost use Rattle.vsi_types.specs.Security.{name_place};
-ghost use Rattle.vsi_infer.specs.Leading.{minds as minds_it};
 ghost use Rattle.vsi_infer.specs.Membership.{same_rule as same_rule_of, same_span as same_span_of, read_is as read_is_of, written_is as written_is_of, reads_pass as reads_pass_of, ends_pass as ends_pass_of, IsFor, IsPast, stand_of};
 
-use crate::seek::loops;
+use crate::noting::minds;
 use arrayvec::ArrayVec;
 use vsi_scope::{Cmd, Entry, Ex};
 use vsi_syntax::Span;
-use vsi_types::{Profile, Rule, Step};
+use vsi_types::{LOOP, Profile, Rule, Step, loops};
 
 /// The most locations that are in scope at once, and some more.
 pub const SCOPE: usize = 512;
@@ -79,19 +78,10 @@ fn ends_pass(step: &Step, scope: &[u16], e: &Ex) -> bool
     match e {
         Ex::Num(_) => false,
         Ex::Loc(l, place) => {
-            read_is(step, Rule::Loop, scope[*l as usize], *place) && written_is(step, 65535, *place)
+            read_is(step, Rule::Loop, scope[*l as usize], *place)
+                && written_is(step, LOOP.0, *place)
         }
         Ex::Op(_, a, b) => ends_pass(step, scope, a) || ends_pass(step, scope, b),
-    }
-}
-
-/// Whether the profile asks after the ending of what loops.
-fn minds(profile: Profile, looping: bool) -> bool
-    ensures { result ≡ minds_it profile looping }
-{
-    match profile {
-        Profile::Base => false,
-        Profile::Strict => looping,
     }
 }
 

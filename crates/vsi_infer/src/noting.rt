@@ -44,7 +44,7 @@ fn note_reads(rows: &mut [u64], row: usize, scope: &[Var], e: &Ex)
 }
 
 /// Whether the profile asks after the ending of what loops.
-fn minds(profile: Profile, looping: bool) -> bool
+pub fn minds(profile: Profile, looping: bool) -> bool
     ensures { result ≡ minds_it profile looping }
 {
     match profile {

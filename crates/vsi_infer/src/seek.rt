@@ -1,22 +1,22 @@
 //! The first step of a program that is wanted.
 
-ghost use Rattle.std.specs.Prelude.{◌≡◌, ◌++◌, ◌+◌, ◌≤◌, ◌||◌, ℕ, Bool, true, List, length, OnOk};
+ghost use Rattle.std.specs.Prelude.{◌≡◌, ◌||◌, ℕ, Bool, true, length};
 ghost use Rattle.std.specs.List.{find};
-ghost use Rattle.vsi_scope.specs.Phrase.{letvars, has_loop, HasPlaces, HasLocations, Put, Choose, Repeat, Allocate};
+ghost use Rattle.vsi_scope.specs.Phrase.{has_loop, HasPlaces, HasLocations, Put, Choose, Repeat, Allocate};
 ghost use Rattle.vsi_scope.specs.View.{phrase, command, sequence};
 ghost use Rattle.vsi_types.specs.Steps.{reads, guarded, flows, endings, steps};
 ghost use Rattle.vsi_types.specs.Security.{name_place};
+ghost use Rattle.vsi_types.specs.Walker.{place_of};
 ghost use Rattle.vsi_types.specs.declared.rules.Profile.TheVariants.{Strict};
 ghost use Rattle.vsi_types.specs.declared.rules.Step.{Step};
 ghost use Rattle.vsi_types.specs.declared.rules.Profile.{Profile};
 ghost use Rattle.vsi_syntax.specs.declared.token.Span.{Span};
-ghost use Rattle.vsi_infer.specs.Seeking.{place_of, Sought, HasRoom};
+ghost use Rattle.vsi_infer.specs.Seeking.{Sought, HasRoom};
 
-use crate::walker::Walker;
 use std::alloc::AllocError;
 use vsi_scope::{Cmd, Entry, Ex, Var};
 use vsi_syntax::Span;
-use vsi_types::{Guard, Profile, Read, Rule, Step};
+use vsi_types::{Guard, LOOP, Profile, Rule, Step, Walker, loops, push_reads};
 
 /// Which steps are wanted.
 pub trait Wanted {
@@ -92,7 +92,7 @@ fn seek_endings<W: Wanted>(wanted: &W, scope: &[Var], e: &Ex) -> Option<Step>
             let step = Step {
                 rule: Rule::Loop,
                 source: scope[*l as usize],
-                target: Var(65535),
+                target: LOOP,
                 read: *place,
                 written: *place,
             };
@@ -106,54 +106,6 @@ fn seek_endings<W: Wanted>(wanted: &W, scope: &[Var], e: &Ex) -> Option<Step>
             Some(step) => Some(step),
             None => seek_endings(wanted, scope, b),
         },
-    }
-}
-
-/// Whether a loop stands in the commands, at any depth.
-#[cycle(loops)]
-pub fn loops(body: &[Cmd]) -> bool
-    ensures { result ≡ has_loop (sequence body.now) }
-{
-    let mut looping = false;
-    for c in body {
-        looping |= loops_in(c);
-    }
-    looping
-}
-
-#[cycle(loops)]
-fn loops_in(c: &Cmd) -> bool
-    ensures { result ≡ has_loop (command c.now) }
-{
-    match c {
-        Cmd::Assign { .. } => false,
-        Cmd::If { yes, no, .. } => loops(yes) | loops(no),
-        Cmd::While { .. } => true,
-        Cmd::Letvar { body, .. } => loops(body),
-    }
-}
-
-/// Adds what an expression reads.
-fn push_reads(guards: &mut Vec<Guard>, scope: &[Var], rule: Rule, e: &Ex) -> Result<(), AllocError>
-    requires { HasLocations (length scope.now) (phrase e.now) }
-    ensures { OnOk result (guards.new.items ≡ guards.old.items ++ guarded rule (reads scope.now (phrase e.now))) }
-{
-    match e {
-        Ex::Num(_) => Ok(()),
-        Ex::Loc(l, place) => {
-            guards.push(Guard {
-                rule,
-                read: Read {
-                    variable: scope[*l as usize],
-                    place: *place,
-                },
-            })?;
-            Ok(())
-        }
-        Ex::Op(_, a, b) => {
-            push_reads(guards, scope, rule, a)?;
-            push_reads(guards, scope, rule, b)
-        }
     }
 }
 

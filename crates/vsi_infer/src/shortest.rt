@@ -11,26 +11,20 @@ ghost use Rattle.vsi_infer.specs.Inference.{table, AreClasses, IsShortest};
 ghost use Rattle.vsi_infer.specs.Paths.{IsPath};
 ghost use Rattle.vsi_infer.specs.Shortest.{begins as begins_of, goes_on as goes_on_of, row_of as row_of_variable, LeadsDown, IsArrived};
 
-use crate::flows::first_variables;
 use crate::levels::{far_at, fewest, level, levels};
 use crate::raise::Flow;
 use crate::seek::{Wanted, seek_commands};
 use crate::walk::Walk;
-use crate::walker::Walker;
 use std::alloc::{AllocError, Global as Heap};
 use vsi_lattice::{Class, Classes};
 use vsi_scope::{Resolved, Var};
-use vsi_types::{Profile, Step};
+use vsi_types::{LOOP, Profile, Step, Walker, first_variables};
 
 /// The place of a variable in a row: the ending of a loop has the last.
 fn row_of(last: u16, variable: Var) -> u16
     ensures { result ≡ row_of_variable last variable }
 {
-    if variable.0 == 65535 {
-        last
-    } else {
-        variable.0
-    }
+    if variable == LOOP { last } else { variable.0 }
 }
 
 /// The steps that begin a shortest bad walk: from a declared variable that is `now` away to one that is `after` away.

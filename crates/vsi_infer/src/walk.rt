@@ -14,7 +14,7 @@ use crate::membership::{Cursor, SCOPE, pass_commands};
 use arrayvec::ArrayVec;
 use vsi_lattice::{Class, Classes};
 use vsi_scope::{Resolved, Var};
-use vsi_types::{Profile, Step};
+use vsi_types::{LOOP, Profile, Step};
 
 /// Flow steps in the order in which they are walked. A walk that `infer` answers is bad; one that is made elsewhere
 /// may be anything, and `check_walk` tells.
@@ -82,7 +82,7 @@ pub fn declared_class<C: Classes>(
 ) -> Option<Class>
     ensures { result ≡ declared_class_of (C.lattice lattice.now) (program_of program.now) variable }
 {
-    if variable.0 == 65535 {
+    if variable == LOOP {
         return Some(lattice.bottom());
     }
     let number = variable.0 as usize;

@@ -18,7 +18,7 @@ use Rattle.vsi_types.specs.declared.rules.Read.{Read}
 use Rattle.vsi_types.specs.declared.rules.Step.{Step}
 use Rattle.vsi_types.specs.declared.rules.Guard.{Guard}
 use Rattle.vsi_types.specs.declared.rules.FlowFault.{FlowFault}
-use Rattle.vsi_types.specs.Steps.{sink, guarded, flows, ending, endings, steps, IsInOrder, AreInOrder, IsFirstFault}
+use Rattle.vsi_types.specs.Steps.{sink, guarded, ending, endings, steps, IsInOrder, AreInOrder, IsFirstFault}
 use Rattle.vsi_types.specs.Checking.{TellsFault, StepsJudged, step_at, FlowsJudged}
 
 -- The flow of a guard to a target, as a refusal tells it.
@@ -108,11 +108,6 @@ module _ (L : Lattice) (classes : ℕ → ℕ) where
         fault = refl;
         down = λ up. false≢true (sym down ∙ up);
       }
-
-  -- The flows of two lists of guards stand one after the other.
-  pub flows_append : (target : ℕ) (written : Span) (xs ys : List Guard) →
-      flows target written (xs ++ ys) ≡ flows target written xs ++ flows target written ys
-  flows_append target written xs ys = map-append (step_at target (λ g. written)) xs ys
 
   -- Answers on two lists of steps, one after the other.
   steps_err : (xs ys : List Step) (f : FlowFault) → StepsJudged {U = ⊤} L classes xs (Err f) →

@@ -2,6 +2,7 @@
 use Rattle.std.proofs.Common.{◌≡◌, ℕ, ◌+◌, ◌<◌, ◌≤◌, Bool, List, [], ◌∷◌, ◌++◌, take, length, get_or, refl, sym, ap, ◌∙◌, subst, arith}
 use Rattle.std.specs.Prelude.{slice_index, ◌||◌, true, ⊤, Result, Ok, Err, IsErrAnd}
 use Rattle.std.proofs.lemmas.List.{take_all}
+use Rattle.std.proofs.Math.Seq.{take-append_seam}
 use Rattle.vsi_lattice.specs.Order.{Lattice}
 use Rattle.vsi_syntax.specs.declared.token.Span.{Span}
 use Rattle.vsi_scope.specs.declared.program.Cmd.{Cmd}
@@ -16,17 +17,21 @@ use Rattle.vsi_types.specs.declared.rules.Guard.{Guard}
 use Rattle.vsi_types.specs.declared.rules.Step.{Step}
 use Rattle.vsi_types.specs.declared.rules.FlowFault.{FlowFault}
 use Rattle.vsi_types.specs.Steps.{reads, guarded, flows, endings, steps, AreInOrder, IsFirstFault}
-use Rattle.vsi_types.specs.Checking.{TellsFault, StepsJudged, FlowsJudged, Place, Judged}
+use Rattle.vsi_types.specs.Checking.{TellsFault, StepsJudged, FlowsJudged, Judged}
+use Rattle.vsi_types.specs.Walker.{Place}
 use Rattle.vsi_types.proofs.Judging.{fault_left, tells_left, tells_right, order_append, judged_err, judged_both, steps_at, steps_more}
-
--- The front of two lists is the first.
-take_front : {A : Type 0} (xs ys : List A) → take (length xs) (xs ++ ys) ≡ xs
-take_front [] ys = refl
-take_front (x ∷ xs) ys = ap (λ l. x ∷ l) (take_front xs ys)
 
 -- A place by its parts.
 abbrev pub place : List ℕ → List Guard → ℕ → Place
 place s g n = record { scope = s; guards = g; next = n }
+
+-- The place under a guard.
+abbrev pub inside : Rule → Phrase → Place → Place
+inside rule x a = record { scope = a.scope; guards = a.guards ++ guarded rule (reads a.scope x); next = a.next }
+
+-- The place within a letvar.
+abbrev pub within_letvar : Place → Place
+within_letvar a = record { scope = a.scope ++ a.next ∷ []; guards = a.guards; next = a.next + 1 }
 
 -- Places with equal parts are equal.
 pub same_place : (s s' : List ℕ) (g g' : List Guard) (n n' : ℕ) → s ≡ s' → g ≡ g' → n ≡ n' →
@@ -69,10 +74,6 @@ module _ (L : Lattice) (P : Profile) (classes : ℕ → ℕ) where
     assign_ok h k names =
         subst (λ t. AreInOrder L classes (flows t s (guarded Assign (reads a.scope x) ++ a.guards))) at
         (judged_both L classes target (guarded Assign (reads a.scope x)) a.guards tt (Ok tt) h k (λ g. s))
-
-  -- The place under a guard.
-  abbrev pub inside : Rule → Phrase → Place → Place
-  inside rule x a = record { scope = a.scope; guards = a.guards ++ guarded rule (reads a.scope x); next = a.next }
 
   -- A place whose parts are known.
   pub at_place : (s s' : List ℕ) (g g' : List Guard) (n n' : ℕ) (b : Place) (k : Command) (r : Result ⊤ CheckError) →
@@ -160,7 +161,7 @@ module _ (L : Lattice) (P : Profile) (classes : ℕ → ℕ) where
       Judged {U = ⊤} L P classes a (Choose x k₁ k₂) d (Ok tt)
   judged_if a b d x k₁ k₂ up h s g n = (
     s ∙ h.0,
-    g ∙ ap (take (length a.guards)) h.1 ∙ take_front a.guards (guarded If (reads a.scope x)),
+    g ∙ ap (take (length a.guards)) h.1 ∙ take-append_seam a.guards (guarded If (reads a.scope x)),
     n ∙ h.2,
     λ names. order_append L classes (choice_endings a x k₁ k₂) _ up (h.3 names),
   )
@@ -190,14 +191,10 @@ module _ (L : Lattice) (P : Profile) (classes : ℕ → ℕ) where
       Judged {U = ⊤} L P classes a (Repeat x k) d (Ok tt)
   judged_while a b d x k up h s g n = (
     s ∙ h.0,
-    g ∙ ap (take (length a.guards)) h.1 ∙ take_front a.guards (guarded While (reads a.scope x)),
+    g ∙ ap (take (length a.guards)) h.1 ∙ take-append_seam a.guards (guarded While (reads a.scope x)),
     n ∙ h.2,
     λ names. order_append L classes (endings P true (reads a.scope x)) _ up (h.3 names),
   )
-
-  -- The place within a letvar.
-  abbrev pub within_letvar : Place → Place
-  within_letvar a = record { scope = a.scope ++ a.next ∷ []; guards = a.guards; next = a.next + 1 }
 
   -- The flows of an initial value.
   abbrev initial_steps : Place → Phrase → (ℕ → Span) → List Step
@@ -227,7 +224,7 @@ module _ (L : Lattice) (P : Profile) (classes : ℕ → ℕ) where
       d.scope ≡ take (length a.scope) b.scope → d.guards ≡ b.guards → d.next ≡ b.next →
       Judged {U = ⊤} L P classes a (Allocate x k) d (Ok tt)
   letvar_ok a b d x k f h s g n = (
-    s ∙ ap (take (length a.scope)) h.0 ∙ take_front a.scope (a.next ∷ []),
+    s ∙ ap (take (length a.scope)) h.0 ∙ take-append_seam a.scope (a.next ∷ []),
     g ∙ h.1,
     omega (arith, n, h.2),
     λ names. order_append L classes (initial_steps a x names) _ (f (λ g. names a.next)) (h.3 names),

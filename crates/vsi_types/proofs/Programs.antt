@@ -14,6 +14,11 @@ use Rattle.vsi_types.specs.Security.{class_of, count_from, Program, IsResolved, 
 use Rattle.vsi_types.proofs.Orders.{each_from_all, all_from_each}
 use Rattle.vsi_types.proofs.Flow.{typed_ordered, ordered_typed}
 
+-- So many numbers are counted.
+pub length_count : (n k : ℕ) → length (count_from n k) ≡ k
+length_count n zero = refl
+length_count n (suc k) = ap suc (length_count (suc n) k)
+
 module _ (L : Lattice) (laws : IsLattice L) where
   -- A class of a list of classes, or the least number, is a class.
   index_within : (xs : List ℕ) → All (IsClass L) xs → (v : ℕ) → IsClass L (slice_index xs v)
@@ -63,11 +68,6 @@ module _ (L : Lattice) (laws : IsLattice L) where
       push moved in
       ap (λ y. y ∷ map (class_of L (pre ++ (x ∷ xs) ++ rest)) (count_from (suc (length pre)) (length xs))) here
       ∙ ap (λ ys. x ∷ ys) there
-
-  -- So many numbers are counted.
-  pub length_count : (n k : ℕ) → length (count_from n k) ≡ k
-  length_count n zero = refl
-  length_count n (suc k) = ap suc (length_count (suc n) k)
 
   module _ (P : Profile) (p : Program) (s : List ℕ) (res : IsResolved L p) (cls : All (IsClass L) s) where
     -- The class of each declaration.

@@ -13,7 +13,8 @@ use Rattle.vsi_types.specs.declared.rules.FlowFault.{FlowFault}
 use Rattle.vsi_types.specs.declared.rules.Profile.{Profile}
 use Rattle.vsi_types.specs.declared.rules.Step.{Step}
 use Rattle.vsi_types.specs.Steps.{IsInOrder, AreInOrder, IsFirstFault}
-use Rattle.vsi_types.specs.Checking.{TellsFault, TellsWhy, Place, Judged}
+use Rattle.vsi_types.specs.Checking.{TellsFault, TellsWhy, Judged}
+use Rattle.vsi_types.specs.Walker.{Place}
 use Rattle.vsi_types.proofs.Orders.{Each, each_from_all, each_back}
 use Rattle.vsi_types.specs.Security.{class_of, count_from, Program, program, IsChoice, IsTypable, IsResolved, steps_of}
 use Rattle.vsi_types.proofs.Programs.{steps_decide}
@@ -28,7 +29,7 @@ count_more n (suc k) =
     ap (count_from n) f ∙ ap (λ l. n ∷ l) (count_more (suc n) k ∙ ap (λ m. count_from (suc n) k ++ m ∷ []) e)
 
 -- The table with one entry more.
-pub map_more : {X : Type 0} (f : X → ℕ) (xs : List X) (i : ℕ) (x : X) → i < length xs → x ≡ get_or xs i x →
+pub map_more : {X Y : Type 0} (f : X → Y) (xs : List X) (i : ℕ) (x : X) → i < length xs → x ≡ get_or xs i x →
     map f (take (i + 1) xs) ≡ map f (take i xs) ++ f x ∷ []
 map_more f xs i x lt is = ap (map f) (take_more xs i x lt) ∙ map-append f (take i xs) (get_or xs i x ∷ [])
     ∙ ap (λ y. map f (take i xs) ++ f y ∷ []) (sym is)

@@ -4,6 +4,7 @@ use Rattle.std.specs.Prelude.{slice_index, slice_index_or, ◌==◌, nat_lt}
 use Rattle.std.specs.List.{All}
 use Rattle.std.proofs.lemmas.List.{get_or_append_left, get_or-append_right, get_or_past}
 use Rattle.std.proofs.lemmas.List.Elements.{All-head, All-tail, All-contains}
+use Rattle.std.proofs.lemmas.Option.{none-some}
 use Rattle.std.proofs.lemmas.Bool.{cases_lt}
 use Rattle.std.proofs.lemmas.Bool.Decides.{nat_tests}
 use Rattle.vsi_lattice.specs.Order.{Lattice, IsLattice, IsClass, Below}
@@ -15,16 +16,12 @@ use Rattle.vsi_types.proofs.Choosing.{kept_at}
 use Rattle.vsi_types.proofs.Programs.{steps_decide, within}
 
 -- Equal answers hold equal numbers.
-some_same : (a b : ℕ) → Some a ≡ Some b → a ≡ b
+pub some_same : (a b : ℕ) → Some a ≡ Some b → a ≡ b
 some_same a b e = ap (λ o. elim o as (λ _. ℕ) [ None ↦ a | Some x ↦ x ]) e
-
--- No answer is not one.
-none_some : {A : Type 0} (a : ℕ) → None ≡ Some a → A
-none_some {A} a e = absurd (subst (λ o. elim o as (λ _. Type 0) [ None ↦ Unit {0} | Some x ↦ ⊥ ]) e tt)
 
 -- A declared class is the chosen one.
 kept : (d : Option ℕ) (t a : ℕ) → Keeps d t → d ≡ Some a → t ≡ a
-kept None t a h e = none_some a e
+kept None t a h e = absurd (none-some a e)
 kept (Some c) t a h e = h ∙ some_same c a e
 
 module _ (L : Lattice) (p : Program) (s : List ℕ) (choice : IsChoice p s) where
@@ -37,7 +34,7 @@ module _ (L : Lattice) (p : Program) (s : List ℕ) (choice : IsChoice p s) wher
   of_letvar i a e =
       ⊎_elim
       (λ lt. kept (slice_index_or p.declared i None) (slice_index s i) a (kept_at p.declared s i choice lt) e)
-      (λ le. none_some a (sym (get_or_past p.declared i None le) ∙ e))
+      (λ le. absurd (none-some a (sym (get_or_past p.declared i None le) ∙ e)))
       (cases_lt i (length p.declared))
 
   -- The class of a variable is its declared one, by cases.

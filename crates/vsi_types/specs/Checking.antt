@@ -9,9 +9,9 @@ use Rattle.vsi_types.specs.declared.rules.Profile.{Profile}
 use Rattle.vsi_types.specs.declared.rules.Step.{Step}
 use Rattle.vsi_types.specs.declared.rules.Guard.{Guard}
 use Rattle.vsi_types.specs.declared.rules.FlowFault.{FlowFault}
-use Rattle.vsi_types.specs.declared.walker.Walker.{Walker}
 use Rattle.vsi_types.specs.Steps.{flow, steps, AreInOrder, IsFirstFault}
 use Rattle.vsi_types.specs.Security.{Program, IsChoice, class_of, steps_of}
+use Rattle.vsi_types.specs.Walker.{Place}
 
 -- What a refusal says: a wrong choice is none, and a flow is the first step that isn't in order.
 abbrev pub TellsWhy : Lattice → Profile → Program → List ℕ → CheckError → Type 0
@@ -32,16 +32,6 @@ step_at target written g = flow target (written g) g
 abbrev pub FlowsJudged : {U : Type 0} → Lattice → (ℕ → ℕ) → ℕ → List Guard → Result U FlowFault → Type 0
 FlowsJudged L classes target gs r = (written : Guard → Span) →
     StepsJudged L classes (map (step_at target written) gs) r
-
--- A place in a program: the variable of each location, the guards round it, and the declarations before it.
-pub record Place : Type 0 where
-  pub scope : List ℕ
-  pub guards : List Guard
-  pub next : ℕ
-
--- The place where a walk stands.
-abbrev pub place_of : Walker → Place
-place_of w = record { scope = w.scope.items; guards = w.guards.items; next = w.next }
 
 -- What an error says of a list of steps: a flow is the first that isn't in order.
 abbrev pub TellsFault : Lattice → (ℕ → ℕ) → List Step → CheckError → Type 0

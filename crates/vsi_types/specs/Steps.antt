@@ -48,7 +48,7 @@ endings Strict true rs = map ending rs
 
 -- The flow steps of a command under guards, the outermost first, with n declarations before it.
 --   names   where the name of each declaration stands
---   scope   the variable of each location
+--   scope   the variable of each location.
 abbrev pub steps : Profile → (ℕ → Span) → List Guard → List ℕ → ℕ → Command → List Step
 steps P names gs scope n Nothing = []
 steps P names gs scope n (Put l s e) = flows (slice_index scope l) s (guarded Assign (reads scope e) ++ gs)

@@ -8,11 +8,11 @@ ghost use Rattle.vsi_types.specs.Security.{class_of, IsChoice, IsTypable, steps_
 ghost use Rattle.vsi_types.specs.declared.error.CheckError.TheVariants.{Memory, WrongChoice};
 ghost use Rattle.vsi_types.specs.declared.rules.Profile.TheVariants.{Base};
 
-use crate::choice::{class_table, first_variables, is_choice};
+use crate::choice::{class_table, is_choice};
 use crate::error::CheckError;
 use crate::rules::Profile;
 use crate::tree::check_commands;
-use crate::walker::Walker;
+use crate::walker::{Walker, first_variables};
 use std::alloc::Global as Heap;
 use vsi_lattice::{Class, Classes};
 use vsi_scope::Resolved;

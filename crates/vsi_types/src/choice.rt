@@ -2,11 +2,11 @@
 
 ghost use Rattle.std.specs.Prelude.{◌≡◌, ◌++◌, true, false, map, IfOk};
 ghost use Rattle.std.specs.List.{AllZip};
-ghost use Rattle.vsi_types.specs.Security.{count_from, Keeps};
+ghost use Rattle.vsi_types.specs.Security.{Keeps};
 
 use std::alloc::{AllocError, Global as Heap};
 use vsi_lattice::Class;
-use vsi_scope::{Entry, Global, Var};
+use vsi_scope::{Entry, Global};
 
 /// Whether a class is the declared one, where one is declared.
 fn keeps(declared: Option<Class>, class: Class) -> bool
@@ -49,15 +49,4 @@ pub fn class_table(
     }
     table.extend_from_slice(choice)?;
     Ok(table)
-}
-
-/// The variables of the globals.
-pub fn first_variables(alloc: Heap, count: u16) -> Result<Vec<Var>, AllocError>
-    ensures { IfOk result (λ s. s.items ≡ count_from 0 count) }
-{
-    let mut scope = Vec::new(alloc);
-    for i in 0..count {
-        scope.push(Var(i))?;
-    }
-    Ok(scope)
 }

@@ -1,6 +1,6 @@
 //! The flows of what one expression or a list of guards reads into one target.
 
-ghost use Rattle.std.specs.Prelude.{◌≡◌, ◌++◌, ◌||◌, true, length, OnOk};
+ghost use Rattle.std.specs.Prelude.{◌≡◌, ◌||◌, true, length};
 ghost use Rattle.std.specs.List.{All};
 ghost use Rattle.vsi_lattice.specs.Order.{IsClass};
 ghost use Rattle.vsi_scope.specs.Phrase.{has_loop, HasLocations};
@@ -9,9 +9,8 @@ ghost use Rattle.vsi_types.specs.Steps.{reads, guarded, endings};
 ghost use Rattle.vsi_types.specs.Security.{class_of};
 ghost use Rattle.vsi_types.specs.Checking.{FlowsJudged, StepsJudged};
 
-use crate::loops::loops;
-use crate::rules::{FlowFault, Guard, LOOP, Profile, Read, Rule};
-use std::alloc::AllocError;
+use crate::rules::{FlowFault, Guard, LOOP, Profile, Rule};
+use crate::walker::loops;
 use vsi_lattice::{Class, Classes};
 use vsi_scope::{Cmd, Ex, Var};
 
@@ -145,35 +144,6 @@ pub fn check_choice<C: Classes>(
             } else {
                 Ok(())
             }
-        }
-    }
-}
-
-/// Adds what an expression reads.
-pub fn push_reads(
-    guards: &mut Vec<Guard>,
-    scope: &[Var],
-    rule: Rule,
-    e: &Ex,
-) -> Result<(), AllocError>
-    requires { HasLocations (length scope.now) (phrase e.now) }
-    ensures { OnOk result (guards.new.items ≡ guards.old.items ++ guarded rule (reads scope.now (phrase e.now))) }
-{
-    match e {
-        Ex::Num(_) => Ok(()),
-        Ex::Loc(l, place) => {
-            guards.push(Guard {
-                rule,
-                read: Read {
-                    variable: scope[*l as usize],
-                    place: *place,
-                },
-            })?;
-            Ok(())
-        }
-        Ex::Op(_, a, b) => {
-            push_reads(guards, scope, rule, a)?;
-            push_reads(guards, scope, rule, b)
         }
     }
 }

@@ -14,10 +14,10 @@ use vsi_scope::{Global, Resolved, resolve};
 use vsi_syntax::{lex, parse};
 
 // Two classes, L below H.
-const K2: &[u8] = b"classes = [\"L\", \"H\"]\nbelow = [[\"L\", \"H\"]]\n";
+const TWO_CLASSES: &[u8] = b"classes = [\"L\", \"H\"]\nbelow = [[\"L\", \"H\"]]\n";
 
 // Four classes: L below A and B, and these below H.
-const K4: &[u8] = b"classes = [\"L\", \"A\", \"B\", \"H\"]
+const FOUR_CLASSES: &[u8] = b"classes = [\"L\", \"A\", \"B\", \"H\"]
 below = [[\"L\", \"A\"], [\"L\", \"B\"], [\"A\", \"H\"], [\"B\", \"H\"]]
 ";
 

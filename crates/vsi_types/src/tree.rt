@@ -6,12 +6,13 @@ ghost use Rattle.vsi_lattice.specs.Order.{IsClass};
 ghost use Rattle.vsi_scope.specs.Phrase.{letvars, HasPlaces, Put, Choose, Repeat, Allocate};
 ghost use Rattle.vsi_scope.specs.View.{phrase, command, sequence};
 ghost use Rattle.vsi_types.specs.Security.{class_of};
-ghost use Rattle.vsi_types.specs.Checking.{Judged, place_of};
+ghost use Rattle.vsi_types.specs.Checking.{Judged};
+ghost use Rattle.vsi_types.specs.Walker.{place_of};
 
 use crate::error::CheckError;
-use crate::flows::{check_choice, check_guards, check_loop, check_reads, push_reads};
+use crate::flows::{check_choice, check_guards, check_loop, check_reads};
 use crate::rules::{Profile, Rule};
-use crate::walker::Walker;
+use crate::walker::{Walker, push_reads};
 use vsi_lattice::{Class, Classes};
 use vsi_scope::{Cmd, Ex, Var};
 use vsi_syntax::Span;

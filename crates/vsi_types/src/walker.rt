@@ -1,9 +1,16 @@
-//! Where a walk over a program stands.
+//! What walks over a program share: where one stands, what it reads there, and whether a loop stands further on.
 
-use crate::rules::Guard;
-use vsi_scope::Var;
+ghost use Rattle.std.specs.Prelude.{◌≡◌, ◌++◌, length, IfOk, OnOk};
+ghost use Rattle.vsi_scope.specs.Phrase.{has_loop, HasLocations};
+ghost use Rattle.vsi_scope.specs.View.{phrase, command, sequence};
+ghost use Rattle.vsi_types.specs.Security.{count_from};
+ghost use Rattle.vsi_types.specs.Steps.{reads, guarded};
 
-/// A place in a program, for a walk that goes over its commands in text order.
+use crate::rules::{Guard, Read, Rule};
+use std::alloc::{AllocError, Global as Heap};
+use vsi_scope::{Cmd, Ex, Var};
+
+/// Where a walk stands that goes over the commands of a program in text order.
 #[derive(Drop)]
 pub struct Walker {
     /// The variable of each location in scope.
@@ -12,4 +19,70 @@ pub struct Walker {
     pub guards: Vec<Guard>,
     /// The number of declarations before the place.
     pub next: u16,
+}
+
+/// The scope at the start of a program: the variables of its globals, by their number.
+pub fn first_variables(alloc: Heap, count: u16) -> Result<Vec<Var>, AllocError>
+    ensures { IfOk result (λ s. s.items ≡ count_from 0 count) }
+{
+    let mut scope = Vec::new(alloc);
+    for i in 0..count {
+        scope.push(Var(i))?;
+    }
+    Ok(scope)
+}
+
+/// Adds what an expression reads, in text order, to the guards under a rule; the scope gives its variables.
+pub fn push_reads(
+    guards: &mut Vec<Guard>,
+    scope: &[Var],
+    rule: Rule,
+    e: &Ex,
+) -> Result<(), AllocError>
+    requires { HasLocations (length scope.now) (phrase e.now) }
+    ensures { OnOk result (guards.new.items ≡ guards.old.items ++ guarded rule (reads scope.now (phrase e.now))) }
+{
+    match e {
+        Ex::Num(_) => Ok(()),
+        Ex::Loc(l, place) => {
+            guards.push(Guard {
+                rule,
+                read: Read {
+                    variable: scope[*l as usize],
+                    place: *place,
+                },
+            })?;
+            Ok(())
+        }
+        Ex::Op(_, a, b) => {
+            push_reads(guards, scope, rule, a)?;
+            push_reads(guards, scope, rule, b)
+        }
+    }
+}
+
+/// Whether a loop stands in the commands, at any depth.
+#[cycle(loops)]
+pub fn loops(body: &[Cmd]) -> bool
+    ensures { result ≡ has_loop (sequence body.now) }
+{
+    for c in body {
+        if loops_in(c) {
+            return true;
+        }
+    }
+    false
+}
+
+/// Whether a loop stands in the command, at any depth.
+#[cycle(loops)]
+fn loops_in(c: &Cmd) -> bool
+    ensures { result ≡ has_loop (command c.now) }
+{
+    match c {
+        Cmd::Assign { .. } => false,
+        Cmd::If { yes, no, .. } => loops(yes) || loops(no),
+        Cmd::While { .. } => true,
+        Cmd::Letvar { body, .. } => loops(body),
+    }
 }

@@ -1,6 +1,6 @@
 //! The base profile.
 
-use super::{K2, K4, says};
+use super::{FOUR_CLASSES, TWO_CLASSES, says};
 use vsi_types::Profile::Base;
 
 #[test]
@@ -29,7 +29,7 @@ fn walks_of_one_step(rt: HostRuntime) {
         ),
     ];
     for (source, want) in rows {
-        assert!(rt; says(alloc, Base, K2, source, want));
+        assert!(rt; says(alloc, Base, TWO_CLASSES, source, want));
     }
 }
 
@@ -40,7 +40,7 @@ fn walks_of_two_steps(rt: HostRuntime) {
         says(
             alloc,
             Base,
-            K2,
+            TWO_CLASSES,
             b"var h : H; var l : L; letvar t := 0 in { if h then t := 1 else t := 0; l := t }",
             b"1:45 h flows to t by IF at 1:52\n1:77 t flows to l by ASSIGN at 1:72\nh : H may not flow to l : L\n"
         )
@@ -49,7 +49,7 @@ fn walks_of_two_steps(rt: HostRuntime) {
         says(
             alloc,
             Base,
-            K4,
+            FOUR_CLASSES,
             b"var a : A; var b : B; var x : A; letvar t := a + b in x := t",
             b"1:50 b flows to t by LETVAR at 1:41\n1:60 t flows to x by ASSIGN at 1:55\nb : B may not flow to x : A\n"
         )
@@ -63,7 +63,7 @@ fn least_classes(rt: HostRuntime) {
         says(
             alloc,
             Base,
-            K4,
+            FOUR_CLASSES,
             b"var a : A; var b : B; var h : H; letvar t := a + b in h := t",
             b"3"
         )
@@ -72,7 +72,7 @@ fn least_classes(rt: HostRuntime) {
         says(
             alloc,
             Base,
-            K4,
+            FOUR_CLASSES,
             b"var a : A; var h : H; letvar t := a in h := t",
             b"1"
         )
@@ -81,7 +81,7 @@ fn least_classes(rt: HostRuntime) {
         says(
             alloc,
             Base,
-            K2,
+            TWO_CLASSES,
             b"var h : H; var l : L; letvar a := 0 in letvar b := 0 in while l < 3 do { b := a; a := h; l := l + 1 }",
             b"11"
         )
@@ -96,7 +96,7 @@ fn the_first_of_two_shortest(rt: HostRuntime) {
         says(
             alloc,
             Base,
-            K4,
+            FOUR_CLASSES,
             b"var b : B; var a : A; var x : A; var y : B; y := a; x := b",
             b"1:50 a flows to y by ASSIGN at 1:45\na : A may not flow to y : B\n"
         )

@@ -1,6 +1,6 @@
 //! The strict profile.
 
-use super::{K2, K4, says};
+use super::{FOUR_CLASSES, TWO_CLASSES, says};
 use vsi_types::Profile::{Base, Strict};
 
 // The walk by the initial value of `t` and the guard that reads it.
@@ -11,12 +11,12 @@ const THROUGH_A_LETVAR: &[u8] =
 fn endings_of_loops(rt: HostRuntime) {
     let alloc = rt.alloc();
     let row = b"var h : H; while h do h := h";
-    assert!(rt; says(alloc, Base, K2, row, b""));
+    assert!(rt; says(alloc, Base, TWO_CLASSES, row, b""));
     assert!(rt;
         says(
             alloc,
             Strict,
-            K2,
+            TWO_CLASSES,
             row,
             b"1:18 h flows to (loop) by LOOP at 1:18\nh : H may not flow to (loop) : L\n"
         )
@@ -25,7 +25,7 @@ fn endings_of_loops(rt: HostRuntime) {
         says(
             alloc,
             Strict,
-            K2,
+            TWO_CLASSES,
             b"var h : H; var k : H; if h then while 0 do k := 1 else k := 2",
             b"1:26 h flows to (loop) by LOOP at 1:26\nh : H may not flow to (loop) : L\n"
         )
@@ -34,7 +34,7 @@ fn endings_of_loops(rt: HostRuntime) {
         says(
             alloc,
             Strict,
-            K2,
+            TWO_CLASSES,
             b"var h : H; letvar t := h in while t do t := 0",
             THROUGH_A_LETVAR
         )
@@ -43,7 +43,7 @@ fn endings_of_loops(rt: HostRuntime) {
         says(
             alloc,
             Strict,
-            K4,
+            FOUR_CLASSES,
             b"var a : A; while a < 3 do a := a + 1",
             b"1:18 a flows to (loop) by LOOP at 1:18\na : A may not flow to (loop) : L\n"
         )
@@ -57,10 +57,18 @@ fn loops_on_the_bottom_class(rt: HostRuntime) {
         says(
             alloc,
             Strict,
-            K2,
+            TWO_CLASSES,
             b"var h : H; var l : L; letvar a := 0 in letvar b := 0 in while l < 3 do { b := a; a := h; l := l + 1 }",
             b"11"
         )
     );
-    assert!(rt; says(alloc, Strict, K2, b"var x : L; while 1 do x := x", b""));
+    assert!(rt;
+        says(
+            alloc,
+            Strict,
+            TWO_CLASSES,
+            b"var x : L; while 1 do x := x",
+            b""
+        )
+    );
 }

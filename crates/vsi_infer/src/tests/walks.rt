@@ -1,6 +1,6 @@
 //! Walks that aren't bad, and a long one.
 
-use super::{K2, answered, are_classes, are_declared, says};
+use super::{TWO_CLASSES, answered, are_classes, are_declared, says};
 use crate::{Walk, check_walk};
 use std::alloc::Global as Heap;
 use vsi_lattice::{Lattice, read_lattice};
@@ -38,7 +38,7 @@ fn is_bad(alloc: Heap, lattice: &Lattice, program: &Resolved<'_>, steps: &[Step]
 
 // The same of a text over two classes.
 fn judged(alloc: Heap, source: &[u8], steps: &[Step]) -> Option<bool> {
-    let lattice = read_lattice(alloc, K2).ok()?;
+    let lattice = read_lattice(alloc, TWO_CLASSES).ok()?;
     let tokens = lex(alloc, source).ok()?;
     let program = parse(alloc, &tokens).ok()?;
     let resolved = resolve(alloc, &program, &lattice).ok()?;
@@ -126,7 +126,7 @@ fn chain(alloc: Heap, way_out: bool) -> Option<Vec<u8>> {
 fn a_long_chain_is_accepted(rt: HostRuntime) {
     let alloc = rt.alloc();
     let accepted = match chain(alloc, false) {
-        Some(text) => says(alloc, Profile::Base, K2, &text, &[b'1'; 100]),
+        Some(text) => says(alloc, Profile::Base, TWO_CLASSES, &text, &[b'1'; 100]),
         None => false,
     };
     assert!(rt; accepted);
@@ -138,7 +138,7 @@ fn a_long_chain_is_refused_by_all_its_steps(rt: HostRuntime) {
     let Some(text) = chain(alloc, true) else {
         panic!(rt; "no memory");
     };
-    let Some(answer) = answered(alloc, Profile::Base, K2, &text) else {
+    let Some(answer) = answered(alloc, Profile::Base, TWO_CLASSES, &text) else {
         panic!(rt; "no answer");
     };
     let mut lines: usize = 0;

@@ -1,6 +1,6 @@
 //! The base profile.
 
-use super::{K2, K4, Said, judged};
+use super::{FOUR_CLASSES, Said, TWO_CLASSES, judged};
 use crate::Profile::Base;
 use crate::Rule;
 
@@ -26,7 +26,7 @@ fn direct_and_guarded_flows(rt: HostRuntime) {
         ),
     ];
     for (text, want) in rows {
-        assert_eq!(rt; judged(alloc, Base, K2, text, &[]), want);
+        assert_eq!(rt; judged(alloc, Base, TWO_CLASSES, text, &[]), want);
     }
 }
 
@@ -34,14 +34,20 @@ fn direct_and_guarded_flows(rt: HostRuntime) {
 fn a_letvar_under_a_guard(rt: HostRuntime) {
     let alloc = rt.alloc();
     let text = b"var h : H; var l : L; letvar t := 0 in { if h then t := 1 else t := 0; l := t }";
-    assert_eq!(rt; judged(alloc, Base, K2, text, &[]), Said::WrongChoice);
-    assert_eq!(rt; judged(alloc, Base, K2, text, &[0, 0]), Said::WrongChoice);
     assert_eq!(rt;
-        judged(alloc, Base, K2, text, &[0]),
+        judged(alloc, Base, TWO_CLASSES, text, &[]),
+        Said::WrongChoice
+    );
+    assert_eq!(rt;
+        judged(alloc, Base, TWO_CLASSES, text, &[0, 0]),
+        Said::WrongChoice
+    );
+    assert_eq!(rt;
+        judged(alloc, Base, TWO_CLASSES, text, &[0]),
         Said::Flow(Rule::If, 44, 45, 0, 2)
     );
     assert_eq!(rt;
-        judged(alloc, Base, K2, text, &[1]),
+        judged(alloc, Base, TWO_CLASSES, text, &[1]),
         Said::Flow(Rule::Assign, 76, 77, 2, 1)
     );
 }
@@ -53,15 +59,24 @@ fn declared_classes_are_kept(rt: HostRuntime) {
         b"var h : H; var l : L; letvar t : L := 0 in { if h then t := 1 else t := 0; l := t }";
     let high =
         b"var h : H; var l : L; letvar t : H := 0 in { if h then t := 1 else t := 0; l := t }";
-    assert_eq!(rt; judged(alloc, Base, K2, low, &[]), Said::WrongChoice);
-    assert_eq!(rt; judged(alloc, Base, K2, low, &[1]), Said::WrongChoice);
     assert_eq!(rt;
-        judged(alloc, Base, K2, low, &[0]),
+        judged(alloc, Base, TWO_CLASSES, low, &[]),
+        Said::WrongChoice
+    );
+    assert_eq!(rt;
+        judged(alloc, Base, TWO_CLASSES, low, &[1]),
+        Said::WrongChoice
+    );
+    assert_eq!(rt;
+        judged(alloc, Base, TWO_CLASSES, low, &[0]),
         Said::Flow(Rule::If, 48, 49, 0, 2)
     );
-    assert_eq!(rt; judged(alloc, Base, K2, high, &[0]), Said::WrongChoice);
     assert_eq!(rt;
-        judged(alloc, Base, K2, high, &[1]),
+        judged(alloc, Base, TWO_CLASSES, high, &[0]),
+        Said::WrongChoice
+    );
+    assert_eq!(rt;
+        judged(alloc, Base, TWO_CLASSES, high, &[1]),
         Said::Flow(Rule::Assign, 80, 81, 2, 1)
     );
 }
@@ -71,17 +86,20 @@ fn four_classes(rt: HostRuntime) {
     let alloc = rt.alloc();
     let joined = b"var a : A; var b : B; var h : H; letvar t := a + b in h := t";
     let apart = b"var a : A; var b : B; var x : A; letvar t := a + b in x := t";
-    assert_eq!(rt; judged(alloc, Base, K4, joined, &[3]), Said::Accepted);
     assert_eq!(rt;
-        judged(alloc, Base, K4, joined, &[1]),
+        judged(alloc, Base, FOUR_CLASSES, joined, &[3]),
+        Said::Accepted
+    );
+    assert_eq!(rt;
+        judged(alloc, Base, FOUR_CLASSES, joined, &[1]),
         Said::Flow(Rule::Letvar, 49, 50, 1, 3)
     );
     assert_eq!(rt;
-        judged(alloc, Base, K4, apart, &[1]),
+        judged(alloc, Base, FOUR_CLASSES, apart, &[1]),
         Said::Flow(Rule::Letvar, 49, 50, 1, 3)
     );
     assert_eq!(rt;
-        judged(alloc, Base, K4, apart, &[3]),
+        judged(alloc, Base, FOUR_CLASSES, apart, &[3]),
         Said::Flow(Rule::Assign, 59, 60, 3, 2)
     );
 }
@@ -91,22 +109,34 @@ fn accepted_programs(rt: HostRuntime) {
     let alloc = rt.alloc();
     let turns = b"var h : H; var l : L; letvar a := 0 in letvar b := 0 in \
         while l < 3 do { b := a; a := h; l := l + 1 }";
-    assert_eq!(rt; judged(alloc, Base, K2, turns, &[1, 1]), Said::Accepted);
     assert_eq!(rt;
-        judged(alloc, Base, K2, turns, &[1, 0]),
-        Said::Flow(Rule::Assign, 78, 79, 2, 3)
-    );
-    assert_eq!(rt;
-        judged(alloc, Base, K2, b"letvar t := 1 in t := 2", &[0]),
+        judged(alloc, Base, TWO_CLASSES, turns, &[1, 1]),
         Said::Accepted
     );
     assert_eq!(rt;
-        judged(alloc, Base, K2, b"var h : H; while h do h := h", &[]),
+        judged(alloc, Base, TWO_CLASSES, turns, &[1, 0]),
+        Said::Flow(Rule::Assign, 78, 79, 2, 3)
+    );
+    assert_eq!(rt;
+        judged(alloc, Base, TWO_CLASSES, b"letvar t := 1 in t := 2", &[0]),
+        Said::Accepted
+    );
+    assert_eq!(rt;
+        judged(
+            alloc,
+            Base,
+            TWO_CLASSES,
+            b"var h : H; while h do h := h",
+            &[]
+        ),
         Said::Accepted
     );
     // A guard makes no flow to the letvar that it encloses.
     let fresh = b"var h : H; if h then letvar t : L := 0 in h := t else h := 1";
-    assert_eq!(rt; judged(alloc, Base, K2, fresh, &[0]), Said::Accepted);
+    assert_eq!(rt;
+        judged(alloc, Base, TWO_CLASSES, fresh, &[0]),
+        Said::Accepted
+    );
 }
 
 #[test]
@@ -135,6 +165,6 @@ fn the_first_fault(rt: HostRuntime) {
         ),
     ];
     for (text, want) in rows {
-        assert_eq!(rt; judged(alloc, Base, K2, text, &[]), want);
+        assert_eq!(rt; judged(alloc, Base, TWO_CLASSES, text, &[]), want);
     }
 }

@@ -2,7 +2,7 @@
 
 ghost use Rattle.std.specs.Prelude.{◌≡◌};
 
-use super::{K2, Said, answer};
+use super::{Said, TWO_CLASSES, answer};
 use crate::Profile::{Base, Strict};
 use crate::{LOOP, Profile, Rule};
 use std::alloc::Global as Heap;
@@ -41,7 +41,7 @@ fn emptied<'a>(alloc: Heap, program: &Resolved<'a>) -> Option<Resolved<'a>> {
 
 // The answer on the emptied program of one global of class H.
 fn judged(alloc: Heap, profile: Profile) -> Said {
-    let Ok(lattice) = read_lattice(alloc, K2) else {
+    let Ok(lattice) = read_lattice(alloc, TWO_CLASSES) else {
         return Said::Unread;
     };
     let Ok(tokens) = lex(alloc, b"var h : H; if h then h := 1 else h := 2") else {

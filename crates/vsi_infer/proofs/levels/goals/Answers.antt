@@ -1,6 +1,6 @@
 use Rattle.std.proofs.Common.{◌∙◌, ◌++◌, ◌∷◌, [], sym, ap}
 use Rattle.vsi_infer.specs.Shortest.{is_high}
-use Rattle.vsi_infer.proofs.LevelLemmas.{map_more}
+use Rattle.vsi_types.proofs.Tables.{map_more}
 use Rattle.vsi_infer.proofs.levels.goals.Goals as goal
 
 pub loop-class-preserved : goal.loop-class-preserved

@@ -10,8 +10,10 @@ use Rattle.vsi_scope.proofs.Views.{command_If, command_While, command_Letvar}
 use Rattle.vsi_types.specs.declared.rules.Rule.TheVariants.{If, While, Letvar}
 use Rattle.vsi_types.specs.Steps.{reads, guarded, flows, endings}
 use Rattle.vsi_types.specs.Security.{name_place}
-use Rattle.vsi_infer.specs.Seeking.{HasRoom, Sought, place_of}
-use Rattle.vsi_infer.proofs.PassingLemmas.{place, some_at, none_at, put_answer, sought_some, sought_none, choose_first, choose_second, choose_none, repeat_some, repeat_none, allocate_here, allocate_some, allocate_none, list_some, list_more, room_next}
+use Rattle.vsi_types.specs.Walker.{place_of}
+use Rattle.vsi_types.proofs.Places.{place}
+use Rattle.vsi_infer.specs.Seeking.{HasRoom, Sought}
+use Rattle.vsi_infer.proofs.PassingLemmas.{some_at, none_at, put_answer, sought_some, sought_none, choose_first, choose_second, choose_none, repeat_some, repeat_none, allocate_here, allocate_some, allocate_none, list_some, list_more, room_next}
 use Rattle.vsi_infer.proofs.SeekLemmas.{found_left}
 use Rattle.vsi_infer.proofs.seek.+walk.Goals as goal
 

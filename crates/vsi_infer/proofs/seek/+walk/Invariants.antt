@@ -3,7 +3,8 @@ use denote.Param.Weighed.{most}
 use Rattle.vsi_scope.proofs.program.Cmd.TheLaws.{the_size}
 use Rattle.vsi_scope.specs.View.{sequence}
 use Rattle.vsi_types.specs.Security.{name_place}
-use Rattle.vsi_infer.specs.Seeking.{place_of, IsPassed}
+use Rattle.vsi_types.specs.Walker.{place_of}
+use Rattle.vsi_infer.specs.Seeking.{IsPassed}
 use Rattle.vsi_infer.proofs.seek.+walk.Given as goal
 
 abbrev pub invariant-seek_commands-loop-c : goal.invariant-seek_commands-loop-c

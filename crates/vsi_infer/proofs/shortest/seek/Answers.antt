@@ -1,8 +1,9 @@
 use Rattle.std.proofs.Common.{length, sym, ap, subst}
 use Rattle.vsi_scope.specs.View.{sequence}
 use Rattle.vsi_types.specs.Security.{name_place}
-use Rattle.vsi_infer.specs.Seeking.{HasRoom, Sought, place_of}
-use Rattle.vsi_infer.proofs.PassingLemmas.{place}
+use Rattle.vsi_types.specs.Walker.{place_of}
+use Rattle.vsi_types.proofs.Places.{place}
+use Rattle.vsi_infer.specs.Seeking.{HasRoom, Sought}
 use Rattle.vsi_infer.proofs.StartLemmas.{start_room, start_sought}
 use Rattle.vsi_infer.proofs.shortest.seek.Goals as goal
 

@@ -4,7 +4,7 @@ use Rattle.std.proofs.lemmas.List.{take_all}
 use Rattle.std.proofs.lemmas.List.Elements.{All-push}
 use Rattle.vsi_lattice.specs.Order.{IsClass}
 use Rattle.vsi_infer.specs.Inference.{AreClasses}
-use Rattle.vsi_infer.proofs.LevelLemmas.{map_more}
+use Rattle.vsi_types.proofs.Tables.{map_more}
 use Rattle.vsi_infer.proofs.tests.are_declared.Goals as goal
 
 pub loop-e-preserved : goal.loop-e-preserved

@@ -1,9 +1,11 @@
 use Rattle.std.proofs.Common.{◌≡◌, ◌∙◌, ℕ, Some, slice_get, sym, ap, subst}
 use Rattle.std.proofs.lemmas.Bool.{false≢true}
+use Rattle.std.proofs.lemmas.Option.{none-some}
 use Rattle.vsi_types.specs.Security.{program, steps_of}
 use Rattle.vsi_types.specs.Walks.{declared_class}
+use Rattle.vsi_types.proofs.Walking.{some_same}
 use Rattle.vsi_infer.specs.Paths.{IsPath}
-use Rattle.vsi_infer.proofs.PathLemmas.{bad_steps, bad_parts, path_end, not_true, true_not, some_same, none_some}
+use Rattle.vsi_infer.proofs.PathLemmas.{bad_steps, bad_parts, path_end, not_true, true_not}
 use Rattle.vsi_infer.proofs.walk.check_walk_in.Goals as goal
 
 pub returns-in_default-path_end : goal.returns-in_default-path_end
@@ -31,7 +33,7 @@ returns-in_default-declared_class-2 g c =
           (sym c.as_slice-steps.ensures.value) q.path in
           let e = path_end (steps_of c.args.profile p) c.in-Some.first.now.source q.end c.in-Some-path_end.last
           c.as_slice-steps.result.now w c.in-Some-path_end.ensures.some in
-          absurd (none_some q.high (sym c.in_default-declared_class-2.is ∙ c.declared_class-2.ensures
+          absurd (none-some q.high (sym c.in_default-declared_class-2.is ∙ c.declared_class-2.ensures
           ∙ ap (declared_class L p) (sym e) ∙ q.target)),
     )
 

@@ -3,7 +3,8 @@ use Rattle.std.proofs.lemmas.List.{length-map}
 use Rattle.vsi_lattice.specs.Order.{IsLattice}
 use Rattle.vsi_scope.specs.Phrase.{HasPlaces}
 use Rattle.vsi_scope.specs.View.{sequence}
-use Rattle.vsi_types.specs.Checking.{Judged, place_of}
+use Rattle.vsi_types.specs.Checking.{Judged}
+use Rattle.vsi_types.specs.Walker.{place_of}
 use Rattle.vsi_types.specs.Security.{class_of, count_from, program}
 use Rattle.vsi_types.proofs.Places.{place}
 use Rattle.vsi_types.proofs.Programs.{length_count}
@@ -16,7 +17,7 @@ check_commands-requires-clause-places g c =
     let few = c.body-body.ensures.resolved.few_globals in
     let n : length c.in_ok-first_variables.field-0.items ≡ length c.args.program.now.globals =
     ap length c.in_ok-first_variables.ensures
-    ∙ length_count L (g.met.C.Classes.laws c.args.lattice.now) 0 _
+    ∙ length_count 0 _
     ∙ omega (arith, few, ap length c.globals-globals.ensures) in
     let p = subst (λ l. HasPlaces (length c.args.program.now.globals) (sequence l)) (sym c.body-body.ensures.value)
     c.body-body.ensures.resolved.places in

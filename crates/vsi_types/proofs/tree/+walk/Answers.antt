@@ -4,7 +4,8 @@ use Rattle.std.proofs.lemmas.List.{length_push}
 use Rattle.vsi_scope.specs.View.{phrase, command, sequence}
 use Rattle.vsi_scope.specs.Phrase.{Choose, Repeat, Allocate}
 use Rattle.vsi_types.specs.declared.rules.Rule.TheVariants.{If, While, Letvar}
-use Rattle.vsi_types.specs.Checking.{Judged, place_of}
+use Rattle.vsi_types.specs.Checking.{Judged}
+use Rattle.vsi_types.specs.Walker.{place_of}
 use Rattle.vsi_types.specs.Security.{class_of}
 use Rattle.std.proofs.lemmas.List.Elements.{All-nil}
 use Rattle.vsi_scope.specs.Phrase.{letvars, has_loop, HasPlaces}
@@ -170,7 +171,7 @@ check_if-returns-in_err-check_commands g t c =
     c.deref-2.ensures.value c.in_ok-push_reads.ensures k₁ (Err e) c.in_err-check_commands.ensures in
     let b = place_of c.check_commands.new.walk in
     if_branches L P cls a b x k₁ k₂ e c.from_residual-in_err-check_commands.result
-    c.from_residual-in_err-check_commands.ensures.1 up (judged_first L P cls (inside L P cls If x a) b b k₁ k₂ e h)
+    c.from_residual-in_err-check_commands.ensures.1 up (judged_first L P cls (inside If x a) b b k₁ k₂ e h)
 
 pub check_if-check_commands-requires-2 : goal.check_if-check_commands-requires-2
 check_if-check_commands-requires-2 g t c κs within =
@@ -201,7 +202,7 @@ check_if-returns-in_err-check_commands-2 g t c =
     let d = place_of c.check_commands-2.new.walk in
     if_branches L P cls a d x k₁ k₂ e c.from_residual-in_err-check_commands-2.result
     c.from_residual-in_err-check_commands-2.ensures.1 up
-    (judged_then L P cls (inside L P cls If x a) b d k₁ k₂ (Err e) h c.in_err-check_commands-2.ensures)
+    (judged_then L P cls (inside If x a) b d k₁ k₂ (Err e) h c.in_err-check_commands-2.ensures)
 
 pub check_if-returns : goal.check_if-returns
 check_if-returns g t c =
@@ -222,7 +223,7 @@ check_if-returns g t c =
     let n : c.len-outside.result ≡ length c.args.walk.now.guards.items = search rules in
     let back = c.truncate.ensures.items ∙ ap (λ k. take k d.guards) n in
     judged_if L P cls a d (place d.scope c.truncate.new.self.items d.next) x k₁ k₂ up
-    (judged_then L P cls (inside L P cls If x a) b d k₁ k₂ (Ok tt) h c.in_ok-check_commands-2.ensures) refl back refl
+    (judged_then L P cls (inside If x a) b d k₁ k₂ (Ok tt) h c.in_ok-check_commands-2.ensures) refl back refl
 
 pub check_while-returns-in_err-check_loop : goal.check_while-returns-in_err-check_loop
 check_while-returns-in_err-check_loop g t c =

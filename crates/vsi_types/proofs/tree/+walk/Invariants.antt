@@ -2,7 +2,7 @@ use Rattle.std.proofs.Common.{max, ◌+◌, ◌*◌}
 use denote.Param.Weighed.{most}
 use Rattle.vsi_scope.proofs.program.Cmd.TheLaws.{the_size}
 use Rattle.vsi_types.specs.Security.{class_of}
-use Rattle.vsi_types.specs.Checking.{place_of}
+use Rattle.vsi_types.specs.Walker.{place_of}
 use Rattle.vsi_types.proofs.Places.{Reached}
 use Rattle.vsi_types.proofs.tree.+walk.Given as goal
 

@@ -4,7 +4,8 @@ use Rattle.std.proofs.lemmas.List.{get_or_read}
 use Rattle.vsi_scope.specs.View.{phrase}
 use Rattle.vsi_types.specs.declared.rules.Rule.TheVariants.{Assign}
 use Rattle.vsi_types.specs.Steps.{reads, guarded}
-use Rattle.vsi_types.specs.Checking.{FlowsJudged, place_of}
+use Rattle.vsi_types.specs.Checking.{FlowsJudged}
+use Rattle.vsi_types.specs.Walker.{place_of}
 use Rattle.vsi_types.specs.Security.{class_of}
 use Rattle.vsi_types.proofs.Places.{assign_reads, assign_guards, assign_ok}
 use Rattle.vsi_types.proofs.tree.check_assign.Goals as goal

@@ -5,7 +5,7 @@ use Rattle.vsi_scope.specs.Phrase.{has_loop}
 use Rattle.vsi_scope.specs.View.{command, sequence}
 use Rattle.vsi_scope.proofs.Views.{command_If, command_Letvar}
 use Rattle.vsi_types.proofs.Looping.{loop_more, loop_found}
-use Rattle.vsi_types.proofs.loops.+loops.Goals as goal
+use Rattle.vsi_types.proofs.walker.+loops.Goals as goal
 
 pub loops_in-returns-in-Letvar : goal.loops_in-returns-in-Letvar
 loops_in-returns-in-Letvar t c =
