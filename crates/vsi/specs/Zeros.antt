@@ -5,11 +5,11 @@ use Rattle.vsi_image.specs.Fields.{globals}
 use Rattle.vsi_machine.specs.Runs.{globals_of, run_of}
 use Rattle.vsi_store.specs.Text.{store_text_of}
 
--- a store of zeros for an image
+-- A store of zeros for an image.
 abbrev pub zeros : Image → List ℤ
 zeros image = replicate (length image.globals.items) (pos 0)
 
--- the text is that of the store in which the image halts from zeros within a budget
+-- The text is that of the store in which the image halts from zeros within a budget.
 abbrev pub EndsInText : Image → ℕ → List ℕ → Type 0
 EndsInText image budget text =
     IsSomeAnd (run_of image (zeros image) budget)

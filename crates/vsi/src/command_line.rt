@@ -1,19 +1,20 @@
 //! Does what a command line asks for.
 
-ghost use Rattle.std.specs.Prelude.{◌<◌, ◌≤◌};
-ghost use Rattle.vsi_engine.specs.Counted.{faults_of};
+ghost use Rattle.std.specs.Prelude.{◌≡◌, ◌≢◌, ◌<◌, ◌≤◌, [], IfErr};
+ghost use Rattle.std.specs.Io.KnownBytes.{Keeps};
+ghost use Rattle.vsi.specs.Stops.{status_of, TellsFault};
+ghost use Rattle.vsi_engine.specs.Counted.{device_of, faults_of};
 
 use crate::files::Files;
 use crate::reading::{device_stop, refused, two_classes};
-use crate::request::{Request, request_of};
 use crate::running::{run, run_from_zeros, view};
 use crate::stop::{STREAM, Stop, write};
 use crate::subcommands::{build, check, classes, format, list};
-use clap::error::ErrorKind;
 use std::alloc::Global;
 use std::io::{Read, Write};
 use vsi_compiler::compile;
 use vsi_engine::{Counted, read_all, write_out};
+use vsi_words::{Request, WordsError, request_of};
 
 /// The budget of a run without words, in instructions.
 const DEFAULT_BUDGET: u64 = 1_000_000;
@@ -37,54 +38,39 @@ pub fn command<F: Files, R: Read, W: Write, E: Write>(
     requires output { faults_of output.old < u64.MAX }
     requires error { faults_of error.old < u64.MAX }
     ensures status { result ≤ 5 }
+    ensures input_fault { faults_of input.old < faults_of input.new → result ≡ 4 }
+    ensures output_fault { faults_of output.old < faults_of output.new → result ≡ 4 }
+    ensures silent { words.now ≡ [] → result ≢ 0 → result ≢ 4
+        → Keeps (W.contents (device_of output.old)) (W.contents (device_of output.new)) }
+    ensures unread { words.now ≢ [] → input.new ≡ input.old }
 {
     let answer = if words.is_empty() {
         run_input(alloc, input, output)
     } else {
         match request_of(alloc, words) {
             Ok(request) => perform(alloc, request, files, output),
-            Err(mistake) => show_usage(alloc, &mistake, output),
+            Err(error) => answer_words(error, output),
         }
     };
     match answer {
         Ok(()) => 0,
-        Err(stop) => report(alloc, &stop, error),
-    }
-}
-
-/// Writes why the program stops, and gives its status.
-fn report<E: Write>(alloc: Global, stop: &Stop<'_>, error: &mut Counted<E>) -> u8
-    requires { faults_of error.old < u64.MAX }
-    ensures { result ≤ 5 }
-{
-    match stop.text(alloc) {
-        Ok(text) => {
-            let _ = write_out(text.as_slice(), error);
+        Err(stop) => {
+            let _ = stop.tell(error);
             stop.status()
-        }
-        Err(_) => {
-            let _ = write_out(b"out of memory\n", error);
-            Stop::Memory.status()
         }
     }
 }
 
 /// Help goes to the output; what is wrong with the words is told by the stop.
-fn show_usage<'a, W: Write>(
-    alloc: Global,
-    mistake: &clap::Error,
-    output: &mut Counted<W>,
-) -> Result<(), Stop<'a>>
+fn answer_words<'a, W: Write>(error: WordsError, output: &mut Counted<W>) -> Result<(), Stop<'a>>
     requires { faults_of output.old < u64.MAX }
+    ensures fault { TellsFault (faults_of output.old) (faults_of output.new) result }
 {
-    if mistake.kind() == ErrorKind::OutOfMemory {
-        return Err(Stop::Memory);
+    match error {
+        WordsError::Help(text) => write(text.as_bytes(), output),
+        WordsError::Mistake(text) => Err(Stop::Usage(text)),
+        WordsError::Memory => Err(Stop::Memory),
     }
-    let text = mistake.to_string(alloc)?;
-    if mistake.use_stderr() {
-        return Err(Stop::Usage(text));
-    }
-    write(text.as_bytes(), output)
 }
 
 /// The run without words.
@@ -95,6 +81,10 @@ fn run_input<'a, R: Read, W: Write>(
 ) -> Result<(), Stop<'a>>
     requires input { faults_of input.old < u64.MAX }
     requires output { faults_of output.old < u64.MAX }
+    ensures input_fault { TellsFault (faults_of input.old) (faults_of input.new) result }
+    ensures output_fault { TellsFault (faults_of output.old) (faults_of output.new) result }
+    ensures silent { IfErr result (λ stop. status_of stop ≢ 4
+        → Keeps (W.contents (device_of output.old)) (W.contents (device_of output.new))) }
 {
     let lattice = two_classes(alloc)?;
     let source = read_all(alloc, input).map_err(|error| device_stop(alloc, error, STREAM))?;
@@ -115,6 +105,7 @@ fn perform<'a, F: Files, W: Write>(
     output: &mut Counted<W>,
 ) -> Result<(), Stop<'a>>
     requires { faults_of output.old < u64.MAX }
+    ensures fault { TellsFault (faults_of output.old) (faults_of output.new) result }
 {
     match request {
         Request::Check(compilation) => check(alloc, compilation, files, output),

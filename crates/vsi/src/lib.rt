@@ -1,14 +1,14 @@
 //! The compiler, its machine and their texts as one library, and the command line over them.
 //!
 //! `compile` and `compile_in` give the image of a source text and promise what is kept of it; `run_source` runs it.
-//! `read_all`, `write_out` and `Counted` move texts through devices, and `refusal_text` and `fault_text` tell why a
-//! text or a file is refused. `command` does what the words of a command line ask for.
+//! `read_lattice` gives the lattice that they want. `read_all`, `write_out` and `Counted` move texts through devices,
+//! and `refusal_text` and `fault_text` tell why a text or a file is refused. `command` does what the words of a command
+//! line ask for.
 #![tactic(auto)]
 
 mod command_line;
 mod files;
 mod reading;
-mod request;
 mod running;
 mod stop;
 mod subcommands;
@@ -16,14 +16,21 @@ mod subcommands;
 pub use command_line::command;
 pub use files::Files;
 pub use vsi_compiler::{
-    CompileError, RunError, classes_text, classes_text_in, compile, compile_in, format_text,
-    run_source,
+    CompileError, RunError, classes_text, classes_text_in, compile, compile_in, explanation_text,
+    format_text, run_source,
 };
 pub use vsi_engine::{
     Counted, EngineError, READ_LIMIT, build, build_in, read_all, run_image, write_out,
 };
 pub use vsi_faults::{Fault, fault_text, refusal_text};
+pub use vsi_image::{
+    DecodeError, EncodeError, Image, Instr, Limit, Verified, VerifyError, decode, encode, listing,
+    verify,
+};
+pub use vsi_lattice::{Class, Classes, Lattice, LatticeError, read_lattice};
+pub use vsi_machine::{Machine, Outcome, StartError};
 pub use vsi_store::{StoreError, View, ViewError, read_store, store_text, view};
+pub use vsi_types::Profile;
 
 #[cfg(test)]
 mod tests;

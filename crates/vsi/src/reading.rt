@@ -1,5 +1,9 @@
 //! Files, read and judged.
 
+ghost use Rattle.std.specs.Prelude.{◌≡◌};
+ghost use Rattle.vsi.specs.Stops.{status_of};
+ghost use Rattle.vsi_engine.specs.declared.error.EngineError.TheVariants.{ReadFault, WriteFault};
+
 use crate::files::Files;
 use crate::stop::{STREAM, Stop};
 use std::alloc::Global;
@@ -14,7 +18,10 @@ use vsi_store::{StoreError, ViewError};
 const TWO_CLASSES: &[u8] = b"classes = [\"L\", \"H\"]\nbelow = [[\"L\", \"H\"]]\n";
 
 /// What stands for an error of a call that reads the file at the path. No such call compiles.
-pub(crate) fn device_stop<'a>(alloc: Global, error: EngineError, path: &'a str) -> Stop<'a> {
+pub(crate) fn device_stop<'a>(alloc: Global, error: EngineError, path: &'a str) -> Stop<'a>
+    ensures read { error ≡ ReadFault → status_of result ≡ 4 }
+    ensures write { error ≡ WriteFault → status_of result ≡ 4 }
+{
     match error {
         EngineError::ReadFault => Stop::FileFault(path),
         EngineError::WriteFault => Stop::FileFault(STREAM),

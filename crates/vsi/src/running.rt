@@ -1,12 +1,12 @@
 //! Runs of images.
 
 ghost use Rattle.std.specs.Prelude.{◌<◌, IfOk};
+ghost use Rattle.vsi.specs.Stops.{TellsFault};
 ghost use Rattle.vsi.specs.Zeros.{EndsInText};
 ghost use Rattle.vsi_engine.specs.Counted.{faults_of};
 
 use crate::files::Files;
 use crate::reading::{device_stop, faulty, image_in, lattice_in, store_in};
-use crate::request::Execution;
 use crate::stop::{Stop, write};
 use std::alloc::Global;
 use std::io::Write;
@@ -15,6 +15,7 @@ use vsi_faults::Fault;
 use vsi_image::Verified;
 use vsi_machine::{Machine, Outcome};
 use vsi_store::{View, read_store, store_text};
+use vsi_words::Execution;
 
 /// The text of the store in which an image ends from zeros. There is one word per global, so that the machine can't be
 /// started only for want of memory.
@@ -43,6 +44,7 @@ pub(crate) fn run<'a, F: Files, W: Write>(
     output: &mut Counted<W>,
 ) -> Result<(), Stop<'a>>
     requires { faults_of output.old < u64.MAX }
+    ensures fault { TellsFault (faults_of output.old) (faults_of output.new) result }
 {
     let store = store_in(alloc, execution.store, files)?;
     let Some(file) = files.open_file(execution.image) else {
@@ -73,6 +75,7 @@ pub(crate) fn view<'a, F: Files, W: Write>(
     output: &mut Counted<W>,
 ) -> Result<(), Stop<'a>>
     requires { faults_of output.old < u64.MAX }
+    ensures fault { TellsFault (faults_of output.old) (faults_of output.new) result }
 {
     let classes = lattice_in(alloc, lattice, files)?;
     let Some(viewer) = classes.class_named(class.as_bytes()) else {

@@ -1,11 +1,14 @@
 //! Why a command line ends early, with the status and the text that tell so.
 
-ghost use Rattle.std.specs.Prelude.{◌<◌, ◌≤◌};
-ghost use Rattle.vsi_engine.specs.Counted.{faults_of};
+ghost use Rattle.std.specs.Prelude.{◌≡◌, ◌<◌, ◌≤◌, IfErr, OnOk};
+ghost use Rattle.std.specs.Io.KnownBytes.{Appends};
+ghost use Rattle.vsi.specs.Stops.{status_of, TellsFault};
+ghost use Rattle.vsi.specs.declared.stop.Stop.TheVariants.{Memory};
+ghost use Rattle.vsi_engine.specs.Counted.{device_of, faults_of};
 
-use std::alloc::{AllocError, AllocFailed, Global};
+use std::alloc::{AllocError, AllocFailed};
 use std::io::Write;
-use vsi_engine::{Counted, write_out};
+use vsi_engine::{Counted, EngineError, write_out};
 
 /// Standard input and output, in a file fault.
 pub(crate) const STREAM: &str = "-";
@@ -28,12 +31,16 @@ pub(crate) enum Stop<'a> {
 }
 
 impl From<AllocError> for Stop<'_> {
+    ghost from_gives = { λ _ e. e ≡ Memory };
+
     fn from(_error: AllocError) -> Self {
         Stop::Memory
     }
 }
 
 impl<T: Drop> From<AllocFailed<T>> for Stop<'_> {
+    ghost from_gives = { λ _ e. e ≡ Memory };
+
     fn from(_error: AllocFailed<T>) -> Self {
         Stop::Memory
     }
@@ -42,7 +49,8 @@ impl<T: Drop> From<AllocFailed<T>> for Stop<'_> {
 impl Stop<'_> {
     /// What the program ends with.
     pub(crate) fn status(&self) -> u8
-        ensures { result ≤ 5 }
+        ensures status { result ≡ status_of self.now }
+        ensures bound { result ≤ 5 }
     {
         match self {
             Stop::Refused(_) => 1,
@@ -53,15 +61,17 @@ impl Stop<'_> {
         }
     }
 
-    /// What goes to standard error.
-    pub(crate) fn text(&self, alloc: Global) -> Result<Vec<u8>, AllocError> {
+    /// Writes what goes to standard error, for which no memory is taken.
+    pub(crate) fn tell<E: Write>(&self, error: &mut Counted<E>) -> Result<(), EngineError>
+        requires { faults_of error.old < u64.MAX }
+    {
         match self {
-            Stop::Refused(text) => text.clone(),
-            Stop::Usage(text) => Vec::from_slice(alloc, text.as_bytes()),
-            Stop::NoClass(name) => line(alloc, b"no class ", name),
-            Stop::OutOfBudget => Vec::from_slice(alloc, b"out of budget\n"),
-            Stop::FileFault(path) => line(alloc, b"file fault: ", path),
-            Stop::Memory => Vec::from_slice(alloc, b"out of memory\n"),
+            Stop::Refused(text) => write_out(text.as_slice(), error),
+            Stop::Usage(text) => write_out(text.as_bytes(), error),
+            Stop::NoClass(name) => tell_line(b"no class ", name, error),
+            Stop::OutOfBudget => write_out(b"out of budget\n", error),
+            Stop::FileFault(path) => tell_line(b"file fault: ", path, error),
+            Stop::Memory => write_out(b"out of memory\n", error),
         }
     }
 }
@@ -69,14 +79,19 @@ impl Stop<'_> {
 /// Writes a text to standard output.
 pub(crate) fn write<'a, W: Write>(text: &[u8], output: &mut Counted<W>) -> Result<(), Stop<'a>>
     requires { faults_of output.old < u64.MAX }
+    ensures fault { TellsFault (faults_of output.old) (faults_of output.new) result }
+    ensures stop { IfErr result (λ stop. status_of stop ≡ 4) }
+    ensures whole { OnOk result
+        (Appends (W.contents (device_of output.old)) (W.contents (device_of output.new)) text.now) }
 {
     write_out(text, output).map_err(|_| Stop::FileFault(STREAM))
 }
 
-/// The start and the word on a line.
-fn line(alloc: Global, start: &[u8], word: &str) -> Result<Vec<u8>, AllocError> {
-    let mut text = Vec::from_slice(alloc, start)?;
-    text.extend_from_slice(word.as_bytes())?;
-    text.push(b'\n')?;
-    Ok(text)
+/// Writes the start and the word on a line.
+fn tell_line<E: Write>(start: &[u8], word: &str, error: &mut Counted<E>) -> Result<(), EngineError>
+    requires { faults_of error.old < u64.MAX }
+{
+    write_out(start, error)?;
+    write_out(word.as_bytes(), error)?;
+    write_out(b"\n", error)
 }

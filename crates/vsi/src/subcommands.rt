@@ -1,18 +1,20 @@
 //! What the subcommands that run nothing read and write.
 
 ghost use Rattle.std.specs.Prelude.{◌<◌};
+ghost use Rattle.vsi.specs.Stops.{TellsFault};
 ghost use Rattle.vsi_engine.specs.Counted.{faults_of};
 
 use crate::files::Files;
 use crate::reading::{bytes_in, image_in, lattice_in, refused, two_classes};
-use crate::request::Compilation;
 use crate::stop::{Stop, write};
 use std::alloc::Global;
 use std::io::Write;
 use vsi_compiler::{classes_text_in, compile_in, format_text};
-use vsi_engine::{Counted, write_out};
-use vsi_image::{Verified, encode, listing};
+use vsi_engine::{Counted, EngineError, build_in, write_out};
+use vsi_image::listing;
+use vsi_lattice::Lattice;
 use vsi_types::Profile;
+use vsi_words::Compilation;
 
 /// The profile that judges a text.
 fn profile(is_strict: bool) -> Profile {
@@ -23,19 +25,15 @@ fn profile(is_strict: bool) -> Profile {
     }
 }
 
-/// The image of the source file under the lattice file, which is read and judged first.
-fn compiled<'a, F: Files>(
+/// The lattice, which is judged, and the bytes of the source text, which are read after it.
+fn policy_and_text<'a, F: Files>(
     alloc: Global,
     compilation: Compilation<'a>,
     files: &mut F,
-) -> Result<Verified, Stop<'a>> {
+) -> Result<(Lattice, Vec<u8>), Stop<'a>> {
     let classes = lattice_in(alloc, compilation.lattice, files)?;
     let text = bytes_in(alloc, compilation.source, files)?;
-    let profile = profile(compilation.is_strict);
-    match compile_in(alloc, profile, &classes, text.as_slice()) {
-        Ok(verified) => Ok(verified),
-        Err(error) => Err(refused(alloc, &classes, text.as_slice(), &error)),
-    }
+    Ok((classes, text))
 }
 
 /// Writes `accepted` where the source text is.
@@ -46,9 +44,14 @@ pub(crate) fn check<'a, F: Files, W: Write>(
     output: &mut Counted<W>,
 ) -> Result<(), Stop<'a>>
     requires { faults_of output.old < u64.MAX }
+    ensures fault { TellsFault (faults_of output.old) (faults_of output.new) result }
 {
-    let _verified = compiled(alloc, compilation, files)?;
-    write(b"accepted\n", output)
+    let (classes, text) = policy_and_text(alloc, compilation, files)?;
+    let profile = profile(compilation.is_strict);
+    match compile_in(alloc, profile, &classes, text.as_slice()) {
+        Ok(_verified) => write(b"accepted\n", output),
+        Err(error) => Err(refused(alloc, &classes, text.as_slice(), &error)),
+    }
 }
 
 /// Writes the class of each declaration of the source text.
@@ -59,26 +62,42 @@ pub(crate) fn classes<'a, F: Files, W: Write>(
     output: &mut Counted<W>,
 ) -> Result<(), Stop<'a>>
     requires { faults_of output.old < u64.MAX }
+    ensures fault { TellsFault (faults_of output.old) (faults_of output.new) result }
 {
-    let lattice = lattice_in(alloc, compilation.lattice, files)?;
-    let text = bytes_in(alloc, compilation.source, files)?;
+    let (classes, text) = policy_and_text(alloc, compilation, files)?;
     let profile = profile(compilation.is_strict);
-    match classes_text_in(alloc, profile, &lattice, text.as_slice()) {
+    match classes_text_in(alloc, profile, &classes, text.as_slice()) {
         Ok(lines) => write(lines.as_slice(), output),
-        Err(error) => Err(refused(alloc, &lattice, text.as_slice(), &error)),
+        Err(error) => Err(refused(alloc, &classes, text.as_slice(), &error)),
     }
 }
 
-/// Compiles the source text, and fills the image file once the image's bytes are there. An image that was compiled is
-/// within the limits of its bytes, so that only memory can be wanting for them.
+/// The bytes of the image of a text. They are built from bytes and into memory, so that a device's fault is want of it.
+fn image_bytes<'a>(
+    alloc: Global,
+    profile: Profile,
+    classes: &Lattice,
+    text: &[u8],
+) -> Result<Vec<u8>, Stop<'a>> {
+    let mut reader = Counted::new(text);
+    let mut writer = Counted::new(Vec::new(alloc));
+    match build_in(alloc, profile, classes, &mut reader, &mut writer) {
+        Ok(()) => Ok(writer.into_inner()),
+        Err(EngineError::Compile(error)) => Err(refused(alloc, classes, text, &error)),
+        Err(_) => Err(Stop::Memory),
+    }
+}
+
+/// Compiles the source text, and fills the image file once the image's bytes are there.
 pub(crate) fn build<'a, F: Files>(
     alloc: Global,
     compilation: Compilation<'a>,
     image: &'a str,
     files: &mut F,
 ) -> Result<(), Stop<'a>> {
-    let verified = compiled(alloc, compilation, files)?;
-    let bytes = encode(alloc, verified.image()).map_err(|_| Stop::Memory)?;
+    let (classes, text) = policy_and_text(alloc, compilation, files)?;
+    let profile = profile(compilation.is_strict);
+    let bytes = image_bytes(alloc, profile, &classes, text.as_slice())?;
     let Some(file) = files.create_file(image) else {
         return Err(Stop::FileFault(image));
     };
@@ -96,6 +115,7 @@ pub(crate) fn list<'a, F: Files, W: Write>(
     output: &mut Counted<W>,
 ) -> Result<(), Stop<'a>>
     requires { faults_of output.old < u64.MAX }
+    ensures fault { TellsFault (faults_of output.old) (faults_of output.new) result }
 {
     let verified = image_in(alloc, image, files)?;
     let text = listing(alloc, verified.image())?;
@@ -110,6 +130,7 @@ pub(crate) fn format<'a, F: Files, W: Write>(
     output: &mut Counted<W>,
 ) -> Result<(), Stop<'a>>
     requires { faults_of output.old < u64.MAX }
+    ensures fault { TellsFault (faults_of output.old) (faults_of output.new) result }
 {
     let bytes = bytes_in(alloc, source, files)?;
     match format_text(alloc, bytes.as_slice()) {

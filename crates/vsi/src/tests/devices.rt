@@ -11,18 +11,32 @@ use std::io::{ErrorKind, Read, Write};
 /// The two classes of the run without words.
 pub(super) const TWO: &[u8] = b"classes = [\"L\", \"H\"]\nbelow = [[\"L\", \"H\"]]\n";
 
-/// Gives one byte a call, and fails at one call, counted from 1.
+/// Two classes that aren't in order, between a least and a greatest one.
+pub(super) const FOUR: &[u8] = b"classes = [\"L\", \"A\", \"B\", \"H\"]
+below = [[\"L\", \"A\"], [\"L\", \"B\"], [\"A\", \"H\"], [\"B\", \"H\"]]
+";
+
+/// The image of `var x : L; x := 1 + 2`, of the first version.
+pub(super) const THREE: &[u8] = b"VSI\x01\x00\x01\x00\x01\x00\x01\x00\x00\x00\x03\x01x\x01L\
+    \x01\x00\x00\x00\x00\x00\x00\x00\x03\x03\x00\x00\x0a";
+
+/// How many bytes a call of a file gives at most.
+const STEP: usize = 1000;
+
+/// Gives so many bytes a call, and fails at one call, counted from 1.
 #[derive(Drop)]
 pub(super) struct Drip<'a> {
     bytes: &'a [u8],
+    step: usize,
     calls: u64,
     fails_at: u64,
 }
 
 impl<'a> Drip<'a> {
-    pub(super) fn new(bytes: &'a [u8], fails_at: u64) -> Drip<'a> {
+    pub(super) fn new(bytes: &'a [u8], step: usize, fails_at: u64) -> Drip<'a> {
         Drip {
             bytes,
+            step,
             calls: 0,
             fails_at,
         }
@@ -37,7 +51,7 @@ impl Read for Drip<'_> {
         if self.calls == self.fails_at {
             return Err(io::Error::from(ErrorKind::Other));
         }
-        let most = buf.len().min(1);
+        let most = buf.len().min(self.step);
         self.bytes.read(&mut buf[..most])
     }
 }
@@ -75,40 +89,34 @@ impl Write for Scant {
     }
 }
 
-/// Files in memory: some that can be read, and the last one that was written and closed.
+/// Files in memory: some that can be read, and the last one that was written and closed. It logs each path that was
+/// asked for, with `>` before one to write to, and `<` for each file that was closed.
 #[derive(Drop)]
-pub(super) struct Shelf<'a> {
+struct Shelf<'a> {
     alloc: Global,
     stored: &'a [(&'a str, &'a [u8])],
     room: usize,
-    opened: u64,
-    closed: u64,
+    log: String,
     page: Option<Scant>,
 }
 
 impl<'a> Shelf<'a> {
-    pub(super) fn new(alloc: Global, stored: &'a [(&'a str, &'a [u8])], room: usize) -> Shelf<'a> {
+    fn new(alloc: Global, stored: &'a [(&'a str, &'a [u8])], room: usize) -> Shelf<'a> {
         Shelf {
             alloc,
             stored,
             room,
-            opened: 0,
-            closed: 0,
+            log: String::new(alloc),
             page: None,
         }
     }
 
-    /// Whether so many files were opened for writing, and each was closed.
-    pub(super) fn has_closed(&self, count: u64) -> bool {
-        self.opened == count && self.closed == count
-    }
-
-    /// The bytes of the last file that was written and closed.
-    pub(super) fn written(&self) -> &[u8] {
-        match &self.page {
-            Some(page) => page.bytes.as_slice(),
-            None => b"",
+    fn note(&mut self, mark: &str, path: &str) {
+        if !self.log.is_empty() {
+            let _ = self.log.push_str(" ");
         }
+        let _ = self.log.push_str(mark);
+        let _ = self.log.push_str(path);
     }
 }
 
@@ -118,87 +126,137 @@ impl<'a> Files for Shelf<'a> {
     type Output = Scant;
 
     fn open_file(&mut self, path: &str) -> Option<Drip<'a>> {
+        self.note("", path);
         for (name, bytes) in self.stored {
             if *name == path {
                 let fails_at = u64::from(path == "torn");
-                return Some(Drip::new(*bytes, fails_at));
+                return Some(Drip::new(*bytes, STEP, fails_at));
             }
         }
         None
     }
 
     fn create_file(&mut self, path: &str) -> Option<Scant> {
+        self.note(">", path);
         if path == "sealed" {
             return None;
         }
-        self.opened = self.opened.saturating_add(1);
         Some(Scant::new(self.alloc, self.room))
     }
 
     fn close_file(&mut self, output: Scant) {
-        self.closed = self.closed.saturating_add(1);
+        self.note("<", "");
         self.page = Some(output);
     }
 }
 
-/// What a command line showed.
+/// What a command line showed, which files it asked for, and the bytes of the last one that was written and closed.
 #[derive(Drop)]
 pub(super) struct Shown {
     pub status: u8,
     pub output: Vec<u8>,
     pub error: Vec<u8>,
+    pub log: String,
+    pub written: Vec<u8>,
 }
 
 impl Shown {
-    /// Whether it is this; of the refusal of a flow the first line is compared.
-    pub(super) fn is(&self, status: u8, output: &[u8], error: &[u8]) -> bool {
-        let flow = b"refused: 25 Refused\n".as_slice();
-        let is_told = self.error.as_slice() == error
-            || error == flow && self.error.as_slice().starts_with(flow);
-        self.status == status && self.output.as_slice() == output && is_told
+    /// Whether the status and both streams are these.
+    pub(super) fn is(&self, status: u8, output: &str, error: &str) -> bool {
+        self.status == status
+            && self.output.as_slice() == output.as_bytes()
+            && self.error.as_slice() == error.as_bytes()
+    }
+
+    /// The text of the output, where it is one.
+    pub(super) fn text(&self) -> &str {
+        std::str::from_utf8(self.output.as_slice()).unwrap_or("")
     }
 }
 
-/// The words as texts of their own.
-pub(super) fn words_of(alloc: Global, words: &[&str]) -> Result<Vec<String>, AllocError> {
-    let mut owned = Vec::new(alloc);
-    for word in words {
-        owned.push(word.to_string(alloc)?)?;
-    }
-    Ok(owned)
+/// How many bytes a written file and each stream take.
+#[derive(Clone, Copy)]
+pub(super) struct Room {
+    pub file: usize,
+    pub output: usize,
+    pub error: usize,
 }
 
-/// What the words show with these files.
-pub(super) fn show(alloc: Global, words: &[&str], files: &mut Shelf) -> Result<Shown, AllocError> {
-    let words = words_of(alloc, words)?;
-    let mut input = Counted::new(Drip::new(b"", 1));
-    let mut output = Counted::new(Scant::new(alloc, 4096));
-    let mut error = Counted::new(Scant::new(alloc, 4096));
+/// Room for all that is written in these tests.
+pub(super) const AMPLE: Room = Room {
+    file: 1 << 20,
+    output: 1 << 20,
+    error: 1 << 20,
+};
+
+/// Calls `command` with these words, files and devices.
+fn call(
+    alloc: Global,
+    words: &[String],
+    stored: &[(&str, &[u8])],
+    drip: Drip<'_>,
+    room: Room,
+) -> Shown {
+    let mut files = Shelf::new(alloc, stored, room.file);
+    let mut input = Counted::new(drip);
+    let mut output = Counted::new(Scant::new(alloc, room.output));
+    let mut error = Counted::new(Scant::new(alloc, room.error));
     let status = command(
         alloc,
-        words.as_slice(),
-        files,
+        words,
+        &mut files,
         &mut input,
         &mut output,
         &mut error,
     );
-    Ok(Shown {
-        status,
-        output: output.into_inner().bytes,
-        error: error.into_inner().bytes,
-    })
-}
-
-/// What a run without words shows of an input that fails at one call, with room for some bytes of each stream.
-pub(super) fn run(alloc: Global, source: &[u8], fails_at: u64, room: (usize, usize)) -> Shown {
-    let mut files = Shelf::new(alloc, &[], 0);
-    let mut input = Counted::new(Drip::new(source, fails_at));
-    let mut output = Counted::new(Scant::new(alloc, room.0));
-    let mut error = Counted::new(Scant::new(alloc, room.1));
-    let status = command(alloc, &[], &mut files, &mut input, &mut output, &mut error);
     Shown {
         status,
         output: output.into_inner().bytes,
         error: error.into_inner().bytes,
+        log: files.log,
+        written: match files.page {
+            Some(page) => page.bytes,
+            None => Vec::new(alloc),
+        },
     }
+}
+
+/// What the words of a line show with these files. An input that is read fails.
+pub(super) fn show(
+    alloc: Global,
+    line: &str,
+    stored: &[(&str, &[u8])],
+) -> Result<Shown, AllocError> {
+    show_within(alloc, line, stored, AMPLE)
+}
+
+/// What the words of a line show with these files and this room.
+pub(super) fn show_within(
+    alloc: Global,
+    line: &str,
+    stored: &[(&str, &[u8])],
+    room: Room,
+) -> Result<Shown, AllocError> {
+    let mut words = Vec::new(alloc);
+    for word in line.split(' ') {
+        words.push(word.to_string(alloc)?)?;
+    }
+    Ok(call(alloc, words.as_slice(), stored, Drip::new(b"", 1, 1), room))
+}
+
+/// What a run without words shows of an input.
+pub(super) fn run(alloc: Global, source: &[u8]) -> Shown {
+    call(alloc, &[], &[], Drip::new(source, STEP, 0), AMPLE)
+}
+
+/// What a run without words shows of an input that gives one byte a call and fails at one call, counted from 1.
+pub(super) fn run_within(alloc: Global, source: &[u8], fails_at: u64, room: Room) -> Shown {
+    call(alloc, &[], &[], Drip::new(source, 1, fails_at), room)
+}
+
+/// The bytes that `build` fills an image file with.
+pub(super) fn image_of(alloc: Global, lattice: &[u8], source: &str) -> Result<Vec<u8>, AllocError> {
+    let stored = [("lattice", lattice), ("source", source.as_bytes())];
+    let shown = show(alloc, "build lattice source image", stored.as_slice())?;
+    Ok(shown.written)
 }

@@ -1,114 +1,21 @@
-//! What the words of a command line ask for.
+//! The words that the program takes, each with its help.
 
-use clap::error::ErrorKind;
-use clap::{Arg, ArgAction, ArgMatches, Command, Error, value_parser};
+use crate::help;
+use clap::{Arg, ArgAction, Command, value_parser};
 use std::alloc::{AllocError, Global};
 
 /// What `--version` tells, behind the name of the program.
 const VERSION: &str = "0.1.0";
 
-/// What is compiled: the paths of a lattice file and of a source text, and whether the strict profile judges it.
-#[derive(Clone, Copy, Debug, PartialEq, Eq)]
-pub(crate) struct Compilation<'a> {
-    pub lattice: &'a str,
-    pub source: &'a str,
-    pub is_strict: bool,
-}
-
-/// What is run: the path of an image, the most instructions that are done, and the path of a store file, without which
-/// the run begins from zeros.
-#[derive(Clone, Copy, Debug, PartialEq, Eq)]
-pub(crate) struct Execution<'a> {
-    pub image: &'a str,
-    pub budget: u64,
-    pub store: Option<&'a str>,
-}
-
-/// A subcommand with what it is given.
-#[derive(Clone, Copy, Debug, PartialEq, Eq)]
-pub(crate) enum Request<'a> {
-    Check(Compilation<'a>),
-    Classes(Compilation<'a>),
-    Build(Compilation<'a>, &'a str),
-    List(&'a str),
-    Run(Execution<'a>, bool),
-    View {
-        lattice: &'a str,
-        class: &'a str,
-        execution: Execution<'a>,
-    },
-    Format(&'a str),
-}
-
-/// Reads the words after the program's name. An error is a mistake in them, a wish for help, or want of memory.
-pub(crate) fn request_of<'a>(alloc: Global, words: &'a [String]) -> Result<Request<'a>, Error> {
-    let mut command = program(alloc)?;
-    let matches = command.try_get_matches_from_mut(words)?;
-    if has_signed_budget(&matches) {
-        return Err(command.error(
-            ErrorKind::ValueValidation,
-            "a budget is written by digits alone",
-        )?);
-    }
-    match matches.subcommand() {
-        Some(("check", inner)) => Ok(Request::Check(compilation_in(inner))),
-        Some(("classes", inner)) => Ok(Request::Classes(compilation_in(inner))),
-        Some(("build", inner)) => Ok(Request::Build(compilation_in(inner), text(inner, "IMAGE"))),
-        Some(("list", inner)) => Ok(Request::List(text(inner, "IMAGE"))),
-        Some(("run", inner)) => Ok(Request::Run(execution_in(inner), inner.get_flag("trace"))),
-        Some(("view", inner)) => Ok(view_request(inner)),
-        Some((_, inner)) => Ok(Request::Format(text(inner, "SOURCE"))),
-        None => Err(command.error(ErrorKind::MissingSubcommand, "a subcommand is needed")?),
-    }
-}
-
-fn view_request<'a>(matches: &ArgMatches<'a>) -> Request<'a> {
-    Request::View {
-        lattice: text(matches, "LATTICE"),
-        class: text(matches, "class"),
-        execution: execution_in(matches),
-    }
-}
-
-fn compilation_in<'a>(matches: &ArgMatches<'a>) -> Compilation<'a> {
-    Compilation {
-        lattice: text(matches, "LATTICE"),
-        source: text(matches, "SOURCE"),
-        is_strict: matches.get_flag("strict"),
-    }
-}
-
-fn execution_in<'a>(matches: &ArgMatches<'a>) -> Execution<'a> {
-    Execution {
-        image: text(matches, "IMAGE"),
-        budget: matches.get_one::<u64>("budget").unwrap_or(0),
-        store: matches.get_str("store"),
-    }
-}
-
-/// A required word, which a parse that succeeds has.
-fn text<'a>(matches: &ArgMatches<'a>, id: &str) -> &'a str {
-    matches.get_str(id).unwrap_or("")
-}
-
-/// Whether the budget begins with a sign.
-fn has_signed_budget(matches: &ArgMatches<'_>) -> bool {
-    match matches.subcommand() {
-        Some(("run" | "view", inner)) => text(inner, "budget").starts_with('+'),
-        _ => false,
-    }
-}
-
-fn program<'a>(alloc: Global) -> Result<Command<'a>, AllocError> {
+/// The program with its subcommands.
+pub(crate) fn program<'a>(alloc: Global) -> Result<Command<'a>, AllocError> {
     Command::new(alloc, "vsi")
         .bin_name("vsi")?
         .no_binary_name(true)
         .version(VERSION)
         .about("Compiles programs whose flows of information are typed, and runs them")
-        .after_help(
-            "Without words the program reads a source text from standard input and runs it.",
-        )
-        .subcommand_required(true)
+        .long_about(help::PROGRAM)
+        .after_help(help::PROGRAM_EXAMPLE)
         .subcommand(check_command(alloc)?)?
         .subcommand(classes_command(alloc)?)?
         .subcommand(build_command(alloc)?)?
@@ -121,6 +28,8 @@ fn program<'a>(alloc: Global) -> Result<Command<'a>, AllocError> {
 fn check_command<'a>(alloc: Global) -> Result<Command<'a>, AllocError> {
     Command::new(alloc, "check")
         .about("Says whether a source text is accepted")
+        .long_about(help::CHECK)
+        .after_help(help::CHECK_EXAMPLE)
         .arg(lattice_argument(alloc))?
         .arg(source_argument(alloc))?
         .arg(strict_argument(alloc))
@@ -129,29 +38,41 @@ fn check_command<'a>(alloc: Global) -> Result<Command<'a>, AllocError> {
 fn classes_command<'a>(alloc: Global) -> Result<Command<'a>, AllocError> {
     Command::new(alloc, "classes")
         .about("Prints the class of each declaration, declared or inferred")
+        .long_about(help::CLASSES)
+        .after_help(help::CLASSES_EXAMPLE)
         .arg(lattice_argument(alloc))?
         .arg(source_argument(alloc))?
         .arg(strict_argument(alloc))
 }
 
 fn build_command<'a>(alloc: Global) -> Result<Command<'a>, AllocError> {
+    let image = Arg::new(alloc, "IMAGE")
+        .required(true)
+        .help("The image file that is written")
+        .long_help(help::NEW_IMAGE);
     Command::new(alloc, "build")
         .about("Compiles a source text to an image")
+        .long_about(help::BUILD)
+        .after_help(help::BUILD_EXAMPLE)
         .arg(lattice_argument(alloc))?
         .arg(source_argument(alloc))?
-        .arg(image_argument(alloc))?
+        .arg(image)?
         .arg(strict_argument(alloc))
 }
 
 fn list_command<'a>(alloc: Global) -> Result<Command<'a>, AllocError> {
     Command::new(alloc, "list")
         .about("Prints the instructions of an image")
+        .long_about(help::LIST)
+        .after_help(help::LIST_EXAMPLE)
         .arg(image_argument(alloc))
 }
 
 fn run_command<'a>(alloc: Global) -> Result<Command<'a>, AllocError> {
     Command::new(alloc, "run")
-        .about("Runs an image")
+        .about("Runs an image and prints the store in which it halts")
+        .long_about(help::RUN)
+        .after_help(help::RUN_EXAMPLE)
         .arg(image_argument(alloc))?
         .arg(budget_argument(alloc))?
         .arg(store_argument(alloc))?
@@ -161,6 +82,8 @@ fn run_command<'a>(alloc: Global) -> Result<Command<'a>, AllocError> {
 fn view_command<'a>(alloc: Global) -> Result<Command<'a>, AllocError> {
     Command::new(alloc, "view")
         .about("Runs an image and prints what a class may see")
+        .long_about(help::VIEW)
+        .after_help(help::VIEW_EXAMPLE)
         .arg(lattice_argument(alloc))?
         .arg(image_argument(alloc))?
         .arg(class_argument(alloc))?
@@ -171,6 +94,8 @@ fn view_command<'a>(alloc: Global) -> Result<Command<'a>, AllocError> {
 fn format_command<'a>(alloc: Global) -> Result<Command<'a>, AllocError> {
     Command::new(alloc, "fmt")
         .about("Prints the canonical text of a source text")
+        .long_about(help::FORMAT)
+        .after_help(help::FORMAT_EXAMPLE)
         .arg(source_argument(alloc))
 }
 
@@ -178,25 +103,29 @@ fn lattice_argument<'a>(alloc: Global) -> Arg<'a> {
     Arg::new(alloc, "LATTICE")
         .required(true)
         .help("The lattice file")
+        .long_help(help::LATTICE)
 }
 
 fn source_argument<'a>(alloc: Global) -> Arg<'a> {
     Arg::new(alloc, "SOURCE")
         .required(true)
         .help("The source text")
+        .long_help(help::SOURCE)
 }
 
 fn image_argument<'a>(alloc: Global) -> Arg<'a> {
     Arg::new(alloc, "IMAGE")
         .required(true)
         .help("The image file")
+        .long_help(help::IMAGE)
 }
 
 fn strict_argument<'a>(alloc: Global) -> Arg<'a> {
     Arg::new(alloc, "strict")
         .long("strict")
         .action(ArgAction::SetTrue)
-        .help("Asks that halting tells nothing either")
+        .help("Asks that the ending of loops tells nothing either")
+        .long_help(help::STRICT)
 }
 
 fn trace_argument<'a>(alloc: Global) -> Arg<'a> {
@@ -204,6 +133,7 @@ fn trace_argument<'a>(alloc: Global) -> Arg<'a> {
         .long("trace")
         .action(ArgAction::SetTrue)
         .help("Prints each instruction before it is done")
+        .long_help(help::TRACE)
 }
 
 fn class_argument<'a>(alloc: Global) -> Arg<'a> {
@@ -212,6 +142,7 @@ fn class_argument<'a>(alloc: Global) -> Arg<'a> {
         .value_name("C")
         .required(true)
         .help("The class that looks")
+        .long_help(help::CLASS)
 }
 
 fn budget_argument<'a>(alloc: Global) -> Arg<'a> {
@@ -221,11 +152,13 @@ fn budget_argument<'a>(alloc: Global) -> Arg<'a> {
         .required(true)
         .value_parser(value_parser!(u64))
         .help("The most instructions that are done")
+        .long_help(help::BUDGET)
 }
 
 fn store_argument<'a>(alloc: Global) -> Arg<'a> {
     Arg::new(alloc, "store")
         .long("store")
         .value_name("FILE")
-        .help("The store file")
+        .help("The store file; without it the run begins from zeros")
+        .long_help(help::STORE)
 }

@@ -1,0 +1,17 @@
+-- What the program ends with where it stops early.
+use Rattle.std.specs.Prelude.{◌≡◌, ◌<◌, ℕ, Result, IsErrAnd}
+use Rattle.vsi.specs.declared.stop.Stop.{Stop}
+use Rattle.vsi.specs.declared.stop.Stop.TheVariants.{Refused, Usage, NoClass, OutOfBudget, FileFault, Memory}
+
+-- The status of the program.
+abbrev pub status_of : Stop → ℕ
+status_of (Refused text) = 1
+status_of (Usage text) = 2
+status_of (NoClass name) = 2
+status_of OutOfBudget = 3
+status_of (FileFault path) = 4
+status_of Memory = 5
+
+-- Where a stream's count of faults rose, the answer is a file fault.
+abbrev pub TellsFault : {T : Type 0} → ℕ → ℕ → Result T Stop → Type 0
+TellsFault old new answer = old < new → IsErrAnd answer (λ stop. status_of stop ≡ 4)

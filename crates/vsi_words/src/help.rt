@@ -1,0 +1,223 @@
+//! The longer texts of help: what each subcommand reads and writes, the statuses, what each word is, and an example.
+
+/// What the program is, in full.
+pub(crate) const PROGRAM: &str = "\
+Compiles programs whose flows of information are typed, and runs them.
+
+A source text declares the security class of each global variable. The text is
+accepted only where nothing can flow from a variable to one whose class isn't at
+or above its own. An accepted text is compiled to an image, which is run on a
+stack machine.
+
+Without words the program reads a source text from standard input, judges it
+under the classes L and H, L below H, runs it from a store of zeros for at most
+1000000 instructions, and prints each global.";
+
+/// The statuses of the program, and its example.
+pub(crate) const PROGRAM_EXAMPLE: &str = "\
+Statuses, of which each but 0 has its cause told on standard error:
+  0  done
+  1  refused: the lattice, the source text, the image or the store has a fault
+  2  usage: the words are wrong, or the lattice lacks the class that looks
+  3  out of budget: the run didn't halt within its budget
+  4  file fault: a file or a standard stream can't be opened, read or written
+  5  out of memory
+
+Example:
+  $ printf 'var x : L; x := 1 + 2' | vsi
+  x = 3";
+
+/// What `check` does.
+pub(crate) const CHECK: &str = "\
+Says whether a source text is accepted.
+
+Reads the lattice file and judges it, then reads the source text and judges it,
+and prints `accepted`. A refusal is told on standard error: its number, its name
+and its place, and of a refused flow each step and the two classes.
+
+Statuses: 0 accepted, 1 refused, 2 usage, 4 file fault, 5 out of memory.";
+
+/// An example of `check`.
+pub(crate) const CHECK_EXAMPLE: &str = "\
+Example:
+  $ cat two.toml
+  classes = [\"L\", \"H\"]
+  below = [[\"L\", \"H\"]]
+  $ cat leak.vsi
+  var h : H; var l : L; l := h
+  $ vsi check two.toml leak.vsi
+  refused: 25 Refused
+  1:28 h flows to l by ASSIGN at 1:23
+  h : H may not flow to l : L";
+
+/// What `classes` does.
+pub(crate) const CLASSES: &str = "\
+Prints the class of each declaration, declared or inferred.
+
+Reads the lattice file and the source text as `check` does, and prints for each
+declaration, globals first, a line `LINE:COLUMN NAME : CLASS`. A `letvar`
+without a class has the least one with which the text is accepted.
+
+Statuses: 0 accepted, 1 refused, 2 usage, 4 file fault, 5 out of memory.";
+
+/// An example of `classes`.
+pub(crate) const CLASSES_EXAMPLE: &str = "\
+Example:
+  $ cat copy.vsi
+  var h : H; letvar t := h in h := t
+  $ vsi classes two.toml copy.vsi
+  1:5 h : H
+  1:19 t : H";
+
+/// What `build` does.
+pub(crate) const BUILD: &str = "\
+Compiles a source text to an image.
+
+Reads the lattice file and the source text as `check` does, and fills the image
+file once all its bytes are there. Nothing is printed. Until then a file at the
+path of the image isn't touched.
+
+Statuses: 0 written, 1 refused, 2 usage, 4 file fault, 5 out of memory.";
+
+/// An example of `build`.
+pub(crate) const BUILD_EXAMPLE: &str = "\
+Example:
+  $ cat sum.vsi
+  var x : L; x := 1 + 2
+  $ vsi build two.toml sum.vsi sum.image
+  $ vsi run sum.image --budget 3
+  x = 3";
+
+/// What `list` does.
+pub(crate) const LIST: &str = "\
+Prints the instructions of an image.
+
+Reads the image, verifies it, and prints the number of its globals, of its slots
+and of its places for operands, each global with its class, and each instruction
+with its number.
+
+Statuses: 0 printed, 1 refused, 2 usage, 4 file fault, 5 out of memory.";
+
+/// An example of `list`.
+pub(crate) const LIST_EXAMPLE: &str = "\
+Example:
+  $ vsi list sum.image
+  globals 1
+  slots 1
+  stack 1
+  x : L
+  0: PUSH 3
+  1: STORE 0
+  2: HALT";
+
+/// What `run` does.
+pub(crate) const RUN: &str = "\
+Runs an image and prints the store in which it halts.
+
+Reads the store file where there is one, then the image, verifies the image,
+judges the store file, and runs the image until it halts or its budget is spent.
+Where it halts a line `NAME = NUMBER` is printed for each global.
+
+Statuses: 0 halted, 1 refused, 2 usage, 3 out of budget, 4 file fault,
+5 out of memory.";
+
+/// An example of `run`.
+pub(crate) const RUN_EXAMPLE: &str = "\
+Example:
+  $ vsi run sum.image --budget 3 --trace
+  0: PUSH 3 |
+  1: STORE 0 | 3
+  2: HALT |
+  x = 3";
+
+/// What `view` does.
+pub(crate) const VIEW: &str = "\
+Runs an image and prints what a class may see.
+
+Reads the lattice file, looks for the class in it, reads and verifies the image,
+reads the store file where there is one, and runs the image. Where it halts
+within its budget a line `NAME = NUMBER` is printed for each global whose class
+is at or below the one that looks; else nothing is.
+
+Statuses: 0 halted, 1 refused, 2 usage or no such class, 3 out of budget,
+4 file fault, 5 out of memory.";
+
+/// An example of `view`.
+pub(crate) const VIEW_EXAMPLE: &str = "\
+Example:
+  $ cat add.vsi
+  var h : H; var l : L; l := l + 1; h := l
+  $ cat start.toml
+  h = 5
+  l = 1
+  $ vsi build two.toml add.vsi add.image
+  $ vsi view two.toml add.image --class L --budget 7 --store start.toml
+  l = 2";
+
+/// What `fmt` does.
+pub(crate) const FORMAT: &str = "\
+Prints the canonical text of a source text.
+
+Reads the source text and prints it with a command on each line, two spaces for
+each block round it, and one space round each operator. Comments are dropped.
+Names and flows aren't judged.
+
+Statuses: 0 printed, 1 refused, 2 usage, 4 file fault, 5 out of memory.";
+
+/// An example of `fmt`.
+pub(crate) const FORMAT_EXAMPLE: &str = "\
+Example:
+  $ cat short.vsi
+  var x:L;x:=01+(2)
+  $ vsi fmt short.vsi
+  var x : L;
+  x := 1 + (2)";
+
+/// What a lattice file is.
+pub(crate) const LATTICE: &str = "\
+The path of the lattice file, a TOML document of at most 1048576 bytes
+with two keys: `classes`, an array of 1 to 64 names, and `below`, an
+array of pairs [low, high] of them. Every two classes must have a
+least class above both and a greatest class below both.";
+
+/// What a source text is.
+pub(crate) const SOURCE: &str = "\
+The path of the source text, of at most 1048576 bytes.";
+
+/// What an image is that is read.
+pub(crate) const IMAGE: &str = "\
+The path of the image, the bytes that `vsi build` writes. Any bytes
+may be given: they are verified before they are used.";
+
+/// What an image is that is written.
+pub(crate) const NEW_IMAGE: &str = "\
+The path that the image is written to. A file that stands there is
+replaced, and left as it is where the text is refused.";
+
+/// What the strict profile is.
+pub(crate) const STRICT: &str = "\
+Judges by the strict profile: each variable that the guard of a
+`while` reads, or the guard of an `if` that contains one, must have
+the least class, so that whether a run ends tells nothing of the
+classes above it.";
+
+/// What a trace is.
+pub(crate) const TRACE: &str = "\
+Prints a line before each instruction that is done: its number, its
+text, and behind a bar the operands on the stack, the lowest first.";
+
+/// What a class is that looks.
+pub(crate) const CLASS: &str = "\
+The name of the class that looks, one of LATTICE.";
+
+/// What a budget is.
+pub(crate) const BUDGET: &str = "\
+The most instructions that are done, the halt included: a whole number
+from 0 to 18446744073709551615, in digits alone.";
+
+/// What a store file is.
+pub(crate) const STORE: &str = "\
+The path of the store file, a TOML document of at most 1048576 bytes
+with a key `NAME = NUMBER` for each global that doesn't begin as 0, a
+number being one from -9223372036854775808 to 9223372036854775807.
+Without a file each global begins as 0.";
