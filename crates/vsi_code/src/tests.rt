@@ -2,7 +2,7 @@
 
 use crate::generate;
 use std::alloc::{AllocError, Global};
-use vsi_image::{Instr, Verified};
+use vsi_image::{Instr, Verified, decode, encode};
 use vsi_lattice::read_lattice;
 use vsi_scope::resolve;
 use vsi_syntax::{lex, parse};
@@ -50,6 +50,29 @@ fn operands_before_operators(rt: HostRuntime) {
     let image = verified.image();
     assert_eq!(rt; image.code.as_slice(), want.as_slice());
     assert_eq!(rt; (image.slots, image.stack), (2, 3));
+}
+
+// The bytes of a sum that isn't folded, in version 1: PUSH 1, PUSH 2, ADD, STORE 0, HALT.
+const SUM: [u8; 41] = [
+    0x56, 0x53, 0x49, 1, 0, 1, 0, 1, 0, 2, 0, 0, 0, 5, 1, 0x78, 1, 0x4c, 1, 0, 0, 0, 0, 0, 0, 0, 1,
+    1, 0, 0, 0, 0, 0, 0, 0, 2, 4, 3, 0, 0, 10,
+];
+
+#[test]
+fn sum_that_is_not_folded(rt: HostRuntime) {
+    let alloc = rt.alloc();
+    let verified = image_of(alloc, b"var x : L; x := 1 + 2").expect(&rt, "an image");
+    assert_eq!(rt; verified.image().code.len(), 5);
+    let Ok(first) = decode(alloc, &SUM) else {
+        panic!(rt; "the bytes are an image's");
+    };
+    assert!(rt; verified.image() == &first);
+    let mut second = SUM;
+    second[3] = 2;
+    let Ok(written) = encode(alloc, verified.image()) else {
+        panic!(rt; "an image within its limits");
+    };
+    assert_eq!(rt; written.as_slice(), second.as_slice());
 }
 
 #[test]
@@ -141,6 +164,27 @@ fn letvar_without_globals(rt: HostRuntime) {
     let image = verified.image();
     assert_eq!(rt; image.code.as_slice(), want.as_slice());
     assert_eq!(rt; (image.globals.len(), image.slots, image.stack), (0, 1, 1));
+}
+
+// An assignment that nothing reads has its code too.
+#[test]
+fn assignments_to_a_letvar(rt: HostRuntime) {
+    let text = b"var x : L; letvar t := 1 in { t := 2; x := t; t := 3 }";
+    let verified = image_of(rt.alloc(), text).expect(&rt, "an image");
+    let want = [
+        Instr::Push(1),
+        Instr::Store(1),
+        Instr::Push(2),
+        Instr::Store(1),
+        Instr::Load(1),
+        Instr::Store(0),
+        Instr::Push(3),
+        Instr::Store(1),
+        Instr::Halt,
+    ];
+    let image = verified.image();
+    assert_eq!(rt; image.code.as_slice(), want.as_slice());
+    assert_eq!(rt; (image.slots, image.stack), (2, 1));
 }
 
 #[test]

@@ -1,7 +1,10 @@
 //! Texts that are compiled and run.
 
+mod codes;
 mod flows;
+mod limits;
 mod programs;
+mod walks;
 
 use crate::{
     CompileError, RunError, classes_text, classes_text_in, compile, format_text, run_source,
@@ -10,6 +13,7 @@ use std::alloc::{AllocError, Global};
 use std::test::Fail;
 use vsi_lattice::{Lattice, LatticeError, read_lattice};
 use vsi_machine::Outcome;
+use vsi_scope::ScopeError;
 use vsi_syntax::{LexError, ParseError};
 use vsi_types::Profile;
 
@@ -28,31 +32,47 @@ fn four(alloc: Global) -> Result<Lattice, LatticeError> {
     read_lattice(alloc, FOUR)
 }
 
-/// The number of a refusal.
-fn number(error: &CompileError) -> u8 {
+/// The number of a refusal, and where the byte, word, token or name is that it tells.
+fn placed(error: &CompileError) -> (u8, usize, usize) {
     match error {
-        CompileError::Lex(LexError::TooLong) => 11,
-        CompileError::Lex(LexError::BadByte(_)) => 12,
-        CompileError::Lex(LexError::BadWord(_)) => 13,
-        CompileError::Lex(_) => 14,
-        CompileError::Parse(ParseError::TooDeep(_)) => 16,
-        CompileError::Parse(_) => 15,
-        CompileError::Scope(error) => scope_number(error),
-        CompileError::Flow(_) => 25,
-        CompileError::Memory => 0,
+        CompileError::Lex(error) => lexical_place(error),
+        CompileError::Parse(error) => syntactic_place(error),
+        CompileError::Scope(error) => scope_place(error),
+        CompileError::Flow(_) => (25, 0, 0),
+        CompileError::Memory => (0, 0, 0),
     }
 }
 
-/// The number of a refusal of the scopes.
-fn scope_number(error: &vsi_scope::ScopeError) -> u8 {
+/// The number and the place of a refusal of the words.
+fn lexical_place(error: &LexError) -> (u8, usize, usize) {
     match error {
-        vsi_scope::ScopeError::Duplicate(_) => 17,
-        vsi_scope::ScopeError::UnknownClass(_) => 18,
-        vsi_scope::ScopeError::Unbound(_) => 19,
-        vsi_scope::ScopeError::TooManyGlobals(_) => 20,
-        vsi_scope::ScopeError::TooManyDeclarations(_) => 21,
-        vsi_scope::ScopeError::TooLarge => 22,
-        vsi_scope::ScopeError::Memory => 0,
+        LexError::TooLong => (11, 0, 0),
+        LexError::BadByte(at) => (12, *at, *at),
+        LexError::BadWord(span) => (13, span.start, span.stop),
+        LexError::BadNumber(span) => (14, span.start, span.stop),
+        LexError::Memory => (0, 0, 0),
+    }
+}
+
+/// The number and the place of a refusal of the tree.
+fn syntactic_place(error: &ParseError) -> (u8, usize, usize) {
+    match error {
+        ParseError::Unexpected(span) => (15, span.start, span.stop),
+        ParseError::TooDeep(span) => (16, span.start, span.stop),
+        ParseError::Memory => (0, 0, 0),
+    }
+}
+
+/// The number and the place of a refusal of the scopes.
+fn scope_place(error: &ScopeError) -> (u8, usize, usize) {
+    match error {
+        ScopeError::Duplicate(span) => (17, span.start, span.stop),
+        ScopeError::UnknownClass(span) => (18, span.start, span.stop),
+        ScopeError::Unbound(span) => (19, span.start, span.stop),
+        ScopeError::TooManyGlobals(span) => (20, span.start, span.stop),
+        ScopeError::TooManyDeclarations(span) => (21, span.start, span.stop),
+        ScopeError::TooLarge => (22, 0, 0),
+        ScopeError::Memory => (0, 0, 0),
     }
 }
 
@@ -60,7 +80,15 @@ fn scope_number(error: &vsi_scope::ScopeError) -> u8 {
 fn judged(alloc: Global, lattice: &Lattice, text: &[u8]) -> u8 {
     match compile(alloc, lattice, text) {
         Ok(_) => 100,
-        Err(error) => number(&error),
+        Err(error) => placed(&error).0,
+    }
+}
+
+/// How many instructions an accepted text has, or the number and the place of its refusal.
+fn counted(alloc: Global, lattice: &Lattice, text: &[u8]) -> Result<usize, (u8, usize, usize)> {
+    match compile(alloc, lattice, text) {
+        Ok(verified) => Ok(verified.image().code.len()),
+        Err(error) => Err(placed(&error)),
     }
 }
 

@@ -11,3 +11,6 @@ mod source;
 mod texts;
 
 pub use texts::{Fault, fault_text, refusal_text};
+
+#[cfg(test)]
+mod tests;

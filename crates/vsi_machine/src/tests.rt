@@ -1,5 +1,7 @@
 //! Worked runs: budgets, trace lines, words that wrap, and a full operand stack.
 
+mod near;
+
 use crate::{Machine, Outcome, StartError};
 use std::alloc::Global;
 use std::test::*;
@@ -211,5 +213,7 @@ fn a_full_stack_is_emptied(rt: HostRuntime) -> Result<(), Fail> {
     let mut machine = started(rt.alloc(), &verified, &[])?;
     assert_eq!(rt; machine.run(256), Outcome::OutOfBudget);
     assert_eq!(rt; machine.run(257), Outcome::Halted);
+    let mut machine = started(rt.alloc(), &verified, &[])?;
+    assert_eq!(rt; machine.run(513), Outcome::Halted);
     Ok(())
 }

@@ -1,6 +1,6 @@
 //! Worked programs: what is left of a body, and of the entries of its `letvar`s.
 
-use crate::{laws, optimise};
+use crate::optimise;
 use std::alloc::{AllocError, Global};
 use vsi_lattice::{Lattice, read_lattice};
 use vsi_scope::{Cmd, Ex, Resolved, resolve, size};
@@ -374,14 +374,4 @@ fn entries(rt: HostRuntime) {
         let (_, _, places) = left(rt.alloc(), text).expect(&rt, "a program");
         assert_eq!(rt; places.as_slice(), want);
     }
-}
-
-#[test]
-fn laws_hold(rt: HostRuntime) {
-    laws::evaluates_same();
-    laws::not_larger();
-    laws::nothing_to_fold();
-    laws::places_kept();
-    let (count, _, _) = left(rt.alloc(), b"var x : L; x := 1").expect(&rt, "a program");
-    assert_eq!(rt; count, 3);
 }

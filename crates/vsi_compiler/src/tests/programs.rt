@@ -9,7 +9,7 @@ use vsi_image::encode;
 fn ends_from_zeros(rt: HostRuntime) -> Result<(), Fail> {
     let alloc = rt.alloc();
     let lattice = two(alloc)?;
-    let rows: [(&[u8], i64); 12] = [
+    let rows: [(&[u8], i64); 14] = [
         (b"var x : L; x := 1 + 2", 3),
         (
             b"var x : L; x := 9223372036854775807 + 1",
@@ -22,6 +22,14 @@ fn ends_from_zeros(rt: HostRuntime) -> Result<(), Fail> {
         ),
         (
             b"var l : L; while l < 2 do letvar t := 0 in { t := t + 1; l := l + t }",
+            2,
+        ),
+        (
+            b"var l : L; letvar t : L := 5 in while l < 2 do { l := l + t; t := 1 }",
+            5,
+        ),
+        (
+            b"var l : L; while l < 2 do letvar t : L := 0 in { t := t + 1; l := l + t }",
             2,
         ),
         (b"var x : L; x := 10 - 3 - 2", 5),
@@ -65,6 +73,9 @@ fn ends_with_two_globals(rt: HostRuntime) -> Result<(), Fail> {
     let hides =
         b"var x : L; var y : L; x := 1; letvar x := x + 1 in { x := x + 1; y := x }; x := x + 10";
     assert!(rt; ends_in(alloc, &lattice, hides, &[0, 0], 1000000, &[11, 3]));
+    let written =
+        b"var x : L; var y : L; x := 1; letvar x : L := x + 1 in { x := x + 1; y := x }; x := x + 10";
+    assert!(rt; ends_in(alloc, &lattice, written, &[0, 0], 1000000, &[11, 3]));
     let copies =
         b"var h : H; var l : L; letvar a := 0 in letvar b := 0 in while l < 3 do { b := a; a := h; l := l + 1 }";
     assert!(rt; ends_in(alloc, &lattice, copies, &[7, 0], 1000000, &[7, 3]));
@@ -85,10 +96,25 @@ fn counts_instructions(rt: HostRuntime) -> Result<(), Fail> {
     let spins = b"var h : H; while h do h := h";
     assert!(rt; goes_on(alloc, &lattice, spins, &[0], 2));
     assert!(rt; ends_in(alloc, &lattice, spins, &[0], 3, &[0]));
-    assert!(rt; goes_on(alloc, &lattice, spins, &[1], 1000000));
-    let late = b"var l : L; letvar t := 5 in while l < 2 do { l := l + t; t := 1 }";
-    assert!(rt; ends_in(alloc, &lattice, late, &[-10], 1000000, &[2]));
+    for budget in [0, 1, 2, 3, 4, 5, 6, 1000000] {
+        assert!(rt; goes_on(alloc, &lattice, spins, &[1], budget));
+    }
     assert!(rt; ends_in(alloc, &lattice, b"letvar t := 1 in t := 2", &[], 3, &[]));
+    Ok(())
+}
+
+/// Two instructions stand before the loop, a turn has eleven, and the last guard and HALT are five.
+#[test]
+fn counts_turns(rt: HostRuntime) -> Result<(), Fail> {
+    let alloc = rt.alloc();
+    let lattice = two(alloc)?;
+    let late = b"var l : L; letvar t := 5 in while l < 2 do { l := l + t; t := 1 }";
+    for (first, turns, last) in [(0, 1, 5), (-10, 8, 2), (2, 0, 2)] {
+        let budget = 2 + 11 * turns + 5;
+        assert!(rt; ends_in(alloc, &lattice, late, &[first], 1000000, &[last]));
+        assert!(rt; ends_in(alloc, &lattice, late, &[first], budget, &[last]));
+        assert!(rt; goes_on(alloc, &lattice, late, &[first], budget - 1));
+    }
     Ok(())
 }
 

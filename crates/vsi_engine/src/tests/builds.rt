@@ -37,7 +37,10 @@ fn a_read_fault_writes_nothing(rt: HostRuntime) -> Result<(), Fail> {
             matches!(&answer, Err(EngineError::ReadFault)),
             "at {fails_at}"
         );
-        assert!(rt; reader.faults() == 1 && writer.into_inner().bytes.is_empty());
+        assert!(rt; reader.faults() == 1 && writer.faults() == 0);
+        assert_eq!(rt; reader.into_inner().calls, fails_at);
+        let writer = writer.into_inner();
+        assert!(rt; writer.calls == 0 && writer.bytes.is_empty());
     }
     Ok(())
 }
@@ -55,10 +58,29 @@ fn a_write_fault_leaves_a_prefix(rt: HostRuntime) -> Result<(), Fail> {
                 "at {fails_at}"
             );
             assert_eq!(rt; writer.faults(), 1);
-            let bytes = writer.into_inner().bytes;
-            assert!(rt; IMAGE.starts_with(bytes.as_slice()));
-            assert_eq!(rt; bytes.len(), (fails_at - 1) as usize);
+            let writer = writer.into_inner();
+            assert!(rt; IMAGE.starts_with(writer.bytes.as_slice()));
+            assert_eq!(rt; writer.bytes.len(), (fails_at - 1) as usize);
+            assert_eq!(rt; writer.calls, fails_at);
         }
+    }
+    Ok(())
+}
+
+/// The 21 bytes are read in 22 calls, the last of which gives nothing, and the image's 31 are written in as many.
+#[test]
+fn a_fault_behind_the_last_call_is_not_met(rt: HostRuntime) -> Result<(), Fail> {
+    let lattice = read_lattice(rt.alloc(), TWO_CLASSES)?;
+    for failure in [Failure::Refuses, Failure::TakesNothing] {
+        let mut reader = drip_of(THREE, 23);
+        let mut writer = scant_of(rt.alloc(), 32, failure)?;
+        build(rt.alloc(), &lattice, &mut reader, &mut writer)?;
+        assert!(rt; reader.faults() == 0 && writer.faults() == 0);
+        assert_eq!(rt; reader.into_inner().calls, 22);
+        let writer = writer.into_inner();
+        assert_eq!(rt; writer.bytes.as_slice(), IMAGE);
+        assert_eq!(rt; writer.calls, 31);
+        assert_eq!(rt; writer.flushes, 0);
     }
     Ok(())
 }

@@ -1,4 +1,4 @@
-//! A reader and a writer of one byte a call that fail at one call.
+//! A reader and a writer of one byte a call that fail at one call, and count their calls.
 
 ghost use Rattle.std.specs.Prelude.{◌≡◌, Some, IfOk};
 ghost use Rattle.vsi_engine.specs.Counted.{faults_of};
@@ -12,7 +12,7 @@ use std::io::{ErrorKind, Read, Write};
 #[derive(Drop)]
 pub(crate) struct Drip<'a> {
     bytes: &'a [u8],
-    calls: u64,
+    pub(crate) calls: u64,
     fails_at: u64,
 }
 
@@ -51,7 +51,8 @@ pub(crate) enum Failure {
 #[derive(Drop)]
 pub(crate) struct Scant {
     pub(crate) bytes: Vec<u8>,
-    calls: u64,
+    pub(crate) calls: u64,
+    pub(crate) flushes: u64,
     fails_at: u64,
     failure: Failure,
 }
@@ -77,6 +78,7 @@ impl Write for Scant {
     }
 
     fn flush(&mut self) -> io::Result<()> {
+        self.flushes = self.flushes.saturating_add(1);
         Err(io::Error::from(ErrorKind::Other))
     }
 }
@@ -96,6 +98,7 @@ pub(crate) fn scant_of(
     Ok(Counted::new(Scant {
         bytes,
         calls: 0,
+        flushes: 0,
         fails_at,
         failure,
     }))

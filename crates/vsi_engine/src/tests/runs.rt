@@ -49,7 +49,9 @@ fn a_read_fault_writes_nothing(rt: HostRuntime) -> Result<(), Fail> {
             "at {fails_at}"
         );
         assert!(rt; reader.faults() == 1 && writer.faults() == 0);
-        assert!(rt; writer.into_inner().bytes.is_empty());
+        assert_eq!(rt; reader.into_inner().calls, fails_at);
+        let writer = writer.into_inner();
+        assert!(rt; writer.calls == 0 && writer.bytes.is_empty());
     }
     Ok(())
 }
@@ -66,10 +68,29 @@ fn a_write_fault_leaves_a_prefix(rt: HostRuntime) -> Result<(), Fail> {
                 "at {fails_at}"
             );
             assert!(rt; reader.faults() == 0 && writer.faults() == 1);
-            let bytes = writer.into_inner().bytes;
-            assert!(rt; SHOWN.starts_with(bytes.as_slice()));
-            assert_eq!(rt; bytes.len(), (fails_at - 1) as usize);
+            let writer = writer.into_inner();
+            assert!(rt; SHOWN.starts_with(writer.bytes.as_slice()));
+            assert_eq!(rt; writer.bytes.len(), (fails_at - 1) as usize);
+            assert_eq!(rt; writer.calls, fails_at);
         }
+    }
+    Ok(())
+}
+
+/// All is read in 32 calls, the last of which gives nothing, and the 43 bytes are written in as many.
+#[test]
+fn a_fault_behind_the_last_call_is_not_met(rt: HostRuntime) -> Result<(), Fail> {
+    for failure in [Failure::Refuses, Failure::TakesNothing] {
+        let mut reader = drip_of(THREE, 33);
+        let mut writer = scant_of(rt.alloc(), 44, failure)?;
+        let outcome = run_image(rt.alloc(), &mut reader, b"", 3, true, &mut writer)?;
+        assert_eq!(rt; outcome, Outcome::Halted);
+        assert!(rt; reader.faults() == 0 && writer.faults() == 0);
+        assert_eq!(rt; reader.into_inner().calls, 32);
+        let writer = writer.into_inner();
+        assert_eq!(rt; writer.bytes.as_slice(), SHOWN);
+        assert_eq!(rt; writer.calls, 43);
+        assert_eq!(rt; writer.flushes, 0);
     }
     Ok(())
 }

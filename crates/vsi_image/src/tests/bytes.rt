@@ -113,6 +113,8 @@ fn cuts(rt: HostRuntime) {
 #[test]
 fn refuses_changed_bytes(rt: HostRuntime) -> Result<(), Fail> {
     let alloc = rt.alloc();
+    let mut second = STORES;
+    second[3] = 2;
     for (at, others, want) in [
         (0, [0x57].as_slice(), DecodeError::BadMagic),
         (3, [9].as_slice(), DecodeError::BadVersion),
@@ -126,12 +128,16 @@ fn refuses_changed_bytes(rt: HostRuntime) -> Result<(), Fail> {
         (8, [1, 1].as_slice(), DecodeError::BadField(8)),
         (10, [0, 1, 0, 0].as_slice(), DecodeError::BadField(10)),
     ] {
-        let found = fault(alloc, &changed(&STORES, at, others, alloc)?);
-        assert_eq!(rt; found, Some(want));
+        for row in [STORES, second] {
+            let found = fault(alloc, &changed(&row, at, others, alloc)?);
+            assert_eq!(rt; found, Some(want), "{others:?} at {at}");
+        }
     }
-    let mut longer = Vec::from_slice(alloc, &STORES)?;
-    longer.push(0)?;
-    assert_eq!(rt; fault(alloc, &longer), Some(DecodeError::Trailing(31)));
+    for row in [STORES, second] {
+        let mut longer = Vec::from_slice(alloc, &row)?;
+        longer.push(0)?;
+        assert_eq!(rt; fault(alloc, &longer), Some(DecodeError::Trailing(31)));
+    }
     for (at, other, want) in [
         (3, 1, DecodeError::BadOpcode(28)),
         (3, 3, DecodeError::BadVersion),

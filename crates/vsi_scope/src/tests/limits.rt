@@ -49,6 +49,17 @@ fn declarations(rt: HostRuntime) {
 }
 
 #[test]
+fn declarations_with_classes(rt: HostRuntime) {
+    let alloc = rt.alloc();
+    let mut text = Vec::new(alloc);
+    repeat(&mut text, b"var x : L; letvar t : L := 0 in x := 1", 1).expect(&rt, "room");
+    repeat(&mut text, b"; letvar t : L := 0 in x := 1", 1_022).expect(&rt, "room");
+    assert_eq!(rt; judged(alloc, &text), Ok(4_092));
+    repeat(&mut text, b"; letvar t : L := 0 in x := 1", 1).expect(&rt, "room");
+    assert_eq!(rt; judged(alloc, &text), Err((21, 29_685, 29_686)));
+}
+
+#[test]
 fn sizes(rt: HostRuntime) {
     let alloc = rt.alloc();
     let mut text = Vec::new(alloc);

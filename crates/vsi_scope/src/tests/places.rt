@@ -1,6 +1,6 @@
 //! The locations that names stand for, in text order, and what a resolved program shows.
 use super::two_classes;
-use crate::{Cmd, Ex, laws, resolve, size};
+use crate::{Cmd, Ex, resolve, size};
 use std::alloc::{AllocError, Global};
 use vsi_lattice::Class;
 use vsi_syntax::{lex, parse};
@@ -160,14 +160,4 @@ fn rebuilt_without_commands(rt: HostRuntime) {
     assert_eq!(rt; empty.globals().len(), 1);
     assert_eq!(rt; empty.letvars().len(), 0);
     assert_eq!(rt; size(empty.body()), 0);
-}
-
-#[test]
-fn laws_are_calls(rt: HostRuntime) {
-    laws::evaluation_rules();
-    laws::larger_keeps();
-    laws::one_answer();
-    laws::length_kept();
-    laws::one_resolution();
-    assert!(rt; true);
 }

@@ -1,0 +1,174 @@
+//! Lattice files and store files.
+
+use crate::stages::{compiled, is_image};
+use crate::texts::{CYCLE, ONE, OVER};
+use crate::trial::{Call, Miss, Trial, met, set_up};
+use std::alloc::Global;
+use vsi::{Fault, StoreError, fault_text, read_store};
+use vsi_image::{Image, Instr, Verified};
+use vsi_lattice::{Class, Classes, LatticeError, read_lattice};
+
+/// A lattice file, its refusal and the text of that.
+type Refused<'a> = (&'a [u8], LatticeError, &'a [u8]);
+
+/// The files that declare no lattice.
+fn refused_files<'a>() -> [Refused<'a>; 7] {
+    [
+        (
+            CYCLE,
+            LatticeError::Cycle(Class::at(0), Class::at(1)),
+            b"refused: 8 Cycle 0 1\n",
+        ),
+        (
+            b"classes = []\nbelow = []\n",
+            LatticeError::NoClass,
+            b"refused: 3 NoClass\n",
+        ),
+        (
+            b"classes = [\"if\"]\nbelow = []\n",
+            LatticeError::BadName(0),
+            b"refused: 5 BadName 0\n",
+        ),
+        (
+            b"classes = [\"L\",\"L\"]\nbelow = []\n",
+            LatticeError::DuplicateName(1),
+            b"refused: 6 DuplicateName 1\n",
+        ),
+        (
+            b"classes = [\"L\"]\nbelow = [[\"L\",\"X\"]]\n",
+            LatticeError::UnknownName(0),
+            b"refused: 7 UnknownName 0\n",
+        ),
+        (
+            b"classes = [\"L\"]\n",
+            LatticeError::BadShape,
+            b"refused: 2 BadShape\n",
+        ),
+        (
+            b"classes = \n",
+            LatticeError::NotToml,
+            b"refused: 1 NotToml\n",
+        ),
+    ]
+}
+
+/// A lattice file that is refused, and the text of its refusal.
+fn refuses(alloc: Global, trial: &mut Trial, row: &Refused<'_>) -> Result<(), Miss> {
+    let (declared, wanted, told) = *row;
+    let file = set_up(|| declared.to_vec(alloc))?;
+    let is_kept = || file.as_slice() == declared;
+    let answer = trial.answer(Call::ReadLattice, is_kept, || read_lattice(alloc, &file));
+    let Err(error) = answer else {
+        return Err(Miss(Call::ReadLattice));
+    };
+    met(Call::ReadLattice, error == wanted)?;
+    let fault = Fault::Lattice(error);
+    let is_kept = || matches!(&fault, Fault::Lattice(error) if *error == wanted);
+    let text = trial.value(Call::FaultText, is_kept, || fault_text(alloc, &fault))?;
+    met(Call::FaultText, text.as_slice() == told)
+}
+
+/// Lattice files without and with faults.
+pub(super) fn lattices(alloc: Global, trial: &mut Trial) -> Result<(), Miss> {
+    let file = set_up(|| ONE.to_vec(alloc))?;
+    let is_kept = || file.as_slice() == ONE;
+    let one = trial.value(Call::ReadLattice, is_kept, || read_lattice(alloc, &file))?;
+    met(
+        Call::ReadLattice,
+        one.count() == 1 && one.class_named(b"L") == Some(Class::at(0)),
+    )?;
+    for row in &refused_files() {
+        refuses(alloc, trial, row)?;
+    }
+    Ok(())
+}
+
+/// Why a store file is refused.
+#[derive(Clone, Copy)]
+enum Cause<'a> {
+    NotToml,
+    NotANumber(&'a [u8]),
+    UnknownGlobal(&'a [u8]),
+}
+
+/// Whether a refusal has this cause.
+fn is_of(error: &StoreError, cause: Cause<'_>) -> bool {
+    match (error, cause) {
+        (StoreError::NotToml, Cause::NotToml) => true,
+        (StoreError::NotANumber(key), Cause::NotANumber(wanted)) => key.as_slice() == wanted,
+        (StoreError::UnknownGlobal(key), Cause::UnknownGlobal(wanted)) => key.as_slice() == wanted,
+        _ => false,
+    }
+}
+
+/// Whether it is the image of two variables of one class.
+fn is_over(image: &Image) -> bool {
+    let code = [
+        Instr::Push(i64::MAX),
+        Instr::Store(1),
+        Instr::Load(1),
+        Instr::Push(1),
+        Instr::Add,
+        Instr::Store(0),
+        Instr::Halt,
+    ];
+    is_image(image, &[(b"x", b"L"), (b"y", b"L")], 2, code.as_slice())
+}
+
+/// A store file that is refused, and the text of its refusal.
+fn refuses_store(
+    alloc: Global,
+    trial: &mut Trial,
+    verified: &Verified,
+    row: (&[u8], Cause<'_>, &[u8]),
+) -> Result<(), Miss> {
+    let (declared, cause, told) = row;
+    let file = set_up(|| declared.to_vec(alloc))?;
+    let is_kept = || is_over(verified.image()) && file.as_slice() == declared;
+    let answer = trial.answer(Call::ReadStore, is_kept, || {
+        read_store(alloc, verified.image(), &file)
+    });
+    let Err(error) = answer else {
+        return Err(Miss(Call::ReadStore));
+    };
+    met(Call::ReadStore, is_of(&error, cause))?;
+    let fault = Fault::Store(error);
+    let is_kept = || matches!(&fault, Fault::Store(error) if is_of(error, cause));
+    let text = trial.value(Call::FaultText, is_kept, || fault_text(alloc, &fault))?;
+    met(Call::FaultText, text.as_slice() == told)
+}
+
+/// Store files with and without faults.
+pub(super) fn stores(alloc: Global, trial: &mut Trial) -> Result<(), Miss> {
+    let verified = compiled(alloc, OVER)?;
+    for (declared, wanted) in [(b"x = 5\n".as_slice(), [5, 0]), (b"", [0, 0])] {
+        let file = set_up(|| declared.to_vec(alloc))?;
+        let is_kept = || is_over(verified.image()) && file.as_slice() == declared;
+        let words = trial.value(Call::ReadStore, is_kept, || {
+            read_store(alloc, verified.image(), &file)
+        })?;
+        met(Call::ReadStore, words.as_slice() == wanted.as_slice())?;
+    }
+    let rows: [(&[u8], Cause, &[u8]); 4] = [
+        (
+            b"z = 1\n",
+            Cause::UnknownGlobal(b"z"),
+            b"refused: 42 UnknownGlobal z\n",
+        ),
+        (
+            b"x = \"a\"\n",
+            Cause::NotANumber(b"x"),
+            b"refused: 41 NotANumber x\n",
+        ),
+        (
+            b"z = \"a\"\n",
+            Cause::NotANumber(b"z"),
+            b"refused: 41 NotANumber z\n",
+        ),
+        (b"x =\n", Cause::NotToml, b"refused: 40 NotToml\n"),
+    ];
+    for row in rows {
+        refuses_store(alloc, trial, &verified, row)?;
+    }
+    Ok(())
+}

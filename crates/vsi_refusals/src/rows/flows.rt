@@ -1,0 +1,139 @@
+//! Texts that are refused for a flow, and one that is accepted beside them.
+
+use crate::judging::{explained, inferred};
+use crate::stages::{is_four, is_two, lattice_of, resolved};
+use crate::texts::{
+    APART, APART_REFUSAL, FOUR, JOIN, JOIN_LINES, LEAK, LEAK_LINES, LEAK_REFUSAL, LEAK_STEPS, TWO,
+};
+use crate::trial::{Call, Miss, Trial, met, set_up};
+use std::alloc::Global;
+use vsi::{CompileError, RunError, classes_text, compile, compile_in, refusal_text, run_source};
+use vsi_infer::{InferError, Walk};
+use vsi_lattice::{Class, read_lattice};
+use vsi_scope::Resolved;
+use vsi_types::Profile;
+
+/// Whether it is the walk that refuses the leak.
+fn is_leak(walk: &Walk) -> bool {
+    walk.steps.as_slice() == LEAK_STEPS.as_slice()
+}
+
+/// Whether the program over locations is that of the leak, as far as its declarations go.
+fn declares_leak(program: &Resolved<'_>) -> bool {
+    let has_globals = match program.globals() {
+        [h, l] => h.class == Class::at(1) && l.class == Class::at(0),
+        _ => false,
+    };
+    has_globals && matches!(program.letvars(), [t] if t.class.is_none())
+}
+
+/// The walk of the leak, and its text.
+pub(super) fn leak(alloc: Global, trial: &mut Trial) -> Result<(), Miss> {
+    let lattice = lattice_of(alloc, TWO)?;
+    let program = resolved(alloc, &lattice, LEAK)?;
+    let is_kept = || is_two(&lattice) && declares_leak(&program);
+    let strict = trial.answer(Call::InferIn, &is_kept, || {
+        inferred(alloc, Profile::Strict, &lattice, &program)
+    });
+    let is_refused = matches!(&strict, Err(InferError::Refused(walk)) if is_leak(walk));
+    met(Call::InferIn, is_refused)?;
+    let base = trial.answer(Call::Infer, &is_kept, || {
+        inferred(alloc, Profile::Base, &lattice, &program)
+    });
+    let Err(InferError::Refused(walk)) = base else {
+        return Err(Miss(Call::Infer));
+    };
+    met(Call::Infer, is_leak(&walk))?;
+    let is_kept = || is_kept() && is_leak(&walk);
+    let text = trial.value(Call::Explain, is_kept, || {
+        explained(alloc, LEAK, &lattice, &program, &walk)
+    })?;
+    met(
+        Call::Explain,
+        matches!(&text, Some(text) if text.as_slice() == LEAK_LINES),
+    )
+}
+
+/// The refusal of the leak by the calls that compile.
+pub(super) fn refused(alloc: Global, trial: &mut Trial) -> Result<(), Miss> {
+    let lattice = lattice_of(alloc, TWO)?;
+    let text = set_up(|| LEAK.to_vec(alloc))?;
+    let is_kept = || is_two(&lattice) && text.as_slice() == LEAK;
+    let ran = trial.answer(Call::RunSource, &is_kept, || {
+        run_source(alloc, &lattice, &text, &[0, 0], 9)
+    });
+    let is_refused = matches!(
+        &ran,
+        Err(RunError::Compile(CompileError::Flow(walk))) if is_leak(walk)
+    );
+    met(Call::RunSource, is_refused)?;
+    let lines = trial.answer(
+        Call::ClassesText,
+        &is_kept,
+        || classes_text(alloc, &lattice, &text),
+    );
+    let is_refused = matches!(&lines, Err(CompileError::Flow(walk)) if is_leak(walk));
+    met(Call::ClassesText, is_refused)?;
+    let strict = trial.answer(Call::CompileIn, &is_kept, || {
+        compile_in(alloc, Profile::Strict, &lattice, &text)
+    });
+    let is_refused = matches!(&strict, Err(CompileError::Flow(walk)) if is_leak(walk));
+    met(Call::CompileIn, is_refused)?;
+    let base = trial.answer(Call::Compile, &is_kept, || compile(alloc, &lattice, &text));
+    let Err(error) = base else {
+        return Err(Miss(Call::Compile));
+    };
+    let is_kept = || is_kept() && matches!(&error, CompileError::Flow(walk) if is_leak(walk));
+    met(Call::Compile, is_kept())?;
+    let told = trial.value(Call::RefusalText, is_kept, || {
+        refusal_text(alloc, &lattice, &text, &error)
+    })?;
+    met(Call::RefusalText, told.as_slice() == LEAK_REFUSAL)
+}
+
+/// The join of two classes, into a class above both and into one that isn't.
+pub(super) fn join(alloc: Global, trial: &mut Trial) -> Result<(), Miss> {
+    let file = set_up(|| FOUR.to_vec(alloc))?;
+    let is_kept = || file.as_slice() == FOUR;
+    let lattice = trial.value(Call::ReadLattice, is_kept, || read_lattice(alloc, &file))?;
+    met(Call::ReadLattice, is_four(&lattice))?;
+    let (text, apart) = (
+        set_up(|| JOIN.to_vec(alloc))?,
+        set_up(|| APART.to_vec(alloc))?,
+    );
+    let is_kept = || is_four(&lattice) && text.as_slice() == JOIN;
+    let verified = trial.value(Call::Compile, &is_kept, || compile(alloc, &lattice, &text))?;
+    met(Call::Compile, verified.image().globals.len() == 3)?;
+    let lines = trial.value(
+        Call::ClassesText,
+        &is_kept,
+        || classes_text(alloc, &lattice, &text),
+    )?;
+    met(Call::ClassesText, lines.as_slice() == JOIN_LINES)?;
+    let is_kept = || is_four(&lattice) && apart.as_slice() == APART;
+    let answer = trial.answer(Call::Compile, &is_kept, || compile(alloc, &lattice, &apart));
+    let Err(error) = answer else {
+        return Err(Miss(Call::Compile));
+    };
+    let told = trial.value(Call::RefusalText, &is_kept, || {
+        refusal_text(alloc, &lattice, &apart, &error)
+    })?;
+    met(Call::RefusalText, told.as_slice() == APART_REFUSAL)
+}
+
+/// The least class of a variable that two others flow into.
+pub(super) fn least(alloc: Global, trial: &mut Trial) -> Result<(), Miss> {
+    let lattice = lattice_of(alloc, FOUR)?;
+    let program = resolved(alloc, &lattice, JOIN)?;
+    let is_kept = || is_four(&lattice) && program.globals().len() == 3;
+    for (name, profile) in [
+        (Call::Infer, Profile::Base),
+        (Call::InferIn, Profile::Strict),
+    ] {
+        let choice = trial.value(name, &is_kept, || {
+            inferred(alloc, profile, &lattice, &program)
+        })?;
+        met(name, choice.as_slice() == [Class::at(3)].as_slice())?;
+    }
+    Ok(())
+}
