@@ -9,7 +9,7 @@ use Rattle.vsi_scope.specs.View.{phrase, command, sequence}
 use Rattle.vsi_scope.proofs.Views.{command_If, command_While, command_Letvar}
 use Rattle.vsi_code.specs.Layout.{code_at, Fits}
 
--- ---- one command more
+-- ---- one command more.
 
 -- The code of a sequence with one command more.
 code_push : (l : List Cmd) (d : Cmd) (pc k : ℕ) →
@@ -47,7 +47,7 @@ nesting_within [] i d lt = absurd (omega arith)
 nesting_within (c ∷ cs) zero d lt = omega arith
 nesting_within (c ∷ cs) (suc i) d lt = let r = nesting_within cs i d (omega arith) in omega (arith, r)
 
--- ---- what fits
+-- ---- what fits.
 
 -- Each command of a sequence fits behind those before it.
 pub fits_next : (cs : List Cmd) (i pc k : ℕ) (c : Cmd) → i < length cs → c ≡ get_or cs i c →

@@ -8,7 +8,7 @@ use Rattle.vsi_scope.specs.Phrase.{Phrase, Command, Choose, Repeat, Allocate, ph
 use Rattle.vsi_code.specs.Layout.{phrase_code, choice_code, loop_code, code_at}
 use Rattle.vsi_code.proofs.Placed.{phrase_long, command_long}
 
--- ---- the lengths of what was emitted
+-- ---- the lengths of what was emitted.
 
 -- Code behind a guard and one instruction.
 pub guard_long : (old c1 : List Instr) (e : Phrase) (i : Instr) →
@@ -30,7 +30,7 @@ one_long old c1 i h = ap length h ∙ omega (arith, length-append old (i ∷ [])
 pub set_long : (old c1 : List Instr) (n : ℕ) (i : Instr) → c1 ≡ slice_set old n i → length c1 ≡ length old
 set_long old c1 n i h = ap length h ∙ length-set old n i
 
--- ---- what was emitted and written again
+-- ---- what was emitted and written again.
 
 -- Two parts, of which the instruction before the first one and that between them were written again.
 two_patched : (old g a b c1 c2 c3 c4 c5 c6 : List Instr) (x y i j : Instr) (t u : ℕ) →

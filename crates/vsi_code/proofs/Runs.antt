@@ -38,7 +38,7 @@ op_acts Eq pc a b s m = refl
 op_acts Lt pc a b s m = refl
 
 module _ (code : List Instr) where
-  -- ---- expressions
+  -- ---- expressions.
 
   -- An expression's code puts its value on top.
   phrase_leads : (e : Phrase) (pc : ℕ) (s : List ℤ) (m rest : List ℤ) →
@@ -88,7 +88,7 @@ module _ (code : List Instr) where
       let written = going (pc + 1) [] (slice_set M l v) in
       step code pc (v ∷ []) M (Store l) _ e (ap (λ b. if b then Some written else None) (lt-ltb l (length M) within))
 
-  -- ---- commands
+  -- ---- commands.
 
   module _ (e : Phrase) (pc t : ℕ) (m rest : List ℤ) where
     -- A guard that is false leads to the test's target.

@@ -13,7 +13,7 @@ use Rattle.vsi_store.specs.declared.views.ViewError.TheVariants as views
 use Rattle.vsi_faults.specs.Line.{Field, nothing, number, word, numbered, Line}
 use Rattle.vsi_faults.specs.Source.{line}
 
--- of bytes that are no image
+-- Of bytes that are no image.
 abbrev pub decode_line : DecodeError → Option Line
 decode_line decoder.Memory = None
 decode_line decoder.BadMagic = line 27 (codes "BadMagic") nothing
@@ -23,7 +23,7 @@ decode_line (decoder.BadOpcode at) = line 30 (codes "BadOpcode") (number at)
 decode_line (decoder.Truncated at) = line 31 (codes "Truncated") (number at)
 decode_line (decoder.Trailing at) = line 32 (codes "Trailing") (number at)
 
--- what of an image has no bytes
+-- What of an image has no bytes.
 abbrev pub limit_field : Limit → Field
 limit_field limits.Globals = word (codes "Globals")
 limit_field limits.Slots = word (codes "Slots")
@@ -32,11 +32,11 @@ limit_field limits.Count = word (codes "Count")
 limit_field (limits.Name i) = numbered (codes "Name") i
 limit_field (limits.Class i) = numbered (codes "Class") i
 
--- a line of an image that isn't valid
+-- A line of an image that isn't valid.
 abbrev pub fault : ℕ → List ℕ → Field → Line
 fault refusal name field = record { refusal = refusal; name = name; field = field }
 
--- of an image that isn't valid
+-- Of an image that isn't valid.
 abbrev pub verify_line : VerifyError → Line
 verify_line (verifier.Unencodable limit) = fault 26 (codes "Unencodable") (limit_field limit)
 verify_line (verifier.BadSlot pc) = fault 33 (codes "BadSlot") (number pc)
@@ -46,14 +46,14 @@ verify_line (verifier.Overflow pc) = fault 36 (codes "Overflow") (number pc)
 verify_line (verifier.NotEmpty pc) = fault 37 (codes "NotEmpty") (number pc)
 verify_line verifier.RunsOff = fault 38 (codes "RunsOff") nothing
 
--- of a refused store file
+-- Of a refused store file.
 abbrev pub store_line : StoreError → Option Line
 store_line store.Memory = None
 store_line store.NotToml = line 40 (codes "NotToml") nothing
 store_line (store.NotANumber key) = line 41 (codes "NotANumber") (word key.items)
 store_line (store.UnknownGlobal key) = line 42 (codes "UnknownGlobal") (word key.items)
 
--- of a refused view
+-- Of a refused view.
 abbrev pub view_line : ViewError → Option Line
 view_line views.Memory = None
 view_line (views.WrongStore n) = line 39 (codes "WrongStore") (number n)

@@ -5,11 +5,11 @@ use Rattle.vsi_lattice.specs.declared.fault.LatticeError.TheVariants as lattice
 use Rattle.vsi_faults.specs.Line.{nothing, number, pair, Line}
 use Rattle.vsi_faults.specs.Source.{line}
 
--- of a fault at two classes
+-- Of a fault at two classes.
 abbrev pub classes_line : ℕ → List ℕ → ℕ → ℕ → Line
 classes_line refusal name a b = record { refusal = refusal; name = name; field = pair a b }
 
--- of a fault of a lattice file
+-- Of a fault of a lattice file.
 abbrev pub lattice_line : LatticeError → Option Line
 lattice_line lattice.Memory = None
 lattice_line lattice.NotToml = line 1 (codes "NotToml") nothing

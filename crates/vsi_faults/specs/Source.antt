@@ -9,15 +9,15 @@ use Rattle.vsi_scope.specs.declared.resolution.ScopeError.{ScopeError}
 use Rattle.vsi_scope.specs.declared.resolution.ScopeError.TheVariants as scope
 use Rattle.vsi_faults.specs.Line.{Field, nothing, place, Line}
 
--- the line and the column of a place of the text
+-- The line and the column of a place of the text.
 abbrev pub place_in : List ℕ → ℕ → Field
 place_in text at = place (1 + breaks (take at text)) (1 + length (last_line (take at text)))
 
--- a line of this number, name and field
+-- A line of this number, name and field.
 abbrev pub line : ℕ → List ℕ → Field → Option Line
 line refusal name field = Some (record { refusal = refusal; name = name; field = field })
 
--- of a fault of the words
+-- Of a fault of the words.
 abbrev pub lexical_line : List ℕ → LexError → Option Line
 lexical_line text lexer.Memory = None
 lexical_line text lexer.TooLong = line 11 (codes "TooLong") nothing
@@ -25,13 +25,13 @@ lexical_line text (lexer.BadByte at) = line 12 (codes "BadByte") (place_in text 
 lexical_line text (lexer.BadWord span) = line 13 (codes "BadWord") (place_in text span.start)
 lexical_line text (lexer.BadNumber span) = line 14 (codes "BadNumber") (place_in text span.start)
 
--- of a fault of the tree
+-- Of a fault of the tree.
 abbrev pub syntactic_line : List ℕ → ParseError → Option Line
 syntactic_line text parser.Memory = None
 syntactic_line text (parser.Unexpected span) = line 15 (codes "Unexpected") (place_in text span.start)
 syntactic_line text (parser.TooDeep span) = line 16 (codes "TooDeep") (place_in text span.start)
 
--- of a fault of the scopes
+-- Of a fault of the scopes.
 abbrev pub scoping_line : List ℕ → ScopeError → Option Line
 scoping_line text scope.Memory = None
 scoping_line text (scope.Duplicate span) = line 17 (codes "Duplicate") (place_in text span.start)

@@ -4,7 +4,7 @@ use Rattle.vsi_faults.specs.declared.line.Field.TheVariants as f
 use Rattle.vsi_faults.specs.declared.line.Line.{Line}
 use Rattle.vsi_faults.specs.Line as spec
 
--- a field
+-- A field.
 abbrev pub field_of : Field → spec.Field
 field_of f.Nothing = spec.nothing
 field_of (f.Number n) = spec.number n
@@ -13,6 +13,6 @@ field_of (f.Place line column) = spec.place line column
 field_of (f.Word w) = spec.word w.now
 field_of (f.Numbered w n) = spec.numbered w.now n
 
--- a line
+-- A line.
 abbrev pub line_of : Line → spec.Line
 line_of l = record { refusal = l.refusal; name = l.name.now; field = field_of l.field }

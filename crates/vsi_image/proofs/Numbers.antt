@@ -112,7 +112,7 @@ wide64 = record {
   below = λ bytes fits. omega (arith, fits 0, fits 1, fits 2, fits 3, fits 4, fits 5, fits 6, fits 7);
 }
 
--- ---- found
+-- ---- found.
 
 -- A text that is read stands at the front.
 pub text_found :
@@ -150,7 +150,7 @@ pub byte_found :
 byte_found whole [] fits = tt
 byte_found whole (b ∷ bytes) fits = (refl, λ i. fits (suc i))
 
--- ---- again
+-- ---- again.
 
 -- A text at the front is read.
 pub text_again : (whole : ℕ) (text rest : List ℕ) → text_at (length text) whole (text ++ rest) ≡ Ok (text, rest)

@@ -7,38 +7,38 @@ use Rattle.std.proofs.lemmas.List.Elements.{Contains-append_left, Contains-appen
 use Rattle.vsi_lattice.specs.Pairs.{Leq, stays, climbs, ArePairsBelow}
 use Rattle.vsi_lattice.specs.Rows.{IsClosureOf, IsTransposed}
 
--- chains join
+-- Chains join.
 pub Leq-trans : {pairs : List (ℕ × ℕ)} {a b c : ℕ} → Leq pairs a b → Leq pairs b c → Leq pairs a c
 Leq-trans (stays a) q = q
 Leq-trans (climbs a b c h p) q = climbs _ _ _ h (Leq-trans p q)
 
--- a chain stays where pairs are added
+-- A chain stays where pairs are added.
 pub Leq-more : {pairs : List (ℕ × ℕ)} {a b : ℕ} (more : List (ℕ × ℕ)) → Leq pairs a b → Leq (pairs ++ more) a b
 Leq-more more (stays a) = stays a
 Leq-more {pairs} more (climbs a b c h p) = climbs _ _ _ (Contains-append_left pairs more (a, b) h) (Leq-more more p)
 
--- one of the two is true
+-- One of the two is true.
 or_cases : (x y z : Bool) → (x || (y && z)) ≡ true → (x ≡ true) ⊎ ((y ≡ true) × (z ≡ true))
 or_cases true y z h = inl refl
 or_cases false true true h = inr (refl, refl)
 or_cases false true false h = absurd (true≢false (sym h))
 or_cases false false z h = absurd (true≢false (sym h))
 
--- the first is enough
+-- The first is enough.
 or_left : (x y : Bool) → x ≡ true → (x || y) ≡ true
 or_left x y h = ap (λ b. b || y) h
 
--- so are the second and the third
+-- So are the second and the third.
 or_right : (x y z : Bool) → y ≡ true → z ≡ true → (x || (y && z)) ≡ true
 or_right true y z p q = refl
 or_right false y z p q = ap (λ b. b && z) p ∙ q
 
--- a list of one has that one
+-- A list of one has that one.
 only : (p q : ℕ × ℕ) → Contains (p ∷ []) q → p ≡ q
 only p q (zero, lt, e) = e
 only p q (suc k, lt, e) = absurd (omega (arith, lt))
 
--- the order with one more pair
+-- The order with one more pair.
 pub add_step : (count : ℕ) (pairs : List (ℕ × ℕ)) (has has' : ℕ → ℕ → Bool) (low high : ℕ) → low < count →
     high < count
     → ((a b : ℕ) → has' a b ≡ (has a b || (has a low && has high b))) → IsClosureOf count pairs has →
@@ -78,7 +78,7 @@ add_step count pairs has has' low high hl hh e w =
       ];
     }
 
--- with no pair each class is below itself alone
+-- With no pair each class is below itself alone.
 pub no_pairs : (count : ℕ) (has : ℕ → ℕ → Bool) → ((a b : ℕ) → has a b ≡ (nat_lt a count && (a == b))) →
     IsClosureOf count [] has
 no_pairs count has e =
@@ -93,20 +93,20 @@ no_pairs count has e =
       holds = λ a b h. absurd (omega (arith, h.1));
     }
 
--- a chain of pairs is in the test
+-- A chain of pairs is in the test.
 pub complete : {count : ℕ} {pairs : List (ℕ × ℕ)} {has : ℕ → ℕ → Bool} {a b : ℕ} → IsClosureOf count pairs has →
     a < count → Leq pairs a b → has a b ≡ true
 complete w lt (stays a) = w.reflexive a lt
 complete w lt (climbs a b c h p) = w.transitive a b c (w.holds a b h) (complete w (w.within a b (w.holds a b h)).1 p)
 
--- both, in either order
+-- Both, in either order.
 swap_and : (x y : Bool) → (x && y) ≡ (y && x)
 swap_and true true = refl
 swap_and true false = refl
 swap_and false true = refl
 swap_and false false = refl
 
--- one more pair in both directions
+-- One more pair in both directions.
 pub transposed_step : (up up' down down' : ℕ → ℕ → Bool) (low high : ℕ)
     → ((a b : ℕ) → up' a b ≡ (up a b || (up a low && up high b))) →
     ((a b : ℕ) → down' a b ≡ (down a b || (down a high && down low b)))
@@ -116,7 +116,7 @@ transposed_step up up' down down' low high e f t a b =
     ∙ ap (λ x. up a b || (up high b && x)) (t a low)
     ∙ ap (λ x. up a b || x) (swap_and (up high b) (up a low)) ∙ sym (e a b)
 
--- below itself alone reads the same from both sides
+-- Below itself alone reads the same from both sides.
 own_transposed : (count a b : ℕ) → (nat_lt b count && (b == a)) ≡ (nat_lt a count && (a == b))
 own_transposed count a b = elim (cases_eq a b) [
   | inl e ↦ subst (λ x. (nat_lt x count && (x == a)) ≡ (nat_lt a count && (a == x))) e refl
@@ -124,13 +124,13 @@ own_transposed count a b = elim (cases_eq a b) [
       ∙ sym (and_right (nat_lt a count) (a == b) (ne_eqb a b n))
 ]
 
--- with no pair the two directions agree
+-- With no pair the two directions agree.
 pub no_pairs_transposed : (count : ℕ) (up down : ℕ → ℕ → Bool) →
     ((a b : ℕ) → up a b ≡ (nat_lt a count && (a == b))) → ((a b : ℕ) → down a b ≡ (nat_lt a count && (a == b))) →
     IsTransposed up down
 no_pairs_transposed count up down e f a b = f b a ∙ own_transposed count a b ∙ sym (e a b)
 
--- one more pair of a list
+-- One more pair of a list.
 pub pair_turn : (count : ℕ) (pairs : List (ℕ × ℕ)) (i : ℕ) (has has' : ℕ → ℕ → Bool) → i < length pairs →
     ArePairsBelow count pairs
     → ((a b : ℕ) → has' a b ≡ (has a b || (has a (get_or pairs i (0, 0)).0 && has (get_or pairs i (0, 0)).1 b))) →

@@ -9,12 +9,12 @@ use Rattle.vsi_lattice.specs.Refusals.{IsAcyclic}
 use Rattle.vsi_lattice.proofs.ClosureLemmas.{complete}
 use Rattle.vsi_lattice.proofs.JoinLemmas.{common_is_join, join_is_common}
 
--- a closure is a preorder
+-- A closure is a preorder.
 pub closure_preorder : {count : ℕ} {pairs : List (ℕ × ℕ)} {has : ℕ → ℕ → Bool} → IsClosureOf count pairs has →
     IsPreorder count has
 closure_preorder w = record { within = w.within; reflexive = w.reflexive; transitive = w.transitive }
 
--- so is the same from the other side
+-- So is the same from the other side.
 pub dual_preorder : {count : ℕ} {up down : ℕ → ℕ → Bool} → IsTransposed up down → IsPreorder count up →
     IsPreorder count down
 dual_preorder t w = record {
@@ -23,7 +23,7 @@ dual_preorder t w = record {
   transitive = λ a b c h k. t c a ∙ w.transitive c b a (sym (t c b) ∙ k) (sym (t b a) ∙ h);
 }
 
--- a join along an equivalent relation
+-- A join along an equivalent relation.
 pub join_along : {count : ℕ} {R S : ℕ → ℕ → Type 0} {a b c : ℕ} → ((x y : ℕ) → x < count → y < count → R x y →
     S x y) → ((x y : ℕ) → x < count → y < count → S x y → R x y)
     → a < count → b < count → IsJoin count R a b c → IsJoin count S a b c
@@ -34,7 +34,7 @@ join_along f g ha hb j = record {
   least = λ d hd p q. f _ _ j.within hd (j.least d hd (g _ _ ha hd p) (g _ _ hb hd q));
 }
 
--- a first pair along an equivalent fault
+-- A first pair along an equivalent fault.
 pub first_along : {count : ℕ} {F G : ℕ → ℕ → Type 0} {a b : ℕ} → ((x y : ℕ) → x < count → y < count → F x y →
     G x y) → ((x y : ℕ) → x < count → y < count → G x y → F x y)
     → IsFirstPair count F a b → IsFirstPair count G a b
@@ -46,14 +46,14 @@ first_along f g w = record {
   before = λ y hy h. w.before y hy (g _ y w.a_within (omega (arith, hy, w.b_within)) h);
 }
 
--- rows that hold a relation on the classes
+-- Rows that hold a relation on the classes.
 pub record Hold (count : ℕ) (rows : List ℕ) (R : ℕ → ℕ → Type 0) : Type 0 where
   pub len : length rows ≡ count
   pub preorder : IsPreorder count (row_has rows)
   pub to : (x y : ℕ) → x < count → y < count → row_has rows x y ≡ true → R x y
   pub from : (x y : ℕ) → x < count → y < count → R x y → row_has rows x y ≡ true
 
--- a common row gives a join
+-- A common row gives a join.
 pub join_from : {count : ℕ} {rows : List ℕ} {R : ℕ → ℕ → Type 0} {a b : ℕ} → Hold count rows R → a < count →
     b < count → HasCommon rows a b → HasJoin count R a b
 join_from {count} {rows} {R} {a} {b} w ha hb h = (
@@ -62,7 +62,7 @@ join_from {count} {rows} {R} {a} {b} w ha hb h = (
       (subst (λ n. h.0 < n) w.len h.1) h.2),
 )
 
--- and the other way round
+-- And the other way round.
 pub from_join : {count : ℕ} {rows : List ℕ} {R : ℕ → ℕ → Type 0} {a b : ℕ} → Hold count rows R → a < count →
     b < count → HasJoin count R a b → HasCommon rows a b
 from_join {count} {rows} {R} {a} {b} w ha hb h = (
@@ -72,7 +72,7 @@ from_join {count} {rows} {R} {a} {b} w ha hb h = (
       (join_along w.from w.to ha hb h.1),
 )
 
--- the first two without a common row are the first without a join
+-- The first two without a common row are the first without a join.
 pub first_no_join : {count : ℕ} {rows : List ℕ} {R : ℕ → ℕ → Type 0} {a b : ℕ} → Hold count rows R →
     IsFirstPair (length rows) (LacksCommon rows) a b → IsFirstPair count (λ x y. ¬ (HasJoin count R x y)) a b
 first_no_join {count} {rows} {R} {a} {b} w p =
@@ -80,7 +80,7 @@ first_no_join {count} {rows} {R} {a} {b} w p =
     none h.0 h.1 h.2) (λ x y hx hy none c lt e. none (join_from w hx hy (c, lt, e)))
     (subst (λ n. IsFirstPair n (LacksCommon rows) a b) w.len p)
 
--- where all have common rows, all have joins
+-- Where all have common rows, all have joins.
 pub all_joins : {count : ℕ} {rows : List ℕ} {R : ℕ → ℕ → Type 0} → Hold count rows R →
     ((a b : ℕ) → a < length rows → b < length rows → HasCommon rows a b) → (a b : ℕ) → a < count → b < count →
     HasJoin count R a b
@@ -89,7 +89,7 @@ all_joins w h a b ha hb =
 
 module _ (count : ℕ) (pairs : List (ℕ × ℕ)) (up down : List ℕ) (w : IsClosureOf count pairs (row_has up))
     (t : IsTransposed (row_has up) (row_has down)) (eu : length up ≡ count) (ed : length down ≡ count) where
-  -- the rows hold the declared order
+  -- The rows hold the declared order.
   pub up_holds : Hold count up (Leq pairs)
   up_holds = record {
     len = eu;
@@ -99,7 +99,7 @@ module _ (count : ℕ) (pairs : List (ℕ × ℕ)) (up down : List ℕ) (w : IsC
         λ x y hx _ h. complete w hx h;
   }
 
-  -- the rows from the other side hold it from the other side
+  -- The rows from the other side hold it from the other side.
   pub down_holds : Hold count down (λ x y. Leq pairs y x)
   down_holds = record {
     len = ed;
@@ -108,32 +108,32 @@ module _ (count : ℕ) (pairs : List (ℕ × ℕ)) (up down : List ℕ) (w : IsC
     from = λ x y _ hy h. t y x ∙ complete w hy h;
   }
 
-  -- tied classes are a cycle
+  -- Tied classes are a cycle.
   cycle_from : (a b : ℕ) → AreTied up down a b → IsCycle count (Leq pairs) a b
   cycle_from a b h = (h.0, w.sound a b h.1, w.sound b a (sym (t b a) ∙ h.2))
 
-  -- and the other way round
+  -- And the other way round.
   from_cycle : (a b : ℕ) → a < count → b < count → IsCycle count (Leq pairs) a b → AreTied up down a b
   from_cycle a b ha hb h = (h.0, complete w ha h.1, t b a ∙ complete w hb h.2)
 
-  -- the first tied classes are the first cycle
+  -- The first tied classes are the first cycle.
   pub first_cycle : (a b : ℕ) → IsFirstPair (length up) (AreTied up down) a b →
       IsFirstPair count (IsCycle count (Leq pairs)) a b
   first_cycle a b p = first_along (λ x y hx hy h. cycle_from x y h) (λ x y hx hy h. from_cycle x y hx hy h)
       (subst (λ n. IsFirstPair n (AreTied up down) a b) eu p)
 
-  -- with no tied classes there is no cycle
+  -- With no tied classes there is no cycle.
   pub acyclic : ((a b : ℕ) → a < length up → b < length up → ¬ (AreTied up down a b)) → IsAcyclic count pairs
   acyclic h a b ha hb c = h a b (subst (λ n. a < n) (sym eu) ha) (subst (λ n. b < n) (sym eu) hb)
       (from_cycle a b ha hb c)
 
-  -- the first two without a common row downwards are the first without a meet
+  -- The first two without a common row downwards are the first without a meet.
   pub no_meet : (a b : ℕ) → IsFirstPair (length down) (LacksCommon down) a b →
       IsFirstPair count (λ x y. ¬ (HasMeet count (Leq pairs) x y)) a b
   no_meet a b p = first_along {F = λ x y. ¬ (HasJoin count (λ x y. Leq pairs y x) x y)}
       (λ x y _ _ none j. none (join_of_meet j)) (λ x y _ _ none j. none (meet_of_join j)) (first_no_join down_holds p)
 
-  -- the pairs make a lattice
+  -- The pairs make a lattice.
   pub is_lattice : ((a b : ℕ) → a < length up → b < length up → ¬ (AreTied up down a b)) →
       ((a b : ℕ) → a < length up → b < length up → HasCommon up a b) →
       ((a b : ℕ) → a < length down → b < length down → HasCommon down a b) → MakesLattice count (Leq pairs)
@@ -144,7 +144,7 @@ module _ (count : ℕ) (pairs : List (ℕ × ℕ)) (up down : List ℕ) (w : IsC
         λ a b ha hb. meet_of_join (all_joins down_holds h a b ha hb);
   }
 
-  -- the rows are the declared order
+  -- The rows are the declared order.
   pub is_declared : (bottom top : ℕ) → IsDeclared count pairs (row_lattice up bottom top)
   is_declared bottom top = record {
     count_is = eu;
@@ -153,7 +153,7 @@ module _ (count : ℕ) (pairs : List (ℕ × ℕ)) (up down : List ℕ) (w : IsC
         λ a b ha _ h. complete w ha h;
   }
 
-  -- the classes keep the order that the pairs declare upwards and downwards
+  -- The classes keep the order that the pairs declare upwards and downwards.
   pub mask_order : 0 < count → count ≤ 64 → AllHaveCommon up → AllHaveCommon down → IsMaskOrder up down
   mask_order pos small joins meets =
       let e : length down ≡ length up = ed ∙ sym eu in
@@ -168,7 +168,7 @@ module _ (count : ℕ) (pairs : List (ℕ × ℕ)) (up down : List ℕ) (w : IsC
             let h = meets a b (subst (λ n. a < n) (sym e) ha) (subst (λ n. b < n) (sym e) hb) in none h.0 h.1 h.2;
       }
 
-  -- and it is lawful
+  -- And it is lawful.
   pub mask_lawful : {bottom top : ℕ} → ((a b : ℕ) → a < length up → b < length up → ¬ (AreTied up down a b))
       → AllHaveCommon up → AllHaveCommon down → bottom < length down
       → ((a : ℕ) → a < length down → row_has down a bottom ≡ true) → top < length up
@@ -209,7 +209,7 @@ module _ (count : ℕ) (pairs : List (ℕ × ℕ)) (up down : List ℕ) (w : IsC
       }
 
 module _ (above below : List ℕ) (w : IsMaskOrder above below) where
-  -- what the code finds is the join
+  -- What the code finds is the join.
   pub mask_join : (now : List ℕ) (a b a' b' c r : ℕ) → now ≡ above → a' ≡ a → b' ≡ b → r ≡ c → c < length now →
       IsCommon now a' b' c → IsJoin (length above) (Says (row_has above)) a b r
   mask_join now a b a' b' c r en ea eb er lt h =
@@ -220,7 +220,7 @@ module _ (above below : List ℕ) (w : IsMaskOrder above below) where
       subst (λ x. IsJoin (length above) (Says (row_has above)) a b x) (sym er)
       (common_is_join (length above) above a b c w.preorder lt' h')
 
-  -- and what it finds downwards is the meet
+  -- And what it finds downwards is the meet.
   pub mask_meet : (now : List ℕ) (a b a' b' c r : ℕ) → now ≡ below → a' ≡ a → b' ≡ b → r ≡ c → c < length now →
       IsCommon now a' b' c → IsMeet (length above) (Says (row_has above)) a b r
   mask_meet now a b a' b' c r en ea eb er lt h =
@@ -236,6 +236,6 @@ module _ (above below : List ℕ) (w : IsMaskOrder above below) where
         greatest = λ d hd p q. sym (w.dual d c) ∙ j.least d hd (w.dual d a ∙ p) (w.dual d b ∙ q);
       })
 
--- a fact of two classes, at the classes of those numbers
+-- A fact of two classes, at the classes of those numbers.
 pub at_pair : (P : ℕ → ℕ → Type 0) {a b a' b' : ℕ} → a' ≡ a → b' ≡ b → P a b → P a' b'
 at_pair P {a} {b} {a'} {b'} e f h = subst (λ x. P x b') (sym e) (subst (λ y. P a y) (sym f) h)

@@ -5,14 +5,14 @@ use Rattle.vsi_lattice.specs.Rows.{row_lattice}
 use Rattle.vsi_lattice.specs.Names.{owned, place_in}
 use Rattle.vsi_lattice.specs.declared.lattice.Lattice.{Lattice}
 
--- the names of the classes, in order
+-- The names of the classes, in order.
 abbrev pub names : Lattice → List (List ℕ)
 names l = owned l.names.keys
 
--- the order of the classes
+-- The order of the classes.
 abbrev pub order : Lattice → Order
 order l = row_lattice l.order.above.items l.order.bottom l.order.top
 
--- the class of a name
+-- The class of a name.
 abbrev pub class_named : Lattice → List ℕ → Option ℕ
 class_named l name = place_in (names l) name

@@ -4,52 +4,52 @@ use Rattle.std.specs.Borrow.{Bor}
 use Rattle.std.specs.declared.alloc.Global.{Global}
 use Rattle.vsi_syntax.specs.Words.{is_name}
 
--- the texts that references show
+-- The texts that references show.
 abbrev pub texts : List (Bor (List ℕ)) → List (List ℕ)
 texts rs = map (λ r. r.now) rs
 
--- the pairs of texts that pairs of references show
+-- The pairs of texts that pairs of references show.
 abbrev pub text_pairs : List (Bor (List ℕ) × Bor (List ℕ)) → List (List ℕ × List ℕ)
 text_pairs rs = map (λ p. (p.0.now, p.1.now)) rs
 
--- the bytes of owned texts
+-- The bytes of owned texts.
 abbrev pub owned : List (String Global) → List (List ℕ)
 owned names = map string_bytes names
 
--- the first place of a name
+-- The first place of a name.
 abbrev pub place_in : List (List ℕ) → List ℕ → Option ℕ
 place_in [] x = None
 place_in (y ∷ ys) x = if bytes_eq y x then Some 0 else option_map suc (place_in ys x)
 
--- it is so at i, and nowhere before
+-- It is so at i, and nowhere before.
 pub record IsLeast (P : ℕ → Type 0) (i : ℕ) : Type 0 where
   pub holds : P i
   pub before : (k : ℕ) → k < i → ¬ (P k)
 
--- it is so nowhere
+-- It is so nowhere.
 abbrev pub Never : (ℕ → Type 0) → Type 0
 Never P = (i : ℕ) → ¬ (P i)
 
--- what stands at i is no name
+-- What stands at i is no name.
 abbrev pub IsBadName : List (List ℕ) → ℕ → Type 0
 IsBadName names i = (i < length names) × IsFalse (is_name (get_or names i []))
 
--- the name stands in the list
+-- The name stands in the list.
 abbrev pub StandsIn : List (List ℕ) → List ℕ → Type 0
 StandsIn names x = (j : ℕ) × (j < length names) × (get_or names j [] ≡ x)
 
--- the name at i stands earlier
+-- The name at i stands earlier.
 abbrev pub StandsEarlier : List (List ℕ) → ℕ → Type 0
 StandsEarlier names i = (j : ℕ) × (j < i) × (i < length names) × (get_or names j [] ≡ get_or names i [])
 
--- one of the two names has no place
+-- One of the two names has no place.
 abbrev pub IsUnknown : List (List ℕ) → List ℕ × List ℕ → Type 0
 IsUnknown names p = (place_in names p.0 ≡ None) ⊎ (place_in names p.1 ≡ None)
 
--- so is the pair at i
+-- So is the pair at i.
 abbrev pub IsUnknownAt : List (List ℕ) → List (List ℕ × List ℕ) → ℕ → Type 0
 IsUnknownAt names pairs i = (i < length pairs) × IsUnknown names (get_or pairs i ([], []))
 
--- the places of the two names, or the count where one has none
+-- The places of the two names, or the count where one has none.
 abbrev pub number_of : List (List ℕ) → List ℕ × List ℕ → ℕ × ℕ
 number_of names p = (unwrap_or (place_in names p.0) (length names), unwrap_or (place_in names p.1) (length names))

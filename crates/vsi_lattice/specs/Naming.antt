@@ -2,7 +2,7 @@
 use Rattle.std.specs.Prelude.{◌≡◌, ℕ, ◌<◌, ◌≤◌, List, length}
 use Rattle.vsi_lattice.specs.Names.{Never, IsBadName, StandsEarlier}
 
--- one name for each of 1 to 64 classes, all distinct
+-- One name for each of 1 to 64 classes, all distinct.
 pub record AreNames (names : List (List ℕ)) (count : ℕ) : Type 0 where
   pub one_each : length names ≡ count
   pub some : 0 < count

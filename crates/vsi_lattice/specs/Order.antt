@@ -2,44 +2,44 @@
 use Rattle.std.specs.Prelude.{◌≡◌, ℕ, ◌<◌, Bool, IsTrue}
 
 module _ (count : ℕ) (R : ℕ → ℕ → Type 0) where
-  -- c is above both a and b, and below every class above both
+  -- The class c is above both a and b, and below every class above both.
   pub record IsJoin (a b c : ℕ) : Type 0 where
     pub within : c < count
     pub left : R a c
     pub right : R b c
     pub least : (d : ℕ) → d < count → R a d → R b d → R c d
 
-  -- c is below both a and b, and above every class below both
+  -- The class c is below both a and b, and above every class below both.
   pub record IsMeet (a b c : ℕ) : Type 0 where
     pub within : c < count
     pub left : R c a
     pub right : R c b
     pub greatest : (d : ℕ) → d < count → R d a → R d b → R d c
 
-  -- two classes have a join
+  -- Two classes have a join.
   abbrev pub HasJoin : ℕ → ℕ → Type 0
   HasJoin a b = (c : ℕ) × IsJoin a b c
 
-  -- two classes have a meet
+  -- Two classes have a meet.
   abbrev pub HasMeet : ℕ → ℕ → Type 0
   HasMeet a b = (c : ℕ) × IsMeet a b c
 
--- how many classes there are, which are at or below which, the least one and the greatest
+-- How many classes there are, which are at or below which, the least one and the greatest.
 pub record Lattice : Type 0 where
   pub count : ℕ
   pub leq : ℕ → ℕ → Bool
   pub bottom : ℕ
   pub top : ℕ
 
--- a class of the lattice
+-- A class of the lattice.
 abbrev pub IsClass : Lattice → ℕ → Type 0
 IsClass L a = a < L.count
 
--- a is at or below b
+-- A is at or below b.
 abbrev pub Below : Lattice → ℕ → ℕ → Type 0
 Below L a b = IsTrue (L.leq a b)
 
--- a partial order in which every two classes have a join and a meet, with a least class and a greatest
+-- A partial order in which every two classes have a join and a meet, with a least class and a greatest.
 pub record IsLattice (L : Lattice) : Type 0 where
   pub reflexive : (a : ℕ) → IsClass L a → Below L a a
   pub antisymmetric : (a b : ℕ) → IsClass L a → IsClass L b → Below L a b → Below L b a → a ≡ b

@@ -2,31 +2,31 @@
 use Rattle.std.specs.Prelude.{◌≡◌, ℕ, ◌<◌, Bool, IsTrue, List, Contains, All}
 use Rattle.vsi_lattice.specs.Order.{Lattice, HasJoin, HasMeet, Below}
 
--- a chain of declared pairs leads from one class to another; the empty chain counts
+-- A chain of declared pairs leads from one class to another; the empty chain counts.
 pub data Leq (pairs : List (ℕ × ℕ)) : ℕ → ℕ → Type 0 where
   stays : (a : ℕ) → Leq pairs a a
   climbs : (a b c : ℕ) → Contains pairs (a, b) → Leq pairs b c → Leq pairs a c
 
--- each pair names classes below the count
+-- Each pair names classes below the count.
 abbrev pub ArePairsBelow : ℕ → List (ℕ × ℕ) → Type 0
 ArePairsBelow count pairs = All (λ p. (p.0 < count) × (p.1 < count)) pairs
 
--- the test as a relation
+-- The test as a relation.
 abbrev pub Says : (ℕ → ℕ → Bool) → ℕ → ℕ → Type 0
 Says leq a b = IsTrue (leq a b)
 
 module _ (count : ℕ) (R : ℕ → ℕ → Type 0) where
-  -- a and b are two classes, each below the other
+  -- A and b are two classes, each below the other.
   abbrev pub IsCycle : ℕ → ℕ → Type 0
   IsCycle a b = (a ≡ b → ⊥) × R a b × R b a
 
-  -- no two classes are below each other, and every two have a join and a meet
+  -- No two classes are below each other, and every two have a join and a meet.
   pub record MakesLattice : Type 0 where
     pub acyclic : (a b : ℕ) → a < count → b < count → ¬ (IsCycle a b)
     pub joins : (a b : ℕ) → a < count → b < count → HasJoin count R a b
     pub meets : (a b : ℕ) → a < count → b < count → HasMeet count R a b
 
-  -- the first pair in dictionary order of which the fault holds
+  -- The first pair in dictionary order of which the fault holds.
   pub record IsFirstPair (a b : ℕ) : Type 0 where
     pub a_within : a < count
     pub b_within : b < count
@@ -34,7 +34,7 @@ module _ (count : ℕ) (R : ℕ → ℕ → Type 0) where
     pub earlier : (x y : ℕ) → x < a → y < count → ¬ (R x y)
     pub before : (y : ℕ) → y < b → ¬ (R a y)
 
--- the lattice has that many classes, and its order is the one that the pairs declare
+-- The lattice has that many classes, and its order is the one that the pairs declare.
 pub record IsDeclared (count : ℕ) (pairs : List (ℕ × ℕ)) (L : Lattice) : Type 0 where
   pub count_is : L.count ≡ count
   pub sound : (a b : ℕ) → a < count → b < count → Below L a b → Leq pairs a b

@@ -6,15 +6,15 @@ use Rattle.vsi_lattice.specs.declared.order.OrderError.{OrderError}
 use Rattle.vsi_lattice.specs.declared.order.OrderError.TheVariants.{Memory, Cycle, NoJoin, NoMeet}
 
 module _ (count : ℕ) (pairs : List (ℕ × ℕ)) where
-  -- no two classes are below each other
+  -- No two classes are below each other.
   abbrev pub IsAcyclic : Type 0
   IsAcyclic = (a b : ℕ) → a < count → b < count → ¬ (IsCycle count (Leq pairs) a b)
 
-  -- every two classes have a join
+  -- Every two classes have a join.
   abbrev pub AllJoin : Type 0
   AllJoin = (a b : ℕ) → a < count → b < count → HasJoin count (Leq pairs) a b
 
-  -- the fault that the error names, and that no fault of an earlier kind is there
+  -- The fault that the error names, and that no fault of an earlier kind is there.
   abbrev pub NamesFault : OrderError → Type 0
   NamesFault Memory = Unit {0}
   NamesFault (Cycle a b) = IsFirstPair count (IsCycle count (Leq pairs)) a b

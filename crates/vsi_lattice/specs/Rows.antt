@@ -4,49 +4,49 @@ use Rattle.std.specs.Int.{bit_at}
 use Rattle.vsi_lattice.specs.Order.{Lattice}
 use Rattle.vsi_lattice.specs.Pairs.{Leq}
 
--- the row of a has the bit b
+-- The row of a has the bit b.
 unfoldable pub row_has : List ℕ → ℕ → ℕ → Bool
 row_has rows a b = bit_at (slice_index rows a) b == 1
 
--- the lattice whose order the rows hold
+-- The lattice whose order the rows hold.
 abbrev pub row_lattice : List ℕ → ℕ → ℕ → Lattice
 row_lattice above bottom top = record { count = length above; leq = row_has above; bottom = bottom; top = top }
 
--- a row, with all that another one has where it has the bit
+-- A row, with all that another one has where it has the bit.
 unfoldable pub widened : ℕ → ℕ → ℕ → ℕ
 widened low reached row = if bit_at row low == 1 then bit_or row reached else row
 
--- c is the class whose row is the common part of the rows of a and b
+-- The class c is the one whose row is the common part of the rows of a and b.
 abbrev pub IsCommon : List ℕ → ℕ → ℕ → ℕ → Type 0
 IsCommon rows a b c = slice_index rows c ≡ bit_and (slice_index rows a) (slice_index rows b)
 
--- a class has the common part of the rows of a and b as its row
+-- A class has the common part of the rows of a and b as its row.
 abbrev pub HasCommon : List ℕ → ℕ → ℕ → Type 0
 HasCommon rows a b = (c : ℕ) × (c < length rows) × IsCommon rows a b c
 
--- so has a class for every two
+-- So has a class for every two.
 abbrev pub AllHaveCommon : List ℕ → Type 0
 AllHaveCommon rows = (a b : ℕ) → a < length rows → b < length rows → HasCommon rows a b
 
--- no class has the common part of the rows of a and b as its row
+-- No class has the common part of the rows of a and b as its row.
 abbrev pub LacksCommon : List ℕ → ℕ → ℕ → Type 0
 LacksCommon rows a b = (c : ℕ) → c < length rows → ¬ (IsCommon rows a b c)
 
--- another bit that both words have
+-- Another bit that both words have.
 abbrev pub BothHaveOther : ℕ → ℕ → ℕ → ℕ → Type 0
 BothHaveOther x y own b = (b ≢ own) × (bit_at x b ≡ 1) × (bit_at y b ≡ 1)
 
--- two classes, each in the row of the other
+-- Two classes, each in the row of the other.
 abbrev pub AreTied : List ℕ → List ℕ → ℕ → ℕ → Type 0
 AreTied above below a b = (a ≢ b) × (row_has above a b ≡ true) × (row_has below a b ≡ true)
 
--- reflexive and transitive, and false outside the classes
+-- Reflexive and transitive, and false outside the classes.
 pub record IsPreorder (count : ℕ) (has : ℕ → ℕ → Bool) : Type 0 where
   pub within : (a b : ℕ) → has a b ≡ true → (a < count) × (b < count)
   pub reflexive : (a : ℕ) → a < count → has a a ≡ true
   pub transitive : (a b c : ℕ) → has a b ≡ true → has b c ≡ true → has a c ≡ true
 
--- the test is the order that the pairs declare, below the count
+-- The test is the order that the pairs declare, below the count.
 pub record IsClosureOf (count : ℕ) (pairs : List (ℕ × ℕ)) (has : ℕ → ℕ → Bool) : Type 0 where
   pub within : (a b : ℕ) → has a b ≡ true → (a < count) × (b < count)
   pub sound : (a b : ℕ) → has a b ≡ true → Leq pairs a b
@@ -54,15 +54,15 @@ pub record IsClosureOf (count : ℕ) (pairs : List (ℕ × ℕ)) (has : ℕ → 
   pub transitive : (a b c : ℕ) → has a b ≡ true → has b c ≡ true → has a c ≡ true
   pub holds : (a b : ℕ) → Contains pairs (a, b) → has a b ≡ true
 
--- the second test is the first from the other side
+-- The second test is the first from the other side.
 abbrev pub IsTransposed : (ℕ → ℕ → Bool) → (ℕ → ℕ → Bool) → Type 0
 IsTransposed above below = (a b : ℕ) → below b a ≡ above a b
 
--- each class that is below `low` is below all that `high` is below too
+-- Each class that is below `low` is below all that `high` is below too.
 abbrev pub AddsPair : (ℕ → ℕ → Bool) → (ℕ → ℕ → Bool) → ℕ → ℕ → Type 0
 AddsPair old new low high = (a b : ℕ) → new a b ≡ (old a b || (old a low && old high b))
 
--- the rows are a lattice, upwards and downwards
+-- The rows are a lattice, upwards and downwards.
 pub record IsMaskOrder (above below : List ℕ) : Type 0 where
   pub some : 0 < length above
   pub small : length above ≤ 64

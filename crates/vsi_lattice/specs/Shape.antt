@@ -5,44 +5,44 @@ use Rattle.vsi_lattice.specs.Names.{texts, text_pairs}
 use Rattle.toml.specs.Data.{Data, Items, no_items, item, Members, no_members, member, get_member, as_str, as_array}
 use Rattle.toml.specs.Parse.{parse_document}
 
--- the names of the classes, and the pairs of names, in order
+-- The names of the classes, and the pairs of names, in order.
 pub record File : Type 0 where
   pub names : List (List ℕ)
   pub pairs : List (List ℕ × List ℕ)
 
--- the file whose texts these references show
+-- The file whose texts these references show.
 abbrev pub shown : List (Bor (List ℕ)) → List (Bor (List ℕ) × Bor (List ℕ)) → File
 shown names pairs = record { names = texts names; pairs = text_pairs pairs }
 
--- the text is UTF-8, and that table
+-- The text is UTF-8, and that table.
 abbrev pub IsToml : List ℕ → Members → Type 0
 IsToml text ms = IsUtf8 text × (parse_document text ≡ Some ms)
 
--- how many keys a table has
+-- How many keys a table has.
 abbrev pub member_count : Members → ℕ
 member_count no_members = 0
 member_count (member k d ms) = member_count ms + 1
 
--- each item, under f
+-- Each item, under f.
 abbrev pub all_of : {X : Type 0} → (Data → Option X) → Items → Option (List X)
 all_of f no_items = Some []
 all_of f (item d ds) = option_and_then (λ x. option_map (λ xs. x ∷ xs) (all_of f ds)) (f d)
 
--- the two strings of just two items
+-- The two strings of just two items.
 abbrev pub pair_items : Items → Option (List ℕ × List ℕ)
 pair_items (item a (item b no_items)) = option_and_then (λ x. option_map (λ y. (x, y)) (as_str b)) (as_str a)
 pair_items _ = None
 
--- an array of two strings
+-- An array of two strings.
 abbrev pub pair_of : Data → Option (List ℕ × List ℕ)
 pair_of d = option_and_then pair_items (as_array d)
 
--- the array at a key, each item under f
+-- The array at a key, each item under f.
 abbrev pub array_at : {X : Type 0} → (Data → Option X) → List ℕ → Members → Option (List X)
 array_at f key ms = option_and_then (all_of f) (option_and_then as_array (get_member key ms))
 
--- the names and the pairs, where the table has just the two keys, an array of strings and an array of pairs of
--- strings
+-- The names and the pairs, where the table has just the two keys, an array of strings and an array of pairs of
+-- strings.
 abbrev pub file_of : Members → Option File
 file_of ms =
     if member_count ms == 2
@@ -51,6 +51,6 @@ file_of ms =
     (array_at as_str (codes "classes") ms)
     else None
 
--- the text is a lattice file
+-- The text is a lattice file.
 abbrev pub IsFile : List ℕ → File → Type 0
 IsFile text f = (ms : Members) × IsToml text ms × (file_of ms ≡ Some f)

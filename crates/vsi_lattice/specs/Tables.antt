@@ -3,15 +3,15 @@ use Rattle.std.specs.Prelude.{◌≡◌, ℕ, ◌+◌, ◌*◌, ◌≤◌, nat_l
 use Rattle.vsi_lattice.specs.Order.{Lattice}
 use Rattle.vsi_lattice.specs.Rows.{IsTransposed}
 
--- what the table says of two classes
+-- What the table says of two classes.
 unfoldable pub table_has : List Bool → ℕ → ℕ → Bool
 table_has table a b = nat_lt b 64 && get_or table (a * 64 + b) false
 
--- the lattice whose order the table holds
+-- The lattice whose order the table holds.
 abbrev pub table_lattice : ℕ → List Bool → ℕ → ℕ → Lattice
 table_lattice count above bottom top = record { count = count; leq = table_has above; bottom = bottom; top = top }
 
--- two tables that hold an order of the classes, upwards and downwards
+-- Two tables that hold an order of the classes, upwards and downwards.
 pub record AreTables (count : ℕ) (above below : List Bool) : Type 0 where
   pub small : count ≤ 64
   pub above_len : length above ≡ 4096

@@ -7,7 +7,7 @@ use Rattle.vsi_opt.specs.Folding.{fold_operator, folded, append, truth_of, branc
 use Rattle.vsi_opt.specs.Liveness.{Locations, with_bit, all_reads, throughout, before, kept, still, needed}
 use Rattle.vsi_opt.specs.Optimised.{globals_alone, optimised}
 
--- the nesting of letvars in two sequences joined
+-- The nesting of letvars in two sequences joined.
 append_nesting : (a b : Command) → nesting (append a b) ≤ max (nesting a) (nesting b)
 append_nesting Nothing b = omega arith
 append_nesting (Put l s e) b = omega arith
@@ -16,12 +16,12 @@ append_nesting (Choose e a c) b = omega arith
 append_nesting (Repeat e c) b = omega arith
 append_nesting (Allocate e c) b = omega arith
 
--- an assignment has no letvars, whether it stays or goes
+-- An assignment has no letvars, whether it stays or goes.
 kept_nesting : (b : Bool) (l : ℕ) (s : Span) (e : Phrase) → nesting (kept b (Put l s e)) ≡ 0
 kept_nesting true l s e = refl
 kept_nesting false l s e = refl
 
--- removal in a loop doesn't deepen the nesting
+-- Removal in a loop doesn't deepen the nesting.
 still_nesting : (c : Command) (k : ℕ) (live : Locations) → nesting (still k c live) ≤ nesting c
 still_nesting Nothing k live = omega arith
 still_nesting (Put l s e) k live = omega (arith, kept_nesting (live l) l s e)
@@ -31,7 +31,7 @@ still_nesting (Choose e a b) k live = omega (arith, still_nesting a k live, stil
 still_nesting (Repeat e c) k live = omega (arith, still_nesting c k live)
 still_nesting (Allocate e c) k live = omega (arith, still_nesting c (k + 1) (with_bit live k (all_reads c k)))
 
--- removal doesn't deepen the nesting
+-- Removal doesn't deepen the nesting.
 needed_nesting : (c : Command) (g k : ℕ) (live : Locations) → nesting (needed g k c live) ≤ nesting c
 needed_nesting Nothing g k live = omega arith
 needed_nesting (Put l s e) g k live = omega (arith, kept_nesting (live l) l s e)
@@ -43,20 +43,20 @@ needed_nesting (Choose e a b) g k live = omega (arith, needed_nesting a g k live
 needed_nesting (Repeat e c) g k live = omega (arith, still_nesting c k (throughout e c live))
 needed_nesting (Allocate e c) g k live = omega (arith, needed_nesting c g (k + 1) (with_bit live k false))
 
--- a choice that is folded isn't nested deeper than its branches
+-- A choice that is folded isn't nested deeper than its branches.
 branch_nesting : (t : Option Bool) (e : Phrase) (a b : Command) →
     nesting (branch t e a b) ≤ max (nesting a) (nesting b)
 branch_nesting (Some true) e a b = omega arith
 branch_nesting (Some false) e a b = omega arith
 branch_nesting None e a b = omega arith
 
--- a loop that is folded isn't nested deeper than its body
+-- A loop that is folded isn't nested deeper than its body.
 loop_nesting : (t : Option Bool) (e : Phrase) (c : Command) → nesting (loop t e c) ≤ nesting c
 loop_nesting (Some true) e c = omega arith
 loop_nesting (Some false) e c = omega arith
 loop_nesting None e c = omega arith
 
--- folding doesn't deepen the nesting
+-- Folding doesn't deepen the nesting.
 fold_nesting : (c : Command) → nesting (fold c) ≤ nesting c
 fold_nesting Nothing = omega arith
 fold_nesting (Put l s e) = omega arith
@@ -67,11 +67,11 @@ fold_nesting (Choose e a b) =
 fold_nesting (Repeat e c) = omega (arith, loop_nesting (truth_of (folded e)) (folded e) (fold c), fold_nesting c)
 fold_nesting (Allocate e c) = omega (arith, fold_nesting c)
 
--- the optimised body isn't nested deeper
+-- The optimised body isn't nested deeper.
 pub optimised_nesting : (c : Command) (g : ℕ) → nesting (optimised g c) ≤ nesting c
 optimised_nesting c g = omega (arith, needed_nesting (fold c) g g (globals_alone g), fold_nesting c)
 
--- the depth of two sequences joined
+-- The depth of two sequences joined.
 append_depth : (a b : Command) → depth (append a b) ≤ max (depth a) (depth b)
 append_depth Nothing b = omega arith
 append_depth (Put l s e) b = omega arith
@@ -80,12 +80,12 @@ append_depth (Choose e a c) b = omega arith
 append_depth (Repeat e c) b = omega arith
 append_depth (Allocate e c) b = omega arith
 
--- an assignment isn't deeper, whether it stays or goes
+-- An assignment isn't deeper, whether it stays or goes.
 kept_depth : (b : Bool) (l : ℕ) (s : Span) (e : Phrase) → depth (kept b (Put l s e)) ≤ phrase_depth e
 kept_depth true l s e = omega arith
 kept_depth false l s e = omega arith
 
--- removal in a loop doesn't deepen the expressions
+-- Removal in a loop doesn't deepen the expressions.
 still_depth : (c : Command) (k : ℕ) (live : Locations) → depth (still k c live) ≤ depth c
 still_depth Nothing k live = omega arith
 still_depth (Put l s e) k live = kept_depth (live l) l s e
@@ -95,7 +95,7 @@ still_depth (Choose e a b) k live = omega (arith, still_depth a k live, still_de
 still_depth (Repeat e c) k live = omega (arith, still_depth c k live)
 still_depth (Allocate e c) k live = omega (arith, still_depth c (k + 1) (with_bit live k (all_reads c k)))
 
--- removal doesn't deepen the expressions
+-- Removal doesn't deepen the expressions.
 needed_depth : (c : Command) (g k : ℕ) (live : Locations) → depth (needed g k c live) ≤ depth c
 needed_depth Nothing g k live = omega arith
 needed_depth (Put l s e) g k live = kept_depth (live l) l s e
@@ -107,7 +107,7 @@ needed_depth (Choose e a b) g k live = omega (arith, needed_depth a g k live, ne
 needed_depth (Repeat e c) g k live = omega (arith, still_depth c k (throughout e c live))
 needed_depth (Allocate e c) g k live = omega (arith, needed_depth c g (k + 1) (with_bit live k false))
 
--- an operator that is folded isn't deeper
+-- An operator that is folded isn't deeper.
 operator_depth : (o : Op) (a b : Phrase) →
     phrase_depth (fold_operator o a b) ≤ 1 + max (phrase_depth a) (phrase_depth b)
 operator_depth o (Literal x) (Literal y) = omega arith
@@ -116,26 +116,26 @@ operator_depth o (Literal x) (Apply p c d) = omega arith
 operator_depth o (Contents l s) b = omega arith
 operator_depth o (Apply p c d) b = omega arith
 
--- an expression that is folded isn't deeper
+-- An expression that is folded isn't deeper.
 folded_depth : (e : Phrase) → phrase_depth (folded e) ≤ phrase_depth e
 folded_depth (Literal n) = omega arith
 folded_depth (Contents l s) = omega arith
 folded_depth (Apply o a b) = omega (arith, operator_depth o (folded a) (folded b), folded_depth a, folded_depth b)
 
--- a choice that is folded isn't deeper than its parts
+-- A choice that is folded isn't deeper than its parts.
 branch_depth : (t : Option Bool) (e : Phrase) (a b : Command) →
     depth (branch t e a b) ≤ max (phrase_depth e) (max (depth a) (depth b))
 branch_depth (Some true) e a b = omega arith
 branch_depth (Some false) e a b = omega arith
 branch_depth None e a b = omega arith
 
--- a loop that is folded isn't deeper than its parts
+-- A loop that is folded isn't deeper than its parts.
 loop_depth : (t : Option Bool) (e : Phrase) (c : Command) → depth (loop t e c) ≤ max (phrase_depth e) (depth c)
 loop_depth (Some true) e c = omega arith
 loop_depth (Some false) e c = omega arith
 loop_depth None e c = omega arith
 
--- folding doesn't deepen the expressions
+-- Folding doesn't deepen the expressions.
 fold_depth : (c : Command) → depth (fold c) ≤ depth c
 fold_depth Nothing = omega arith
 fold_depth (Put l s e) = omega (arith, folded_depth e)
@@ -148,6 +148,6 @@ fold_depth (Repeat e c) =
     omega (arith, joins, folded_depth e, fold_depth c)
 fold_depth (Allocate e c) = omega (arith, folded_depth e, fold_depth c)
 
--- the optimised body has no deeper expression
+-- The optimised body has no deeper expression.
 pub optimised_depth : (c : Command) (g : ℕ) → depth (optimised g c) ≤ depth c
 optimised_depth c g = omega (arith, needed_depth (fold c) g g (globals_alone g), fold_depth c)

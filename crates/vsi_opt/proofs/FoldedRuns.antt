@@ -7,24 +7,24 @@ use Rattle.vsi_syntax.specs.Operators.{apply}
 use Rattle.vsi_scope.specs.Meaning.{Store, value, at_zero, and_then, drop_past, turns, runs}
 use Rattle.vsi_opt.specs.Folding.{fold_operator, folded, one, append, truth_of, branch, loop, fold}
 
--- equal first steps and equal next steps go on alike
+-- Equal first steps and equal next steps go on alike.
 pub and_then_same : (o o' : Option Store) (f g : Store → Option Store) → o ≡ o' → ((m : Store) → f m ≡ g m) →
     and_then o f ≡ and_then o' g
 and_then_same None o' f g e h = ap (λ x. and_then x g) e
 and_then_same (Some m) o' f g e h = h m ∙ ap (λ x. and_then x g) e
 
--- going on without a step changes nothing
+-- Going on without a step changes nothing.
 pub and_then_some : (o : Option Store) → and_then o (λ m. Some m) ≡ o
 and_then_some None = refl
 and_then_some (Some m) = refl
 
--- two steps are one after the other
+-- Two steps are one after the other.
 pub and_then_then : (o : Option Store) (f g : Store → Option Store) →
     and_then (and_then o f) g ≡ and_then o (λ m. and_then (f m) g)
 and_then_then None f g = refl
 and_then_then (Some m) f g = refl
 
--- two sequences joined run one after the other
+-- Two sequences joined run one after the other.
 pub runs_append : (n : ℕ) (a b : Command) (m : Store) → runs n (append a b) m ≡ and_then (runs n a m) (runs n b)
 runs_append n Nothing b m = refl
 runs_append n (Put l s e) b m = refl
@@ -36,11 +36,11 @@ runs_append n (Choose e a c) b m = refl
 runs_append n (Repeat e c) b m = refl
 runs_append n (Allocate e c) b m = refl
 
--- the sequence of one command runs as the command
+-- The sequence of one command runs as the command.
 pub runs_one : (n : ℕ) (c : Command) (m : Store) → runs n (one c) m ≡ runs n c m
 runs_one n c m = and_then_some (runs n c m)
 
--- a folded operator has the value of the operator
+-- A folded operator has the value of the operator.
 operator_value : (o : Op) (a b : Phrase) (m : Store) → value (fold_operator o a b) m ≡ apply o (value a m) (value b m)
 operator_value o (Literal x) (Literal y) m = refl
 operator_value o (Literal x) (Contents l s) m = refl
@@ -48,7 +48,7 @@ operator_value o (Literal x) (Apply p c d) m = refl
 operator_value o (Contents l s) b m = refl
 operator_value o (Apply p c d) b m = refl
 
--- a folded expression has the value of the expression
+-- A folded expression has the value of the expression.
 pub folded_value : (e : Phrase) (m : Store) → value (folded e) m ≡ value e m
 folded_value (Literal n) m = refl
 folded_value (Contents l s) m = refl
@@ -57,7 +57,7 @@ folded_value (Apply o a b) m =
     ∙ ap (λ x. apply o x (value (folded b) m)) (folded_value a m)
     ∙ ap (apply o (value a m)) (folded_value b m)
 
--- a folded choice runs as the choice
+-- A folded choice runs as the choice.
 fold_if_runs : (n : ℕ) (e : Phrase) (a b : Command) (m : Store) →
     runs n (branch (truth_of e) e a b) m ≡ at_zero (value e m) (runs n b m) (runs n a m)
 fold_if_runs n (Literal (pos zero)) a b m = refl
@@ -66,17 +66,17 @@ fold_if_runs n (Literal (negsuc k)) a b m = refl
 fold_if_runs n (Contents l s) a b m = runs_one n (Choose (Contents l s) a b) m
 fold_if_runs n (Apply o x y) a b m = runs_one n (Choose (Apply o x y) a b) m
 
--- equal guards and equal branches choose alike
+-- Equal guards and equal branches choose alike.
 pub at_zero_same : (z z' : ℤ) (a b a' b' : Option Store) → z ≡ z' → a ≡ a' → b ≡ b' → at_zero z a b ≡ at_zero z' a' b'
 at_zero_same z z' a b a' b' e f g = ap (λ x. at_zero x a b) e ∙ ap (λ x. at_zero z' x b) f ∙ ap (at_zero z' a') g
 
--- a loop whose guard is false leaves the store
+-- A loop whose guard is false leaves the store.
 stops_at_zero : (n : ℕ) (guard : Store → ℤ) (f : Store → Option Store) (m : Store) → guard m ≡ pos zero →
     turns n guard f m ≡ Some m
 stops_at_zero zero guard f m e = ap (λ x. at_zero x (Some m) None) e
 stops_at_zero (suc n) guard f m e = ap (λ x. at_zero x (Some m) (and_then (f m) (turns n guard f))) e
 
--- a folded loop takes the turns of the loop
+-- A folded loop takes the turns of the loop.
 fold_while_runs : (n : ℕ) (e : Phrase) (c : Command) (m : Store) →
     runs n (loop (truth_of e) e c) m ≡ turns n (value e) (runs n c) m
 fold_while_runs n (Literal (pos zero)) c m = sym (stops_at_zero n (value (Literal (pos zero))) (runs n c) m refl)
@@ -85,7 +85,7 @@ fold_while_runs n (Literal (negsuc k)) c m = runs_one n (Repeat (Literal (negsuc
 fold_while_runs n (Contents l s) c m = runs_one n (Repeat (Contents l s) c) m
 fold_while_runs n (Apply o x y) c m = runs_one n (Repeat (Apply o x y) c) m
 
--- equal guards and equal bodies take the same turns
+-- Equal guards and equal bodies take the same turns.
 pub turns_same : (n : ℕ) (g h : Store → ℤ) (f k : Store → Option Store) → ((m : Store) → g m ≡ h m) →
     ((m : Store) → f m ≡ k m) → (m : Store) → turns n g f m ≡ turns n h k m
 turns_same zero g h f k e d m = ap (λ x. at_zero x (Some m) None) (e m)
@@ -94,7 +94,7 @@ turns_same (suc n) g h f k e d m =
     refl
     (and_then_same (f m) (k m) (turns n g f) (turns n h k) (d m) (turns_same n g h f k e d))
 
--- a folded command does what the command does
+-- A folded command does what the command does.
 pub fold_runs : (c : Command) (n : ℕ) (m : Store) → runs n (fold c) m ≡ runs n c m
 fold_runs Nothing n m = refl
 fold_runs (Put l s e) n m = ap (λ x. Some (slice_set m l x)) (folded_value e m)

@@ -8,7 +8,7 @@ use Rattle.vsi_scope.specs.View.{phrase, command, sequence}
 use Rattle.vsi_scope.proofs.Views.{command_If, command_While, command_Letvar}
 use Rattle.vsi_opt.specs.Folding.{one, folded, truth_of, branch, loop, fold}
 
--- what folding makes of an `if`, by what is known of its guard
+-- What folding makes of an `if`, by what is known of its guard.
 pub fold_if_by : (c : Cmd) (e v : Ex) (y n : Vec Cmd Global) (t : Option Bool) → c ≡ If e y n →
     phrase v ≡ folded (phrase e) → t ≡ truth_of (phrase v) → fold (command c) ≡ branch t (phrase v)
     (fold (sequence y.items)) (fold (sequence n.items))
@@ -18,7 +18,7 @@ fold_if_by c e v y n t is f g =
     ∙ ap (λ x. branch (truth_of x) x (fold (sequence y.items)) (fold (sequence n.items))) (sym f)
     ∙ ap (λ x. branch x (phrase v) (fold (sequence y.items)) (fold (sequence n.items))) (sym g)
 
--- what folding makes of a loop, by what is known of its guard
+-- What folding makes of a loop, by what is known of its guard.
 pub fold_while_by : (c : Cmd) (e v : Ex) (b : Vec Cmd Global) (t : Option Bool) → c ≡ While e b →
     phrase v ≡ folded (phrase e) → t ≡ truth_of (phrase v) → fold (command c) ≡ loop t (phrase v)
     (fold (sequence b.items))
@@ -28,7 +28,7 @@ fold_while_by c e v b t is f g =
     ∙ ap (λ x. loop (truth_of x) x (fold (sequence b.items))) (sym f)
     ∙ ap (λ x. loop x (phrase v) (fold (sequence b.items))) (sym g)
 
--- what folding makes of a letvar
+-- What folding makes of a letvar.
 pub fold_letvar_by : (c : Cmd) (e v : Ex) (b : Vec Cmd Global) → c ≡ Letvar e b → phrase v ≡ folded (phrase e) →
     fold (command c) ≡ one (Allocate (phrase v) (fold (sequence b.items)))
 fold_letvar_by c e v b is f =
@@ -36,22 +36,22 @@ fold_letvar_by c e v b is f =
     ∙ ap fold (command_Letvar e b)
     ∙ ap (λ x. one (Allocate x (fold (sequence b.items)))) (sym f)
 
--- an `if` over branches that are known
+-- An `if` over branches that are known.
 pub one_if : (v : Ex) (y n : Vec Cmd Global) (a b : Command) → sequence y.items ≡ a → sequence n.items ≡ b →
     one (command (If v y n)) ≡ one (Choose (phrase v) a b)
 one_if v y n a b f g = ap one (command_If v y n) ∙ ap (λ x. one (Choose (phrase v) x (sequence n.items))) f
     ∙ ap (λ x. one (Choose (phrase v) a x)) g
 
--- a loop over a body that is known
+-- A loop over a body that is known.
 pub one_while : (v : Ex) (b : Vec Cmd Global) (a : Command) → sequence b.items ≡ a →
     one (command (While v b)) ≡ one (Repeat (phrase v) a)
 one_while v b a f = ap one (command_While v b) ∙ ap (λ x. one (Repeat (phrase v) x)) f
 
--- a letvar over a body that is known
+-- A letvar over a body that is known.
 pub one_letvar : (v : Ex) (b : Vec Cmd Global) (a : Command) → sequence b.items ≡ a →
     one (command (Letvar v b)) ≡ one (Allocate (phrase v) a)
 one_letvar v b a f = ap one (command_Letvar v b) ∙ ap (λ x. one (Allocate (phrase v) x)) f
 
--- what a test that is known tells of a guard
+-- What a test that is known tells of a guard.
 pub known : (o t : Option Bool) (b b' : Bool) → o ≡ t → o ≡ Some b → b ≡ b' → Some b' ≡ t
 known o t b b' e f g = sym (ap Some g) ∙ sym f ∙ e

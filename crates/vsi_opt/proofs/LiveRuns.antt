@@ -12,42 +12,42 @@ use Rattle.vsi_opt.specs.Liveness.{Locations, joined, with_bit, reads, all_reads
 use Rattle.vsi_opt.specs.Optimised.{globals_alone, optimised, EvaluatesSame}
 use Rattle.vsi_opt.proofs.FoldedRuns.{runs_append, runs_one, fold_runs}
 
--- one set within another
+-- One set within another.
 abbrev pub Within : Locations → Locations → Type 0
 Within a b = (l : ℕ) → a l ≡ true → b l ≡ true
 
--- a set is within its union with another
+-- A set is within its union with another.
 joined_left : (a b : Locations) → Within a (joined a b)
 joined_left a b l h = or_left (a l) (b l) h
 
--- a set is within the union of another with it
+-- A set is within the union of another with it.
 joined_right : (a b : Locations) → Within b (joined a b)
 joined_right a b l h = or_right (a l) (b l) h
 
--- a set within one that is within a third is within the third
+-- A set within one that is within a third is within the third.
 within_on : (a b c : Locations) → Within a b → Within b c → Within a c
 within_on a b c f g l h = g l (f l h)
 
--- equal words in what is live
+-- Equal words in what is live.
 abbrev pub Agree : Locations → Store → Store → Type 0
 Agree live m m' = (l : ℕ) → live l ≡ true → get_or m l (pos 0) ≡ get_or m' l (pos 0)
 
--- stores that agree on a set agree on each set within it
+-- Stores that agree on a set agree on each set within it.
 agree_within : (a b : Locations) (m m' : Store) → Within a b → Agree b m m' → Agree a m m'
 agree_within a b m m' w h l is = h l (w l is)
 
--- both none, or two stores of k words that agree
+-- Both none, or two stores of k words that agree.
 abbrev pub SameOn : ℕ → Locations → Option Store → Option Store → Type 0
 SameOn k live None None = Unit {0}
 SameOn k live None (Some m') = ⊥
 SameOn k live (Some m) None = ⊥
 SameOn k live (Some m) (Some m') = (length m ≡ k) × (length m' ≡ k) × Agree live m m'
 
--- two functions that take stores of k words that agree on one set to stores that agree on another
+-- Two functions that take stores of k words that agree on one set to stores that agree on another.
 abbrev pub Keeps : ℕ → Locations → Locations → (Store → Option Store) → (Store → Option Store) → Type 0
 Keeps k b a f f' = (m m' : Store) → length m ≡ k → length m' ≡ k → Agree b m m' → SameOn k a (f m) (f' m')
 
--- two steps one after the other keep agreement
+-- Two steps one after the other keep agreement.
 same_on_then : (k : ℕ) (b a : Locations) (o o' : Option Store) (f f' : Store → Option Store) → SameOn k b o o' →
     Keeps k b a f f' → SameOn k a (and_then o f) (and_then o' f')
 same_on_then k b a None None f f' s h = tt
@@ -55,18 +55,18 @@ same_on_then k b a None (Some m') f f' s h = absurd s
 same_on_then k b a (Some m) None f f' s h = absurd s
 same_on_then k b a (Some m) (Some m') f f' s h = h m m' s.0 s.1 s.2
 
--- agreement on a set is agreement on each set within it
+-- Agreement on a set is agreement on each set within it.
 same_on_within : (k : ℕ) (a b : Locations) (o o' : Option Store) → Within a b → SameOn k b o o' → SameOn k a o o'
 same_on_within k a b None None w s = tt
 same_on_within k a b None (Some m') w s = absurd s
 same_on_within k a b (Some m) None w s = absurd s
 same_on_within k a b (Some m) (Some m') w s = (s.0, s.1, agree_within a b m m' w s.2)
 
--- agreement of an equal outcome
+-- Agreement of an equal outcome.
 same_on_from : (k : ℕ) (a : Locations) (o p o' : Option Store) → o ≡ p → SameOn k a p o' → SameOn k a o o'
 same_on_from k a o p o' e s = subst (λ x. SameOn k a x o') (sym e) s
 
--- an expression has one value in stores that agree on what it reads
+-- An expression has one value in stores that agree on what it reads.
 value_same : (e : Phrase) (live : Locations) (m m' : Store) → Within (reads e) live → Agree live m m' →
     value e m ≡ value e m'
 value_same (Literal n) live m m' w h = refl
@@ -75,15 +75,15 @@ value_same (Apply o a b) live m m' w h =
     ap (λ x. apply o x (value b m)) (value_same a live m m' (λ l r. w l (or_left (reads a l) (reads b l) r)) h)
     ∙ ap (apply o (value a m')) (value_same b live m m' (λ l r. w l (or_right (reads a l) (reads b l) r)) h)
 
--- at its own number a set has what was put in
+-- At its own number a set has what was put in.
 pub bit_same : (live : Locations) (k : ℕ) (b : Bool) → with_bit live k b k ≡ b
 bit_same live k b = cond-true (eqb k k) b (live k) (eq-eqb k k refl)
 
--- at any other number a set is as before
+-- At any other number a set is as before.
 pub bit_other : (live : Locations) (k : ℕ) (b : Bool) (l : ℕ) → l ≢ k → with_bit live k b l ≡ live l
 bit_other live k b l ne = cond-false (eqb l k) b (live l) (ne_eqb l k ne)
 
--- an assignment takes out no other location
+-- An assignment takes out no other location.
 taken_other : (g k : ℕ) (live : Locations) (l : ℕ) → l ≢ k → taken g k live l ≡ live l
 taken_other g k live l ne = go (ltb k g)
   where
@@ -91,7 +91,7 @@ taken_other g k live l ne = go (ltb k g)
     go true = refl
     go false = bit_other live k false l ne
 
--- stores that agree elsewhere agree once one word is set in both
+-- Stores that agree elsewhere agree once one word is set in both.
 set_agree : (m m' : Store) (k l : ℕ) (v : ℤ) → length m ≡ length m' →
     (l ≢ k → get_or m l (pos 0) ≡ get_or m' l (pos 0)) → get_or (slice_set m k v) l (pos 0) ≡ get_or
     (slice_set m' k v) l (pos 0)
@@ -109,7 +109,7 @@ set_agree m m' k l v len h =
     (λ other. get_or-set_other m k l v (pos 0) other ∙ h other ∙ sym (get_or-set_other m' k l v (pos 0) other))
     (cases_eq l k)
 
--- an assignment that stays
+-- An assignment that stays.
 put_keeps : (k l : ℕ) (e : Phrase) (b a : Locations) (m m' : Store) → length m ≡ k → length m' ≡ k →
     Within (reads e) b → ((i : ℕ) → i ≢ l → a i ≡ true → b i ≡ true) → Agree b m m' → SameOn k a
     (Some (slice_set m l (value e m))) (Some (slice_set m' l (value e m')))
@@ -121,7 +121,7 @@ put_keeps k l e b a m m' len len' w w' h = (
       ∙ set_agree m m' l i (value e m') (len ∙ sym len') (λ other. h i (w' i other is)),
 )
 
--- an assignment that goes
+-- An assignment that goes.
 gone_keeps : (k l : ℕ) (v : ℤ) (a : Locations) (m m' : Store) → length m ≡ k → length m' ≡ k → a l ≡ false →
     Agree a m m' → SameOn k a (Some m) (Some (slice_set m' l v))
 gone_keeps k l v a m m' len len' dead h = (
@@ -130,7 +130,7 @@ gone_keeps k l v a m m' len len' dead h = (
   λ i is. h i is ∙ sym (get_or-set_other m' l i v (pos 0) (λ e. false≢true (sym dead ∙ sym (ap a e) ∙ is))),
 )
 
--- a letvar
+-- A letvar.
 allocate_keeps : (k : ℕ) (e : Phrase) (b₀ b a a₀ : Locations) (f f' : Store → Option Store) → Within (reads e) b₀ →
     ((i : ℕ) → i ≢ k → b i ≡ true → b₀ i ≡ true) → ((i : ℕ) → i ≢ k → a i ≡ true → a₀ i ≡ true) → Keeps (k + 1) b
     a₀ f f' → Keeps k b₀ a (λ m. drop_past (length m) (f (m ++ value e m ∷ [])))
@@ -183,7 +183,7 @@ allocate_keeps k e b₀ b a a₀ f f' w u u' h m m' len len' agree =
           (cases_lt i k),
     )
 
--- equal guards choose among outcomes that agree
+-- Equal guards choose among outcomes that agree.
 at_zero_same_on : (k : ℕ) (a : Locations) (z z' : ℤ) (x y x' y' : Option Store) → z ≡ z' → SameOn k a x x' →
     SameOn k a y y' → SameOn k a (at_zero z x y) (at_zero z' x' y')
 at_zero_same_on k a z z' x y x' y' e s t = subst (λ w. SameOn k a (at_zero z x y) (at_zero w x' y')) e (go z)
@@ -193,7 +193,7 @@ at_zero_same_on k a z z' x y x' y' e s t = subst (λ w. SameOn k a (at_zero z x 
     go (pos (suc n)) = t
     go (negsuc n) = t
 
--- loops with the same guard and bodies that keep agreement keep it
+-- Loops with the same guard and bodies that keep agreement keep it.
 turns_keep : (n k : ℕ) (a : Locations) (e : Phrase) (f f' : Store → Option Store) → Within (reads e) a →
     Keeps k a a f f' → Keeps k a a (turns n (value e) f) (turns n (value e) f')
 turns_keep zero k a e f f' w h m m' len len' agree =
@@ -206,13 +206,13 @@ turns_keep (suc n) k a e f f' w h m m' len len' agree =
     (same_on_then k a a (f m) (f' m') (turns n (value e) f) (turns n (value e) f') (h m m' len len' agree)
     (turns_keep n k a e f f' w h))
 
--- the sequence of one command keeps what the command keeps
+-- The sequence of one command keeps what the command keeps.
 one_keeps : (n k : ℕ) (b a : Locations) (c : Command) (f' : Store → Option Store) → Keeps k b a (runs n c) f' →
     Keeps k b a (runs n (one c)) f'
 one_keeps n k b a c f' h m m' len len' agree = same_on_from k a (runs n (one c) m) (runs n c m) (f' m')
     (runs_one n c m) (h m m' len len' agree)
 
--- two sequences joined keep what they keep one after the other
+-- Two sequences joined keep what they keep one after the other.
 append_keeps : (n k : ℕ) (b d a : Locations) (x y x' y' : Command) → Keeps k b d (runs n x) (runs n x') →
     Keeps k d a (runs n y) (runs n y') → Keeps k b a (runs n (append x y)) (runs n (Then x' y'))
 append_keeps n k b d a x y x' y' f g m m' len len' agree =
@@ -220,7 +220,7 @@ append_keeps n k b d a x y x' y' f g m m' len len' agree =
     (runs_append n x y m)
     (same_on_then k d a (runs n x m) (runs n x' m') (runs n y) (runs n y') (f m m' len len' agree) g)
 
--- an assignment in a loop keeps agreement, whether it stays or goes
+-- An assignment in a loop keeps agreement, whether it stays or goes.
 still_put : (k n l : ℕ) (s : Span) (e : Phrase) (live : Locations) → Within (reads e) live →
     Keeps k live live (runs n (kept (live l) (Put l s e))) (runs n (Put l s e))
 still_put k n l s e live w m m' len len' agree = go (live l) refl
@@ -229,7 +229,7 @@ still_put k n l s e live w m m' len len' agree = go (live l) refl
     go true is = put_keeps k l e live live m m' len len' w (λ i other h. h) agree
     go false is = gone_keeps k l (value e m') live m m' len len' is agree
 
--- removal in a loop keeps agreement on what is live there
+-- Removal in a loop keeps agreement on what is live there.
 pub still_keeps : (c : Command) (k n : ℕ) (live : Locations) → Within (all_reads c) live →
     Keeps k live live (runs n (still k c live)) (runs n c)
 still_keeps Nothing k n live w = λ m m' len len' agree. (len, len', agree)
@@ -267,7 +267,7 @@ still_keeps (Allocate e c) k n live w =
     (λ other. bit_other live k (all_reads c k) l other ∙ w l (or_right (reads e l) (all_reads c l) r))
     (cases_eq l k))))
 
--- an assignment outside loops keeps agreement, whether it stays or goes
+-- An assignment outside loops keeps agreement, whether it stays or goes.
 needed_put : (g k n l : ℕ) (s : Span) (e : Phrase) (live : Locations) →
     Keeps k (if live l then joined (taken g l live) (reads e) else live) live (runs n (kept (live l) (Put l s e)))
     (runs n (Put l s e))
@@ -281,7 +281,7 @@ needed_put g k n l s e live m m' len len' agree = go (live l) refl agree
         (λ i other r. joined_left (taken g l live) (reads e) i (taken_other g l live i other ∙ r)) h
     go false is h = gone_keeps k l (value e m') live m m' len len' is h
 
--- removal takes agreement on what is live before to agreement on what is live after
+-- Removal takes agreement on what is live before to agreement on what is live after.
 pub needed_keeps : (c : Command) (g k n : ℕ) (live : Locations) →
     Keeps k (before g k c live) live (runs n (needed g k c live)) (runs n c)
 needed_keeps Nothing g k n live = λ m m' len len' agree. (len, len', agree)
@@ -324,7 +324,7 @@ needed_keeps (Allocate e c) g k n live =
     (λ i other is. bit_other live k false i other ∙ is)
     (needed_keeps c g (k + 1) n inner))
 
--- stores of g words that agree on all of them are equal
+-- Stores of g words that agree on all of them are equal.
 all_agree : (g : ℕ) (o o' : Option Store) → SameOn g (globals_alone g) o o' → o ≡ o'
 all_agree g None None s = refl
 all_agree g None (Some x) s = absurd s
@@ -332,7 +332,7 @@ all_agree g (Some x) None s = absurd s
 all_agree g (Some x) (Some x') s =
     ap Some (ext_get_or (pos 0) x x' (s.0 ∙ sym s.1) (λ i lt. s.2 i (lt-ltb i g (omega (arith, lt, s.0)))))
 
--- the optimised body does what the body does
+-- The optimised body does what the body does.
 pub evaluates_same : EvaluatesSame
 evaluates_same c g n m len =
     all_agree g (runs n (optimised g c) m) (runs n (fold c) m)

@@ -15,71 +15,71 @@ use Rattle.vsi_opt.specs.Ranges.{Fits}
 use Rattle.vsi_opt.proofs.LiveRuns.{bit_same, bit_other}
 use Rattle.vsi_opt.proofs.ReadingCases.{joined_joined, joined_nothing, joined_twice, joined_thrice}
 
--- what holds of the commands from a place on holds of the first of them, and of those behind it
+-- What holds of the commands from a place on holds of the first of them, and of those behind it.
 from_place : (P : Command → Type 0) (cs : List Cmd) (i : ℕ) (c : Cmd) → i < length cs → c ≡ get_or cs i c →
     P (sequence (drop i cs)) → P (Then (command c) (sequence (drop (i + 1) cs)))
 from_place P cs i c lt is p =
     subst (λ x. P (Then (command x) (sequence (drop (i + 1) cs)))) (sym is)
     (subst (λ l. P (sequence l)) (drop_more cs i c lt) p)
 
--- what holds of a command and those behind it holds of the commands from its place on
+-- What holds of a command and those behind it holds of the commands from its place on.
 to_place : (P : Command → Type 0) (cs : List Cmd) (i : ℕ) (c : Cmd) → i < length cs → c ≡ get_or cs i c →
     P (Then (command c) (sequence (drop (i + 1) cs))) → P (sequence (drop i cs))
 to_place P cs i c lt is p =
     subst (λ l. P (sequence l)) (sym (drop_more cs i c lt))
     (subst (λ x. P (Then (command x) (sequence (drop (i + 1) cs)))) is p)
 
--- a fact of a list of commands, about an equal list
+-- A fact of a list of commands, about an equal list.
 pub of_list : (P : Command → Type 0) (cs ds : List Cmd) → ds ≡ cs → P (sequence cs) → P (sequence ds)
 of_list P cs ds e p = subst (λ l. P (sequence l)) (sym e) p
 
--- the first of the commands from a place on is within the limits
+-- The first of the commands from a place on is within the limits.
 pub add_fits_one : (k n : ℕ) (cs : List Cmd) (i : ℕ) (c : Cmd) → i < length cs → c ≡ get_or cs i c →
     AddFits k n (sequence (drop i cs)) → AddFits k n (command c)
 add_fits_one k n cs i c lt is f =
     let g = from_place (AddFits k n) cs i c lt is f in
     (g.0.0, omega (arith, g.1))
 
--- those behind it are within the limits
+-- Those behind it are within the limits.
 pub add_fits_rest : (k n n' : ℕ) (cs : List Cmd) (i : ℕ) (c : Cmd) → i < length cs → c ≡ get_or cs i c →
     n' ≡ n + letvars (command c) → AddFits k n (sequence (drop i cs)) → AddFits k n' (sequence (drop (i + 1) cs))
 add_fits_rest k n n' cs i c lt is e f =
     let g = from_place (AddFits k n) cs i c lt is f in
     (g.0.1, omega (arith, g.1, e))
 
--- the parts of an `if` are within the limits
+-- The parts of an `if` are within the limits.
 pub add_fits_if : (k n : ℕ) (c : Cmd) (e : Ex) (y z : Vec Cmd Global) → c ≡ If e y z → AddFits k n (command c) →
     AddFits k n (sequence y.items) × AddFits k (n + letvars (sequence y.items)) (sequence z.items)
 add_fits_if k n c e y z is f =
     let g = subst (AddFits k n) (ap command is ∙ command_If e y z) f in
     ((g.0.1, omega (arith, g.1)), (g.0.2, omega (arith, g.1)))
 
--- the body of a loop is within the limits
+-- The body of a loop is within the limits.
 pub add_fits_while : (k n : ℕ) (c : Cmd) (e : Ex) (b : Vec Cmd Global) → c ≡ While e b → AddFits k n (command c) →
     AddFits k n (sequence b.items)
 add_fits_while k n c e b is f =
     let g = subst (AddFits k n) (ap command is ∙ command_While e b) f in
     (g.0.1, g.1)
 
--- a letvar's location, number and body are within the limits
+-- A letvar's location, number and body are within the limits.
 pub add_fits_letvar : (k n : ℕ) (c : Cmd) (e : Ex) (b : Vec Cmd Global) → c ≡ Letvar e b → AddFits k n (command c) →
     (k < 1024) × (n < 1024) × AddFits (k + 1) (n + 1) (sequence b.items)
 add_fits_letvar k n c e b is f =
     let g = subst (AddFits k n) (ap command is ∙ command_Letvar e b) f in
     (g.0.0, omega (arith, g.1), (g.0.2, omega (arith, g.1)))
 
--- what a walk has done over a list of commands, it has done over an equal list
+-- What a walk has done over a list of commands, it has done over an equal list.
 pub adds_list : (k n m : ℕ) (cs ds : List Cmd) (live all own every : Locations) → ds ≡ cs →
     Adds k (sequence ds) live own n all every m → Adds k (sequence cs) live own n all every m
 adds_list k n m cs ds live all own every e f = subst (λ l. Adds k (sequence l) live own n all every m) e f
 
--- a walk over an assignment has added its reads
+-- A walk over an assignment has added its reads.
 pub adds_assign : (k n : ℕ) (c : Cmd) (l : ℕ) (s : Span) (e : Ex) (live live' own : Locations) → c ≡ Assign l s e →
     live' ≡ joined live (reads (phrase e)) → Adds k (command c) live own n live' own n
 adds_assign k n c l s e live live' own is add =
     subst (λ x. Adds k (command x) live own n live' own n) (sym is) (add, refl, omega arith)
 
--- a walk over an `if` has gone over its guard and its branches
+-- A walk over an `if` has gone over its guard and its branches.
 pub adds_if : (k n n₁ n₂ : ℕ) (c : Cmd) (e : Ex) (y z : Vec Cmd Global)
     (live live₁ live₂ live₃ own own₁ own₂ : Locations) →
     c ≡ If e y z → live₁ ≡ joined live (reads (phrase e)) → Adds k (sequence y.items) live₁ own n live₂ own₁ n₁ →
@@ -93,7 +93,7 @@ adds_if k n n₁ n₂ c e y z live live₁ live₂ live₃ own own₁ own₂ is 
       omega (arith, f.2, g.2),
     )
 
--- a walk over a loop has gone over its guard and its body
+-- A walk over a loop has gone over its guard and its body.
 pub adds_while : (k n n₁ : ℕ) (c : Cmd) (e : Ex) (b : Vec Cmd Global) (live live₁ live₂ own own₁ : Locations) →
     c ≡ While e b → live₁ ≡ joined live (reads (phrase e)) → Adds k (sequence b.items) live₁ own n live₂ own₁ n₁ →
     Adds k (command c) live own n live₂ own₁ n₁
@@ -101,7 +101,7 @@ adds_while k n n₁ c e b live live₁ live₂ own own₁ is add f =
     subst (λ x. Adds k x live own n live₂ own₁ n₁) (sym (ap command is ∙ command_While e b))
     (joined_twice live (reads (phrase e)) (all_reads (sequence b.items)) live₁ live₂ add f.0, f.1, f.2)
 
--- a location that was in a set is put back after a walk without it
+-- A location that was in a set is put back after a walk without it.
 pub put_back : (a r b d : Locations) (k : ℕ) → a k ≡ true → b ≡ joined (with_bit a k false) r →
     d ≡ with_bit b k true →
     d ≡ joined a r
@@ -115,7 +115,7 @@ put_back a r b d k was e f = f ∙ (λ i l. go l i)
         (λ other. bit_other b k true l other ∙ ap (λ x. x l) e ∙ ap (λ x. x || r l) (bit_other a k false l other))
         (cases_eq l k)
 
--- a location that wasn't in a set is left as a walk has it
+-- A location that wasn't in a set is left as a walk has it.
 pub left_out : (a r b : Locations) (k : ℕ) → a k ≡ false → b ≡ joined (with_bit a k false) r → b ≡ joined a r
 left_out a r b k was e = e ∙ ap (λ x. joined x r) (λ i l. go l i)
   where
@@ -126,11 +126,11 @@ left_out a r b k was e = e ∙ ap (λ x. joined x r) (λ i l. go l i)
         (λ other. bit_other a k false l other)
         (cases_eq l k)
 
--- what a walk finds at a location that it began without is what the commands read there
+-- What a walk finds at a location that it began without is what the commands read there.
 found_there : (a r b : Locations) (k : ℕ) → b ≡ joined (with_bit a k false) r → b k ≡ r k
 found_there a r b k e = ap (λ x. x k) e ∙ ap (λ x. x || r k) (bit_same a k false)
 
--- a walk over a letvar has gone over its initial value and its body, and has noted it
+-- A walk over a letvar has gone over its initial value and its body, and has noted it.
 pub adds_letvar : (k n n₁ : ℕ) (c : Cmd) (e : Ex) (b : Vec Cmd Global)
     (live live₁ live₂ live₃ live₄ own own₁ own₂ : Locations) (r : Bool) →
     c ≡ Letvar e b → live₁ ≡ joined live (reads (phrase e)) → live₂ ≡ with_bit live₁ k false →
@@ -148,7 +148,7 @@ adds_letvar k n n₁ c e b live live₁ live₂ live₃ live₄ own own₁ own�
       omega (arith, f.2),
     )
 
--- what a walk has done from the next command on, it has done from a command on
+-- What a walk has done from the next command on, it has done from a command on.
 pub adds_more : (k n n' m : ℕ) (cs : List Cmd) (i : ℕ) (c : Cmd) (live live' all own own' every : Locations) →
     i < length cs →
     c ≡ get_or cs i c → Adds k (command c) live own n live' own' n' →
@@ -162,14 +162,14 @@ adds_more k n n' m cs i c live live' all own own' every lt is f g =
       omega (arith, f.2, g.2),
     )
 
--- at the end of a list of commands a walk has done nothing more
+-- At the end of a list of commands a walk has done nothing more.
 pub adds_end : (k n : ℕ) (cs : List Cmd) (i : ℕ) (live own : Locations) → length cs ≤ i →
     Adds k (sequence (drop i cs)) live own n live own n
 adds_end k n cs i live own le =
     subst (λ l. Adds k (sequence l) live own n live own n) (sym (drop_all i cs le))
     (sym (joined_nothing live), refl, omega arith)
 
--- a walk notes no number before the commands' own
+-- A walk notes no number before the commands' own.
 noted_below : (c : Command) (k n i : ℕ) (own : Locations) → i < n → noted k n c own i ≡ own i
 noted_below Nothing k n i own lt = refl
 noted_below (Put l s e) k n i own lt = refl
@@ -182,7 +182,7 @@ noted_below (Allocate e c) k n i own lt =
     bit_other (noted (k + 1) (n + 1) c own) n (all_reads c k) i (λ is. absurd (omega (arith, is, lt)))
     ∙ noted_below c (k + 1) (n + 1) i own (omega (arith, lt))
 
--- what tells of commands hangs on their own numbers alone
+-- What tells of commands hangs on their own numbers alone.
 tells_same : (c : Command) (k n : ℕ) (own other : Locations) →
     ((i : ℕ) → n ≤ i → i < n + letvars c → other i ≡ own i) → Tells own k n c → Tells other k n c
 tells_same Nothing k n own other h t = tt
@@ -201,7 +201,7 @@ tells_same (Allocate e c) k n own other h t = (
   tells_same c (k + 1) (n + 1) own other (λ i le lt. h i (omega (arith, le)) (omega (arith, lt))) t.1,
 )
 
--- what is noted of commands tells of them
+-- What is noted of commands tells of them.
 noted_tells : (c : Command) (k n : ℕ) (own : Locations) → Tells (noted k n c own) k n c
 noted_tells Nothing k n own = tt
 noted_tells (Put l s e) k n own = tt
@@ -226,7 +226,7 @@ noted_tells (Allocate e c) k n own =
           (noted_tells c (k + 1) (n + 1) own),
     )
 
--- a loop's body, once its letvars are noted
+-- A loop's body, once its letvars are noted.
 pub still_fits_noted : (k : ℕ) (cs ds : List Cmd) (own own' : Locations) → Fits k (sequence cs) →
     letvars (sequence cs) ≤ 1024 →
     ds ≡ cs → own' ≡ noted k 0 (sequence ds) own → StillFits own' k 0 (sequence ds)
@@ -238,7 +238,7 @@ still_fits_noted k cs ds own own' f few e note =
           (arith, few, ap (λ l. letvars (sequence l)) e),
     )
 
--- the first of the commands from a place on is noted and within the limits
+-- The first of the commands from a place on is noted and within the limits.
 pub still_fits_one : (own : Locations) (k n : ℕ) (cs : List Cmd) (i : ℕ) (c : Cmd) → i < length cs →
     c ≡ get_or cs i c →
     StillFits own k n (sequence (drop i cs)) → StillFits own k n (command c)
@@ -246,7 +246,7 @@ still_fits_one own k n cs i c lt is f =
     let g = from_place (StillFits own k n) cs i c lt is f in
     (g.0.0, g.1.0, omega (arith, g.2))
 
--- those behind it are noted and within the limits
+-- Those behind it are noted and within the limits.
 pub still_fits_rest : (own : Locations) (k n n' : ℕ) (cs : List Cmd) (i : ℕ) (c : Cmd) → i < length cs →
     c ≡ get_or cs i c → n' ≡ n + letvars (command c) → StillFits own k n (sequence (drop i cs)) →
     StillFits own k n' (sequence (drop (i + 1) cs))
@@ -254,7 +254,7 @@ still_fits_rest own k n n' cs i c lt is e f =
     let g = from_place (StillFits own k n) cs i c lt is f in
     (g.0.1, subst (λ m. Tells own k m (sequence (drop (i + 1) cs))) (sym e) g.1.1, omega (arith, g.2, e))
 
--- the branches of an `if` are noted and within the limits
+-- The branches of an `if` are noted and within the limits.
 pub still_fits_if : (own : Locations) (k n : ℕ) (c : Cmd) (e : Ex) (y z : Vec Cmd Global) → c ≡ If e y z →
     StillFits own k n (command c) →
     StillFits own k n (sequence y.items) × StillFits own k (n + letvars (sequence y.items)) (sequence z.items)
@@ -262,14 +262,14 @@ still_fits_if own k n c e y z is f =
     let g = subst (StillFits own k n) (ap command is ∙ command_If e y z) f in
     ((g.0.1, g.1.0, omega (arith, g.2)), (g.0.2, g.1.1, omega (arith, g.2)))
 
--- the body of a loop is noted and within the limits
+-- The body of a loop is noted and within the limits.
 pub still_fits_while : (own : Locations) (k n : ℕ) (c : Cmd) (e : Ex) (b : Vec Cmd Global) → c ≡ While e b →
     StillFits own k n (command c) → StillFits own k n (sequence b.items)
 still_fits_while own k n c e b is f =
     let g = subst (StillFits own k n) (ap command is ∙ command_While e b) f in
     (g.0.1, g.1, g.2)
 
--- a letvar's location, number and body are noted and within the limits
+-- A letvar's location, number and body are noted and within the limits.
 pub still_fits_letvar : (own : Locations) (k n : ℕ) (c : Cmd) (e : Ex) (b : Vec Cmd Global) → c ≡ Letvar e b →
     StillFits own k n (command c) →
     (k < 1024) × (n < 1024) × (own n ≡ all_reads (sequence b.items) k) × StillFits own (k + 1) (n + 1)

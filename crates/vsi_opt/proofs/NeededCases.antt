@@ -13,7 +13,7 @@ use Rattle.vsi_opt.specs.Liveness.{Locations, joined, with_bit, reads, all_reads
 use Rattle.vsi_opt.proofs.FoldingCases.{one_if, one_while, one_letvar}
 use Rattle.vsi_opt.proofs.ReadingCases.{joined_twice}
 
--- a command pushed to a list that is kept in reverse stands before it
+-- A command pushed to a list that is kept in reverse stands before it.
 pub pushed_front : (out out' : List Cmd) (x : Cmd) (d : Command) → out' ≡ out ++ x ∷ [] → one (command x) ≡ d →
     sequence (reverse out') ≡ append d (sequence (reverse out))
 pushed_front out out' x d e f =
@@ -21,23 +21,23 @@ pushed_front out out' x d e f =
     ∙ ap sequence (reverse-append out (x ∷ []))
     ∙ ap (λ y. append y (sequence (reverse out))) f
 
--- an `if` with an equal guard, over branches that are known
+-- An `if` with an equal guard, over branches that are known.
 pub same_if : (v e : Ex) (y n : Vec Cmd Global) (a b : Command) → phrase v ≡ phrase e → sequence y.items ≡ a →
     sequence n.items ≡ b → one (command (If v y n)) ≡ one (Choose (phrase e) a b)
 same_if v e y n a b p f g = one_if v y n a b f g ∙ ap (λ x. one (Choose x a b)) p
 
--- a loop with an equal guard, over a body that is known
+-- A loop with an equal guard, over a body that is known.
 pub same_while : (v e : Ex) (b : Vec Cmd Global) (a : Command) → phrase v ≡ phrase e → sequence b.items ≡ a →
     one (command (While v b)) ≡ one (Repeat (phrase e) a)
 same_while v e b a p f = one_while v b a f ∙ ap (λ x. one (Repeat x a)) p
 
--- a letvar with an equal initial value, over a body that is known
+-- A letvar with an equal initial value, over a body that is known.
 pub same_letvar : (v e : Ex) (b : Vec Cmd Global) (a : Command) → phrase v ≡ phrase e → sequence b.items ≡ a →
     one (command (Letvar v b)) ≡ one (Allocate (phrase e) a)
 same_letvar v e b a p f = one_letvar v b a f ∙ ap (λ x. one (Allocate x a)) p
 
 module _ (g k : ℕ) (live : Locations) where
-  -- an assignment to a live location stays, which takes the location out and adds what is read
+  -- An assignment to a live location stays, which takes the location out and adds what is read.
   pub needed_stays : (c x : Cmd) (l : ℕ) (s : Span) (e : Ex) (out out' : List Cmd) (b : Bool) (t a : Locations) →
       c ≡ Assign l s e → command x ≡ Put l s (phrase e) → b ≡ live l → b ≡ true → t ≡ taken g l live →
       a ≡ joined t (reads (phrase e)) → out' ≡ out ++ x ∷ [] →
@@ -53,7 +53,7 @@ module _ (g k : ℕ) (live : Locations) where
         ∙ ap (λ y. cond y (joined (taken g l live) (reads (phrase e))) live) (sym f ∙ h)),
   )
 
-  -- an `if` without the dead assignments of its branches
+  -- An `if` without the dead assignments of its branches.
   pub needed_if : (c : Cmd) (e v : Ex) (y n y' n' : Vec Cmd Global) (ys ns out out' : List Cmd) → c ≡ If e y n →
       ys ≡ y.items → ns ≡ n.items → phrase v ≡ phrase e → sequence y'.items ≡ needed g k (sequence ys) live →
       sequence n'.items ≡ needed g k (sequence ns) live → out' ≡ out ++ If v y' n' ∷ [] → sequence (reverse out') ≡
@@ -64,7 +64,7 @@ module _ (g k : ℕ) (live : Locations) where
       ∙ ap (λ l. needed g k (sequence l) live) in')
       ∙ sym (ap (λ x. needed g k (command x) live) is ∙ ap (λ x. needed g k x live) (command_If e y n)))
 
-  -- what is live before an `if`
+  -- What is live before an `if`.
   pub before_if : (c : Cmd) (e : Ex) (y n : Vec Cmd Global) (ys ns : List Cmd) (l o j a : Locations) →
       c ≡ If e y n → ys ≡ y.items → ns ≡ n.items → l ≡ before g k (sequence ys) live → o ≡ before g k (sequence ns)
       live → j ≡ joined l o → a ≡ joined j (reads (phrase e)) → a ≡ before g k (command c) live
@@ -75,7 +75,7 @@ module _ (g k : ℕ) (live : Locations) where
       ∙ ap (joined (before g k (sequence y.items) live)) (eo ∙ ap (λ l. before g k (sequence l) live) in'))
       ∙ sym (ap (λ x. before g k (command x) live) is ∙ ap (λ x. before g k x live) (command_If e y n))
 
-  -- what is live before a loop
+  -- What is live before a loop.
   pub before_while : (c : Cmd) (e : Ex) (b : Vec Cmd Global) (bs : List Cmd) (r a : Locations) → c ≡ While e b →
       bs ≡ b.items → r ≡ joined live (reads (phrase e)) → a ≡ joined r (all_reads (sequence bs)) → a ≡ before g k
       (command c) live
@@ -84,7 +84,7 @@ module _ (g k : ℕ) (live : Locations) where
       ∙ ap (λ l. throughout (phrase e) (sequence l) live) ib
       ∙ sym (ap (λ x. before g k (command x) live) is ∙ ap (λ x. before g k x live) (command_While e b))
 
-  -- a loop without the dead assignments of its body
+  -- A loop without the dead assignments of its body.
   pub needed_while : (c : Cmd) (e v : Ex) (b b' : Vec Cmd Global) (bs' out out' : List Cmd) (a : Locations) →
       c ≡ While e b → bs' ≡ b.items → phrase v ≡ phrase e → a ≡ before g k (command c) live → sequence b'.items ≡
       still k (sequence bs') a → out' ≡ out ++ While v b' ∷ [] → sequence (reverse out') ≡ append
@@ -97,7 +97,7 @@ module _ (g k : ℕ) (live : Locations) where
       ∙ ap (λ x. before g k x live) (command_While e b)))
       ∙ sym (ap (λ x. needed g k (command x) live) is ∙ ap (λ x. needed g k x live) (command_While e b)))
 
-  -- a letvar without the dead assignments of its body
+  -- A letvar without the dead assignments of its body.
   pub needed_letvar : (c : Cmd) (e v : Ex) (b b' : Vec Cmd Global) (bs out out' : List Cmd) (a : Locations) →
       c ≡ Letvar e b → bs ≡ b.items → phrase v ≡ phrase e → a ≡ with_bit live k false → sequence b'.items ≡ needed
       g (k + 1) (sequence bs) a → out' ≡ out ++ Letvar v b' ∷ [] → sequence (reverse out') ≡ append
@@ -108,7 +108,7 @@ module _ (g k : ℕ) (live : Locations) where
       ∙ ap (needed g (k + 1) (sequence b.items)) ea)
       ∙ sym (ap (λ x. needed g k (command x) live) is ∙ ap (λ x. needed g k x live) (command_Letvar e b)))
 
-  -- what is live before a letvar
+  -- What is live before a letvar.
   pub before_letvar : (c : Cmd) (e : Ex) (b : Vec Cmd Global) (bs : List Cmd) (a n r d : Locations) →
       c ≡ Letvar e b → bs ≡ b.items → a ≡ with_bit live k false → n ≡ before g (k + 1) (sequence bs) a → r ≡
       with_bit n k false → d ≡ joined r (reads (phrase e)) → d ≡ before g k (command c) live

@@ -14,43 +14,43 @@ use Rattle.vsi_opt.specs.Folding.{folded, truth_of}
 use Rattle.vsi_opt.specs.Remaining.{may_be_true, may_be_false, list_if, remaining, HasEntries, Picks, PicksIf}
 use Rattle.vsi_scope.proofs.Views.{command_If, command_While, command_Letvar}
 
--- the letvars of an `if` are those of its branches
+-- The letvars of an `if` are those of its branches.
 pub letvars_if : (c : Cmd) (e : Ex) (y n : Vec Cmd Global) → c ≡ If e y n →
     letvars (command c) ≡ letvars (sequence y.items) + letvars (sequence n.items)
 letvars_if c e y n is = ap (λ x. letvars (command x)) is ∙ ap letvars (command_If e y n)
 
--- the letvars of a loop are those of its body
+-- The letvars of a loop are those of its body.
 pub letvars_while : (c : Cmd) (e : Ex) (b : Vec Cmd Global) → c ≡ While e b →
     letvars (command c) ≡ letvars (sequence b.items)
 letvars_while c e b is = ap (λ x. letvars (command x)) is ∙ ap letvars (command_While e b)
 
--- a letvar is one more than those of its body
+-- A letvar is one more than those of its body.
 pub letvars_letvar : (c : Cmd) (e : Ex) (b : Vec Cmd Global) → c ≡ Letvar e b →
     letvars (command c) ≡ letvars (sequence b.items) + 1
 letvars_letvar c e b is = ap (λ x. letvars (command x)) is ∙ ap letvars (command_Letvar e b)
 
--- the letvars from a command on are its own and those behind it
+-- The letvars from a command on are its own and those behind it.
 pub letvars_from : (cs : List Cmd) (i : ℕ) (c : Cmd) → i < length cs → c ≡ get_or cs i c →
     letvars (sequence (drop i cs)) ≡ letvars (command c) + letvars (sequence (drop (i + 1) cs))
 letvars_from cs i c lt is =
     ap (λ l. letvars (sequence l)) (drop_more cs i c lt)
     ∙ ap (λ x. letvars (command x) + letvars (sequence (drop (i + 1) cs))) (sym is)
 
--- past the end there are none
+-- Past the end there are none.
 pub letvars_end : (cs : List Cmd) (i : ℕ) → length cs ≤ i → letvars (sequence (drop i cs)) ≡ 0
 letvars_end cs i le = ap (λ l. letvars (sequence l)) (drop_all i cs le)
 
--- two lists joined to a third
+-- Two lists joined to a third.
 joined_lists : (xs ys zs : List ℕ) → (xs ++ ys) ++ zs ≡ xs ++ (ys ++ zs)
 joined_lists [] ys zs = refl
 joined_lists (x ∷ xs) ys zs = ap (λ l. x ∷ l) (joined_lists xs ys zs)
 
--- the empty list joined to a list
+-- The empty list joined to a list.
 pub joined_nothing : (xs : List ℕ) → xs ++ [] ≡ xs
 joined_nothing [] = refl
 joined_nothing (x ∷ xs) = ap (λ l. x ∷ l) (joined_nothing xs)
 
--- a walk over a list of commands that has gone past one more of them
+-- A walk over a list of commands that has gone past one more of them.
 pub picks_more : (cs : List Cmd) (i : ℕ) (c : Cmd) (n n' : ℕ) (xs xs' : List ℕ) → i < length cs → c ≡ get_or cs i c →
     Picks (command c) n n' xs xs' →
     xs' ++ remaining (sequence (drop (i + 1) cs)) n' ≡ xs ++ remaining (sequence (drop i cs)) n
@@ -62,12 +62,12 @@ picks_more cs i c n n' xs xs' lt is p =
     ∙ ap (λ x. xs ++ (remaining (command x) n ++ remaining rest (n + letvars (command x)))) is
     ∙ ap (λ l. xs ++ remaining (sequence l) n) (sym (drop_more cs i c lt))
 
--- a walk over a list of commands that has come to its end
+-- A walk over a list of commands that has come to its end.
 pub picks_end : (cs : List Cmd) (i n : ℕ) (xs : List ℕ) → length cs ≤ i →
     xs ++ remaining (sequence (drop i cs)) n ≡ xs
 picks_end cs i n xs le = ap (λ l. xs ++ remaining (sequence l) n) (drop_all i cs le) ∙ joined_nothing xs
 
--- a walk over an `if` is one over each of its branches
+-- A walk over an `if` is one over each of its branches.
 pub picks_if : (c : Cmd) (e : Ex) (y z : Vec Cmd Global) (ys zs : List Cmd) (b d : Bool) (n n₁ n₂ : ℕ)
     (xs xs₁ xs₂ : List ℕ) → c ≡ If e y z → ys ≡ y.items → zs ≡ z.items →
     b ≡ may_be_true (truth_of (folded (phrase e))) → d ≡ may_be_false (truth_of (folded (phrase e))) →
@@ -98,7 +98,7 @@ picks_if c e y z ys zs b d n n₁ n₂ xs xs₁ xs₂ is iy iz ib id p q =
         (letvars (sequence y.items) + letvars (sequence z.items))
     sums = omega arith
 
--- a walk over a loop is one over its body
+-- A walk over a loop is one over its body.
 pub picks_while : (c : Cmd) (e : Ex) (b : Vec Cmd Global) (bs : List Cmd) (t : Bool) (n n' : ℕ) (xs xs' : List ℕ) →
     c ≡ While e b → bs ≡ b.items → t ≡ may_be_true (truth_of (folded (phrase e))) →
     PicksIf t (sequence bs) n n' xs xs' → Picks (command c) n n' xs xs'
@@ -110,7 +110,7 @@ picks_while c e b bs t n n' xs xs' is ib it p =
           ∙ ap (λ u. xs ++ list_if u (remaining (sequence b.items) n)) it,
     )
 
--- a walk over a letvar adds its own number, and is then one over its body
+-- A walk over a letvar adds its own number, and is then one over its body.
 pub picks_letvar : (c : Cmd) (e : Ex) (b : Vec Cmd Global) (bs : List Cmd) (n n' : ℕ) (xs xs₁ xs' : List ℕ) →
     c ≡ Letvar e b → bs ≡ b.items → xs₁ ≡ xs ++ n ∷ [] → Picks (sequence bs) (n + 1) n' xs₁ xs' →
     Picks (command c) n n' xs xs'
@@ -126,12 +126,12 @@ picks_letvar c e b bs n n' xs xs₁ xs' is ib push p =
     sums : n + 1 + letvars (sequence b.items) ≡ n + (letvars (sequence b.items) + 1)
     sums = omega arith
 
--- a list that remains or goes keeps what holds of its elements
+-- A list that remains or goes keeps what holds of its elements.
 list_if_all : (P : ℕ → Type 0) (b : Bool) (xs : List ℕ) → All P xs → All P (list_if b xs)
 list_if_all P true xs h = h
 list_if_all P false xs h = λ k d lt. absurd (omega (arith, lt))
 
--- the numbers of the letvars that remain are those of the command's letvars
+-- The numbers of the letvars that remain are those of the command's letvars.
 pub remaining_below : (c : Command) (n k : ℕ) → n + letvars c ≤ k → All (λ i. i < k) (remaining c n)
 remaining_below Nothing n k le = λ i d lt. absurd (omega (arith, lt))
 remaining_below (Put l s e) n k le = λ i d lt. absurd (omega (arith, lt))
@@ -152,7 +152,7 @@ remaining_below (Allocate e c) n k le =
     All-cons (λ i. i < k) n (remaining c (n + 1)) (omega (arith, le))
     (remaining_below c (n + 1) k (omega (arith, le)))
 
--- each number that a walk has added has an entry
+-- Each number that a walk has added has an entry.
 pub number_below : (ns ms old : List ℕ) (c : Command) (k i : ℕ) → ns ≡ ms → ms ≡ old ++ remaining c 0 → old ≡ [] →
     letvars c ≤ k → i < length ns → get_or ns i 0 < k
 number_below ns ms old c k i is added none le lt =
@@ -160,13 +160,13 @@ number_below ns ms old c k i is added none le lt =
     subst (λ l. get_or l i 0 < k) (sym e)
     (remaining_below c 0 k (omega (arith, le)) i 0 (subst (λ l. i < length l) e lt))
 
--- the part of a list with one entry
+-- The part of a list with one entry.
 one_entry : (xs : List Entry) (n : ℕ) → n < length xs → map Some (take 1 (drop n xs)) ≡ slice_get xs n ∷ []
 one_entry [] n lt = absurd (omega (arith, lt))
 one_entry (x ∷ xs) zero lt = refl
 one_entry (x ∷ xs) (suc n) lt = one_entry xs n (omega (arith, lt))
 
--- a walk over numbers that has added the entry of one more
+-- A walk over numbers that has added the entry of one more.
 pub entries_more : (xs ys ys' : List Entry) (ns : List ℕ) (i : ℕ) → i < length ns → get_or ns i 0 < length xs →
     ys' ≡ ys ++ slice_range xs (get_or ns i 0) (get_or ns i 0 + 1) → HasEntries ys xs (take i ns) →
     HasEntries ys' xs (take (i + 1) ns)
@@ -181,7 +181,7 @@ entries_more xs ys ys' ns i lt below more has =
     ∙ sym (map-append (slice_get xs) (take i ns) (n ∷ []))
     ∙ ap (map (slice_get xs)) (sym (take_more ns i 0 lt))
 
--- a walk over numbers that has come to its end
+-- A walk over numbers that has come to its end.
 pub entries_end : (xs ys : List Entry) (ns ms old : List ℕ) (c : Command) (i : ℕ) → ns ≡ ms →
     ms ≡ old ++ remaining c 0 →
     old ≡ [] → length ns ≤ i → HasEntries ys xs (take i ns) → HasEntries ys xs (remaining c 0)

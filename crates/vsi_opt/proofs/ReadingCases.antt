@@ -13,65 +13,65 @@ use Rattle.vsi_opt.specs.Liveness.{Locations, joined, with_bit, reads, all_reads
 use Rattle.vsi_opt.specs.Ranges.{Fits}
 use Rattle.vsi_opt.proofs.Sequences.{append_append, append_nothing}
 
--- three tests joined, in either order
+-- Three tests joined, in either order.
 or_or : (x y z : Bool) → ((x || y) || z) ≡ (x || (y || z))
 or_or true y z = refl
 or_or false y z = refl
 
--- nothing more is joined
+-- Nothing more is joined.
 or_false : (x : Bool) → (x || false) ≡ x
 or_false true = refl
 or_false false = refl
 
--- a number put in is there
+-- A number put in is there.
 or_bit : (x b : Bool) → (x || b) ≡ cond b true x
 or_bit true true = refl
 or_bit true false = refl
 or_bit false true = refl
 or_bit false false = refl
 
--- three sets joined, in either order
+-- Three sets joined, in either order.
 pub joined_joined : (a b c : Locations) → joined (joined a b) c ≡ joined a (joined b c)
 joined_joined a b c = λ i l. or_or (a l) (b l) (c l) i
 
--- the empty command reads nothing more
+-- The empty command reads nothing more.
 pub joined_nothing : (a : Locations) → joined a (all_reads Nothing) ≡ a
 joined_nothing a = λ i l. or_false (a l) i
 
--- what a location alone reads is put in
+-- What a location alone reads is put in.
 pub joined_one : (a : Locations) (k : ℕ) (s : Span) → joined a (reads (Contents k s)) ≡ with_bit a k true
 joined_one a k s = λ i l. or_bit (a l) (eqb l k) i
 
--- two sets added one after the other
+-- Two sets added one after the other.
 pub joined_twice : (o a b n₁ n₂ : Locations) → n₁ ≡ joined o a → n₂ ≡ joined n₁ b → n₂ ≡ joined o (joined a b)
 joined_twice o a b n₁ n₂ e f = f ∙ ap (λ x. joined x b) e ∙ joined_joined o a b
 
--- three sets added one after the other
+-- Three sets added one after the other.
 pub joined_thrice : (o a b d n₁ n₂ n₃ : Locations) → n₁ ≡ joined o a → n₂ ≡ joined n₁ b → n₃ ≡ joined n₂ d →
     n₃ ≡ joined o (joined a (joined b d))
 joined_thrice o a b d n₁ n₂ n₃ e f g = joined_twice n₁ b d n₂ n₃ f g ∙ ap (λ x. joined x (joined b d)) e
     ∙ joined_joined o a (joined b d)
 
--- the parts of an `if` are within the limits
+-- The parts of an `if` are within the limits.
 pub fits_if : (k : ℕ) (c : Cmd) (e : Ex) (y n : Vec Cmd Global) → c ≡ If e y n → Fits k (command c) →
     HasLocations 1024 (phrase e) × Fits k (sequence y.items) × Fits k (sequence n.items)
 fits_if k c e y n is f = subst (Fits k) (ap command is ∙ command_If e y n) f
 
--- the parts of a loop are within the limits
+-- The parts of a loop are within the limits.
 pub fits_while : (k : ℕ) (c : Cmd) (e : Ex) (b : Vec Cmd Global) → c ≡ While e b → Fits k (command c) →
     HasLocations 1024 (phrase e) × Fits k (sequence b.items) × (letvars (sequence b.items) ≤ 1024)
 fits_while k c e b is f = subst (Fits k) (ap command is ∙ command_While e b) f
 
--- a letvar and its parts are within the limits
+-- A letvar and its parts are within the limits.
 pub fits_letvar : (k : ℕ) (c : Cmd) (e : Ex) (b : Vec Cmd Global) → c ≡ Letvar e b → Fits k (command c) →
     (k < 1024) × HasLocations 1024 (phrase e) × Fits (k + 1) (sequence b.items)
 fits_letvar k c e b is f = subst (Fits k) (ap command is ∙ command_Letvar e b) f
 
--- a list of commands equal to one within the limits is within them
+-- A list of commands equal to one within the limits is within them.
 pub fits_list : (k : ℕ) (cs ds : List Cmd) → ds ≡ cs → Fits k (sequence cs) → Fits k (sequence ds)
 fits_list k cs ds e f = subst (λ l. Fits k (sequence l)) (sym e) f
 
--- each command of a list within the limits is within them
+-- Each command of a list within the limits is within them.
 pub fits_at : (k : ℕ) (cs : List Cmd) (i : ℕ) (c : Cmd) → i < length cs → c ≡ get_or cs i c →
     Fits k (sequence cs) → Fits k (command c)
 fits_at k cs i c lt is f =
@@ -87,7 +87,7 @@ fits_at k cs i c lt is f =
     fits_drop (c ∷ cs) zero f = f
     fits_drop (c ∷ cs) (suc i) f = fits_drop cs i f.1
 
--- removal in a loop goes over one command more
+-- Removal in a loop goes over one command more.
 pub still_more : (k : ℕ) (live : Locations) (cs out out' : List Cmd) (i : ℕ) (c : Cmd) → i < length cs →
     c ≡ get_or cs i c → sequence out' ≡ append (sequence out) (still k (command c) live) → append (sequence out')
     (still k (sequence (drop (i + 1) cs)) live) ≡ append (sequence out) (still k (sequence (drop i cs)) live)
@@ -98,7 +98,7 @@ still_more k live cs out out' i c lt is e =
     (still k (sequence (drop (i + 1) cs)) live))) is
     ∙ ap (λ l. append (sequence out) (still k (sequence l) live)) (sym (drop_more cs i c lt))
 
--- at the end of a list nothing more is added
+-- At the end of a list nothing more is added.
 pub still_end : (k : ℕ) (live : Locations) (cs out : List Cmd) (i : ℕ) → length cs ≤ i →
     append (sequence out) (still k (sequence (drop i cs)) live) ≡ sequence out
 still_end k live cs out i le = ap (λ l. append (sequence out) (still k (sequence l) live)) (drop_all i cs le)

@@ -14,7 +14,7 @@ use Rattle.vsi_opt.proofs.Remains.{optimised_remains}
 use Rattle.vsi_opt.proofs.Kept.{append_letvars, needed_letvars, fold_letvars, not_larger, nothing_to_fold, places_kept}
 use Rattle.vsi_opt.proofs.LiveRuns.{evaluates_same}
 
--- a folded choice has as many letvars as numbers remain of its branches
+-- A folded choice has as many letvars as numbers remain of its branches.
 branch_count : (t : Option Bool) (e : Phrase) (a b : Command) (xs ys : List ℕ) →
     length xs ≡ letvars a → length ys ≡ letvars b →
     length (list_if (may_be_true t) xs ++ list_if (may_be_false t) ys) ≡ letvars (branch t e a b)
@@ -22,14 +22,14 @@ branch_count (Some true) e a b xs ys p q = omega (arith, length-append xs [], p)
 branch_count (Some false) e a b xs ys p q = q
 branch_count None e a b xs ys p q = omega (arith, length-append xs ys, p, q)
 
--- a folded loop has as many letvars as numbers remain of its body
+-- A folded loop has as many letvars as numbers remain of its body.
 loop_count : (t : Option Bool) (e : Phrase) (c : Command) (xs : List ℕ) →
     length xs ≡ letvars c → length (list_if (may_be_true t) xs) ≡ letvars (loop t e c)
 loop_count (Some true) e c xs p = omega (arith, p)
 loop_count (Some false) e c xs p = refl
 loop_count None e c xs p = omega (arith, p)
 
--- folding leaves as many letvars as numbers remain
+-- Folding leaves as many letvars as numbers remain.
 remaining_count : (c : Command) (n : ℕ) → length (remaining c n) ≡ letvars (fold c)
 remaining_count Nothing n = refl
 remaining_count (Put l s e) n = refl
@@ -44,7 +44,7 @@ remaining_count (Repeat e c) n =
     loop_count (truth_of (folded e)) (folded e) (fold c) (remaining c n) (remaining_count c n)
 remaining_count (Allocate e c) n = omega (arith, remaining_count c (n + 1))
 
--- the entries that remain are as many as the optimised body's letvars
+-- The entries that remain are as many as the optimised body's letvars.
 entries_count : (xs ys : List Entry) (c : Command) (g : ℕ) → HasEntries ys xs (remaining c 0) →
     length ys ≡ letvars (optimised g c)
 entries_count xs ys c g has =
@@ -54,11 +54,11 @@ entries_count xs ys c g has =
     ∙ remaining_count c 0
     ∙ sym (needed_letvars (fold c) g g (globals_alone g))
 
--- the optimised body has no more letvars
+-- The optimised body has no more letvars.
 optimised_letvars : (c : Command) (g : ℕ) → letvars (optimised g c) ≤ letvars c
 optimised_letvars c g = omega (arith, needed_letvars (fold c) g g (globals_alone g), fold_letvars c)
 
--- a program with the optimised body and the entries that remain keeps what a resolved program keeps
+-- A program with the optimised body and the entries that remain keeps what a resolved program keeps.
 pub rebuilt_resolved : (p : Source) (ys : List Entry) (cs : List Cmd) → IsResolved p →
     HasEntries ys p.letvars (remaining (sequence p.body) 0) →
     sequence cs ≡ optimised (length p.globals) (sequence p.body) → IsResolved (source p.globals ys cs)
@@ -78,32 +78,32 @@ rebuilt_resolved p ys cs r has is =
       named = r.named;
     }
 
--- the rebuilt program has the optimised body
+-- The rebuilt program has the optimised body.
 pub rebuilt_body : (p r : Source) (ys : List Entry) (cs : List Cmd) → r ≡ source p.globals ys cs →
     sequence cs ≡ optimised (length p.globals) (sequence p.body) →
     sequence r.body ≡ optimised (length r.globals) (sequence p.body)
 rebuilt_body p r ys cs is body =
     subst (λ x. sequence x.body ≡ optimised (length x.globals) (sequence p.body)) (sym is) body
 
--- a program with the optimised body does what the program does
+-- A program with the optimised body does what the program does.
 pub rebuilt_runs : (p r : Source) → sequence r.body ≡ optimised (length r.globals) (sequence p.body) →
     RunsAlike (length r.globals) (sequence r.body) (sequence p.body)
 rebuilt_runs p r is =
     let g = length r.globals in
     subst (λ x. RunsAlike g x (sequence p.body)) (sym is) (evaluates_same (sequence p.body) g)
 
--- a program with the optimised body isn't larger
+-- A program with the optimised body isn't larger.
 pub rebuilt_size : (p r : Source) → sequence r.body ≡ optimised (length r.globals) (sequence p.body) →
     size (sequence r.body) ≤ size (sequence p.body)
 rebuilt_size p r is =
     subst (λ x. size x ≤ size (sequence p.body)) (sym is) ((not_larger (sequence p.body) (length r.globals)).0)
 
--- in a program with the optimised body nothing is left to fold
+-- In a program with the optimised body nothing is left to fold.
 pub rebuilt_folded : (p r : Source) → sequence r.body ≡ optimised (length r.globals) (sequence p.body) →
     IsFolded (sequence r.body)
 rebuilt_folded p r is = subst IsFolded (sym is) (nothing_to_fold (sequence p.body) (length r.globals))
 
--- a program with the optimised body has what remains of the program's
+-- A program with the optimised body has what remains of the program's.
 pub rebuilt_remains : (p r : Source) → IsResolved p → r.globals ≡ p.globals →
     sequence r.body ≡ optimised (length r.globals) (sequence p.body) → IsRemainder p r
 rebuilt_remains p r resolved same is =

@@ -12,15 +12,15 @@ use Rattle.vsi_opt.proofs.LiveRuns.{bit_same, bit_other}
 use Rattle.vsi_opt.proofs.Numbers.{joined_nothing}
 use Rattle.vsi_opt.proofs.Sequences.{append_append}
 
--- a set that is within another as far as the first k locations go
+-- A set that is within another as far as the first k locations go.
 abbrev pub WithinFirst : ℕ → Locations → Locations → Type 0
 WithinFirst k a b = (l : ℕ) → l < k → a l ≡ true → b l ≡ true
 
--- a set that has the first g locations
+-- A set that has the first g locations.
 abbrev pub HasFirst : ℕ → Locations → Type 0
 HasFirst g a = (l : ℕ) → l < g → a l ≡ true
 
--- removal in a loop goes over the parts of a sequence
+-- Removal in a loop goes over the parts of a sequence.
 still_append : (x y : Command) (k : ℕ) (live : Locations) →
     still k (append x y) live ≡ append (still k x live) (still k y live)
 still_append Nothing y k live = refl
@@ -32,7 +32,7 @@ still_append (Choose e a c) y k live = refl
 still_append (Repeat e c) y k live = refl
 still_append (Allocate e c) y k live = refl
 
--- what is live before a sequence is what is live before its first part
+-- What is live before a sequence is what is live before its first part.
 before_append : (x y : Command) (g k : ℕ) (live : Locations) →
     before g k (append x y) live ≡ before g k x (before g k y live)
 before_append Nothing y g k live = refl
@@ -42,7 +42,7 @@ before_append (Choose e a c) y g k live = refl
 before_append (Repeat e c) y g k live = refl
 before_append (Allocate e c) y g k live = refl
 
--- removal goes over the parts of a sequence from its end
+-- Removal goes over the parts of a sequence from its end.
 needed_append : (x y : Command) (g k : ℕ) (live : Locations) →
     needed g k (append x y) live ≡ append (needed g k x (before g k y live)) (needed g k y live)
 needed_append Nothing y g k live = refl
@@ -56,7 +56,7 @@ needed_append (Choose e a c) y g k live = refl
 needed_append (Repeat e c) y g k live = refl
 needed_append (Allocate e c) y g k live = refl
 
--- a folded operator reads no more
+-- A folded operator reads no more.
 operator_reads : (o : Op) (a b : Phrase) (l : ℕ) → reads (fold_operator o a b) l ≡ true →
     (reads a l || reads b l) ≡ true
 operator_reads o (Literal x) (Literal y) l h = absurd (false≢true h)
@@ -65,11 +65,11 @@ operator_reads o (Literal x) (Apply p c d) l h = h
 operator_reads o (Contents m s) b l h = h
 operator_reads o (Apply p c d) b l h = h
 
--- two tests that give two others
+-- Two tests that give two others.
 or_both : (a b a' b' : Bool) → (a ≡ true → a' ≡ true) → (b ≡ true → b' ≡ true) → (a || b) ≡ true → (a' || b') ≡ true
 or_both a b a' b' f g h = ⊎_elim (λ x. or_left a' b' (f x)) (λ y. or_right a' b' (g y)) (or_cases a b h)
 
--- a folded expression reads no more
+-- A folded expression reads no more.
 folded_reads : (e : Phrase) (l : ℕ) → reads (folded e) l ≡ true → reads e l ≡ true
 folded_reads (Literal n) l h = h
 folded_reads (Contents m s) l h = h
@@ -77,7 +77,7 @@ folded_reads (Apply o a b) l h =
     or_both (reads (folded a) l) (reads (folded b) l) (reads a l) (reads b l) (folded_reads a l) (folded_reads b l)
     (operator_reads o (folded a) (folded b) l h)
 
--- the parts of a sequence read what it reads
+-- The parts of a sequence read what it reads.
 append_reads : (x y : Command) (l : ℕ) → all_reads (append x y) l ≡ true → (all_reads x l || all_reads y l) ≡ true
 append_reads Nothing y l h = h
 append_reads (Put m s e) y l h = h
@@ -91,12 +91,12 @@ append_reads (Choose e a c) y l h = h
 append_reads (Repeat e c) y l h = h
 append_reads (Allocate e c) y l h = h
 
--- the sequence of one command reads what it reads
+-- The sequence of one command reads what it reads.
 one_reads : (b : Bool) → (b || false) ≡ true → b ≡ true
 one_reads true h = refl
 one_reads false h = h
 
--- a folded choice reads no more than its parts
+-- A folded choice reads no more than its parts.
 branch_reads : (t : Option Bool) (e : Phrase) (a b : Command) (l : ℕ) → all_reads (branch t e a b) l ≡ true →
     (reads e l || (all_reads a l || all_reads b l)) ≡ true
 branch_reads (Some true) e a b l h =
@@ -105,14 +105,14 @@ branch_reads (Some false) e a b l h =
     or_right (reads e l) (all_reads a l || all_reads b l) (or_right (all_reads a l) (all_reads b l) h)
 branch_reads None e a b l h = one_reads (reads e l || (all_reads a l || all_reads b l)) h
 
--- a folded loop reads no more than its parts
+-- A folded loop reads no more than its parts.
 loop_reads : (t : Option Bool) (e : Phrase) (c : Command) (l : ℕ) → all_reads (loop t e c) l ≡ true →
     (reads e l || all_reads c l) ≡ true
 loop_reads (Some true) e c l h = one_reads (reads e l || all_reads c l) h
 loop_reads (Some false) e c l h = absurd (false≢true h)
 loop_reads None e c l h = one_reads (reads e l || all_reads c l) h
 
--- a folded command reads no more
+-- A folded command reads no more.
 fold_reads : (c : Command) (l : ℕ) → all_reads (fold c) l ≡ true → all_reads c l ≡ true
 fold_reads Nothing l h = h
 fold_reads (Put m s e) l h = folded_reads e l (one_reads (reads (folded e) l) h)
@@ -136,7 +136,7 @@ fold_reads (Allocate e c) l h =
     (fold_reads c l)
     (one_reads (reads (folded e) l || all_reads (fold c) l) h)
 
--- a location that is in a set without another is in the set
+-- A location that is in a set without another is in the set.
 bit_within : (live : Locations) (k l : ℕ) → with_bit live k false l ≡ true → live l ≡ true
 bit_within live k l h =
     ⊎_elim
@@ -144,7 +144,7 @@ bit_within live k l h =
     (λ other. sym (bit_other live k false l other) ∙ h)
     (cases_eq l k)
 
--- what an assignment leaves live was live
+-- What an assignment leaves live was live.
 taken_within : (g k : ℕ) (live : Locations) (l : ℕ) → taken g k live l ≡ true → live l ≡ true
 taken_within g k live l h = go (ltb k g) h
   where
@@ -152,7 +152,7 @@ taken_within g k live l h = go (ltb k g) h
     go true x = x
     go false x = bit_within live k l x
 
--- what is live before a command is live after it or is read in it
+-- What is live before a command is live after it or is read in it.
 before_reads : (c : Command) (g k : ℕ) (live : Locations) (l : ℕ) → before g k c live l ≡ true →
     (live l || all_reads c l) ≡ true
 before_reads Nothing g k live l h = or_left (live l) false h
@@ -189,11 +189,11 @@ before_reads (Allocate e c) g k live l h =
     (λ x. or_right (live l) (reads e l || all_reads c l) (or_left (reads e l) (all_reads c l) x))
     (or_cases (with_bit (before g (k + 1) c inner) k false l) (reads e l) h)
 
--- a location below another stays where that one goes
+-- A location below another stays where that one goes.
 bit_first : (live : Locations) (g k : ℕ) (b : Bool) → g ≤ k → HasFirst g live → HasFirst g (with_bit live k b)
 bit_first live g k b le h l lt = bit_other live k b l (λ is. absurd (omega (arith, is, lt, le))) ∙ h l lt
 
--- an assignment leaves the globals live
+-- An assignment leaves the globals live.
 taken_first : (live : Locations) (g k : ℕ) → HasFirst g live → HasFirst g (taken g k live)
 taken_first live g k h l lt =
     ⊎_elim
@@ -205,7 +205,7 @@ taken_first live g k h l lt =
     cases true ne = h l lt
     cases false ne = bit_other live k false l ne ∙ h l lt
 
--- the globals are live before a command where they are live after it
+-- The globals are live before a command where they are live after it.
 before_first : (c : Command) (g k : ℕ) (live : Locations) → g ≤ k → HasFirst g live → HasFirst g (before g k c live)
 before_first Nothing g k live le h = h
 before_first (Put m s e) g k live le h = go (live m)
@@ -224,7 +224,7 @@ before_first (Allocate e c) g k live le h =
     (bit_first (before g (k + 1) c inner) g k false le
     (before_first c g (k + 1) inner (omega (arith, le)) (bit_first live g k false le h)) l lt)
 
--- a guard that is known to be false is literal 0
+-- A guard that is known to be false is literal 0.
 false_is_zero : (e : Phrase) → truth_of e ≡ Some false → e ≡ Literal (pos zero)
 false_is_zero (Literal (pos zero)) h = refl
 false_is_zero (Literal (pos (suc n))) h = absurd
@@ -234,7 +234,7 @@ false_is_zero (Literal (negsuc n)) h = absurd
 false_is_zero (Contents l s) h = absurd (true≢false (ap (λ o. elim o as (λ _. Bool) [ None ↦ true | Some b ↦ b ]) h))
 false_is_zero (Apply o a b) h = absurd (true≢false (ap (λ o. elim o as (λ _. Bool) [ None ↦ true | Some b ↦ b ]) h))
 
--- an assignment stays where its location is live, and goes where it isn't
+-- An assignment stays where its location is live, and goes where it isn't.
 put_remains : (g k l : ℕ) (s : Span) (e : Phrase) (w live : Locations) → l < k → WithinFirst k live w →
     HasFirst g live → AssignmentRemains g w l (Put l s e) (append (kept (live l) (Put l s e)) Nothing)
 put_remains g k l s e w live lt within first = go (live l) refl
@@ -244,7 +244,7 @@ put_remains g k l s e w live lt within first = go (live l) refl
     go false is =
         inr (refl, ⊎_elim (λ low. absurd (false≢true (sym is ∙ first l low))) (λ high. high) (cases_lt l g))
 
--- a choice that is folded, in whose branches removal has been
+-- A choice that is folded, in whose branches removal has been.
 choice_remains : (g k n : ℕ) (w : Locations) (e : Phrase) (a b a' b' : Command) (xs ys : List ℕ) (P : Command →
     Command) →
     ((x y : Command) → P (one (Choose (folded e) x y)) ≡ one (Choose (folded e) (P x) (P y))) →
@@ -258,7 +258,7 @@ choice_remains g k n w e a b a' b' xs ys P over ra rb (Some false) is = inr (inl
 choice_remains g k n w e a b a' b' xs ys P over ra rb None is =
     inr (inr (P a', P b', xs, ys, ra, rb, over a' b', refl))
 
--- a loop that is folded, in whose body removal has been
+-- A loop that is folded, in whose body removal has been.
 loop_remains : (g k n : ℕ) (w : Locations) (e : Phrase) (c d : Command) (xs : List ℕ) (P : Command → Command) →
     P Nothing ≡ Nothing → (c' : Command) → P (one (Repeat (folded e) d)) ≡ one (Repeat (folded e) c') →
     Remains g w k n c c' xs → (t : Option Bool) → truth_of (folded e) ≡ t →
@@ -267,7 +267,7 @@ loop_remains g k n w e c d xs P gone c' over r (Some true) is = inr (c', r, over
 loop_remains g k n w e c d xs P gone c' over r (Some false) is = inl (false_is_zero (folded e) is, gone, refl)
 loop_remains g k n w e c d xs P gone c' over r None is = inr (c', r, over)
 
--- in a loop: what is live there is where assignments may be, and has the globals
+-- In a loop: what is live there is where assignments may be, and has the globals.
 pub still_remains : (c : Command) (g k n : ℕ) (w live : Locations) → g ≤ k → HasPlaces k c → WithinFirst k live w →
     HasFirst g live → Remains g w k n c (still k (fold c) live) (remaining c n)
 still_remains Nothing g k n w live le p within first = (refl, refl)
@@ -308,7 +308,7 @@ still_remains (Allocate e c) g k n w live le p within first =
       refl,
     )
 
--- outside loops: what is live after a command, and what it reads, is where assignments may be
+-- Outside loops: what is live after a command, and what it reads, is where assignments may be.
 pub needed_remains : (c : Command) (g k n : ℕ) (w live : Locations) → g ≤ k → HasPlaces k c → WithinFirst k live w →
     WithinFirst k (all_reads c) w → HasFirst g live → Remains g w k n c (needed g k (fold c) live) (remaining c n)
 needed_remains Nothing g k n w live le p within reading first = (refl, refl)
@@ -375,7 +375,7 @@ needed_remains (Allocate e c) g k n w live le p within reading first =
       refl,
     )
 
--- what remains of a body in the optimised one
+-- What remains of a body in the optimised one.
 pub optimised_remains : (c : Command) (g : ℕ) → HasPlaces g c →
     Remains g (globals_alone g) g 0 c (optimised g c) (remaining c 0)
 optimised_remains c g p =

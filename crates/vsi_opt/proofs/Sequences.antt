@@ -6,7 +6,7 @@ use Rattle.vsi_scope.specs.Phrase.{Command, Nothing, Put, Then, Choose, Repeat, 
 use Rattle.vsi_scope.specs.View.{command, sequence}
 use Rattle.vsi_opt.specs.Folding.{one, append, fold}
 
--- three sequences joined, in either order
+-- Three sequences joined, in either order.
 pub append_append : (a b c : Command) → append (append a b) c ≡ append a (append b c)
 append_append Nothing b c = refl
 append_append (Put l s e) b c = refl
@@ -15,22 +15,22 @@ append_append (Choose e a d) b c = refl
 append_append (Repeat e d) b c = refl
 append_append (Allocate e d) b c = refl
 
--- the empty sequence adds nothing
+-- The empty sequence adds nothing.
 pub append_nothing : (cs : List Cmd) → append (sequence cs) Nothing ≡ sequence cs
 append_nothing [] = refl
 append_nothing (c ∷ cs) = ap (Then (command c)) (append_nothing cs)
 
--- a command pushed to a list stands at the end of its sequence
+-- A command pushed to a list stands at the end of its sequence.
 pub sequence_push : (cs : List Cmd) (c : Cmd) → sequence (cs ++ c ∷ []) ≡ append (sequence cs) (one (command c))
 sequence_push [] c = refl
 sequence_push (d ∷ cs) c = ap (Then (command d)) (sequence_push cs c)
 
--- one command pushed
+-- One command pushed.
 pub pushed : (cs cs' : List Cmd) (x : Cmd) (d : Command) → cs' ≡ cs ++ x ∷ [] → one (command x) ≡ d →
     sequence cs' ≡ append (sequence cs) d
 pushed cs cs' x d e f = ap sequence e ∙ sequence_push cs x ∙ ap (append (sequence cs)) f
 
--- one command folded
+-- One command folded.
 pub fold_more : (cs out out' : List Cmd) (i : ℕ) (c : Cmd) → i < length cs → c ≡ get_or cs i c →
     sequence out' ≡ append (sequence out) (fold (command c)) → append (sequence out')
     (fold (sequence (drop (i + 1) cs))) ≡ append (sequence out) (fold (sequence (drop i cs)))
@@ -40,7 +40,7 @@ fold_more cs out out' i c lt is e =
     ∙ ap (λ x. append (sequence out) (append (fold (command x)) (fold (sequence (drop (i + 1) cs))))) is
     ∙ ap (λ l. append (sequence out) (fold (sequence l))) (sym (drop_more cs i c lt))
 
--- at the end of a list nothing more is folded
+-- At the end of a list nothing more is folded.
 pub fold_end : (cs out : List Cmd) (i : ℕ) → length cs ≤ i →
     append (sequence out) (fold (sequence (drop i cs))) ≡ sequence out
 fold_end cs out i le = ap (λ l. append (sequence out) (fold (sequence l))) (drop_all i cs le) ∙ append_nothing out

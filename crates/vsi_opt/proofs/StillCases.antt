@@ -13,7 +13,7 @@ use Rattle.vsi_opt.proofs.Sequences.{pushed, append_nothing}
 use Rattle.vsi_opt.proofs.NeededCases.{same_if, same_while, same_letvar}
 
 module _ (k : ℕ) (live : Locations) where
-  -- an assignment to a live location stays
+  -- An assignment to a live location stays.
   pub still_stays : (c x : Cmd) (l : ℕ) (s : Span) (e : Ex) (out out' : List Cmd) (b : Bool) → c ≡ Assign l s e →
       command x ≡ Put l s (phrase e) → b ≡ live l → b ≡ true → out' ≡ out ++ x ∷ [] →
       sequence out' ≡ append (sequence out) (still k (command c) live)
@@ -22,7 +22,7 @@ module _ (k : ℕ) (live : Locations) where
       (ap one p
       ∙ sym (ap (λ y. still k (command y) live) is ∙ ap (λ y. kept y (Put l s (phrase e))) (sym f ∙ g)))
 
-  -- an assignment to a location that is not live goes
+  -- An assignment to a location that is not live goes.
   pub still_goes : (c : Cmd) (l : ℕ) (s : Span) (e : Ex) (out : List Cmd) (b : Bool) → c ≡ Assign l s e →
       b ≡ live l → b ≡ false → sequence out ≡ append (sequence out) (still k (command c) live)
   still_goes c l s e out b is f g =
@@ -30,7 +30,7 @@ module _ (k : ℕ) (live : Locations) where
       ∙ ap (append (sequence out)) (sym (ap (λ x. still k (command x) live) is
       ∙ ap (λ x. kept x (Put l s (phrase e))) (sym f ∙ g)))
 
-  -- an `if` in a loop
+  -- An `if` in a loop.
   pub still_if : (c : Cmd) (e v : Ex) (y n y' n' : Vec Cmd Global) (ys ns out out' : List Cmd) → c ≡ If e y n →
       ys ≡ y.items → ns ≡ n.items → phrase v ≡ phrase e → sequence y'.items ≡ still k (sequence ys) live → sequence
       n'.items ≡ still k (sequence ns) live → out' ≡ out ++ If v y' n' ∷ [] → sequence out' ≡ append (sequence out)
@@ -41,7 +41,7 @@ module _ (k : ℕ) (live : Locations) where
       ∙ ap (λ l. still k (sequence l) live) in')
       ∙ sym (ap (λ x. still k (command x) live) is ∙ ap (λ x. still k x live) (command_If e y n)))
 
-  -- a loop in a loop
+  -- A loop in a loop.
   pub still_while : (c : Cmd) (e v : Ex) (b b' : Vec Cmd Global) (bs out out' : List Cmd) → c ≡ While e b →
       bs ≡ b.items → phrase v ≡ phrase e → sequence b'.items ≡ still k (sequence bs) live → out' ≡ out ++ While v
       b' ∷ [] → sequence out' ≡ append (sequence out) (still k (command c) live)
@@ -50,7 +50,7 @@ module _ (k : ℕ) (live : Locations) where
       (same_while v e b' _ p (f ∙ ap (λ l. still k (sequence l) live) ib)
       ∙ sym (ap (λ x. still k (command x) live) is ∙ ap (λ x. still k x live) (command_While e b)))
 
-  -- a letvar, within which its own variable is live where its scope reads it
+  -- A letvar, within which its own variable is live where its scope reads it.
   pub still_letvar : (c : Cmd) (e v : Ex) (b b' : Vec Cmd Global) (bs out out' : List Cmd) (r : Bool)
       (a : Locations) →
       c ≡ Letvar e b → bs ≡ b.items → phrase v ≡ phrase e → r ≡ all_reads (sequence b.items) k → a ≡ with_bit live

@@ -2,19 +2,19 @@
 use Rattle.std.specs.Prelude.{◌≡◌, pos}
 use Rattle.vsi_scope.specs.Phrase.{Phrase, Literal, Contents, Apply, Command, Nothing, Put, Then, Choose, Repeat, Allocate}
 
--- an expression that is a literal
+-- An expression that is a literal.
 abbrev pub IsLiteral : Phrase → Type 0
 IsLiteral (Literal n) = Unit {0}
 IsLiteral (Contents l s) = ⊥
 IsLiteral (Apply o a b) = ⊥
 
--- an expression with no operator on two literals
+-- An expression with no operator on two literals.
 abbrev pub IsFoldedPhrase : Phrase → Type 0
 IsFoldedPhrase (Literal n) = Unit {0}
 IsFoldedPhrase (Contents l s) = Unit {0}
 IsFoldedPhrase (Apply o a b) = IsFoldedPhrase a × IsFoldedPhrase b × (IsLiteral a → IsLiteral b → ⊥)
 
--- a command with no operator on two literals, no `if` on a literal and no `while` on literal 0
+-- A command with no operator on two literals, no `if` on a literal and no `while` on literal 0.
 abbrev pub IsFolded : Command → Type 0
 IsFolded Nothing = Unit {0}
 IsFolded (Put l s e) = IsFoldedPhrase e

@@ -1,13 +1,13 @@
 -- What the two walks over a loop's body keep: the one that gathers its reads, and the one that removes assignments.
 --   k  the number of locations in scope
---   n  the number of letvars of the loop that stand before the command
+--   n  the number of letvars of the loop that stand before the command.
 use Rattle.std.specs.Prelude.{◌≡◌, ℕ, ◌+◌, ◌≤◌}
 use Rattle.vsi_scope.specs.Phrase.{Command, Nothing, Put, Then, Choose, Repeat, Allocate, letvars}
 use Rattle.vsi_opt.specs.Liveness.{Locations, joined, with_bit, all_reads}
 use Rattle.vsi_opt.specs.Ranges.{Fits, bits}
 use Rattle.vsi_opt.specs.declared.small_set.SmallSet.{SmallSet}
 
--- a set of numbers in which it is noted of each letvar whether its scope reads its variable
+-- A set of numbers in which it is noted of each letvar whether its scope reads its variable.
 abbrev pub noted : ℕ → ℕ → Command → Locations → Locations
 noted k n Nothing own = own
 noted k n (Put l s e) own = own
@@ -16,7 +16,7 @@ noted k n (Choose e a b) own = noted k (n + letvars a) b (noted k n a own)
 noted k n (Repeat e c) own = noted k n c own
 noted k n (Allocate e c) own = with_bit (noted (k + 1) (n + 1) c own) n (all_reads c k)
 
--- a set of numbers tells of each letvar whether its scope reads its variable
+-- A set of numbers tells of each letvar whether its scope reads its variable.
 abbrev pub Tells : Locations → ℕ → ℕ → Command → Type 0
 Tells own k n Nothing = Unit {0}
 Tells own k n (Put l s e) = Unit {0}
@@ -25,19 +25,19 @@ Tells own k n (Choose e a b) = Tells own k n a × Tells own k (n + letvars a) b
 Tells own k n (Repeat e c) = Tells own k n c
 Tells own k n (Allocate e c) = (own n ≡ all_reads c k) × Tells own (k + 1) (n + 1) c
 
--- the locations and numbers of a command are within the limits
+-- The locations and numbers of a command are within the limits.
 abbrev pub AddFits : ℕ → ℕ → Command → Type 0
 AddFits k n c = Fits k c × (n + letvars c ≤ 1024)
 
--- a walk has added the reads of a command to one set, has noted its letvars in another, and has gone past them
+-- A walk has added the reads of a command to one set, has noted its letvars in another, and has gone past them.
 abbrev pub Adds : ℕ → Command → Locations → Locations → ℕ → Locations → Locations → ℕ → Type 0
 Adds k c live own n live' own' n' =
     (live' ≡ joined live (all_reads c)) × (own' ≡ noted k n c own) × (n' ≡ n + letvars c)
 
--- the same of the sets that are stored as bits
+-- The same of the sets that are stored as bits.
 abbrev pub AddsTo : ℕ → Command → SmallSet → SmallSet → ℕ → SmallSet → SmallSet → ℕ → Type 0
 AddsTo k c live own n live' own' n' = Adds k c (bits live) (bits own) n (bits live') (bits own') n'
 
--- the locations and numbers of a command are within the limits, and its letvars are noted
+-- The locations and numbers of a command are within the limits, and its letvars are noted.
 abbrev pub StillFits : Locations → ℕ → ℕ → Command → Type 0
 StillFits own k n c = Fits k c × Tells own k n c × (n + letvars c ≤ 1024)

@@ -6,31 +6,31 @@ use Rattle.vsi_opt.specs.Folding.{fold}
 use Rattle.vsi_opt.specs.Folded.{IsFolded}
 use Rattle.vsi_opt.specs.Liveness.{Locations, needed}
 
--- the globals, which are live at the end of a body
+-- The globals, which are live at the end of a body.
 abbrev pub globals_alone : ℕ → Locations
 globals_alone g l = nat_lt l g
 
--- the optimised body of a program with g globals: folded, and then without its dead assignments
+-- The optimised body of a program with g globals: folded, and then without its dead assignments.
 abbrev pub optimised : ℕ → Command → Command
 optimised g c = needed g g (fold c) (globals_alone g)
 
--- two commands that from each store of g words, for each number of turns, give the same store or none
+-- Two commands that from each store of g words, for each number of turns, give the same store or none.
 abbrev pub RunsAlike : ℕ → Command → Command → Type 0
 RunsAlike g c d = (n : ℕ) (m : Store) → length m ≡ g → runs n c m ≡ runs n d m
 
--- the optimised body does what the body does
+-- The optimised body does what the body does.
 abbrev pub EvaluatesSame : Type 0
 EvaluatesSame = (c : Command) (g : ℕ) → RunsAlike g (optimised g c) c
 
--- the optimised body isn't larger, nor deeper in expressions or letvars
+-- The optimised body isn't larger, nor deeper in expressions or letvars.
 abbrev pub NotLarger : Type 0
 NotLarger = (c : Command) (g : ℕ) →
     (size (optimised g c) ≤ size c) × (depth (optimised g c) ≤ depth c) × (nesting (optimised g c) ≤ nesting c)
 
--- in the optimised body nothing is left to fold
+-- In the optimised body nothing is left to fold.
 abbrev pub NothingToFold : Type 0
 NothingToFold = (c : Command) (g : ℕ) → IsFolded (optimised g c)
 
--- in the optimised body each location that is used exists
+-- In the optimised body each location that is used exists.
 abbrev pub PlacesKept : Type 0
 PlacesKept = (c : Command) (g : ℕ) → HasPlaces g c → HasPlaces g (optimised g c)

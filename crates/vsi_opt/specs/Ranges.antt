@@ -4,7 +4,7 @@ use Rattle.vsi_scope.specs.Phrase.{Command, Nothing, Put, Then, Choose, Repeat, 
 use Rattle.vsi_opt.specs.Liveness.{Locations}
 use Rattle.vsi_opt.specs.declared.small_set.SmallSet.{SmallSet}
 
--- every location is below 1,024, the letvars' own too, with k locations in scope, and no loop has more letvars
+-- Every location is below 1,024, the letvars' own too, with k locations in scope, and no loop has more letvars.
 abbrev pub Fits : ℕ → Command → Type 0
 Fits k Nothing = Unit {0}
 Fits k (Put l s e) = (l < 1024) × HasLocations 1024 e
@@ -13,10 +13,10 @@ Fits k (Choose e a b) = HasLocations 1024 e × Fits k a × Fits k b
 Fits k (Repeat e c) = HasLocations 1024 e × Fits k c × (letvars c ≤ 1024)
 Fits k (Allocate e c) = (k < 1024) × HasLocations 1024 e × Fits (k + 1) c
 
--- the bits of 64-bit words
+-- The bits of 64-bit words.
 abbrev pub bit_of : List ℕ → Locations
 bit_of ws l = (slice_index ws (l / 64) / 2 ^ (l % 64)) % 2 == 1
 
--- the numbers of a set that is stored as bits
+-- The numbers of a set that is stored as bits.
 abbrev pub bits : SmallSet → Locations
 bits s = bit_of s.words

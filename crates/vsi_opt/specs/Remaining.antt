@@ -2,7 +2,7 @@
 --   g  the number of globals
 --   w  where a location may be assigned
 --   k  the number of locations in scope
---   n  the number of letvars that stand before the command
+--   n  the number of letvars that stand before the command.
 use Rattle.std.specs.Prelude.{◌≡◌, ℕ, ◌+◌, ◌≤◌, Bool, true, false, not, ◌⊎◌, List, [], ◌∷◌, ◌++◌, map, length, Option, Some, None, slice_get, pos}
 use Rattle.vsi_scope.specs.declared.resolved.Entry.{Entry}
 use Rattle.vsi_scope.specs.Phrase.{Literal, Command, Nothing, Put, Then, Choose, Repeat, Allocate, letvars}
@@ -12,22 +12,22 @@ use Rattle.vsi_scope.specs.View.{sequence}
 use Rattle.vsi_opt.specs.Liveness.{Locations, with_bit, all_reads}
 use Rattle.vsi_opt.specs.Optimised.{globals_alone}
 
--- whether a guard may be true, where it may be known
+-- Whether a guard may be true, where it may be known.
 abbrev pub may_be_true : Option Bool → Bool
 may_be_true (Some b) = b
 may_be_true None = true
 
--- whether a guard may be false, where it may be known
+-- Whether a guard may be false, where it may be known.
 abbrev pub may_be_false : Option Bool → Bool
 may_be_false (Some b) = not b
 may_be_false None = true
 
--- a list, or the empty one
+-- A list, or the empty one.
 abbrev pub list_if : Bool → List ℕ → List ℕ
 list_if true xs = xs
 list_if false xs = []
 
--- the numbers of the letvars that folding leaves of a command, in order
+-- The numbers of the letvars that folding leaves of a command, in order.
 abbrev pub remaining : Command → ℕ → List ℕ
 remaining Nothing n = []
 remaining (Put l s e) n = []
@@ -38,25 +38,25 @@ remaining (Choose e a b) n =
 remaining (Repeat e c) n = list_if (may_be_true (truth_of (folded e))) (remaining c n)
 remaining (Allocate e c) n = n ∷ remaining c (n + 1)
 
--- a list has the entries that stand at these places in another, in this order
+-- A list has the entries that stand at these places in another, in this order.
 abbrev pub HasEntries : List Entry → List Entry → List ℕ → Type 0
 HasEntries ys xs ns = map Some ys ≡ map (slice_get xs) ns
 
--- a walk over a command has gone past its letvars and has added the numbers of those that remain
+-- A walk over a command has gone past its letvars and has added the numbers of those that remain.
 abbrev pub Picks : Command → ℕ → ℕ → List ℕ → List ℕ → Type 0
 Picks c n n' xs xs' = (n' ≡ n + letvars c) × (xs' ≡ xs ++ remaining c n)
 
--- the same, where the command remains or goes as a whole
+-- The same, where the command remains or goes as a whole.
 abbrev pub PicksIf : Bool → Command → ℕ → ℕ → List ℕ → List ℕ → Type 0
 PicksIf b c n n' xs xs' = (n' ≡ n + letvars c) × (xs' ≡ xs ++ list_if b (remaining c n))
 
--- an assignment remains only where its location may be assigned, and goes only where that isn't a global
+-- An assignment remains only where its location may be assigned, and goes only where that isn't a global.
 abbrev pub AssignmentRemains : ℕ → Locations → ℕ → Command → Command → Type 0
 AssignmentRemains g w l c d = ((d ≡ one c) × (w l ≡ true)) ⊎ ((d ≡ Nothing) × (g ≤ l))
 
--- a command d remains of a command, with the letvars of these numbers: each command is kept in its place with its
+-- A command d remains of a command, with the letvars of these numbers: each command is kept in its place with its
 -- expressions folded, but for assignments that go, `if`s on a literal, which leave a branch, and loops on literal 0;
--- a letvar's variable may be assigned where an expression of its scope reads it
+-- a letvar's variable may be assigned where an expression of its scope reads it.
 abbrev pub Remains : ℕ → Locations → ℕ → ℕ → Command → Command → List ℕ → Type 0
 Remains g w k n Nothing d ns = (d ≡ Nothing) × (ns ≡ [])
 Remains g w k n (Put l s e) d ns = AssignmentRemains g w l (Put l s (folded e)) d × (ns ≡ [])
@@ -76,12 +76,12 @@ Remains g w k n (Allocate e c) d ns =
     (c' : Command) × (xs : List ℕ) × Remains g (with_bit w k (all_reads c k)) (k + 1) (n + 1) c c' xs
     × (d ≡ one (Allocate (folded e) c')) × (ns ≡ n ∷ xs)
 
--- the body of a program is what remains of another's body, in which the globals may be assigned
+-- The body of a program is what remains of another's body, in which the globals may be assigned.
 abbrev pub IsRemainder : Source → Source → Type 0
 IsRemainder p r =
     let g = length p.globals in
     Remains g (globals_alone g) g 0 (sequence p.body) (sequence r.body) (remaining (sequence p.body) 0)
 
--- the entries of a program are those of the letvars that remain of another's body, in order
+-- The entries of a program are those of the letvars that remain of another's body, in order.
 abbrev pub KeepsEntries : Source → Source → Type 0
 KeepsEntries p r = HasEntries r.letvars p.letvars (remaining (sequence p.body) 0)

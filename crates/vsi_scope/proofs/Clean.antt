@@ -18,7 +18,7 @@ use Rattle.vsi_scope.proofs.Forms.{choose_none, loop_none, local_none}
 use Rattle.vsi_scope.proofs.Meaning.{left_of, right_of, none_left, none_right, not_none, not_true, absent}
 use Rattle.vsi_scope.proofs.Complete.{gone, place_is, means_clean}
 
--- ---- one mark
+-- ---- one mark.
 
 -- Two parts without a fault have none together.
 both : {a b : Option ScopeError} → a ≡ None → b ≡ None → or_else a b ≡ None
@@ -67,7 +67,7 @@ otherwise_none : (o : Option ℕ) (e : ScopeError) (q : Option ScopeError) → i
 otherwise_none None e q p = p
 otherwise_none (Some l) e q p = not_none e p
 
--- ---- globals
+-- ---- globals.
 
 -- No name of a list is among others.
 abbrev AreAbsent : Scope → List Text → Type 0
@@ -193,7 +193,7 @@ module _ (k : Known) where
       HasGlobalClasses k gs → first_fault k (global_marks [] gs) ≡ None
   globals_clean gs d le h = globals_clean_below [] gs (nothing_absent (global_names gs)) d (omega (arith, le)) h
 
-  -- ---- commands
+  -- ---- commands.
 
   -- What a command keeps that has no fault behind n declarations.
   pub record Kept (n m : ℕ) (classes : Type 0) : Type 0 where

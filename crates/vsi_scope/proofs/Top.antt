@@ -80,7 +80,7 @@ explains k p (errors.TooManyGlobals s) r = r
 explains k p (errors.TooManyDeclarations s) r = r
 explains k p errors.TooLarge r = absurd (subst Small r (small k (program_marks p)))
 
--- ---- a program that has a resolution within the limits is refused for want of memory alone
+-- ---- a program that has a resolution within the limits is refused for want of memory alone.
 
 -- No program with a resolution within the limits has a fault.
 resolution_clean : (k : Known) (p : tree.Whole) (cs : List Command) → IsResolution k p cs →
@@ -119,7 +119,7 @@ pub exact : {X : Type 0} (k : Known) (p : tree.Whole) (r : Result X ScopeError) 
 exact k p (Ok x) h cs s = tt
 exact k p (Err e) h cs s = complete k p cs s e h
 
--- ---- the names of globals
+-- ---- the names of globals.
 
 -- Equal lists begin with equal globals.
 first_shown : {x y : Shown} {xs ys : List Shown} → (x ∷ xs) ≡ (y ∷ ys) → x ≡ y
@@ -154,7 +154,7 @@ same_names k (x ∷ xs) (g ∷ gs) e =
     ap (λ n. n ∷ map (λ z. z.name.now) xs) (ap (λ (z : Shown). z.name) (first_shown e))
     ∙ ap (λ ns. g.name.text ∷ ns) (same_names k xs gs (others_shown e))
 
--- ---- the walk
+-- ---- the walk.
 
 -- A fault of the globals explains the refusal.
 pub globals_refuse : (k : Known) (p : tree.Whole) (e : ScopeError) →

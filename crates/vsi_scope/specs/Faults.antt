@@ -14,7 +14,7 @@ pub data Mark : Type 0 where
   Class : (name : tree.Named) → Mark
   Use : (scope : Scope) → (name : tree.Named) → Mark
 
--- ---- what stands in a tree, in text order
+-- ---- what stands in a tree, in text order.
 
 -- The class that is written, if any.
 abbrev pub class_marks : Option tree.Named → List Mark
@@ -70,7 +70,7 @@ global_names gs = map (λ g. g.name.text) gs
 abbrev pub program_marks : tree.Whole → List Mark
 program_marks p = global_marks [] p.globals ++ all_marks (global_names p.globals) (length p.globals) p.body
 
--- ---- faults
+-- ---- faults.
 
 -- A fault where nothing was found.
 abbrev pub if_absent : Option ℕ → ScopeError → Option ScopeError

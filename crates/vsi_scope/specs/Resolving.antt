@@ -13,7 +13,7 @@ use Rattle.vsi_scope.specs.Program.{Source}
 use Rattle.vsi_scope.specs.Scopes.{Text, DoesAll, in_sequence}
 use Rattle.vsi_scope.specs.Faults.{Known, all_locals, program_marks, first_fault, global_names}
 
--- ---- the globals and the letvars of a tree
+-- ---- the globals and the letvars of a tree.
 
 -- A global: its name, its class where the lattice has it, and the name of the class.
 pub record Shown : Type 0 where
@@ -62,7 +62,7 @@ abbrev mutual
   all_variables known tree.Done = []
   all_variables known (tree.Then c rest) = variables known c ++ all_variables known rest
 
--- ---- classes that the lattice has
+-- ---- classes that the lattice has.
 
 -- The lattice has each global's class.
 abbrev pub HasGlobalClasses : Known → List tree.Declared → Type 0
@@ -88,7 +88,7 @@ abbrev mutual
   HasAllClasses known tree.Done = Unit {0}
   HasAllClasses known (tree.Then c rest) = HasClasses known c × HasAllClasses known rest
 
--- ---- resolution
+-- ---- resolution.
 
 -- These commands are the program over locations, within the limits and with every class in the lattice.
 pub record IsResolution (known : Known) (p : tree.Whole) (cs : List Command) : Type 0 where

@@ -8,69 +8,69 @@ use Rattle.vsi_image.specs.Fields.{Global}
 use Rattle.vsi_store.specs.declared.error.StoreError.{StoreError}
 use Rattle.vsi_store.specs.declared.error.StoreError.TheVariants.{NotToml, NotANumber, UnknownGlobal, Memory}
 
--- the bytes are text, and TOML reads it as this table
+-- The bytes are text, and TOML reads it as this table.
 abbrev pub IsDocument : List ℕ → Members → Type 0
 IsDocument bytes ms = IsUtf8 bytes × (parse_document bytes ≡ Some ms)
 
--- the bytes are no TOML
+-- The bytes are no TOML.
 abbrev pub IsNoDocument : List ℕ → Type 0
 IsNoDocument bytes = (ms : Members) → ¬ (IsDocument bytes ms)
 
--- what a key of a store file can be refused for
+-- What a key of a store file can be refused for.
 pub data KeyFault : Type 0 where
   no_number : List ℕ → KeyFault
   no_global : List ℕ → KeyFault
 
--- a global of this name is there
+-- A global of this name is there.
 abbrev pub has_name : List Global → List ℕ → Bool
 has_name globals key = list_any (λ g. bytes_eq g.0 key) globals
 
--- what is wrong with one key; that its value is no number comes first
+-- What is wrong with one key; that its value is no number comes first.
 abbrev pub entry_fault : List Global → List ℕ → Data → Option KeyFault
 entry_fault globals key d =
     if is_some (as_integer d)
     then (if has_name globals key then None else Some (no_global key))
     else Some (no_number key)
 
--- what is wrong with the first faulty key of a table, whose keys ascend
+-- What is wrong with the first faulty key of a table, whose keys ascend.
 abbrev pub store_fault : List Global → Members → Option KeyFault
 store_fault globals no_members = None
 store_fault globals (member key d ms) =
     if is_some (entry_fault globals key d) then entry_fault globals key d else store_fault globals ms
 
--- the number at a name, or 0
+-- The number at a name, or 0.
 abbrev pub number_in : Members → List ℕ → ℤ
 number_in no_members name = pos 0
 number_in (member key d ms) name = if bytes_eq key name then unwrap_or (as_integer d) (pos 0) else number_in ms name
 
--- the numbers of a table, in the order of the globals
+-- The numbers of a table, in the order of the globals.
 abbrev pub store_of : List Global → Members → List ℤ
 store_of globals ms = map (λ g. number_in ms g.0) globals
 
--- the text is a store file without fault, and these are its words
+-- The text is a store file without fault, and these are its words.
 abbrev pub Tells : List ℕ → List Global → List ℤ → Type 0
 Tells text globals words =
     (ms : Members) × IsDocument text ms × (store_fault globals ms ≡ None) × (words ≡ store_of globals ms)
 
--- the refusals that name no key
+-- The refusals that name no key.
 abbrev pub IsNameless : List ℕ → StoreError → Type 0
 IsNameless text NotToml = IsNoDocument text
 IsNameless text (NotANumber key) = ⊥
 IsNameless text (UnknownGlobal key) = ⊥
 IsNameless text Memory = Unit {0}
 
--- the refusal of one key
+-- The refusal of one key.
 abbrev pub IsEntryRefusal : List Global → List ℕ → Data → StoreError → Type 0
 IsEntryRefusal globals key d NotToml = ⊥
 IsEntryRefusal globals key d (NotANumber name) = entry_fault globals key d ≡ Some (no_number name.items)
 IsEntryRefusal globals key d (UnknownGlobal name) = entry_fault globals key d ≡ Some (no_global name.items)
 IsEntryRefusal globals key d Memory = Unit {0}
 
--- the first faulty key of a document is this one
+-- The first faulty key of a document is this one.
 abbrev pub HasFault : List Global → List ℕ → KeyFault → Type 0
 HasFault globals text fault = (ms : Members) × IsDocument text ms × (store_fault globals ms ≡ Some fault)
 
--- the refusal of a store file
+-- The refusal of a store file.
 abbrev pub IsRefusal : List Global → List ℕ → StoreError → Type 0
 IsRefusal globals text NotToml = IsNoDocument text
 IsRefusal globals text (NotANumber name) = HasFault globals text (no_number name.items)

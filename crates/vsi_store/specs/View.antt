@@ -10,36 +10,36 @@ use Rattle.vsi_store.specs.Text.{line_of}
 use Rattle.vsi_store.specs.declared.views.View.{View}
 use Rattle.vsi_store.specs.declared.views.View.TheVariants.{Text, OutOfBudget}
 
--- the class that a name stands for, if any
+-- The class that a name stands for, if any.
 abbrev pub Known : Type 0
 Known = List ℕ → Option ℕ
 
--- the number of the first of these globals whose class name stands for no class, where they have numbers from n on
+-- The number of the first of these globals whose class name stands for no class, where they have numbers from n on.
 abbrev pub first_unknown : Known → ℕ → List Global → Option ℕ
 first_unknown known n [] = None
 first_unknown known n (g ∷ gs) = if is_some (known g.1) then first_unknown known (n + 1) gs else Some n
 
--- a class sees what has a class name that stands for a class at or below it
+-- A class sees what has a class name that stands for a class at or below it.
 abbrev pub is_seen : Known → Lattice → ℕ → List ℕ → Bool
 is_seen known L a name = option_map_or (λ c. L.leq c a) (known name) false
 
--- the line of a global that the class sees, and nothing of another
+-- The line of a global that the class sees, and nothing of another.
 abbrev pub line_seen : Known → Lattice → ℕ → Global → ℤ → List ℕ
 line_seen known L a g w = if is_seen known L a g.1 then line_of g.0 w else []
 
--- a line for each global that the class sees, in order
+-- A line for each global that the class sees, in order.
 abbrev pub view_text_of : Known → Lattice → ℕ → List Global → List ℤ → List ℕ
 view_text_of known L a [] words = []
 view_text_of known L a (g ∷ gs) [] = []
 view_text_of known L a (g ∷ gs) (w ∷ ws) = line_seen known L a g w ++ view_text_of known L a gs ws
 
--- what the class sees of a run that ends in this state: its lines of the store where the run has halted
+-- What the class sees of a run that ends in this state: its lines of the store where the run has halted.
 abbrev pub ViewsState : Known → Lattice → ℕ → Image → State → View → Type 0
 ViewsState known L a image last (Text text) =
     (last.halted ≡ true) × (text.items ≡ view_text_of known L a (globals image.globals.items) (globals_of image last))
 ViewsState known L a image last OutOfBudget = last.halted ≡ false
 
--- what the class sees of the image's run from these words with this budget
+-- What the class sees of the image's run from these words with this budget.
 abbrev pub Views : Known → Lattice → ℕ → Image → List ℤ → ℕ → View → Type 0
 Views known L a image words budget view =
     (last : State) × (run_of image words budget ≡ Some last) × ViewsState known L a image last view

@@ -1,0 +1,258 @@
+#!/usr/bin/env python3
+"""Runs the built program on the inputs of a generator, each twice, and reports what isn't as documented.
+
+usage: tools/soak.py [PROGRAM] [--count N] [--minutes M] [--seed S] [--jobs J] [--first N] [--keep FOLDER]
+
+PROGRAM is crates/vsi_program/out/vsi_program unless another is named. An input is a command line with its files:
+source texts, lattices, stores and images, made from worked ones by changes of bytes, words and lines, by repeated
+pieces, deep nesting and great length, or drawn from the grammar. Input number K is the same for the same seed,
+whatever the other options are, so --first K --count 1 gives it again. Reported are a status outside 0 to 5, a signal,
+two runs with different answers (status, both streams, written image), a stream or a written image that isn't of the
+documented form, a run of more than one second of processor time, and one that is stopped after twenty seconds. The
+files of reported inputs are copied to FOLDER/K. The last line has the figures, of which the most memory
+is at least a worker's own; the status is 1 where anything was reported. It needs /dev/shm, and leaves nothing there.
+"""
+
+import argparse
+import collections
+import multiprocessing
+import os
+import random
+import re
+import shutil
+import signal
+import sys
+import tempfile
+import time
+
+sys.dont_write_bytecode = True
+
+from soak_inputs import Input  # noqa: E402
+
+SLOW_SECONDS = 1.0
+STOP_SECONDS = 20.0
+SHOWN_REPORTS = 20
+
+COMPILER_REFUSALS = {*range(11, 23), 25}
+LATTICE_REFUSALS = set(range(1, 11))
+IMAGE_REFUSALS = set(range(27, 39))
+STORE_REFUSALS = {40, 41, 42}
+REFUSALS = {"": COMPILER_REFUSALS, "fmt": set(range(11, 17)), "list": IMAGE_REFUSALS,
+            "check": LATTICE_REFUSALS | COMPILER_REFUSALS, "classes": LATTICE_REFUSALS | COMPILER_REFUSALS,
+            "build": LATTICE_REFUSALS | COMPILER_REFUSALS, "run": IMAGE_REFUSALS | STORE_REFUSALS,
+            "view": LATTICE_REFUSALS | IMAGE_REFUSALS | STORE_REFUSALS | {43}}
+
+PLACES = rb"1[234] Bad(?:Byte|Word|Number)|15 Unexpected|16 TooDeep|17 Duplicate|18 UnknownClass|19 Unbound" \
+    rb"|2[01] TooMany(?:Globals|Declarations)"
+NUMBERS = rb"5 BadName|6 DuplicateName|7 UnknownName|29 BadField|30 BadOpcode|31 Truncated|32 Trailing|33 BadSlot" \
+    rb"|34 BadTarget|35 Underflow|36 Overflow|37 NotEmpty|43 ClassNotInLattice"
+ALONE = rb"1 NotToml|2 BadShape|3 NoClass|4 TooManyClasses|11 TooLong|22 TooLarge|27 BadMagic|28 BadVersion" \
+    rb"|38 RunsOff|40 NotToml"
+WALK = rb"(?:\d+:\d+ \w+ flows to (?:\w+|\(loop\)) by (?:ASSIGN|LETVAR|IF|WHILE|LOOP) at \d+:\d+\n)+" \
+    rb"\w+ : \w+ may not flow to (?:\w+|\(loop\)) : \w+\n"
+REFUSAL = re.compile(
+    rb"refused: (?:(?:" + ALONE + rb")\n|(?:" + NUMBERS + rb") \d+\n|(?:8 Cycle|9 NoJoin|10 NoMeet) \d+ \d+\n|(?:"
+    + PLACES + rb") \d+:\d+\n|(?s:(?:41 NotANumber|42 UnknownGlobal) .*\n)|25 Refused\n" + WALK + rb")")
+
+STORE_TEXT = rb"(?:\w+ = -?\d+\n)*"
+TRACE = rb"(?:\d+: [A-Z]+(?: -?\d+)? \|(?: -?\d+)*\n)*"
+DONE = {command: re.compile(form) for command, form in {
+    "": STORE_TEXT, "view": STORE_TEXT, "run": TRACE + STORE_TEXT, "check": rb"accepted\n", "build": rb"",
+    "classes": rb"(?:\d+:\d+ \w+ : \w+\n)+", "fmt": rb"[ -~\n]+\n", "?": rb"(?s:.*)",
+    "list": rb"globals \d+\nslots \d+\nstack \d+\n(?:\w+ : \w+\n)*(?:\d+: [A-Z]+(?: -?\d+)?\n)+"}.items()}
+UNFINISHED = re.compile(TRACE)
+
+Answer = collections.namedtuple("Answer", "status output error written")
+
+
+class Runner:
+    """Runs the program in a folder of its own, on files that stand there."""
+
+    def __init__(self, program, folder):
+        os.chdir(folder)
+        self.program = program
+        self.child = None
+        self.longest, self.most_memory, self.is_stopped = 0.0, 0, False
+        self.files = {name: os.open(name, os.O_RDWR | os.O_CREAT) for name in ("source", "lattice", "image", "store")}
+        self.streams = [os.open(name, os.O_RDWR | os.O_CREAT) for name in ("output", "error")]
+        self.kept = set(os.listdir("."))
+        signal.signal(signal.SIGALRM, self.stop)
+
+    def stop(self, _number, _frame):
+        self.is_stopped = True
+        os.kill(self.child, signal.SIGKILL)
+
+    def put(self, files):
+        for name, data in files.items():
+            os.ftruncate(self.files[name], 0)
+            if os.pwrite(self.files[name], data, 0) != len(data):
+                raise OSError("no room for the files")
+
+    def written(self):
+        """The image that a run wrote, or None; what else it made is removed too."""
+        image = None
+        for name in set(os.listdir(".")) - self.kept:
+            if name == "written":
+                with open(name, "rb") as file:
+                    image = file.read()
+            os.unlink(name)
+        return image
+
+    def run(self, words):
+        """The answer of one run, and how many seconds of processor time it took."""
+        for stream in self.streams:
+            os.ftruncate(stream, 0)
+        for file in (self.files["source"], *self.streams):
+            os.lseek(file, 0, os.SEEK_SET)
+        actions = [(os.POSIX_SPAWN_DUP2, file, number)
+                   for number, file in enumerate((self.files["source"], *self.streams))]
+        self.child = os.posix_spawn(self.program, ["vsi", *words], {}, file_actions=actions)
+        signal.setitimer(signal.ITIMER_REAL, STOP_SECONDS)
+        os.waitid(os.P_PID, self.child, os.WEXITED | os.WNOWAIT)
+        signal.setitimer(signal.ITIMER_REAL, 0)
+        _, state, usage = os.wait4(self.child, 0)
+        output, error = (os.pread(stream, os.fstat(stream).st_size, 0) for stream in self.streams)
+        seconds = usage.ru_utime + usage.ru_stime
+        self.longest = max(self.longest, seconds)
+        self.most_memory = max(self.most_memory, usage.ru_maxrss)
+        return Answer(os.waitstatus_to_exitcode(state), output, error, self.written()), seconds
+
+
+def error_fault(given, answer):
+    """What is wrong with the text on standard error, or None."""
+    status, error = answer.status, answer.error
+    if status == 1:
+        if not REFUSAL.fullmatch(error):
+            return "a refusal of another form"
+        number = int(error.split(b" ")[1])
+        return None if number in REFUSALS.get(given.command, {number}) else "a refusal of another command"
+    if status == 2:
+        return None if error else "no text on the words"
+    if status == 4:
+        paths = {b"file fault: " + word.encode() + b"\n" for word in given.words}
+        return None if error in paths else "a file fault of another form"
+    wanted = {0: b"", 3: b"out of budget\n", 5: b"out of memory\n"}[status]
+    return None if error == wanted else "another text on standard error"
+
+
+def faults_of(given, answer):
+    """What isn't as documented in an answer."""
+    if answer.status not in range(6):
+        return [f"status {answer.status}"]
+    faults = [error_fault(given, answer)]
+    form = DONE[given.command] if answer.status == 0 else None
+    if answer.status == 3 and "--trace" in given.words:
+        form = UNFINISHED
+    if not form.fullmatch(answer.output) if form else answer.output:
+        faults.append("another text on standard output")
+    if given.command != "?":
+        front = b"VSI\x02" if given.command == "build" and answer.status == 0 else None
+        if front != (answer.written and answer.written[:4]):
+            faults.append("another image was written")
+    return [fault for fault in faults if fault]
+
+
+class Worker:
+    """Goes through every so many inputs and counts what becomes of them."""
+
+    def __init__(self, options, job, folder):
+        self.options = options
+        self.job = job
+        self.runner = Runner(options.program, folder)
+        self.figures = collections.Counter()
+
+    def report(self, number, given, faults):
+        self.figures["reports"] += 1
+        if self.figures["reports"] <= SHOWN_REPORTS:
+            print(f"input {number}: {'; '.join(faults)}: {given.words}", flush=True)
+        if self.options.keep:
+            folder = os.path.join(self.options.keep, str(number))
+            os.makedirs(folder, exist_ok=True)
+            for name in self.runner.kept:
+                shutil.copy(name, folder)
+
+    def try_input(self, number):
+        """Runs an input twice, and reports what isn't as documented."""
+        given = Input(random.Random(f"{self.options.seed}/{number}"))
+        self.runner.put(given.files)
+        faults, answers = [], []
+        for _ in range(2):
+            self.runner.is_stopped = False
+            answer, seconds = self.runner.run(given.words)
+            answers.append(answer)
+            self.figures[f"status {answer.status}"] += 1
+            if self.runner.is_stopped:
+                faults.append("stopped")
+            if seconds > SLOW_SECONDS:
+                faults.append(f"{seconds:.1f} seconds")
+        faults += faults_of(given, answers[0])
+        if answers[0] != answers[1]:
+            faults.append("two answers")
+        if faults:
+            self.report(number, given, faults)
+
+    def work(self):
+        first, end = self.options.first, time.monotonic() + 60 * self.options.minutes
+        for number in range(first + self.job, first + self.options.count, self.options.jobs):
+            if time.monotonic() > end:
+                break
+            self.try_input(number)
+            self.figures["inputs"] += 1
+        return self.figures, self.runner.longest, self.runner.most_memory
+
+
+def read_options():
+    usage = __doc__.split("usage: ")[1].split("\n")[0]
+    parser = argparse.ArgumentParser(usage=usage)
+    here = os.path.dirname(os.path.dirname(os.path.abspath(__file__)))
+    parser.add_argument("program", nargs="?", default=os.path.join(here, "crates/vsi_program/out/vsi_program"))
+    parser.add_argument("--count", type=int, default=1_000_000)
+    parser.add_argument("--minutes", type=float, default=60)
+    parser.add_argument("--seed", type=int, default=1)
+    parser.add_argument("--jobs", type=int, default=len(os.sched_getaffinity(0)))
+    parser.add_argument("--first", type=int, default=0)
+    parser.add_argument("--keep", type=os.path.abspath)
+    options = parser.parse_args()
+    options.program = os.path.abspath(options.program)
+    if not os.access(options.program, os.X_OK):
+        parser.error(f"{options.program} is no program")
+    return options
+
+
+def start_worker(options, job, folder, connection):
+    os.mkdir(folder)
+    connection.send(Worker(options, job, folder).work())
+
+
+def main():
+    options = read_options()
+    context = multiprocessing.get_context("fork")
+    figures, longest, most_memory, lost = collections.Counter(), 0.0, 0, 0
+    folder = tempfile.mkdtemp(prefix="soak-", dir="/dev/shm")
+    try:
+        ends = []
+        for job in range(options.jobs):
+            end, far_end = context.Pipe(duplex=False)
+            context.Process(target=start_worker, args=(options, job, os.path.join(folder, str(job)), far_end)).start()
+            far_end.close()
+            ends.append(end)
+        for end in ends:
+            try:
+                counted, seconds, memory = end.recv()
+            except EOFError:
+                lost += 1
+                continue
+            figures += counted
+            longest, most_memory = max(longest, seconds), max(most_memory, memory)
+    finally:
+        shutil.rmtree(folder, ignore_errors=True)
+    runs = {key: figures[key] for key in sorted(figures) if key.startswith("status")}
+    print(f"seed {options.seed}, inputs {figures['inputs']}, runs {sum(runs.values())},",
+          *(f"{key}: {count}," for key, count in runs.items()),
+          f"longest run {longest:.3f} s, most memory {most_memory // 1024} MiB,",
+          f"lost workers {lost}, reports {figures['reports']}")
+    return 1 if lost or figures["reports"] else 0
+
+
+if __name__ == "__main__":
+    sys.exit(main())
