@@ -53,8 +53,13 @@ fn refused_files<'a>() -> [Refused<'a>; 7] {
 }
 
 /// A lattice file that is refused, and the text of its refusal.
-fn refuses(alloc: Global, trial: &mut Trial, row: &Refused<'_>) -> Result<(), Miss> {
-    let (declared, wanted, told) = *row;
+fn refuses(
+    alloc: Global,
+    trial: &mut Trial,
+    declared: &[u8],
+    wanted: LatticeError,
+    told: &[u8],
+) -> Result<(), Miss> {
     let file = set_up(|| declared.to_vec(alloc))?;
     let is_kept = || file.as_slice() == declared;
     let answer = trial.answer(Call::ReadLattice, is_kept, || read_lattice(alloc, &file));
@@ -77,27 +82,19 @@ pub(super) fn lattices(alloc: Global, trial: &mut Trial) -> Result<(), Miss> {
         Call::ReadLattice,
         one.count() == 1 && one.class_named(b"L") == Some(Class::at(0)),
     )?;
-    for row in &refused_files() {
-        refuses(alloc, trial, row)?;
+    for (declared, wanted, told) in refused_files() {
+        refuses(alloc, trial, declared, wanted, told)?;
     }
     Ok(())
 }
 
-/// Why a store file is refused.
-#[derive(Clone, Copy)]
-enum Cause<'a> {
-    NotToml,
-    NotANumber(&'a [u8]),
-    UnknownGlobal(&'a [u8]),
-}
-
-/// Whether a refusal has this cause.
-fn is_of(error: &StoreError, cause: Cause<'_>) -> bool {
-    match (error, cause) {
-        (StoreError::NotToml, Cause::NotToml) => true,
-        (StoreError::NotANumber(key), Cause::NotANumber(wanted)) => key.as_slice() == wanted,
-        (StoreError::UnknownGlobal(key), Cause::UnknownGlobal(wanted)) => key.as_slice() == wanted,
-        _ => false,
+/// Whether a refusal names this key, and no key where it is empty.
+fn names(error: &StoreError, key: &[u8]) -> bool {
+    match error {
+        StoreError::NotANumber(found) => found.as_slice() == key,
+        StoreError::UnknownGlobal(found) => found.as_slice() == key,
+        StoreError::NotToml => key.is_empty(),
+        StoreError::Memory => false,
     }
 }
 
@@ -120,9 +117,10 @@ fn refuses_store(
     alloc: Global,
     trial: &mut Trial,
     verified: &Verified,
-    row: (&[u8], Cause<'_>, &[u8]),
+    declared: &[u8],
+    key: &[u8],
+    told: &[u8],
 ) -> Result<(), Miss> {
-    let (declared, cause, told) = row;
     let file = set_up(|| declared.to_vec(alloc))?;
     let is_kept = || is_over(verified.image()) && file.as_slice() == declared;
     let answer = trial.answer(Call::ReadStore, is_kept, || {
@@ -131,9 +129,9 @@ fn refuses_store(
     let Err(error) = answer else {
         return Err(Miss(Call::ReadStore));
     };
-    met(Call::ReadStore, is_of(&error, cause))?;
+    met(Call::ReadStore, names(&error, key))?;
     let fault = Fault::Store(error);
-    let is_kept = || matches!(&fault, Fault::Store(error) if is_of(error, cause));
+    let is_kept = || matches!(&fault, Fault::Store(error) if names(error, key));
     let text = trial.value(Call::FaultText, is_kept, || fault_text(alloc, &fault))?;
     met(Call::FaultText, text.as_slice() == told)
 }
@@ -149,26 +147,14 @@ pub(super) fn stores(alloc: Global, trial: &mut Trial) -> Result<(), Miss> {
         })?;
         met(Call::ReadStore, words.as_slice() == wanted.as_slice())?;
     }
-    let rows: [(&[u8], Cause, &[u8]); 4] = [
-        (
-            b"z = 1\n",
-            Cause::UnknownGlobal(b"z"),
-            b"refused: 42 UnknownGlobal z\n",
-        ),
-        (
-            b"x = \"a\"\n",
-            Cause::NotANumber(b"x"),
-            b"refused: 41 NotANumber x\n",
-        ),
-        (
-            b"z = \"a\"\n",
-            Cause::NotANumber(b"z"),
-            b"refused: 41 NotANumber z\n",
-        ),
-        (b"x =\n", Cause::NotToml, b"refused: 40 NotToml\n"),
+    let rows: [(&[u8], &[u8], &[u8]); 4] = [
+        (b"z = 1\n", b"z", b"refused: 42 UnknownGlobal z\n"),
+        (b"x = \"a\"\n", b"x", b"refused: 41 NotANumber x\n"),
+        (b"z = \"a\"\n", b"z", b"refused: 41 NotANumber z\n"),
+        (b"x =\n", b"", b"refused: 40 NotToml\n"),
     ];
-    for row in rows {
-        refuses_store(alloc, trial, &verified, row)?;
+    for (declared, key, told) in rows {
+        refuses_store(alloc, trial, &verified, declared, key, told)?;
     }
     Ok(())
 }

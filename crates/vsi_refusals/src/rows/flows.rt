@@ -9,7 +9,7 @@ use crate::trial::{Call, Miss, Trial, met, set_up};
 use std::alloc::Global;
 use vsi::{CompileError, RunError, classes_text, compile, compile_in, refusal_text, run_source};
 use vsi_infer::{InferError, Walk};
-use vsi_lattice::{Class, read_lattice};
+use vsi_lattice::{Class, Lattice, read_lattice};
 use vsi_scope::Resolved;
 use vsi_types::Profile;
 
@@ -25,6 +25,24 @@ fn declares_leak(program: &Resolved<'_>) -> bool {
         _ => false,
     };
     has_globals && matches!(program.letvars(), [t] if t.class.is_none())
+}
+
+/// The text of the leak's walk.
+fn explains(
+    alloc: Global,
+    trial: &mut Trial,
+    lattice: &Lattice,
+    program: &Resolved<'_>,
+    walk: &Walk,
+) -> Result<(), Miss> {
+    let is_kept = || is_two(lattice) && declares_leak(program) && is_leak(walk);
+    let text = trial.value(Call::Explain, is_kept, || {
+        explained(alloc, LEAK, lattice, program, walk)
+    })?;
+    met(
+        Call::Explain,
+        matches!(&text, Some(text) if text.as_slice() == LEAK_LINES),
+    )
 }
 
 /// The walk of the leak, and its text.
@@ -44,81 +62,102 @@ pub(super) fn leak(alloc: Global, trial: &mut Trial) -> Result<(), Miss> {
         return Err(Miss(Call::Infer));
     };
     met(Call::Infer, is_leak(&walk))?;
-    let is_kept = || is_kept() && is_leak(&walk);
-    let text = trial.value(Call::Explain, is_kept, || {
-        explained(alloc, LEAK, &lattice, &program, &walk)
-    })?;
-    met(
-        Call::Explain,
-        matches!(&text, Some(text) if text.as_slice() == LEAK_LINES),
-    )
+    explains(alloc, trial, &lattice, &program, &walk)
 }
 
-/// The refusal of the leak by the calls that compile.
+/// Whether it refuses the leak.
+fn refuses_leak(error: &CompileError) -> bool {
+    matches!(error, CompileError::Flow(walk) if is_leak(walk))
+}
+
+/// The text of the leak's refusal.
+fn tells(
+    alloc: Global,
+    trial: &mut Trial,
+    lattice: &Lattice,
+    text: &[u8],
+    error: &CompileError,
+) -> Result<(), Miss> {
+    let is_kept = || is_two(lattice) && text == LEAK && refuses_leak(error);
+    let told = trial.value(Call::RefusalText, is_kept, || {
+        refusal_text(alloc, lattice, text, error)
+    })?;
+    met(Call::RefusalText, told.as_slice() == LEAK_REFUSAL)
+}
+
+/// The refusal of the leak by a run and by the class lines.
+fn refused_early(
+    alloc: Global,
+    trial: &mut Trial,
+    lattice: &Lattice,
+    text: &[u8],
+) -> Result<(), Miss> {
+    let is_kept = || is_two(lattice) && text == LEAK;
+    let ran = trial.answer(Call::RunSource, &is_kept, || {
+        run_source(alloc, lattice, text, &[0, 0], 9)
+    });
+    let is_refused = matches!(&ran, Err(RunError::Compile(error)) if refuses_leak(error));
+    met(Call::RunSource, is_refused)?;
+    let lines = trial.answer(Call::ClassesText, &is_kept, || {
+        classes_text(alloc, lattice, text)
+    });
+    let is_refused = matches!(&lines, Err(error) if refuses_leak(error));
+    met(Call::ClassesText, is_refused)
+}
+
+/// The refusal of the leak by the calls that compile, and its text.
 pub(super) fn refused(alloc: Global, trial: &mut Trial) -> Result<(), Miss> {
     let lattice = lattice_of(alloc, TWO)?;
     let text = set_up(|| LEAK.to_vec(alloc))?;
+    refused_early(alloc, trial, &lattice, &text)?;
     let is_kept = || is_two(&lattice) && text.as_slice() == LEAK;
-    let ran = trial.answer(Call::RunSource, &is_kept, || {
-        run_source(alloc, &lattice, &text, &[0, 0], 9)
-    });
-    let is_refused = matches!(
-        &ran,
-        Err(RunError::Compile(CompileError::Flow(walk))) if is_leak(walk)
-    );
-    met(Call::RunSource, is_refused)?;
-    let lines = trial.answer(
-        Call::ClassesText,
-        &is_kept,
-        || classes_text(alloc, &lattice, &text),
-    );
-    let is_refused = matches!(&lines, Err(CompileError::Flow(walk)) if is_leak(walk));
-    met(Call::ClassesText, is_refused)?;
     let strict = trial.answer(Call::CompileIn, &is_kept, || {
         compile_in(alloc, Profile::Strict, &lattice, &text)
     });
-    let is_refused = matches!(&strict, Err(CompileError::Flow(walk)) if is_leak(walk));
+    let is_refused = matches!(&strict, Err(error) if refuses_leak(error));
     met(Call::CompileIn, is_refused)?;
     let base = trial.answer(Call::Compile, &is_kept, || compile(alloc, &lattice, &text));
     let Err(error) = base else {
         return Err(Miss(Call::Compile));
     };
-    let is_kept = || is_kept() && matches!(&error, CompileError::Flow(walk) if is_leak(walk));
-    met(Call::Compile, is_kept())?;
-    let told = trial.value(Call::RefusalText, is_kept, || {
-        refusal_text(alloc, &lattice, &text, &error)
-    })?;
-    met(Call::RefusalText, told.as_slice() == LEAK_REFUSAL)
+    met(Call::Compile, refuses_leak(&error))?;
+    tells(alloc, trial, &lattice, &text, &error)
 }
 
-/// The join of two classes, into a class above both and into one that isn't.
+/// The join of two classes, into a class above both.
+fn joined(alloc: Global, trial: &mut Trial, lattice: &Lattice) -> Result<(), Miss> {
+    let text = set_up(|| JOIN.to_vec(alloc))?;
+    let is_kept = || is_four(lattice) && text.as_slice() == JOIN;
+    let verified = trial.value(Call::Compile, &is_kept, || compile(alloc, lattice, &text))?;
+    met(Call::Compile, verified.image().globals.len() == 3)?;
+    let lines = trial.value(Call::ClassesText, &is_kept, || {
+        classes_text(alloc, lattice, &text)
+    })?;
+    met(Call::ClassesText, lines.as_slice() == JOIN_LINES)
+}
+
+/// The same join, into a class that isn't above both.
+fn parted(alloc: Global, trial: &mut Trial, lattice: &Lattice) -> Result<(), Miss> {
+    let text = set_up(|| APART.to_vec(alloc))?;
+    let is_kept = || is_four(lattice) && text.as_slice() == APART;
+    let answer = trial.answer(Call::Compile, &is_kept, || compile(alloc, lattice, &text));
+    let Err(error) = answer else {
+        return Err(Miss(Call::Compile));
+    };
+    let told = trial.value(Call::RefusalText, &is_kept, || {
+        refusal_text(alloc, lattice, &text, &error)
+    })?;
+    met(Call::RefusalText, told.as_slice() == APART_REFUSAL)
+}
+
+/// A lattice of four classes, and the two joins in it.
 pub(super) fn join(alloc: Global, trial: &mut Trial) -> Result<(), Miss> {
     let file = set_up(|| FOUR.to_vec(alloc))?;
     let is_kept = || file.as_slice() == FOUR;
     let lattice = trial.value(Call::ReadLattice, is_kept, || read_lattice(alloc, &file))?;
     met(Call::ReadLattice, is_four(&lattice))?;
-    let (text, apart) = (
-        set_up(|| JOIN.to_vec(alloc))?,
-        set_up(|| APART.to_vec(alloc))?,
-    );
-    let is_kept = || is_four(&lattice) && text.as_slice() == JOIN;
-    let verified = trial.value(Call::Compile, &is_kept, || compile(alloc, &lattice, &text))?;
-    met(Call::Compile, verified.image().globals.len() == 3)?;
-    let lines = trial.value(
-        Call::ClassesText,
-        &is_kept,
-        || classes_text(alloc, &lattice, &text),
-    )?;
-    met(Call::ClassesText, lines.as_slice() == JOIN_LINES)?;
-    let is_kept = || is_four(&lattice) && apart.as_slice() == APART;
-    let answer = trial.answer(Call::Compile, &is_kept, || compile(alloc, &lattice, &apart));
-    let Err(error) = answer else {
-        return Err(Miss(Call::Compile));
-    };
-    let told = trial.value(Call::RefusalText, &is_kept, || {
-        refusal_text(alloc, &lattice, &apart, &error)
-    })?;
-    met(Call::RefusalText, told.as_slice() == APART_REFUSAL)
+    joined(alloc, trial, &lattice)?;
+    parted(alloc, trial, &lattice)
 }
 
 /// The least class of a variable that two others flow into.
