@@ -20,23 +20,27 @@ below = [[\"L\", \"A\"], [\"L\", \"B\"], [\"A\", \"H\"], [\"B\", \"H\"]]
 pub(super) const THREE: &[u8] = b"VSI\x01\x00\x01\x00\x01\x00\x01\x00\x00\x00\x03\x01x\x01L\
     \x01\x00\x00\x00\x00\x00\x00\x00\x03\x03\x00\x00\x0a";
 
-/// How many bytes a call of a file gives at most.
-const STEP: usize = 1000;
+/// How much a call of a reader gives.
+#[derive(Clone, Copy)]
+pub(super) enum Pace {
+    OneByte,
+    AsAsked,
+}
 
-/// Gives so many bytes a call, and fails at one call, counted from 1.
+/// Gives its bytes at a pace, and fails at one call, counted from 1.
 #[derive(Drop)]
 pub(super) struct Drip<'a> {
     bytes: &'a [u8],
-    step: usize,
+    pace: Pace,
     calls: u64,
     fails_at: u64,
 }
 
 impl<'a> Drip<'a> {
-    pub(super) fn new(bytes: &'a [u8], step: usize, fails_at: u64) -> Drip<'a> {
+    pub(super) fn new(bytes: &'a [u8], pace: Pace, fails_at: u64) -> Drip<'a> {
         Drip {
             bytes,
-            step,
+            pace,
             calls: 0,
             fails_at,
         }
@@ -51,8 +55,13 @@ impl Read for Drip<'_> {
         if self.calls == self.fails_at {
             return Err(io::Error::from(ErrorKind::Other));
         }
-        let most = buf.len().min(self.step);
-        self.bytes.read(&mut buf[..most])
+        match self.pace {
+            Pace::OneByte => {
+                let most = buf.len().min(1);
+                self.bytes.read(&mut buf[..most])
+            }
+            Pace::AsAsked => self.bytes.read(buf),
+        }
     }
 }
 
@@ -130,7 +139,7 @@ impl<'a> Files for Shelf<'a> {
         for (name, bytes) in self.stored {
             if *name == path {
                 let fails_at = u64::from(path == "torn");
-                return Some(Drip::new(*bytes, STEP, fails_at));
+                return Some(Drip::new(*bytes, Pace::AsAsked, fails_at));
             }
         }
         None
@@ -241,17 +250,29 @@ pub(super) fn show_within(
     for word in line.split(' ') {
         words.push(word.to_string(alloc)?)?;
     }
-    Ok(call(alloc, words.as_slice(), stored, Drip::new(b"", 1, 1), room))
+    Ok(call(
+        alloc,
+        words.as_slice(),
+        stored,
+        Drip::new(b"", Pace::OneByte, 1),
+        room,
+    ))
 }
 
 /// What a run without words shows of an input.
 pub(super) fn run(alloc: Global, source: &[u8]) -> Shown {
-    call(alloc, &[], &[], Drip::new(source, STEP, 0), AMPLE)
+    call(alloc, &[], &[], Drip::new(source, Pace::AsAsked, 0), AMPLE)
 }
 
 /// What a run without words shows of an input that gives one byte a call and fails at one call, counted from 1.
 pub(super) fn run_within(alloc: Global, source: &[u8], fails_at: u64, room: Room) -> Shown {
-    call(alloc, &[], &[], Drip::new(source, 1, fails_at), room)
+    call(
+        alloc,
+        &[],
+        &[],
+        Drip::new(source, Pace::OneByte, fails_at),
+        room,
+    )
 }
 
 /// The bytes that `build` fills an image file with.
