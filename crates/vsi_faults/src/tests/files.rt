@@ -48,14 +48,6 @@ fn lattices(rt: HostRuntime) -> Result<(), Fail> {
     Ok(())
 }
 
-/// What is told of a lattice file that is refused.
-fn told_of(alloc: Global, text: &[u8]) -> Result<Option<Vec<u8>>, AllocError> {
-    match read_lattice(alloc, text) {
-        Ok(_) => Ok(None),
-        Err(error) => Ok(Some(fault_text(alloc, &Fault::Lattice(error))?)),
-    }
-}
-
 #[test]
 fn lattice_files(rt: HostRuntime) -> Result<(), Fail> {
     let rows: [(&[u8], &[u8]); 9] = [
@@ -85,8 +77,10 @@ fn lattice_files(rt: HostRuntime) -> Result<(), Fail> {
         (b"classes = ", b"refused: 1 NotToml\n"),
     ];
     for (text, wanted) in rows {
-        let told = told_of(rt.alloc(), text)?;
-        assert!(rt; told.as_deref() == Some(wanted));
+        let error = read_lattice(rt.alloc(), text)
+            .err()
+            .ok_or("the file is refused")?;
+        assert!(rt; is_told(rt.alloc(), Fault::Lattice(error), wanted)?);
     }
     Ok(())
 }
