@@ -31,6 +31,3 @@ pub use vsi_lattice::{Class, Classes, Lattice, LatticeError, read_lattice};
 pub use vsi_machine::{Machine, Outcome, StartError};
 pub use vsi_store::{StoreError, View, ViewError, read_store, store_text, view};
 pub use vsi_types::Profile;
-
-#[cfg(test)]
-mod tests;

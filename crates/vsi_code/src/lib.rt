@@ -9,6 +9,3 @@ mod generator;
 mod measure;
 
 pub use generator::generate;
-
-#[cfg(test)]
-mod tests;

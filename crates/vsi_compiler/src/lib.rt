@@ -15,6 +15,3 @@ pub use error::CompileError;
 pub use refused::explanation_text;
 pub use run::{RunError, run_source};
 pub use texts::{classes_text, classes_text_in, format_text};
-
-#[cfg(test)]
-mod tests;

@@ -19,6 +19,3 @@ pub use counted::Counted;
 pub use engine::{READ_LIMIT, read_all, write_out};
 pub use error::EngineError;
 pub use running::run_image;
-
-#[cfg(test)]
-mod tests;

@@ -11,6 +11,3 @@ mod source;
 mod texts;
 
 pub use texts::{Fault, fault_text, refusal_text};
-
-#[cfg(test)]
-mod tests;

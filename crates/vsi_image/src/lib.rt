@@ -25,6 +25,3 @@ pub use limits::Limit;
 pub use text::listing;
 pub use verified::Verified;
 pub use verifier::{VerifyError, verify};
-
-#[cfg(test)]
-mod tests;

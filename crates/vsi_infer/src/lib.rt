@@ -27,6 +27,3 @@ pub use explanation::explain;
 pub use inference::{infer, infer_in};
 pub use vsi_types::Step;
 pub use walk::{Walk, check_walk, check_walk_in};
-
-#[cfg(test)]
-mod tests;

@@ -20,6 +20,3 @@ pub use mask::MaskLattice;
 pub use order::{Classes, OrderError};
 pub use pair::PairLattice;
 pub use reader::read_lattice;
-
-#[cfg(test)]
-mod tests;

@@ -9,10 +9,7 @@
 
 mod action;
 mod interpreter;
-pub mod laws;
-#[cfg(test)]
-mod tests;
-mod tracing;
+pub mod laws;mod tracing;
 mod turns;
 
 pub use interpreter::{Machine, Outcome, StartError};

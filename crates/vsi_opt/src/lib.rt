@@ -13,6 +13,3 @@ mod optimiser;
 mod small_set;
 
 pub use optimiser::optimise;
-
-#[cfg(test)]
-mod tests;

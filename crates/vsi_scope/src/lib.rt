@@ -16,6 +16,3 @@ pub use measure::size;
 pub use program::{Cmd, Ex};
 pub use resolution::{ScopeError, resolve};
 pub use resolved::{Entry, Global, Resolved, Var};
-
-#[cfg(test)]
-mod tests;

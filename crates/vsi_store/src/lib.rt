@@ -16,6 +16,3 @@ pub use observer::view;
 pub use reader::read_store;
 pub use text::store_text;
 pub use views::{View, ViewError};
-
-#[cfg(test)]
-mod tests;

@@ -25,6 +25,3 @@ pub use printer::print;
 pub use program::{MAX_DEPTH, Program};
 pub use token::{Kind, Span, Token};
 pub use tree::{Declaration, Expr, Name, Stmt};
-
-#[cfg(test)]
-mod tests;

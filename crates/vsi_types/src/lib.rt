@@ -21,6 +21,3 @@ pub use checker::{check, check_in};
 pub use error::CheckError;
 pub use rules::{FlowFault, Guard, LOOP, Profile, Read, Rule, Step};
 pub use walker::{Walker, first_variables, loops, push_reads};
-
-#[cfg(test)]
-mod tests;

@@ -77,22 +77,30 @@ fn told(alloc: Global, error: &Error) -> WordsError {
 fn parsed<'a>(alloc: Global, words: &'a [String]) -> Result<Request<'a>, Error> {
     let mut command = program(alloc)?;
     let matches = command.try_get_matches_from_mut(words)?;
-    if has_signed_budget(&matches) {
-        return Err(command.error(
+    let (kind, mistake) = match requested(&matches) {
+        Some(request) if !has_signed_budget(&matches) => return Ok(request),
+        Some(_) => (
             ErrorKind::ValueValidation,
             "a budget is written by digits alone",
-        )?);
-    }
-    match matches.subcommand() {
-        Some(("check", inner)) => Ok(Request::Check(compilation_in(inner))),
-        Some(("classes", inner)) => Ok(Request::Classes(compilation_in(inner))),
-        Some(("build", inner)) => Ok(Request::Build(compilation_in(inner), text(inner, "IMAGE"))),
-        Some(("list", inner)) => Ok(Request::List(text(inner, "IMAGE"))),
-        Some(("run", inner)) => Ok(Request::Run(execution_in(inner), inner.get_flag("trace"))),
-        Some(("view", inner)) => Ok(view_request(inner)),
-        Some((_, inner)) => Ok(Request::Format(text(inner, "SOURCE"))),
-        None => Err(command.error(ErrorKind::MissingSubcommand, "a subcommand is needed")?),
-    }
+        ),
+        None => (ErrorKind::MissingSubcommand, "a subcommand is needed"),
+    };
+    Err(command.error(kind, mistake)?)
+}
+
+/// What a subcommand asks for, where there is one.
+fn requested<'a>(matches: &ArgMatches<'a>) -> Option<Request<'a>> {
+    let (name, inner) = matches.subcommand()?;
+    let request = match name {
+        "check" => Request::Check(compilation_in(inner)),
+        "classes" => Request::Classes(compilation_in(inner)),
+        "build" => Request::Build(compilation_in(inner), text(inner, "IMAGE")),
+        "list" => Request::List(text(inner, "IMAGE")),
+        "run" => Request::Run(execution_in(inner), inner.get_flag("trace")),
+        "view" => view_request(inner),
+        _ => Request::Format(text(inner, "SOURCE")),
+    };
+    Some(request)
 }
 
 fn view_request<'a>(matches: &ArgMatches<'a>) -> Request<'a> {

@@ -9,20 +9,31 @@ const VERSION: &str = "0.1.0";
 
 /// The program with its subcommands.
 pub(crate) fn program<'a>(alloc: Global) -> Result<Command<'a>, AllocError> {
-    Command::new(alloc, "vsi")
+    judging(alloc, described(alloc)?)?
+        .subcommand(list_command(alloc)?)?
+        .subcommand(run_command(alloc)?)?
+        .subcommand(view_command(alloc)?)?
+        .subcommand(format_command(alloc)?)
+}
+
+/// The program itself, without its subcommands.
+fn described<'a>(alloc: Global) -> Result<Command<'a>, AllocError> {
+    let program = Command::new(alloc, "vsi")
         .bin_name("vsi")?
         .no_binary_name(true)
         .version(VERSION)
         .about("Compiles programs whose flows of information are typed, and runs them")
         .long_about(help::PROGRAM)
-        .after_help(help::PROGRAM_EXAMPLE)
+        .after_help(help::PROGRAM_EXAMPLE);
+    Ok(program)
+}
+
+/// The program with the subcommands that judge a source text.
+fn judging<'a>(alloc: Global, program: Command<'a>) -> Result<Command<'a>, AllocError> {
+    program
         .subcommand(check_command(alloc)?)?
         .subcommand(classes_command(alloc)?)?
-        .subcommand(build_command(alloc)?)?
-        .subcommand(list_command(alloc)?)?
-        .subcommand(run_command(alloc)?)?
-        .subcommand(view_command(alloc)?)?
-        .subcommand(format_command(alloc)?)
+        .subcommand(build_command(alloc)?)
 }
 
 fn check_command<'a>(alloc: Global) -> Result<Command<'a>, AllocError> {
@@ -46,17 +57,13 @@ fn classes_command<'a>(alloc: Global) -> Result<Command<'a>, AllocError> {
 }
 
 fn build_command<'a>(alloc: Global) -> Result<Command<'a>, AllocError> {
-    let image = Arg::new(alloc, "IMAGE")
-        .required(true)
-        .help("The image file that is written")
-        .long_help(help::NEW_IMAGE);
     Command::new(alloc, "build")
         .about("Compiles a source text to an image")
         .long_about(help::BUILD)
         .after_help(help::BUILD_EXAMPLE)
         .arg(lattice_argument(alloc))?
         .arg(source_argument(alloc))?
-        .arg(image)?
+        .arg(new_image_argument(alloc))?
         .arg(strict_argument(alloc))
 }
 
@@ -118,6 +125,13 @@ fn image_argument<'a>(alloc: Global) -> Arg<'a> {
         .required(true)
         .help("The image file")
         .long_help(help::IMAGE)
+}
+
+fn new_image_argument<'a>(alloc: Global) -> Arg<'a> {
+    Arg::new(alloc, "IMAGE")
+        .required(true)
+        .help("The image file that is written")
+        .long_help(help::NEW_IMAGE)
 }
 
 fn strict_argument<'a>(alloc: Global) -> Arg<'a> {

@@ -1,0 +1,184 @@
+//! Store files, store texts and views of small images.
+
+ghost use Rattle.std.specs.Prelude.{◌≡◌, IfOk, length};
+
+use vsi_store::{StoreError, View, ViewError, read_store, store_text, view};
+use std::alloc::{AllocError, Global};
+use std::test::Fail;
+use vsi_image::{Image, Instr, Verified, verify};
+use vsi_lattice::{Classes, Lattice, read_lattice};
+
+const TWO_CLASSES: &[u8] = b"classes = [\"L\", \"H\"]\nbelow = [[\"L\", \"H\"]]\n";
+
+/// A global with its class name.
+fn global(alloc: Global, name: &[u8], class: &[u8]) -> Result<(Vec<u8>, Vec<u8>), AllocError> {
+    Ok((
+        Vec::from_slice(alloc, name)?,
+        Vec::from_slice(alloc, class)?,
+    ))
+}
+
+/// An image with two globals that does this.
+fn image(
+    alloc: Global,
+    names: [&[u8]; 2],
+    classes: [&[u8]; 2],
+    code: &[Instr],
+) -> Result<Image, AllocError>
+    ensures { IfOk result (λ image. length image.globals.items ≡ 2) }
+{
+    let mut globals = Vec::new(alloc);
+    globals.push(global(alloc, names[0], classes[0])?)?;
+    globals.push(global(alloc, names[1], classes[1])?)?;
+    Ok(Image {
+        globals,
+        slots: 2,
+        stack: 2,
+        code: Vec::from_slice(alloc, code)?,
+    })
+}
+
+/// `l := l + 1; h := l`.
+const STEPS: [Instr; 7] = [
+    Instr::Load(1),
+    Instr::Push(1),
+    Instr::Add,
+    Instr::Store(1),
+    Instr::Load(1),
+    Instr::Store(0),
+    Instr::Halt,
+];
+
+#[test]
+fn reads_a_store(rt: HostRuntime) -> Result<(), Fail> {
+    let image = image(rt.alloc(), [b"x", b"y"], [b"L", b"L"], &[Instr::Halt])?;
+    let cases: [(&[u8], [i64; 2]); 3] = [
+        (b"x = 5", [5, 0]),
+        (b"", [0, 0]),
+        (
+            b"y = -7\nx = 9223372036854775807",
+            [9223372036854775807, -7],
+        ),
+    ];
+    for (text, want) in cases {
+        let words = read_store(rt.alloc(), &image, text)?;
+        assert_eq!(rt; words.as_slice(), want.as_slice());
+    }
+    Ok(())
+}
+
+/// The number and the key of a refusal.
+fn refusal(error: &StoreError) -> (u8, &[u8]) {
+    match error {
+        StoreError::NotToml => (40, &[]),
+        StoreError::NotANumber(key) => (41, key.as_slice()),
+        StoreError::UnknownGlobal(key) => (42, key.as_slice()),
+        StoreError::Memory => (0, &[]),
+    }
+}
+
+#[test]
+fn refuses_a_store(rt: HostRuntime) -> Result<(), Fail> {
+    let image = image(rt.alloc(), [b"x", b"y"], [b"L", b"L"], &[Instr::Halt])?;
+    let cases: [(&[u8], u8, &[u8]); 6] = [
+        (b"z = 1", 42, b"z"),
+        (b"x = \"a\"", 41, b"x"),
+        (b"z = \"a\"", 41, b"z"),
+        (b"x =", 40, b""),
+        (b"z = 1\nq = 2", 42, b"q"),
+        (b"y = \"a\"\nx.y = 1", 41, b"x"),
+    ];
+    for (text, number, key) in cases {
+        match read_store(rt.alloc(), &image, text) {
+            Ok(words) => assert!(rt; words.is_empty(), "read"),
+            Err(error) => {
+                let told = refusal(&error);
+                assert_eq!(rt; told.0, number);
+                assert_eq!(rt; told.1, key);
+            }
+        }
+    }
+    Ok(())
+}
+
+#[test]
+fn prints_a_store(rt: HostRuntime) -> Result<(), Fail> {
+    let image = image(rt.alloc(), [b"x", b"y"], [b"L", b"L"], &[Instr::Halt])?;
+    let text = store_text(
+        rt.alloc(),
+        &image,
+        &[-9223372036854775808, 9223372036854775807],
+    )?;
+    let want = b"x = -9223372036854775808\ny = 9223372036854775807\n";
+    assert_eq!(rt; text.as_slice(), want.as_slice());
+    Ok(())
+}
+
+/// The image that counts, verified.
+fn counting(alloc: Global) -> Result<Option<Verified>, AllocError> {
+    let image = image(alloc, [b"h", b"l"], [b"H", b"L"], &STEPS)?;
+    match verify(image) {
+        Ok(verified) => Ok(Some(verified)),
+        Err(_) => Ok(None),
+    }
+}
+
+/// Whether the class of this name sees this text of a run, and none where the budget is spent.
+fn sees(
+    alloc: Global,
+    lattice: &Lattice,
+    class: &[u8],
+    words: &[i64],
+    budget: u64,
+    want: Option<&[u8]>,
+) -> Result<bool, AllocError> {
+    let Some(verified) = counting(alloc)? else {
+        return Ok(false);
+    };
+    let Some(class) = lattice.class_named(class) else {
+        return Ok(false);
+    };
+    match view(alloc, lattice, &verified, class, words, budget) {
+        Ok(View::Text(text)) => Ok(want == Some(text.as_slice())),
+        Ok(View::OutOfBudget) => Ok(want.is_none()),
+        Err(_) => Ok(false),
+    }
+}
+
+#[test]
+fn sees_what_is_below(rt: HostRuntime) -> Result<(), Fail> {
+    let lattice = read_lattice(rt.alloc(), TWO_CLASSES)?;
+    let cases: [(&[u8], [i64; 2], u64, Option<&[u8]>); 5] = [
+        (b"L", [5, 1], 7, Some(b"l = 2\n")),
+        (b"L", [9, 1], 7, Some(b"l = 2\n")),
+        (b"H", [5, 1], 7, Some(b"h = 2\nl = 2\n")),
+        (b"L", [5, 1], 6, None),
+        (b"H", [5, 1], 6, None),
+    ];
+    for (class, words, budget, want) in cases {
+        assert!(rt; sees(rt.alloc(), &lattice, class, &words, budget, want)?);
+    }
+    Ok(())
+}
+
+#[test]
+fn a_view_judges_the_classes_first(rt: HostRuntime) -> Result<(), Fail> {
+    let verified = counting(rt.alloc())?;
+    assert!(rt; verified.is_some());
+    let Some(verified) = verified else {
+        return Ok(());
+    };
+    for (text, lacks) in [
+        (b"classes = [\"L\"]\nbelow = []\n".as_slice(), true),
+        (TWO_CLASSES, false),
+    ] {
+        let lattice = read_lattice(rt.alloc(), text)?;
+        let answer = view(rt.alloc(), &lattice, &verified, lattice.bottom(), &[1], 7);
+        if lacks {
+            assert!(rt; matches!(&answer, Err(ViewError::ClassNotInLattice(0))));
+        } else {
+            assert!(rt; matches!(&answer, Err(ViewError::WrongStore(1))));
+        }
+    }
+    Ok(())
+}
