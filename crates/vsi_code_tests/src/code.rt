@@ -1,7 +1,7 @@
 //! The code of worked programs, instruction by instruction, and code at the limits.
 
-use vsi_code::generate;
 use std::alloc::{AllocError, Global};
+use vsi_code::generate;
 use vsi_image::{Instr, Verified, decode, encode};
 use vsi_lattice::read_lattice;
 use vsi_scope::resolve;

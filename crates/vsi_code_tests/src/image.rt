@@ -4,8 +4,8 @@ mod bytes;
 mod faults;
 mod lines;
 
-use vsi_image::{Image, Instr};
 use std::alloc::{AllocError, Global};
+use vsi_image::{Image, Instr};
 
 /// An image with these fields.
 fn image(

@@ -2,10 +2,10 @@
 
 mod near;
 
-use vsi_machine::{Machine, Outcome, StartError};
 use std::alloc::Global;
 use std::test::*;
 use vsi_image::{Image, Instr, Verified, verify};
+use vsi_machine::{Machine, Outcome, StartError};
 
 /// The image with these globals of one letter.
 fn image(

@@ -1,8 +1,8 @@
 //! Worked programs: what is left of a body, and of the entries of its `letvar`s.
 
-use vsi_opt::optimise;
 use std::alloc::{AllocError, Global};
 use vsi_lattice::{Lattice, read_lattice};
+use vsi_opt::optimise;
 use vsi_scope::{Cmd, Ex, Resolved, resolve, size};
 use vsi_syntax::{Op, lex, parse};
 

@@ -6,11 +6,11 @@ mod limits;
 mod programs;
 mod walks;
 
+use std::alloc::{AllocError, Global};
+use std::test::Fail;
 use vsi_compiler::{
     CompileError, RunError, classes_text, classes_text_in, compile, format_text, run_source,
 };
-use std::alloc::{AllocError, Global};
-use std::test::Fail;
 use vsi_lattice::{Lattice, LatticeError, read_lattice};
 use vsi_machine::Outcome;
 use vsi_scope::ScopeError;

@@ -2,11 +2,11 @@
 
 ghost use Rattle.std.specs.Prelude.{◌≡◌, IfOk, length};
 
-use vsi_store::{StoreError, View, ViewError, read_store, store_text, view};
 use std::alloc::{AllocError, Global};
 use std::test::Fail;
 use vsi_image::{Image, Instr, Verified, verify};
 use vsi_lattice::{Classes, Lattice, read_lattice};
+use vsi_store::{StoreError, View, ViewError, read_store, store_text, view};
 
 const TWO_CLASSES: &[u8] = b"classes = [\"L\", \"H\"]\nbelow = [[\"L\", \"H\"]]\n";
 

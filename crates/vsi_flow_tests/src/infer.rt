@@ -8,8 +8,8 @@ ghost use Rattle.std.specs.List.{All};
 ghost use Rattle.vsi_lattice.specs.Order.{IsClass};
 ghost use Rattle.vsi_infer.specs.Inference.{AreClasses};
 
-use vsi_infer::{InferError, check_walk, check_walk_in, explain, infer, infer_in};
 use std::alloc::Global as Heap;
+use vsi_infer::{InferError, check_walk, check_walk_in, explain, infer, infer_in};
 use vsi_lattice::{Class, Classes, Lattice, read_lattice};
 use vsi_scope::{Entry, Global, Resolved, resolve};
 use vsi_syntax::{lex, parse};

@@ -7,11 +7,11 @@ ghost use Rattle.std.specs.Prelude.{◌≡◌, true, map};
 ghost use Rattle.std.specs.List.{All};
 ghost use Rattle.vsi_lattice.specs.Order.{IsClass};
 
-use vsi_types::{CheckError, Profile, Rule, check, check_in};
 use std::alloc::Global as Heap;
 use vsi_lattice::{Class, Classes, read_lattice};
 use vsi_scope::{Global, Resolved, resolve};
 use vsi_syntax::{lex, parse};
+use vsi_types::{CheckError, Profile, Rule, check, check_in};
 
 // Two classes, L below H.
 const TWO_CLASSES: &[u8] = b"classes = [\"L\", \"H\"]\nbelow = [[\"L\", \"H\"]]\n";

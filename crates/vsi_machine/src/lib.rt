@@ -9,7 +9,8 @@
 
 mod action;
 mod interpreter;
-pub mod laws;mod tracing;
+pub mod laws;
+mod tracing;
 mod turns;
 
 pub use interpreter::{Machine, Outcome, StartError};

@@ -3,9 +3,9 @@ mod faults;
 mod limits;
 mod places;
 
-use vsi_scope::{ScopeError, resolve, size};
 use std::alloc::{AllocError, Global};
 use vsi_lattice::{Lattice, read_lattice};
+use vsi_scope::{ScopeError, resolve, size};
 use vsi_syntax::{lex, parse};
 
 // The lattice of two classes, L below H.

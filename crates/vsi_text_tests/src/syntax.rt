@@ -7,8 +7,8 @@ mod operators;
 mod parsing;
 mod printing;
 
-use vsi_syntax::{LexError, ParseError, lex, parse};
 use std::alloc::{AllocError, Global};
+use vsi_syntax::{LexError, ParseError, lex, parse};
 
 /// What becomes of a text.
 #[derive(Clone, Copy, Debug, PartialEq, Eq)]

@@ -1,9 +1,9 @@
 //! The bytes of images, whole, cut and changed.
 
 use super::image;
-use vsi_image::{DecodeError, Instr, VerifyError, decode, encode, verify};
 use std::alloc::{AllocError, Global};
 use std::test::*;
+use vsi_image::{DecodeError, Instr, VerifyError, decode, encode, verify};
 
 /// The bytes of an image in version 1: it pushes 3, stores it in `x` and halts.
 const STORES: [u8; 31] = [

@@ -1,9 +1,9 @@
 //! Faults that `verify` and `encode` name.
 
 use super::image;
-use vsi_image::{EncodeError, Instr, Limit, VerifyError, encode, verify};
 use std::alloc::{AllocError, Global};
 use std::test::*;
+use vsi_image::{EncodeError, Instr, Limit, VerifyError, encode, verify};
 
 /// Why `verify` refuses an image without globals, or nothing where it is valid.
 fn fault(

@@ -1,8 +1,8 @@
 //! The text of an image and of an instruction.
 
 use super::image;
-use vsi_image::{Instr, listing};
 use std::test::*;
+use vsi_image::{Instr, listing};
 
 /// What is listed of an image of eight instructions.
 const LINES: &[u8] = b"globals 1\nslots 1\nstack 1\nh : H

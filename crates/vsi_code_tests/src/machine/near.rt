@@ -1,10 +1,10 @@
 //! Images near a worked one, each cut of its bytes and each byte with each other value: what isn't refused runs.
 
 use super::started;
-use vsi_machine::Outcome;
 use std::alloc::Global;
 use std::test::*;
 use vsi_image::{DecodeError, VerifyError, decode, verify};
+use vsi_machine::Outcome;
 
 /// The bytes of an image in version 1: it pushes 3, stores it in `x` and halts.
 const STORES: [u8; 31] = [

@@ -1,8 +1,8 @@
 //! The instructions of texts, images of the first version, and runs that go on.
 
 use super::two;
-use vsi_compiler::compile;
 use std::test::Fail;
+use vsi_compiler::compile;
 use vsi_image::{Instr, decode, verify};
 use vsi_machine::{Machine, Outcome};
 

@@ -5,9 +5,9 @@ ghost use Rattle.std.specs.List.{All};
 ghost use Rattle.vsi_lattice.specs.Order.{IsClass};
 
 use super::{counted, four, judged, two};
-use vsi_compiler::{CompileError, compile, compile_in};
 use std::alloc::Global as Heap;
 use std::test::Fail;
+use vsi_compiler::{CompileError, compile, compile_in};
 use vsi_lattice::{Classes, Lattice};
 use vsi_opt::optimise;
 use vsi_scope::{Global, resolve};

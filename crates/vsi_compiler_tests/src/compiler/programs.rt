@@ -1,8 +1,8 @@
 //! What programs do to a store.
 
 use super::{ends_in, goes_on, two};
-use vsi_compiler::compile;
 use std::test::Fail;
+use vsi_compiler::compile;
 use vsi_image::encode;
 
 #[test]

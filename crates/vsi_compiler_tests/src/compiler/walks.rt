@@ -1,9 +1,9 @@
 //! Refused flows, step by step.
 
 use super::{ends_in, four, two};
-use vsi_compiler::{CompileError, classes_text, compile_in, explanation_text};
 use std::alloc::{AllocError, Global};
 use std::test::Fail;
+use vsi_compiler::{CompileError, classes_text, compile_in, explanation_text};
 use vsi_infer::Walk;
 use vsi_lattice::Lattice;
 use vsi_scope::Var;

@@ -1,8 +1,8 @@
 //! Walks that aren't bad, and a long one.
 
 use super::{TWO_CLASSES, answered, are_classes, are_declared, says};
-use vsi_infer::{Walk, check_walk};
 use std::alloc::Global as Heap;
+use vsi_infer::{Walk, check_walk};
 use vsi_lattice::{Lattice, read_lattice};
 use vsi_scope::{Resolved, Var, resolve};
 use vsi_syntax::{Span, lex, parse};

@@ -3,12 +3,12 @@
 ghost use Rattle.std.specs.Prelude.{◌≡◌};
 
 use super::{Said, TWO_CLASSES, answer};
-use vsi_types::Profile::{Base, Strict};
-use vsi_types::{LOOP, Profile, Rule};
 use std::alloc::Global as Heap;
 use vsi_lattice::read_lattice;
 use vsi_scope::{Cmd, Ex, Resolved, resolve};
 use vsi_syntax::{Span, lex, parse};
+use vsi_types::Profile::{Base, Strict};
+use vsi_types::{LOOP, Profile, Rule};
 
 // The program of the same globals that is an `if` with two empty branches and a loop without a body.
 fn emptied<'a>(alloc: Heap, program: &Resolved<'a>) -> Option<Resolved<'a>> {

@@ -1,8 +1,8 @@
 //! Builds of texts that a reader gives.
 
 use crate::engine::fakes::{Failure, drip_of, scant_of};
-use vsi_engine::{EngineError, build, build_in};
 use std::test::Fail;
+use vsi_engine::{EngineError, build, build_in};
 use vsi_lattice::read_lattice;
 use vsi_types::Profile;
 

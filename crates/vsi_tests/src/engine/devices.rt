@@ -1,9 +1,9 @@
 //! Whole texts through devices.
 
 use crate::engine::fakes::{Failure, drip_of, scant_of};
-use vsi_engine::{Counted, EngineError, read_all, write_out};
 use std::io;
 use std::test::Fail;
+use vsi_engine::{Counted, EngineError, read_all, write_out};
 
 const TEXT: &[u8] = b"compiled";
 

@@ -3,10 +3,10 @@
 ghost use Rattle.std.specs.Prelude.{◌≡◌, Some, IfOk};
 ghost use Rattle.vsi_engine.specs.Counted.{faults_of};
 
-use vsi_engine::Counted;
 use std::alloc::{AllocError, Global};
 use std::io;
 use std::io::{ErrorKind, Read, Write};
+use vsi_engine::Counted;
 
 /// Gives one byte a call, and fails at one call.
 #[derive(Drop)]

@@ -1,8 +1,8 @@
 //! Runs of images that a reader gives.
 
 use crate::engine::fakes::{Failure, drip_of, scant_of};
-use vsi_engine::{EngineError, run_image};
 use std::test::Fail;
+use vsi_engine::{EngineError, run_image};
 use vsi_image::{DecodeError, VerifyError};
 use vsi_machine::Outcome;
 use vsi_store::StoreError;

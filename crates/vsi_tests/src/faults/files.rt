@@ -1,9 +1,9 @@
 //! Refused lattice files, images, store files and views.
 
 use super::two;
-use vsi_faults::{Fault, fault_text};
 use std::alloc::{AllocError, Global};
 use std::test::Fail;
+use vsi_faults::{Fault, fault_text};
 use vsi_image::{DecodeError, Image, Instr, Limit, VerifyError, decode, verify};
 use vsi_lattice::{Class, Classes, LatticeError, read_lattice};
 use vsi_store::{StoreError, ViewError, read_store, view};

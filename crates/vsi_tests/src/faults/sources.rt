@@ -1,10 +1,10 @@
 //! Refused source texts.
 
 use super::two;
-use vsi_faults::refusal_text;
 use std::alloc::{AllocError, Global};
 use std::test::Fail;
 use vsi_compiler::{CompileError, compile};
+use vsi_faults::refusal_text;
 use vsi_lattice::{Lattice, read_lattice};
 
 /// What is told of a text that is refused.

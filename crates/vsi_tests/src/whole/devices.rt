@@ -3,10 +3,10 @@
 ghost use Rattle.std.specs.Prelude.{◌≡◌, Some};
 ghost use Rattle.vsi_engine.specs.Counted.{faults_of};
 
-use vsi::{Counted, Files, command};
 use std::alloc::{AllocError, Global};
 use std::io;
 use std::io::{ErrorKind, Read, Write};
+use vsi::{Counted, Files, command};
 
 /// The two classes of the run without words.
 pub(super) const TWO: &[u8] = b"classes = [\"L\", \"H\"]\nbelow = [[\"L\", \"H\"]]\n";

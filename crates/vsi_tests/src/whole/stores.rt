@@ -1,9 +1,9 @@
 //! Runs from stores that aren't zeros.
 
 use super::devices::TWO;
-use vsi::{RunError, run_source};
 use std::alloc::Global;
 use std::test::Fail;
+use vsi::{RunError, run_source};
 use vsi_lattice::read_lattice;
 use vsi_machine::{Outcome, StartError};
 

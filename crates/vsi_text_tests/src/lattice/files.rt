@@ -1,8 +1,8 @@
 //! Lattice files.
 
-use vsi_lattice::*;
 use std::alloc::{AllocError, Global};
 use std::test::Fail;
+use vsi_lattice::*;
 
 const DIAMOND: &[u8] = b"classes = [\"L\", \"A\", \"B\", \"H\"]
 below = [[\"L\", \"A\"], [\"L\", \"B\"], [\"A\", \"H\"], [\"B\", \"H\"]]

@@ -3,9 +3,9 @@
 ghost use Rattle.std.specs.Prelude.{◌<◌, ◌≤◌, IfOk};
 ghost use Rattle.vsi_lattice.specs.Pairs.{ArePairsBelow};
 
-use vsi_lattice::*;
 use std::alloc::{AllocError, Global};
 use std::test::Fail;
+use vsi_lattice::*;
 
 /// The pairs of classes below `count` whose bits, row by row, `chosen` has.
 fn chosen_pairs(alloc: Global, count: u8, chosen: u16) -> Result<Vec<(u8, u8)>, AllocError>

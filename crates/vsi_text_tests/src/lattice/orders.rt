@@ -1,7 +1,7 @@
 //! Orders by the numbers of their classes.
 
-use vsi_lattice::*;
 use std::test::Fail;
+use vsi_lattice::*;
 
 #[test]
 fn four_classes(rt: HostRuntime) -> Result<(), Fail> {

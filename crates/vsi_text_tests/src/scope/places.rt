@@ -1,8 +1,8 @@
 //! The locations that names stand for, in text order, and what a resolved program shows.
 use super::two_classes;
-use vsi_scope::{Cmd, Ex, resolve, size};
 use std::alloc::{AllocError, Global};
 use vsi_lattice::Class;
+use vsi_scope::{Cmd, Ex, resolve, size};
 use vsi_syntax::{lex, parse};
 
 // The locations that an expression reads, each with the span of its name.

@@ -2,8 +2,8 @@
 
 use super::Answer::{Accepted, BadByte, BadNumber, BadWord, TooLong};
 use super::{answer_to, nested};
-use vsi_syntax::{Kind, Span, is_name, lex, line_column};
 use std::test::Fail;
+use vsi_syntax::{Kind, Span, is_name, lex, line_column};
 
 #[test]
 fn cuts_a_text(rt: HostRuntime) -> Result<(), Fail> {

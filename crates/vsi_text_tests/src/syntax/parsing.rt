@@ -2,8 +2,8 @@
 
 use super::Answer::{Accepted, Unexpected};
 use super::answer_to;
-use vsi_syntax::{Expr, Op, Stmt, lex, parse};
 use std::test::Fail;
+use vsi_syntax::{Expr, Op, Stmt, lex, parse};
 
 #[test]
 fn finds_the_first_wrong_token(rt: HostRuntime) {

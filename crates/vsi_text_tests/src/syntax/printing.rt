@@ -1,7 +1,7 @@
 //! Canonical texts.
 
-use vsi_syntax::{lex, parse, print};
 use std::test::Fail;
+use vsi_syntax::{lex, parse, print};
 
 #[test]
 fn prints_canonically(rt: HostRuntime) -> Result<(), Fail> {
