@@ -1,9 +1,21 @@
-//! The tests of the whole library, of devices and of the texts of refusals: `vsi`, `vsi_engine` and `vsi_faults`.
+//! The tests of the whole library, through `command` over files and streams in memory, and by its calls.
 #![tactic(auto)]
 
 #[cfg(test)]
-mod engine;
+mod devices;
 #[cfg(test)]
 mod faults;
 #[cfg(test)]
-mod whole;
+mod help;
+#[cfg(test)]
+mod images;
+#[cfg(test)]
+mod judging;
+#[cfg(test)]
+mod limits;
+#[cfg(test)]
+mod order;
+#[cfg(test)]
+mod rows;
+#[cfg(test)]
+mod stores;
