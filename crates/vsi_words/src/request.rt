@@ -2,11 +2,11 @@
 
 use crate::usage::program;
 use clap::error::ErrorKind;
-use clap::{ArgMatches, Error};
+use clap::{ArgMatches, Command, Error};
 use std::alloc::Global;
 
 /// What is compiled: the paths of a lattice file and of a source text, and whether the strict profile judges it.
-#[derive(Clone, Copy, Debug, PartialEq, Eq)]
+#[derive(Clone, Copy, Debug)]
 pub struct Compilation<'a> {
     pub lattice: &'a str,
     pub source: &'a str,
@@ -15,7 +15,7 @@ pub struct Compilation<'a> {
 
 /// What is run: the path of an image, the most instructions that are done, and the path of a store file, without which
 /// the run begins from zeros.
-#[derive(Clone, Copy, Debug, PartialEq, Eq)]
+#[derive(Clone, Copy, Debug)]
 pub struct Execution<'a> {
     pub image: &'a str,
     pub budget: u64,
@@ -23,7 +23,7 @@ pub struct Execution<'a> {
 }
 
 /// A subcommand with what it is given.
-#[derive(Clone, Copy, Debug, PartialEq, Eq)]
+#[derive(Clone, Copy, Debug)]
 pub enum Request<'a> {
     Check(Compilation<'a>),
     Classes(Compilation<'a>),
@@ -73,19 +73,53 @@ fn told(alloc: Global, error: &Error) -> WordsError {
     }
 }
 
+/// What is wrong with words that the parser of command lines takes.
+#[derive(Clone, Copy, Debug)]
+enum Mistake {
+    SignedBudget,
+    NoSubcommand,
+}
+
+impl Mistake {
+    fn kind(self) -> ErrorKind {
+        match self {
+            Mistake::SignedBudget => ErrorKind::ValueValidation,
+            Mistake::NoSubcommand => ErrorKind::MissingSubcommand,
+        }
+    }
+
+    fn text(self) -> &'static str {
+        match self {
+            Mistake::SignedBudget => "a budget is written by digits alone",
+            Mistake::NoSubcommand => "a subcommand is needed",
+        }
+    }
+}
+
 /// Parses the words.
 fn parsed<'a>(alloc: Global, words: &'a [String]) -> Result<Request<'a>, Error> {
     let mut command = program(alloc)?;
+    match asked(&mut command, words)? {
+        Ok(request) => Ok(request),
+        Err(mistake) => Err(command.error(mistake.kind(), mistake.text())?),
+    }
+}
+
+/// What words that the program takes ask for.
+fn asked<'a>(
+    command: &mut Command<'a>,
+    words: &'a [String],
+) -> Result<Result<Request<'a>, Mistake>, Error> {
     let matches = command.try_get_matches_from_mut(words)?;
-    let (kind, mistake) = match requested(&matches) {
-        Some(request) if !has_signed_budget(&matches) => return Ok(request),
-        Some(_) => (
-            ErrorKind::ValueValidation,
-            "a budget is written by digits alone",
-        ),
-        None => (ErrorKind::MissingSubcommand, "a subcommand is needed"),
-    };
-    Err(command.error(kind, mistake)?)
+    Ok(judged(&matches))
+}
+
+/// What is asked for, with a budget of digits alone.
+fn judged<'a>(matches: &ArgMatches<'a>) -> Result<Request<'a>, Mistake> {
+    if has_signed_budget(matches) {
+        return Err(Mistake::SignedBudget);
+    }
+    requested(matches).ok_or(Mistake::NoSubcommand)
 }
 
 /// What a subcommand asks for, where there is one.

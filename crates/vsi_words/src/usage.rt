@@ -9,101 +9,145 @@ const VERSION: &str = "0.1.0";
 
 /// The program with its subcommands.
 pub(crate) fn program<'a>(alloc: Global) -> Result<Command<'a>, AllocError> {
-    judging(alloc, described(alloc)?)?
-        .subcommand(list_command(alloc)?)?
-        .subcommand(run_command(alloc)?)?
-        .subcommand(view_command(alloc)?)?
-        .subcommand(format_command(alloc)?)
+    let program = with_judges(alloc, described(alloc)?)?;
+    let program = with_runs(alloc, program)?;
+    with(program, format_command(alloc))
+}
+
+/// The program with the subcommands that judge a source text.
+fn with_judges<'a>(alloc: Global, program: Command<'a>) -> Result<Command<'a>, AllocError> {
+    let program = with(program, check_command(alloc))?;
+    let program = with(program, classes_command(alloc))?;
+    with(program, build_command(alloc))
+}
+
+/// The program with the subcommands that show or run an image.
+fn with_runs<'a>(alloc: Global, program: Command<'a>) -> Result<Command<'a>, AllocError> {
+    let program = with(program, list_command(alloc))?;
+    let program = with(program, run_command(alloc))?;
+    with(program, view_command(alloc))
+}
+
+/// The program with one more subcommand.
+fn with<'a>(
+    program: Command<'a>,
+    subcommand: Result<Command<'a>, AllocError>,
+) -> Result<Command<'a>, AllocError> {
+    match subcommand {
+        Ok(subcommand) => program.subcommand(subcommand),
+        Err(refused) => Err(refused),
+    }
 }
 
 /// The program itself, without its subcommands.
 fn described<'a>(alloc: Global) -> Result<Command<'a>, AllocError> {
-    let program = Command::new(alloc, "vsi")
-        .bin_name("vsi")?
+    let program = with_help(
+        Command::new(alloc, "vsi"),
+        "Compiles programs whose flows of information are typed, and runs them",
+        help::PROGRAM,
+        help::PROGRAM_EXAMPLE,
+    );
+    program
         .no_binary_name(true)
         .version(VERSION)
-        .about("Compiles programs whose flows of information are typed, and runs them")
-        .long_about(help::PROGRAM)
-        .after_help(help::PROGRAM_EXAMPLE);
-    Ok(program)
+        .bin_name("vsi")
 }
 
-/// The program with the subcommands that judge a source text.
-fn judging<'a>(alloc: Global, program: Command<'a>) -> Result<Command<'a>, AllocError> {
-    program
-        .subcommand(check_command(alloc)?)?
-        .subcommand(classes_command(alloc)?)?
-        .subcommand(build_command(alloc)?)
+/// A command with its help: the line of it, the whole, and an example.
+fn with_help<'a>(
+    command: Command<'a>,
+    line: &'a str,
+    whole: &'a str,
+    example: &'a str,
+) -> Command<'a> {
+    command.about(line).long_about(whole).after_help(example)
 }
 
 fn check_command<'a>(alloc: Global) -> Result<Command<'a>, AllocError> {
-    Command::new(alloc, "check")
-        .about("Says whether a source text is accepted")
-        .long_about(help::CHECK)
-        .after_help(help::CHECK_EXAMPLE)
-        .arg(lattice_argument(alloc))?
-        .arg(source_argument(alloc))?
-        .arg(strict_argument(alloc))
+    let check = with_help(
+        Command::new(alloc, "check"),
+        "Says whether a source text is accepted",
+        help::CHECK,
+        help::CHECK_EXAMPLE,
+    );
+    judging(alloc, check)
 }
 
 fn classes_command<'a>(alloc: Global) -> Result<Command<'a>, AllocError> {
-    Command::new(alloc, "classes")
-        .about("Prints the class of each declaration, declared or inferred")
-        .long_about(help::CLASSES)
-        .after_help(help::CLASSES_EXAMPLE)
-        .arg(lattice_argument(alloc))?
-        .arg(source_argument(alloc))?
-        .arg(strict_argument(alloc))
+    let classes = with_help(
+        Command::new(alloc, "classes"),
+        "Prints the class of each declaration, declared or inferred",
+        help::CLASSES,
+        help::CLASSES_EXAMPLE,
+    );
+    judging(alloc, classes)
 }
 
 fn build_command<'a>(alloc: Global) -> Result<Command<'a>, AllocError> {
-    Command::new(alloc, "build")
-        .about("Compiles a source text to an image")
-        .long_about(help::BUILD)
-        .after_help(help::BUILD_EXAMPLE)
+    let build = with_help(
+        Command::new(alloc, "build"),
+        "Compiles a source text to an image",
+        help::BUILD,
+        help::BUILD_EXAMPLE,
+    );
+    judging(alloc, build)?.arg(new_image_argument(alloc))
+}
+
+/// A subcommand that judges a source text, with the words for it.
+fn judging<'a>(alloc: Global, command: Command<'a>) -> Result<Command<'a>, AllocError> {
+    command
         .arg(lattice_argument(alloc))?
         .arg(source_argument(alloc))?
-        .arg(new_image_argument(alloc))?
         .arg(strict_argument(alloc))
 }
 
 fn list_command<'a>(alloc: Global) -> Result<Command<'a>, AllocError> {
-    Command::new(alloc, "list")
-        .about("Prints the instructions of an image")
-        .long_about(help::LIST)
-        .after_help(help::LIST_EXAMPLE)
-        .arg(image_argument(alloc))
+    let list = with_help(
+        Command::new(alloc, "list"),
+        "Prints the instructions of an image",
+        help::LIST,
+        help::LIST_EXAMPLE,
+    );
+    list.arg(image_argument(alloc))
 }
 
 fn run_command<'a>(alloc: Global) -> Result<Command<'a>, AllocError> {
-    Command::new(alloc, "run")
-        .about("Runs an image and prints the store in which it halts")
-        .long_about(help::RUN)
-        .after_help(help::RUN_EXAMPLE)
-        .arg(image_argument(alloc))?
-        .arg(budget_argument(alloc))?
-        .arg(store_argument(alloc))?
-        .arg(trace_argument(alloc))
+    let run = with_help(
+        Command::new(alloc, "run"),
+        "Runs an image and prints the store in which it halts",
+        help::RUN,
+        help::RUN_EXAMPLE,
+    );
+    running(alloc, run)?.arg(trace_argument(alloc))
 }
 
 fn view_command<'a>(alloc: Global) -> Result<Command<'a>, AllocError> {
-    Command::new(alloc, "view")
-        .about("Runs an image and prints what a class may see")
-        .long_about(help::VIEW)
-        .after_help(help::VIEW_EXAMPLE)
-        .arg(lattice_argument(alloc))?
+    let view = with_help(
+        Command::new(alloc, "view"),
+        "Runs an image and prints what a class may see",
+        help::VIEW,
+        help::VIEW_EXAMPLE,
+    );
+    let view = view.arg(lattice_argument(alloc))?;
+    running(alloc, view.arg(class_argument(alloc))?)
+}
+
+/// A subcommand that runs an image, with the words for it.
+fn running<'a>(alloc: Global, command: Command<'a>) -> Result<Command<'a>, AllocError> {
+    command
         .arg(image_argument(alloc))?
-        .arg(class_argument(alloc))?
         .arg(budget_argument(alloc))?
         .arg(store_argument(alloc))
 }
 
 fn format_command<'a>(alloc: Global) -> Result<Command<'a>, AllocError> {
-    Command::new(alloc, "fmt")
-        .about("Prints the canonical text of a source text")
-        .long_about(help::FORMAT)
-        .after_help(help::FORMAT_EXAMPLE)
-        .arg(source_argument(alloc))
+    let format = with_help(
+        Command::new(alloc, "fmt"),
+        "Prints the canonical text of a source text",
+        help::FORMAT,
+        help::FORMAT_EXAMPLE,
+    );
+    format.arg(source_argument(alloc))
 }
 
 fn lattice_argument<'a>(alloc: Global) -> Arg<'a> {
