@@ -7,10 +7,17 @@ use std::alloc::Global;
 use vsi_image::{Image, Instr, Verified};
 use vsi_lattice::{Class, Classes, Lattice};
 use vsi_scope::Resolved;
+use vsi_syntax::Program;
 
 /// The lattice of a text.
 pub(crate) fn lattice_of(alloc: Global, text: &[u8]) -> Result<Lattice, Miss> {
     Ok(set_up!(read_lattice(alloc, text)))
+}
+
+/// The tree of a text.
+pub(crate) fn tree<'a>(alloc: Global, text: &'a [u8]) -> Result<Program<'a>, Miss> {
+    let tokens = set_up!(lex(alloc, text));
+    Ok(set_up!(parse(alloc, &tokens)))
 }
 
 /// The text over locations.
@@ -19,8 +26,7 @@ pub(crate) fn resolved<'a>(
     lattice: &Lattice,
     text: &'a [u8],
 ) -> Result<Resolved<'a>, Miss> {
-    let tokens = set_up!(lex(alloc, text));
-    let program = set_up!(parse(alloc, &tokens));
+    let program = tree(alloc, text)?;
     Ok(set_up!(resolve(alloc, &program, lattice)))
 }
 

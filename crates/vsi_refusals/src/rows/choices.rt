@@ -38,19 +38,42 @@ fn is_fault(answer: &Result<(), CheckError>, step: &Step) -> bool {
     matches!(answer, Err(CheckError::Flow(fault)) if *fault == wanted)
 }
 
+/// A class for the leak's variable, with which this step isn't in order.
+fn breaks(
+    alloc: Global,
+    trial: &mut Trial,
+    lattice: &Lattice,
+    leak: &Resolved<'_>,
+    class: Class,
+    step: &Step,
+) -> Result<(), Miss> {
+    let answer = judged(alloc, trial, lattice, leak, &[class])?;
+    trial.met(Call::Check, is_fault(&answer, step));
+    Ok(())
+}
+
+/// No choice for the leak, and each class for it.
+fn leaks(alloc: Global, trial: &mut Trial, lattice: &Lattice) -> Result<(), Miss> {
+    let leak = resolved(alloc, lattice, LEAK)?;
+    let none = judged(alloc, trial, lattice, &leak, &[])?;
+    trial.met(Call::Check, matches!(&none, Err(CheckError::WrongChoice)));
+    let [low, high] = &LEAK_STEPS;
+    breaks(alloc, trial, lattice, &leak, Class::at(0), low)?;
+    breaks(alloc, trial, lattice, &leak, Class::at(1), high)
+}
+
+/// A choice that types a loop.
+fn types_a_loop(alloc: Global, trial: &mut Trial, lattice: &Lattice) -> Result<(), Miss> {
+    let copies = resolved(alloc, lattice, COPIES)?;
+    let high = Class::at(1);
+    let both = judged(alloc, trial, lattice, &copies, &[high, high])?;
+    trial.met(Call::Check, both.is_ok());
+    Ok(())
+}
+
 /// Choices of classes for the leak, and one that types a loop.
 pub(super) fn choices(alloc: Global, trial: &mut Trial) -> Result<(), Miss> {
     let lattice = lattice_of(alloc, TWO)?;
-    let leak = resolved(alloc, &lattice, LEAK)?;
-    let none = judged(alloc, trial, &lattice, &leak, &[])?;
-    trial.met(Call::Check, matches!(&none, Err(CheckError::WrongChoice)));
-    let (low, high) = (Class::at(0), Class::at(1));
-    for (class, step) in [low, high].iter().zip(LEAK_STEPS.as_slice()) {
-        let answer = judged(alloc, trial, &lattice, &leak, &[*class])?;
-        trial.met(Call::Check, is_fault(&answer, step));
-    }
-    let copies = resolved(alloc, &lattice, COPIES)?;
-    let both = judged(alloc, trial, &lattice, &copies, &[high, high])?;
-    trial.met(Call::Check, both.is_ok());
-    Ok(())
+    leaks(alloc, trial, &lattice)?;
+    types_a_loop(alloc, trial, &lattice)
 }

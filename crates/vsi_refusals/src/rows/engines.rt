@@ -75,25 +75,43 @@ fn ran(alloc: Global, store: &[u8], budget: u64, trace: bool) -> Shown<Outcome> 
     shown(answer, writer, trace)
 }
 
-/// Texts that are read, built and refused.
-pub(super) fn builds(alloc: Global, trial: &mut Trial) -> Result<(), Miss> {
+/// A text that is read.
+fn reads(alloc: Global, trial: &mut Trial) -> Result<(), Miss> {
     let text = value!(trial, Call::ReadAll, true, read(alloc));
     trial.met(Call::ReadAll, text.as_slice() == SUM);
-    let lattice = lattice_of(alloc, TWO)?;
+    Ok(())
+}
+
+/// A text that is built.
+fn builds_sum(alloc: Global, trial: &mut Trial, lattice: &Lattice) -> Result<(), Miss> {
     let ((), image) = value!(
         trial,
         Call::Build,
-        is_two(&lattice),
-        built(alloc, &lattice, SUM)
+        is_two(lattice),
+        built(alloc, lattice, SUM)
     );
     trial.met(Call::Build, image.written() == SUM_IMAGE);
+    Ok(())
+}
+
+/// A text that is built under the strict profile.
+fn builds_sum_strictly(alloc: Global, trial: &mut Trial, lattice: &Lattice) -> Result<(), Miss> {
     let ((), image) = value!(
         trial,
         Call::BuildIn,
-        is_two(&lattice),
-        built_strictly(alloc, &lattice, SUM)
+        is_two(lattice),
+        built_strictly(alloc, lattice, SUM)
     );
     trial.met(Call::BuildIn, image.written() == SUM_IMAGE);
+    Ok(())
+}
+
+/// Texts that are read, built and refused.
+pub(super) fn builds(alloc: Global, trial: &mut Trial) -> Result<(), Miss> {
+    reads(alloc, trial)?;
+    let lattice = lattice_of(alloc, TWO)?;
+    builds_sum(alloc, trial, &lattice)?;
+    builds_sum_strictly(alloc, trial, &lattice)?;
     unbuilt(alloc, trial, &lattice)
 }
 
@@ -119,6 +137,27 @@ fn unbuilt(alloc: Global, trial: &mut Trial, lattice: &Lattice) -> Result<(), Mi
     Ok(())
 }
 
+/// A run of the image with a budget, how it ends and what it writes.
+fn runs_to(
+    alloc: Global,
+    trial: &mut Trial,
+    store: &[u8],
+    row: (u64, bool, Outcome, &[u8]),
+) -> Result<(), Miss> {
+    let (budget, trace, outcome, output) = row;
+    let (ended, written) = value!(
+        trial,
+        Call::RunImage,
+        store == START,
+        ran(alloc, store, budget, trace)
+    );
+    trial.met(
+        Call::RunImage,
+        ended == outcome && written.written() == output,
+    );
+    Ok(())
+}
+
 /// Runs of an image with and without a trace.
 pub(super) fn runs(alloc: Global, trial: &mut Trial) -> Result<(), Miss> {
     let store = set_up!(START.to_vec(alloc));
@@ -128,17 +167,8 @@ pub(super) fn runs(alloc: Global, trial: &mut Trial) -> Result<(), Miss> {
         (3, false, Outcome::Halted, b"x = 3\n"),
         (2, false, Outcome::OutOfBudget, b""),
     ];
-    for (budget, trace, outcome, output) in rows {
-        let (ended, written) = value!(
-            trial,
-            Call::RunImage,
-            store.as_slice() == START,
-            ran(alloc, &store, budget, trace)
-        );
-        trial.met(
-            Call::RunImage,
-            ended == outcome && written.written() == output,
-        );
+    for row in rows {
+        runs_to(alloc, trial, &store, row)?;
     }
     Ok(())
 }

@@ -53,14 +53,13 @@ fn refused_files<'a>() -> [Refused<'a>; 7] {
     ]
 }
 
-/// A lattice file that is refused, and the text of its refusal.
-fn refuses(
+/// The refusal of a lattice file.
+fn refusal(
     alloc: Global,
     trial: &mut Trial,
     declared: &[u8],
-    wanted: LatticeError,
-    told: &[u8],
-) -> Result<(), Miss> {
+    wanted: &LatticeError,
+) -> Result<Fault, Miss> {
     let file = set_up!(declared.to_vec(alloc));
     let answer = answer!(
         trial,
@@ -71,20 +70,30 @@ fn refuses(
     let Err(error) = answer else {
         return Err(Miss(Call::ReadLattice));
     };
-    trial.met(Call::ReadLattice, error == wanted);
-    let fault = Fault::Lattice(error);
+    trial.met(Call::ReadLattice, error == *wanted);
+    Ok(Fault::Lattice(error))
+}
+
+/// The text of a lattice file's refusal.
+fn tells(
+    alloc: Global,
+    trial: &mut Trial,
+    fault: &Fault,
+    wanted: &LatticeError,
+    told: &[u8],
+) -> Result<(), Miss> {
     let text = value!(
         trial,
         Call::FaultText,
-        matches!(&fault, Fault::Lattice(error) if *error == wanted),
-        fault_text(alloc, &fault)
+        matches!(fault, Fault::Lattice(error) if *error == *wanted),
+        fault_text(alloc, fault)
     );
     trial.met(Call::FaultText, text.as_slice() == told);
     Ok(())
 }
 
-/// Lattice files without and with faults.
-pub(super) fn lattices(alloc: Global, trial: &mut Trial) -> Result<(), Miss> {
+/// A lattice file without a fault.
+fn reads_one(alloc: Global, trial: &mut Trial) -> Result<(), Miss> {
     let file = set_up!(ONE.to_vec(alloc));
     let one = value!(
         trial,
@@ -96,8 +105,26 @@ pub(super) fn lattices(alloc: Global, trial: &mut Trial) -> Result<(), Miss> {
         Call::ReadLattice,
         one.count() == 1 && one.class_named(b"L") == Some(Class::at(0)),
     );
+    Ok(())
+}
+
+/// A lattice file that is refused, and the text of its refusal.
+fn refuses(
+    alloc: Global,
+    trial: &mut Trial,
+    declared: &[u8],
+    wanted: &LatticeError,
+    told: &[u8],
+) -> Result<(), Miss> {
+    let fault = refusal(alloc, trial, declared, wanted)?;
+    tells(alloc, trial, &fault, wanted, told)
+}
+
+/// Lattice files without and with faults.
+pub(super) fn lattices(alloc: Global, trial: &mut Trial) -> Result<(), Miss> {
+    reads_one(alloc, trial)?;
     for (declared, wanted, told) in refused_files() {
-        refuses(alloc, trial, declared, wanted, told)?;
+        refuses(alloc, trial, declared, &wanted, told)?;
     }
     Ok(())
 }
@@ -126,15 +153,14 @@ fn is_over(image: &Image) -> bool {
     is_image(image, &[(b"x", b"L"), (b"y", b"L")], 2, code.as_slice())
 }
 
-/// A store file that is refused, and the text of its refusal.
-fn refuses_store(
+/// The refusal of a store file.
+fn refusal_of_store(
     alloc: Global,
     trial: &mut Trial,
     verified: &Verified,
     declared: &[u8],
     key: &[u8],
-    told: &[u8],
-) -> Result<(), Miss> {
+) -> Result<StoreError, Miss> {
     let file = set_up!(declared.to_vec(alloc));
     let answer = answer!(
         trial,
@@ -146,6 +172,17 @@ fn refuses_store(
         return Err(Miss(Call::ReadStore));
     };
     trial.met(Call::ReadStore, names(&error, key));
+    Ok(error)
+}
+
+/// The text of a store file's refusal.
+fn tells_of_store(
+    alloc: Global,
+    trial: &mut Trial,
+    error: StoreError,
+    key: &[u8],
+    told: &[u8],
+) -> Result<(), Miss> {
     let fault = Fault::Store(error);
     let text = value!(
         trial,
@@ -157,27 +194,48 @@ fn refuses_store(
     Ok(())
 }
 
-/// Store files with and without faults.
-pub(super) fn stores(alloc: Global, trial: &mut Trial) -> Result<(), Miss> {
-    let verified = compiled(alloc, OVER)?;
-    for (declared, wanted) in [(b"x = 5\n".as_slice(), [5, 0]), (b"", [0, 0])] {
-        let file = set_up!(declared.to_vec(alloc));
-        let words = value!(
-            trial,
-            Call::ReadStore,
-            is_over(verified.image()) && file.as_slice() == declared,
-            read_store(alloc, verified.image(), &file)
-        );
-        trial.met(Call::ReadStore, words.as_slice() == wanted.as_slice());
-    }
-    let rows: [(&[u8], &[u8], &[u8]); 4] = [
+/// A store file without a fault.
+fn reads_store(
+    alloc: Global,
+    trial: &mut Trial,
+    verified: &Verified,
+    declared: &[u8],
+    wanted: [i64; 2],
+) -> Result<(), Miss> {
+    let file = set_up!(declared.to_vec(alloc));
+    let words = value!(
+        trial,
+        Call::ReadStore,
+        is_over(verified.image()) && file.as_slice() == declared,
+        read_store(alloc, verified.image(), &file)
+    );
+    trial.met(Call::ReadStore, words.as_slice() == wanted.as_slice());
+    Ok(())
+}
+
+/// The store files that are refused, each with the key that its refusal names, and the text of that.
+fn refused_stores<'a>() -> [(&'a [u8], &'a [u8], &'a [u8]); 4] {
+    [
         (b"z = 1\n", b"z", b"refused: 42 UnknownGlobal z\n"),
         (b"x = \"a\"\n", b"x", b"refused: 41 NotANumber x\n"),
         (b"z = \"a\"\n", b"z", b"refused: 41 NotANumber z\n"),
         (b"x =\n", b"", b"refused: 40 NotToml\n"),
-    ];
-    for (declared, key, told) in rows {
-        refuses_store(alloc, trial, &verified, declared, key, told)?;
+    ]
+}
+
+/// Store files that are refused.
+fn refuses_stores(alloc: Global, trial: &mut Trial, verified: &Verified) -> Result<(), Miss> {
+    for (declared, key, told) in refused_stores() {
+        let error = refusal_of_store(alloc, trial, verified, declared, key)?;
+        tells_of_store(alloc, trial, error, key, told)?;
     }
     Ok(())
+}
+
+/// Store files with and without faults.
+pub(super) fn stores(alloc: Global, trial: &mut Trial) -> Result<(), Miss> {
+    let verified = compiled(alloc, OVER)?;
+    reads_store(alloc, trial, &verified, b"x = 5\n", [5, 0])?;
+    reads_store(alloc, trial, &verified, b"", [0, 0])?;
+    refuses_stores(alloc, trial, &verified)
 }

@@ -49,28 +49,44 @@ fn explains(
     Ok(())
 }
 
-/// The walk of the leak, and its text.
-pub(super) fn leak(alloc: Global, trial: &mut Trial) -> Result<(), Miss> {
-    let lattice = lattice_of(alloc, TWO)?;
-    let program = resolved(alloc, &lattice, LEAK)?;
+/// The refusal of the leak under the strict profile.
+fn refuses_strictly(alloc: Global, trial: &mut Trial, lattice: &Lattice, program: &Resolved<'_>) {
     let strict = answer!(
         trial,
         Call::InferIn,
-        is_two(&lattice) && declares_leak(&program),
-        inferred(alloc, Profile::Strict, &lattice, &program)
+        is_two(lattice) && declares_leak(program),
+        inferred(alloc, Profile::Strict, lattice, program)
     );
     let is_refused = matches!(&strict, Err(InferError::Refused(walk)) if is_leak(walk));
     trial.met(Call::InferIn, is_refused);
+}
+
+/// The walk that refuses the leak.
+fn walk_of(
+    alloc: Global,
+    trial: &mut Trial,
+    lattice: &Lattice,
+    program: &Resolved<'_>,
+) -> Result<Walk, Miss> {
     let base = answer!(
         trial,
         Call::Infer,
-        is_two(&lattice) && declares_leak(&program),
-        inferred(alloc, Profile::Base, &lattice, &program)
+        is_two(lattice) && declares_leak(program),
+        inferred(alloc, Profile::Base, lattice, program)
     );
     let Err(InferError::Refused(walk)) = base else {
         return Err(Miss(Call::Infer));
     };
     trial.met(Call::Infer, is_leak(&walk));
+    Ok(walk)
+}
+
+/// The walk of the leak, and its text.
+pub(super) fn leak(alloc: Global, trial: &mut Trial) -> Result<(), Miss> {
+    let lattice = lattice_of(alloc, TWO)?;
+    let program = resolved(alloc, &lattice, LEAK)?;
+    refuses_strictly(alloc, trial, &lattice, &program);
+    let walk = walk_of(alloc, trial, &lattice, &program)?;
     explains(alloc, trial, &lattice, &program, &walk)
 }
 
@@ -97,8 +113,8 @@ fn tells(
     Ok(())
 }
 
-/// The refusal of the leak by a run and by the class lines.
-fn refused_early(alloc: Global, trial: &mut Trial, lattice: &Lattice, text: &[u8]) {
+/// The refusal of the leak by a run.
+fn refuses_to_run(alloc: Global, trial: &mut Trial, lattice: &Lattice, text: &[u8]) {
     let ran = answer!(
         trial,
         Call::RunSource,
@@ -107,6 +123,10 @@ fn refused_early(alloc: Global, trial: &mut Trial, lattice: &Lattice, text: &[u8
     );
     let is_refused = matches!(&ran, Err(RunError::Compile(error)) if refuses_leak(error));
     trial.met(Call::RunSource, is_refused);
+}
+
+/// The refusal of the leak by the class lines.
+fn tells_no_classes(alloc: Global, trial: &mut Trial, lattice: &Lattice, text: &[u8]) {
     let lines = answer!(
         trial,
         Call::ClassesText,
@@ -117,29 +137,46 @@ fn refused_early(alloc: Global, trial: &mut Trial, lattice: &Lattice, text: &[u8
     trial.met(Call::ClassesText, is_refused);
 }
 
+/// The refusal of the leak by the compiler under the strict profile.
+fn compiles_not_strictly(alloc: Global, trial: &mut Trial, lattice: &Lattice, text: &[u8]) {
+    let strict = answer!(
+        trial,
+        Call::CompileIn,
+        is_two(lattice) && text == LEAK,
+        compile_in(alloc, Profile::Strict, lattice, text)
+    );
+    let is_refused = matches!(&strict, Err(error) if refuses_leak(error));
+    trial.met(Call::CompileIn, is_refused);
+}
+
+/// The refusal of a text by the compiler.
+fn refusal(
+    alloc: Global,
+    trial: &mut Trial,
+    lattice: &Lattice,
+    text: &[u8],
+) -> Result<CompileError, Miss> {
+    let answer = answer!(
+        trial,
+        Call::Compile,
+        is_two(lattice) && text == LEAK,
+        compile(alloc, lattice, text)
+    );
+    let Err(error) = answer else {
+        return Err(Miss(Call::Compile));
+    };
+    trial.met(Call::Compile, refuses_leak(&error));
+    Ok(error)
+}
+
 /// The refusal of the leak by the calls that compile, and its text.
 pub(super) fn refused(alloc: Global, trial: &mut Trial) -> Result<(), Miss> {
     let lattice = lattice_of(alloc, TWO)?;
     let text = set_up!(LEAK.to_vec(alloc));
-    refused_early(alloc, trial, &lattice, &text);
-    let strict = answer!(
-        trial,
-        Call::CompileIn,
-        is_two(&lattice) && text.as_slice() == LEAK,
-        compile_in(alloc, Profile::Strict, &lattice, &text)
-    );
-    let is_refused = matches!(&strict, Err(error) if refuses_leak(error));
-    trial.met(Call::CompileIn, is_refused);
-    let base = answer!(
-        trial,
-        Call::Compile,
-        is_two(&lattice) && text.as_slice() == LEAK,
-        compile(alloc, &lattice, &text)
-    );
-    let Err(error) = base else {
-        return Err(Miss(Call::Compile));
-    };
-    trial.met(Call::Compile, refuses_leak(&error));
+    refuses_to_run(alloc, trial, &lattice, &text);
+    tells_no_classes(alloc, trial, &lattice, &text);
+    compiles_not_strictly(alloc, trial, &lattice, &text);
+    let error = refusal(alloc, trial, &lattice, &text)?;
     tells(alloc, trial, &lattice, &text, &error)
 }
 
@@ -153,6 +190,12 @@ fn joined(alloc: Global, trial: &mut Trial, lattice: &Lattice) -> Result<(), Mis
         compile(alloc, lattice, &text)
     );
     trial.met(Call::Compile, verified.image().globals.len() == 3);
+    Ok(())
+}
+
+/// The class lines of that join.
+fn tells_join(alloc: Global, trial: &mut Trial, lattice: &Lattice) -> Result<(), Miss> {
+    let text = set_up!(JOIN.to_vec(alloc));
     let lines = value!(
         trial,
         Call::ClassesText,
@@ -163,18 +206,29 @@ fn joined(alloc: Global, trial: &mut Trial, lattice: &Lattice) -> Result<(), Mis
     Ok(())
 }
 
-/// The same join, into a class that isn't above both.
-fn parted(alloc: Global, trial: &mut Trial, lattice: &Lattice) -> Result<(), Miss> {
-    let text = set_up!(APART.to_vec(alloc));
+/// The refusal of the same join, into a class that isn't above both.
+fn parted(
+    alloc: Global,
+    trial: &mut Trial,
+    lattice: &Lattice,
+    text: &[u8],
+) -> Result<CompileError, Miss> {
     let answer = answer!(
         trial,
         Call::Compile,
-        is_four(lattice) && text.as_slice() == APART,
-        compile(alloc, lattice, &text)
+        is_four(lattice) && text == APART,
+        compile(alloc, lattice, text)
     );
-    let Err(error) = answer else {
-        return Err(Miss(Call::Compile));
-    };
+    match answer {
+        Ok(_) => Err(Miss(Call::Compile)),
+        Err(error) => Ok(error),
+    }
+}
+
+/// The text of that refusal.
+fn tells_parted(alloc: Global, trial: &mut Trial, lattice: &Lattice) -> Result<(), Miss> {
+    let text = set_up!(APART.to_vec(alloc));
+    let error = parted(alloc, trial, lattice, &text)?;
     let told = value!(
         trial,
         Call::RefusalText,
@@ -185,8 +239,8 @@ fn parted(alloc: Global, trial: &mut Trial, lattice: &Lattice) -> Result<(), Mis
     Ok(())
 }
 
-/// A lattice of four classes, and the two joins in it.
-pub(super) fn join(alloc: Global, trial: &mut Trial) -> Result<(), Miss> {
+/// A lattice of four classes.
+fn reads_four(alloc: Global, trial: &mut Trial) -> Result<Lattice, Miss> {
     let file = set_up!(FOUR.to_vec(alloc));
     let lattice = value!(
         trial,
@@ -195,30 +249,51 @@ pub(super) fn join(alloc: Global, trial: &mut Trial) -> Result<(), Miss> {
         read_lattice(alloc, &file)
     );
     trial.met(Call::ReadLattice, is_four(&lattice));
+    Ok(lattice)
+}
+
+/// The two joins in a lattice of four classes.
+pub(super) fn join(alloc: Global, trial: &mut Trial) -> Result<(), Miss> {
+    let lattice = reads_four(alloc, trial)?;
     joined(alloc, trial, &lattice)?;
-    parted(alloc, trial, &lattice)
+    tells_join(alloc, trial, &lattice)?;
+    tells_parted(alloc, trial, &lattice)
+}
+
+/// The least classes of a program under a profile.
+fn infers(
+    alloc: Global,
+    trial: &mut Trial,
+    (name, profile): (Call, Profile),
+    lattice: &Lattice,
+    program: &Resolved<'_>,
+) -> Result<(), Miss> {
+    let classes = value!(
+        trial,
+        name,
+        is_four(lattice) && program.globals().len() == 3,
+        inferred(alloc, profile, lattice, program)
+    );
+    trial.met(name, classes.as_slice() == [Class::at(3)].as_slice());
+    Ok(())
 }
 
 /// The least class of a variable that two others flow into.
 pub(super) fn least(alloc: Global, trial: &mut Trial) -> Result<(), Miss> {
     let lattice = lattice_of(alloc, FOUR)?;
     let program = resolved(alloc, &lattice, JOIN)?;
-    let base = value!(
+    infers(
+        alloc,
         trial,
-        Call::Infer,
-        is_four(&lattice) && program.globals().len() == 3,
-        inferred(alloc, Profile::Base, &lattice, &program)
-    );
-    trial.met(Call::Infer, base.as_slice() == [Class::at(3)].as_slice());
-    let strict = value!(
+        (Call::Infer, Profile::Base),
+        &lattice,
+        &program,
+    )?;
+    infers(
+        alloc,
         trial,
-        Call::InferIn,
-        is_four(&lattice) && program.globals().len() == 3,
-        inferred(alloc, Profile::Strict, &lattice, &program)
-    );
-    trial.met(
-        Call::InferIn,
-        strict.as_slice() == [Class::at(3)].as_slice(),
-    );
-    Ok(())
+        (Call::InferIn, Profile::Strict),
+        &lattice,
+        &program,
+    )
 }

@@ -40,10 +40,8 @@ fn is_branch(image: &Image) -> bool {
     is_image(image, &[(b"h", b"H")], 1, code.as_slice())
 }
 
-/// A listing.
-pub(super) fn listed(alloc: Global, trial: &mut Trial) -> Result<(), Miss> {
-    let verified = compiled(alloc, BRANCH)?;
-    let image = verified.image();
+/// The lines of the image.
+fn lists(alloc: Global, trial: &mut Trial, image: &Image) -> Result<(), Miss> {
     let lines = value!(
         trial,
         Call::Listing,
@@ -51,9 +49,21 @@ pub(super) fn listed(alloc: Global, trial: &mut Trial) -> Result<(), Miss> {
         listing(alloc, image)
     );
     trial.met(Call::Listing, lines.as_slice() == BRANCH_LINES);
+    Ok(())
+}
+
+/// The bytes of the image.
+fn encodes(alloc: Global, trial: &mut Trial, image: &Image) -> Result<(), Miss> {
     let bytes = value!(trial, Call::Encode, is_branch(image), encode(alloc, image));
     trial.met(Call::Encode, bytes.as_slice() == BRANCH_IMAGE);
     Ok(())
+}
+
+/// A listing.
+pub(super) fn listed(alloc: Global, trial: &mut Trial) -> Result<(), Miss> {
+    let verified = compiled(alloc, BRANCH)?;
+    lists(alloc, trial, verified.image())?;
+    encodes(alloc, trial, verified.image())
 }
 
 /// The text of a store, and nothing where it hasn't one word per global.
@@ -100,6 +110,24 @@ fn are_kept(lattice: &Lattice, verified: &Verified, store: &[i64], start: [i64; 
     is_two(lattice) && is_seen(verified.image()) && store == start.as_slice()
 }
 
+/// What the class of a name sees of a run from a store with a budget.
+fn shown(
+    alloc: Global,
+    trial: &mut Trial,
+    lattice: &Lattice,
+    verified: &Verified,
+    (name, start): (&[u8], [i64; 2]),
+    budget: u64,
+) -> Result<Option<View>, Miss> {
+    let store = set_up!(start.to_vec(alloc));
+    Ok(value!(
+        trial,
+        Call::View,
+        are_kept(lattice, verified, &store, start),
+        seen(alloc, lattice, name, verified, &store, budget)
+    ))
+}
+
 /// Whether the class of a name sees these lines of a run from a store, and nothing with a budget that is one too small.
 fn shows(
     alloc: Global,
@@ -109,29 +137,16 @@ fn shows(
     row: (&[u8], [i64; 2], &[u8]),
 ) -> Result<(), Miss> {
     let (name, start, lines) = row;
-    let store = set_up!(start.to_vec(alloc));
-    let shown = value!(
-        trial,
-        Call::View,
-        are_kept(lattice, verified, &store, start),
-        seen(alloc, lattice, name, verified, &store, 7)
-    );
-    trial.met(
-        Call::View,
-        matches!(&shown, Some(View::Text(text)) if text.as_slice() == lines),
-    );
-    let nothing = value!(
-        trial,
-        Call::View,
-        are_kept(lattice, verified, &store, start),
-        seen(alloc, lattice, name, verified, &store, 6)
-    );
+    let whole = shown(alloc, trial, lattice, verified, (name, start), 7)?;
+    let is_seen = matches!(&whole, Some(View::Text(text)) if text.as_slice() == lines);
+    trial.met(Call::View, is_seen);
+    let nothing = shown(alloc, trial, lattice, verified, (name, start), 6)?;
     trial.met(Call::View, matches!(&nothing, Some(View::OutOfBudget)));
     Ok(())
 }
 
-/// A view under a lattice that lacks a class of the image, and the text of its refusal.
-fn refuses(alloc: Global, trial: &mut Trial, verified: &Verified) -> Result<(), Miss> {
+/// The refusal of a view under a lattice that lacks a class of the image.
+fn refusal(alloc: Global, trial: &mut Trial, verified: &Verified) -> Result<ViewError, Miss> {
     let one = lattice_of(alloc, ONE)?;
     let answer = answer!(
         trial,
@@ -143,6 +158,11 @@ fn refuses(alloc: Global, trial: &mut Trial, verified: &Verified) -> Result<(), 
         return Err(Miss(Call::View));
     };
     trial.met(Call::View, error == ViewError::ClassNotInLattice(0));
+    Ok(error)
+}
+
+/// The text of that refusal.
+fn tells(alloc: Global, trial: &mut Trial, error: ViewError) -> Result<(), Miss> {
     let fault = Fault::View(error);
     let text = value!(
         trial,
@@ -167,5 +187,6 @@ pub(super) fn views(alloc: Global, trial: &mut Trial) -> Result<(), Miss> {
     for row in rows {
         shows(alloc, trial, &lattice, &verified, row)?;
     }
-    refuses(alloc, trial, &verified)
+    let error = refusal(alloc, trial, &verified)?;
+    tells(alloc, trial, error)
 }
