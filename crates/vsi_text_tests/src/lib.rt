@@ -7,3 +7,5 @@ mod lattice;
 mod scope;
 #[cfg(test)]
 mod syntax;
+#[cfg(test)]
+mod texts;

@@ -3,10 +3,15 @@ mod faults;
 mod limits;
 mod places;
 
-use std::alloc::{AllocError, Global};
+use crate::texts::repeated;
+use std::alloc::Global;
+use std::process::Abort;
 use vsi_lattice::{Lattice, read_lattice};
-use vsi_scope::{ScopeError, resolve, size};
-use vsi_syntax::{lex, parse};
+use vsi_scope::{Resolved, ScopeError, resolve, size};
+use vsi_syntax::{Program, lex, parse};
+
+// The number of a refusal and its span.
+type Refusal = (u8, usize, usize);
 
 // The lattice of two classes, L below H.
 fn two_classes(alloc: Global) -> Option<Lattice> {
@@ -17,8 +22,8 @@ fn two_classes(alloc: Global) -> Option<Lattice> {
     .ok()
 }
 
-// The number of a refusal and its span.
-fn number(error: ScopeError) -> (u8, usize, usize) {
+// The number and the span of what the resolution refuses.
+fn number(error: ScopeError) -> Refusal {
     match error {
         ScopeError::Memory => (0, 0, 0),
         ScopeError::Duplicate(span) => (17, span.start, span.stop),
@@ -30,27 +35,56 @@ fn number(error: ScopeError) -> (u8, usize, usize) {
     }
 }
 
-// The size of a program that is resolved, else the refusal's number and its span.
-fn judged(alloc: Global, text: &[u8]) -> Result<u32, (u8, usize, usize)> {
-    let Some(lattice) = two_classes(alloc) else {
-        return Err((1, 0, 0));
-    };
+// The program of a text, its names not resolved.
+fn parsed<'t>(alloc: Global, text: &'t [u8]) -> Result<Program<'t>, Refusal> {
     let Ok(tokens) = lex(alloc, text) else {
         return Err((2, 0, 0));
     };
-    let Ok(program) = parse(alloc, &tokens) else {
-        return Err((3, 0, 0));
-    };
-    match resolve(alloc, &program, &lattice) {
-        Ok(resolved) => Ok(size(resolved.body())),
+    match parse(alloc, &tokens) {
+        Ok(program) => Ok(program),
+        Err(_) => Err((3, 0, 0)),
+    }
+}
+
+// The resolved program of a text over these classes.
+fn resolved_over<'t>(
+    alloc: Global,
+    lattice: &Lattice,
+    text: &'t [u8],
+) -> Result<Resolved<'t>, Refusal> {
+    let program = parsed(alloc, text)?;
+    match resolve(alloc, &program, lattice) {
+        Ok(resolved) => Ok(resolved),
         Err(error) => Err(number(error)),
     }
 }
 
-// Puts a part behind a text so many times.
-fn repeat(text: &mut Vec<u8>, part: &[u8], count: usize) -> Result<(), AllocError> {
-    for _ in 0..count {
-        text.extend_from_slice(part)?;
+// The resolved program of a text over two classes.
+fn resolved<'t>(alloc: Global, text: &'t [u8]) -> Result<Resolved<'t>, Refusal> {
+    match two_classes(alloc) {
+        Some(lattice) => resolved_over(alloc, &lattice, text),
+        None => Err((1, 0, 0)),
     }
-    Ok(())
+}
+
+// The size of a program that is resolved, else the refusal.
+fn judged(alloc: Global, text: &[u8]) -> Result<u32, Refusal> {
+    let program = resolved(alloc, text)?;
+    Ok(size(program.body()))
+}
+
+// Asserts the size or the refusal of a text.
+fn assert_judged(rt: &impl Abort, alloc: Global, text: &[u8], wanted: Result<u32, Refusal>) {
+    assert_eq!(rt; judged(alloc, text), wanted);
+}
+
+// The same of parts that stand one behind the other, each so many times.
+fn assert_repeated(
+    rt: &impl Abort,
+    alloc: Global,
+    parts: &[(&[u8], usize)],
+    wanted: Result<u32, Refusal>,
+) {
+    let text = repeated(alloc, parts).expect(rt, "room");
+    assert_judged(rt, alloc, &text, wanted);
 }

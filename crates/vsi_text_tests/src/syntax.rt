@@ -7,8 +7,10 @@ mod operators;
 mod parsing;
 mod printing;
 
-use std::alloc::{AllocError, Global};
-use vsi_syntax::{LexError, ParseError, lex, parse};
+use crate::texts::repeated;
+use std::alloc::Global;
+use std::process::Abort;
+use vsi_syntax::{LexError, ParseError, Program, Token, lex, parse};
 
 /// What becomes of a text.
 #[derive(Clone, Copy, Debug, PartialEq, Eq)]
@@ -34,36 +36,44 @@ fn refused_by_lex(error: LexError) -> Answer {
     }
 }
 
-/// What becomes of a text that is cut and then read.
-fn answer_to(alloc: Global, text: &[u8]) -> Answer {
-    match lex(alloc, text) {
-        Err(error) => refused_by_lex(error),
-        Ok(tokens) => match parse(alloc, &tokens) {
-            Ok(_) => Answer::Accepted,
-            Err(ParseError::Memory) => Answer::OutOfMemory,
-            Err(ParseError::Unexpected(span)) => Answer::Unexpected(span.start, span.stop),
-            Err(ParseError::TooDeep(span)) => Answer::TooDeep(span.start, span.stop),
-        },
+/// What becomes of tokens.
+fn answer_to_tokens(alloc: Global, tokens: &[Token<'_>]) -> Answer {
+    match parse(alloc, tokens) {
+        Ok(_) => Answer::Accepted,
+        Err(ParseError::Memory) => Answer::OutOfMemory,
+        Err(ParseError::Unexpected(span)) => Answer::Unexpected(span.start, span.stop),
+        Err(ParseError::TooDeep(span)) => Answer::TooDeep(span.start, span.stop),
     }
 }
 
-/// The front, the opening part so many times, the middle, and the closing part as many times.
-fn nested(
-    alloc: Global,
-    front: &[u8],
-    opening: &[u8],
-    times: usize,
-    middle: &[u8],
-    closing: &[u8],
-) -> Result<Vec<u8>, AllocError> {
-    let mut text = Vec::new(alloc);
-    text.extend_from_slice(front)?;
-    for _ in 0..times {
-        text.extend_from_slice(opening)?;
+/// What becomes of a text that is cut and then read.
+fn answer_to(alloc: Global, text: &[u8]) -> Answer {
+    match lex(alloc, text) {
+        Ok(tokens) => answer_to_tokens(alloc, &tokens),
+        Err(error) => refused_by_lex(error),
     }
-    text.extend_from_slice(middle)?;
-    for _ in 0..times {
-        text.extend_from_slice(closing)?;
+}
+
+/// Asserts that this is the answer to a text.
+fn assert_answer(rt: &impl Abort, alloc: Global, text: &[u8], wanted: Answer) {
+    assert_eq!(rt; answer_to(alloc, text), wanted);
+}
+
+/// Asserts that each text has the answer beside it.
+fn assert_answers(rt: &impl Abort, alloc: Global, rows: &[(&[u8], Answer)]) {
+    for (text, wanted) in rows {
+        assert_answer(rt, alloc, text, *wanted);
     }
-    Ok(text)
+}
+
+/// Asserts the answer to parts that stand one behind the other, each so many times.
+fn assert_repeated(rt: &impl Abort, alloc: Global, parts: &[(&[u8], usize)], wanted: Answer) {
+    let text = repeated(alloc, parts).expect(rt, "room");
+    assert_answer(rt, alloc, &text, wanted);
+}
+
+/// The program of a text, where it is one.
+fn program_of<'t>(alloc: Global, text: &'t [u8]) -> Option<Program<'t>> {
+    let tokens = lex(alloc, text).ok()?;
+    parse(alloc, &tokens).ok()
 }

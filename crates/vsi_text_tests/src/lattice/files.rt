@@ -1,29 +1,54 @@
 //! Lattice files.
 
 use std::alloc::{AllocError, Global};
-use std::test::Fail;
+use std::process::Abort;
 use vsi_lattice::*;
 
 const DIAMOND: &[u8] = b"classes = [\"L\", \"A\", \"B\", \"H\"]
 below = [[\"L\", \"A\"], [\"L\", \"B\"], [\"A\", \"H\"], [\"B\", \"H\"]]
 ";
 
-/// Whether the text is refused with that error.
-fn is_refused(alloc: Global, text: &[u8], error: LatticeError) -> bool {
-    read_lattice(alloc, text).err() == Some(error)
+/// Asserts that a text is refused with that error.
+fn assert_refused(rt: &impl Abort, alloc: Global, text: &[u8], error: LatticeError) {
+    assert_eq!(rt; read_lattice(alloc, text).err(), Some(error));
+}
+
+/// Asserts that each text is refused with the error beside it.
+fn assert_each_refused(rt: &impl Abort, alloc: Global, rows: &[(&[u8], LatticeError)]) {
+    for (text, error) in rows {
+        assert_refused(rt, alloc, text, *error);
+    }
+}
+
+/// The names of so many classes, as they stand in an array.
+fn chain_names(alloc: Global, count: u32) -> Result<String, AllocError> {
+    let mut names = String::new(alloc);
+    for i in 0..count {
+        write!(names, "\"c{i}\",")?;
+    }
+    Ok(names)
+}
+
+/// The pairs of so many classes, each below the next one, as they stand in an array.
+fn chain_pairs(alloc: Global, count: u32) -> Result<String, AllocError> {
+    let mut pairs = String::new(alloc);
+    for i in 1..count {
+        write!(pairs, "[\"c{}\",\"c{i}\"],", i - 1)?;
+    }
+    Ok(pairs)
 }
 
 /// A file of so many classes, each below the next one.
 fn chain(alloc: Global, count: u32) -> Result<String, AllocError> {
-    let mut names = String::new(alloc);
-    let mut pairs = String::new(alloc);
-    for i in 0..count {
-        names.push_str(&format!(in alloc; "\"c{i}\",")?)?;
-        if i > 0 {
-            pairs.push_str(&format!(in alloc; "[\"c{}\",\"c{i}\"],", i - 1)?)?;
-        }
-    }
+    let names = chain_names(alloc, count)?;
+    let pairs = chain_pairs(alloc, count)?;
     format!(in alloc; "classes = [{names}]\nbelow = [{pairs}]\n")
+}
+
+/// The lattice of so many classes, each below the next one.
+fn read_chain(alloc: Global, count: u32) -> Result<Lattice, LatticeError> {
+    let text = chain(alloc, count)?;
+    read_lattice(alloc, text.as_bytes())
 }
 
 /// The name of the join of two classes that have these names.
@@ -40,36 +65,51 @@ fn meet_of<'t>(lattice: &'t Lattice, a: &[u8], b: &[u8]) -> Option<&'t [u8]> {
     Some(lattice.name(lattice.meet(a, b)))
 }
 
-#[test]
-fn diamond(rt: HostRuntime) -> Result<(), Fail> {
-    let lattice = read_lattice(rt.alloc(), DIAMOND)?;
+/// Asserts the names and the order of the diamond.
+fn assert_diamond(rt: &impl Abort, lattice: &Lattice) {
     assert_eq!(rt; lattice.count(), 4);
     assert_eq!(rt; lattice.class_named(b"B"), Some(Class::at(2)));
     assert_eq!(rt; lattice.class_named(b"C"), None);
-    assert!(rt; join_of(&lattice, b"A", b"B") == Some(b"H".as_slice()));
-    assert!(rt; meet_of(&lattice, b"A", b"B") == Some(b"L".as_slice()));
-    assert_eq!(rt; lattice.bottom(), Class::at(0));
-    assert_eq!(rt; lattice.top(), Class::at(3));
+    assert!(rt; join_of(lattice, b"A", b"B") == Some(b"H".as_slice()));
+    assert!(rt; meet_of(lattice, b"A", b"B") == Some(b"L".as_slice()));
+    assert_eq!(rt;
+        (lattice.bottom(), lattice.top()),
+        (Class::at(0), Class::at(3))
+    );
     assert!(rt; !lattice.leq(Class::at(1), Class::at(2)));
-    Ok(())
 }
 
 #[test]
-fn one_class(rt: HostRuntime) -> Result<(), Fail> {
-    let lattice = read_lattice(rt.alloc(), b"classes = [\"L\"]\nbelow = []\n")?;
+fn diamond(rt: HostRuntime) {
+    let lattice = read_lattice(rt.alloc(), DIAMOND).expect(&rt, "a lattice");
+    assert_diamond(&rt, &lattice);
+}
+
+/// Asserts that a lattice has one class.
+fn assert_one_class(rt: &impl Abort, lattice: &Lattice) {
     assert_eq!(rt; lattice.count(), 1);
     assert_eq!(rt; lattice.bottom(), lattice.top());
-    Ok(())
 }
 
 #[test]
-fn repeated_pairs(rt: HostRuntime) -> Result<(), Fail> {
+fn one_class(rt: HostRuntime) {
+    let text = b"classes = [\"L\"]\nbelow = []\n";
+    let lattice = read_lattice(rt.alloc(), text).expect(&rt, "a lattice");
+    assert_one_class(&rt, &lattice);
+}
+
+/// Whether the bottom of a lattice is below its top, and the top not below the bottom.
+fn has_low_and_high(lattice: &Lattice) -> bool {
+    let (bottom, top) = (lattice.bottom(), lattice.top());
+    lattice.leq(bottom, top) && !lattice.leq(top, bottom)
+}
+
+#[test]
+fn repeated_pairs(rt: HostRuntime) {
     let text =
         b"classes = [\"L\", \"H\"]\nbelow = [[\"L\", \"H\"], [\"L\", \"H\"], [\"H\", \"H\"]]\n";
-    let lattice = read_lattice(rt.alloc(), text)?;
-    assert!(rt; lattice.leq(lattice.bottom(), lattice.top()));
-    assert!(rt; !lattice.leq(lattice.top(), lattice.bottom()));
-    Ok(())
+    let lattice = read_lattice(rt.alloc(), text).expect(&rt, "a lattice");
+    assert!(rt; has_low_and_high(&lattice));
 }
 
 #[test]
@@ -89,9 +129,7 @@ fn orders_that_are_no_lattice(rt: HostRuntime) {
             LatticeError::Cycle(first, second),
         ),
     ];
-    for case in &cases {
-        assert!(rt; is_refused(rt.alloc(), case.0, case.1));
-    }
+    assert_each_refused(&rt, rt.alloc(), &cases);
 }
 
 #[test]
@@ -128,9 +166,7 @@ fn names_that_are_refused(rt: HostRuntime) {
             LatticeError::UnknownName(1),
         ),
     ];
-    for case in &cases {
-        assert!(rt; is_refused(rt.alloc(), case.0, case.1));
-    }
+    assert_each_refused(&rt, rt.alloc(), &cases);
 }
 
 #[test]
@@ -149,29 +185,29 @@ fn shapes_that_are_refused(rt: HostRuntime) {
         b"classes = [\"L\"]\n[below]",
     ];
     for text in &cases {
-        assert!(rt; is_refused(rt.alloc(), text, LatticeError::BadShape));
+        assert_refused(&rt, rt.alloc(), text, LatticeError::BadShape);
     }
 }
 
 #[test]
 fn texts_that_are_no_toml(rt: HostRuntime) {
-    assert!(rt; is_refused(rt.alloc(), b"classes = ", LatticeError::NotToml));
-    assert!(rt;
-        is_refused(
-            rt.alloc(),
-            b"classes = [\"\xff\"]\nbelow = []",
-            LatticeError::NotToml
-        )
-    );
+    let texts: [&[u8]; 2] = [b"classes = ", b"classes = [\"\xff\"]\nbelow = []"];
+    for text in &texts {
+        assert_refused(&rt, rt.alloc(), text, LatticeError::NotToml);
+    }
+}
+
+/// Asserts that a lattice is a chain of 64 classes.
+fn assert_longest(rt: &impl Abort, lattice: &Lattice) {
+    assert_eq!(rt; lattice.count(), 64);
+    assert!(rt; join_of(lattice, b"c7", b"c50") == Some(b"c50".as_slice()));
 }
 
 #[test]
-fn longest_chain(rt: HostRuntime) -> Result<(), Fail> {
-    let text = chain(rt.alloc(), 64)?;
-    let lattice = read_lattice(rt.alloc(), text.as_bytes())?;
-    assert_eq!(rt; lattice.count(), 64);
-    assert!(rt; join_of(&lattice, b"c7", b"c50") == Some(b"c50".as_slice()));
-    let longer = chain(rt.alloc(), 65)?;
-    assert!(rt; is_refused(rt.alloc(), longer.as_bytes(), LatticeError::TooManyClasses));
-    Ok(())
+fn longest_chain(rt: HostRuntime) {
+    let alloc = rt.alloc();
+    let lattice = read_chain(alloc, 64).expect(&rt, "a lattice");
+    assert_longest(&rt, &lattice);
+    let refusal = read_chain(alloc, 65).err();
+    assert_eq!(rt; refusal, Some(LatticeError::TooManyClasses));
 }

@@ -1,18 +1,25 @@
 //! The locations that names stand for, in text order, and what a resolved program shows.
-use super::two_classes;
-use std::alloc::{AllocError, Global};
+use super::resolved;
+use std::alloc::{AllocError, Global as Heap};
+use std::process::Abort;
 use vsi_lattice::Class;
-use vsi_scope::{Cmd, Ex, resolve, size};
-use vsi_syntax::{lex, parse};
+use vsi_scope::{Cmd, Entry, Ex, Global, Resolved, size};
+use vsi_syntax::Span;
+
+// A location, and where its name starts and stops.
+type Place = (u16, usize, usize);
+
+// Notes a location with the span of its name.
+fn note_place(out: &mut Vec<Place>, location: u16, span: Span) -> Result<(), AllocError> {
+    out.push((location, span.start, span.stop))?;
+    Ok(())
+}
 
 // The locations that an expression reads, each with the span of its name.
-fn note_reads(out: &mut Vec<(u16, usize, usize)>, e: &Ex) -> Result<(), AllocError> {
+fn note_reads(out: &mut Vec<Place>, e: &Ex) -> Result<(), AllocError> {
     match e {
         Ex::Num(_) => Ok(()),
-        Ex::Loc(location, span) => {
-            out.push((*location, span.start, span.stop))?;
-            Ok(())
-        }
+        Ex::Loc(location, span) => note_place(out, *location, *span),
         Ex::Op(_, a, b) => {
             note_reads(out, a)?;
             note_reads(out, b)
@@ -22,7 +29,7 @@ fn note_reads(out: &mut Vec<(u16, usize, usize)>, e: &Ex) -> Result<(), AllocErr
 
 // The locations that commands write and read, each with the span of its name.
 #[cycle(noting)]
-fn note_all(out: &mut Vec<(u16, usize, usize)>, body: &[Cmd]) -> Result<(), AllocError> {
+fn note_all(out: &mut Vec<Place>, body: &[Cmd]) -> Result<(), AllocError> {
     for c in body {
         note(out, c)?;
     }
@@ -30,10 +37,10 @@ fn note_all(out: &mut Vec<(u16, usize, usize)>, body: &[Cmd]) -> Result<(), Allo
 }
 
 #[cycle(noting)]
-fn note(out: &mut Vec<(u16, usize, usize)>, c: &Cmd) -> Result<(), AllocError> {
+fn note(out: &mut Vec<Place>, c: &Cmd) -> Result<(), AllocError> {
     match c {
         Cmd::Assign { loc, span, value } => {
-            out.push((*loc, span.start, span.stop))?;
+            note_place(out, *loc, *span)?;
             note_reads(out, value)
         }
         Cmd::If { guard, yes, no } => {
@@ -52,24 +59,31 @@ fn note(out: &mut Vec<(u16, usize, usize)>, c: &Cmd) -> Result<(), AllocError> {
     }
 }
 
-// The number of commands of a text, and its locations, each with the span of its name.
-fn places(alloc: Global, text: &[u8]) -> Option<(usize, Vec<(u16, usize, usize)>)> {
-    let lattice = two_classes(alloc)?;
-    let tokens = lex(alloc, text).ok()?;
-    let program = parse(alloc, &tokens).ok()?;
-    let resolved = resolve(alloc, &program, &lattice).ok()?;
+// The places of commands.
+fn places(alloc: Heap, body: &[Cmd]) -> Result<Vec<Place>, AllocError> {
     let mut out = Vec::new(alloc);
-    note_all(&mut out, resolved.body()).ok()?;
-    Some((resolved.body().len(), out))
+    note_all(&mut out, body)?;
+    Ok(out)
+}
+
+// Asserts the places of commands.
+fn assert_noted(rt: &impl Abort, alloc: Heap, body: &[Cmd], wanted: &[Place]) {
+    let found = places(alloc, body).expect(rt, "room");
+    assert_eq!(rt; found.as_slice(), wanted);
+}
+
+// Asserts the number of commands of a text, and its places.
+fn assert_places(rt: &impl Abort, alloc: Heap, text: &[u8], commands: usize, wanted: &[Place]) {
+    let program = resolved(alloc, text).expect(rt, "a resolved program");
+    assert_eq!(rt; program.body().len(), commands);
+    assert_noted(rt, alloc, program.body(), wanted);
 }
 
 #[test]
 fn letvar_hides_a_global(rt: HostRuntime) {
     let text =
         b"var x : L; var y : L; x := 1; letvar x := x + 1 in { x := x + 1; y := x }; x := x + 10";
-    let (commands, found) = places(rt.alloc(), text).expect(&rt, "a resolved program");
-    assert_eq!(rt; commands, 3);
-    let want = [
+    let wanted = [
         (0, 22, 23),
         (0, 42, 43),
         (2, 53, 54),
@@ -79,15 +93,13 @@ fn letvar_hides_a_global(rt: HostRuntime) {
         (0, 75, 76),
         (0, 80, 81),
     ];
-    assert_eq!(rt; found.as_slice(), want.as_slice());
+    assert_places(&rt, rt.alloc(), text, 3, &wanted);
 }
 
 #[test]
 fn letvar_in_a_loop(rt: HostRuntime) {
     let text = b"var l : L; while l < 2 do letvar t := 0 in { t := t + 1; l := l + t }";
-    let (commands, found) = places(rt.alloc(), text).expect(&rt, "a resolved program");
-    assert_eq!(rt; commands, 1);
-    let want = [
+    let wanted = [
         (0, 17, 18),
         (1, 45, 46),
         (1, 50, 51),
@@ -95,16 +107,14 @@ fn letvar_in_a_loop(rt: HostRuntime) {
         (0, 62, 63),
         (1, 66, 67),
     ];
-    assert_eq!(rt; found.as_slice(), want.as_slice());
+    assert_places(&rt, rt.alloc(), text, 1, &wanted);
 }
 
 #[test]
 fn location_is_used_again(rt: HostRuntime) {
     let text =
         b"var x : L; var y : H; letvar t : H := y in { letvar u := x in t := u; letvar v := t in { y := v } }";
-    let (commands, found) = places(rt.alloc(), text).expect(&rt, "a resolved program");
-    assert_eq!(rt; commands, 1);
-    let want = [
+    let wanted = [
         (1, 38, 39),
         (0, 57, 58),
         (2, 62, 63),
@@ -113,51 +123,85 @@ fn location_is_used_again(rt: HostRuntime) {
         (1, 89, 90),
         (3, 94, 95),
     ];
-    assert_eq!(rt; found.as_slice(), want.as_slice());
+    assert_places(&rt, rt.alloc(), text, 1, &wanted);
+}
+
+// Asserts the name of each global, the number of its class and the name of its class.
+fn assert_globals(rt: &impl Abort, globals: &[Global<'_>], wanted: &[(&[u8], u8, &[u8])]) {
+    assert_eq!(rt; globals.len(), wanted.len());
+    for i in 0..wanted.len() {
+        let (name, class, class_name) = wanted[i];
+        assert_eq!(rt; globals[i].class, Class::at(class));
+        assert_eq!(rt;
+            (globals[i].name, globals[i].class_name),
+            (name, class_name)
+        );
+    }
+}
+
+// Asserts the name of each letvar, its class, and where its name starts and stops.
+fn assert_letvars(
+    rt: &impl Abort,
+    letvars: &[Entry<'_>],
+    wanted: &[(&[u8], Option<Class>, usize, usize)],
+) {
+    assert_eq!(rt; letvars.len(), wanted.len());
+    for i in 0..wanted.len() {
+        let (name, class, start, stop) = wanted[i];
+        assert_eq!(rt; letvars[i].name, name);
+        assert_eq!(rt;
+            (letvars[i].class, letvars[i].span),
+            (class, Span { start, stop })
+        );
+    }
 }
 
 #[test]
 fn globals_and_letvars(rt: HostRuntime) {
-    let alloc = rt.alloc();
     let text =
         b"var x : L; var y : H; letvar t : H := y in { letvar u := x in t := u; letvar v := t in { y := v } }";
-    let lattice = two_classes(alloc).expect(&rt, "classes");
-    let tokens = lex(alloc, text).expect(&rt, "tokens");
-    let program = parse(alloc, &tokens).expect(&rt, "a program");
-    let resolved = resolve(alloc, &program, &lattice).expect(&rt, "a resolved program");
-    assert_eq!(rt; resolved.globals().len(), 2);
-    for (at, name, class, class_name) in [(0, b"x", 0, b"L"), (1, b"y", 1, b"H")] {
-        let global = resolved.globals().get(at).expect(&rt, "a global");
-        assert_eq!(rt; global.name, name.as_slice());
-        assert_eq!(rt; global.class, Class::at(class));
-        assert_eq!(rt; global.class_name, class_name.as_slice());
-    }
-    assert_eq!(rt; resolved.letvars().len(), 3);
-    for (at, name, class, start) in [
-        (0, b"t", Some(Class::at(1)), 29),
-        (1, b"u", None, 52),
-        (2, b"v", None, 77),
-    ] {
-        let entry = resolved.letvars().get(at).expect(&rt, "an entry");
-        assert_eq!(rt; entry.name, name.as_slice());
-        assert_eq!(rt; entry.class, class);
-        assert_eq!(rt; (entry.span.start, entry.span.stop), (start, start + 1));
-    }
+    let program = resolved(rt.alloc(), text).expect(&rt, "a resolved program");
+    assert_globals(&rt, program.globals(), &[(b"x", 0, b"L"), (b"y", 1, b"H")]);
+    assert_letvars(
+        &rt,
+        program.letvars(),
+        &[
+            (b"t", Some(Class::at(1)), 29, 30),
+            (b"u", None, 52, 53),
+            (b"v", None, 77, 78),
+        ],
+    );
+}
+
+// The program of the same globals without a letvar or a command.
+fn emptied<'t>(alloc: Heap, program: &Resolved<'t>) -> Option<Resolved<'t>> {
+    let _facts = program.body();
+    program
+        .rebuilt(alloc, Vec::new(alloc), Vec::new(alloc))
+        .ok()
+}
+
+// Asserts the number of globals, that of letvars, and the size of a program.
+fn assert_shown(rt: &impl Abort, program: &Resolved<'_>, wanted: (usize, usize, u32)) {
+    let found = (
+        program.globals().len(),
+        program.letvars().len(),
+        size(program.body()),
+    );
+    assert_eq!(rt; found, wanted);
+}
+
+// Asserts what is left of a program of one global without its letvars and commands.
+fn assert_emptied(rt: &impl Abort, alloc: Heap, program: &Resolved<'_>) {
+    let empty = emptied(alloc, program).expect(rt, "room for the globals");
+    assert_shown(rt, &empty, (1, 0, 0));
 }
 
 #[test]
 fn rebuilt_without_commands(rt: HostRuntime) {
     let alloc = rt.alloc();
-    let lattice = two_classes(alloc).expect(&rt, "classes");
-    let tokens = lex(alloc, b"var x : L; letvar t := 1 in x := t").expect(&rt, "tokens");
-    let program = parse(alloc, &tokens).expect(&rt, "a program");
-    let resolved = resolve(alloc, &program, &lattice).expect(&rt, "a resolved program");
-    assert_eq!(rt; resolved.body().len(), 1);
-    let Ok(empty) = resolved.rebuilt(alloc, Vec::new(alloc), Vec::new(alloc)) else {
-        assert!(rt; false, "room for the globals");
-        return;
-    };
-    assert_eq!(rt; empty.globals().len(), 1);
-    assert_eq!(rt; empty.letvars().len(), 0);
-    assert_eq!(rt; size(empty.body()), 0);
+    let text = b"var x : L; letvar t := 1 in x := t";
+    let program = resolved(alloc, text).expect(&rt, "a resolved program");
+    assert_eq!(rt; program.body().len(), 1);
+    assert_emptied(&rt, alloc, &program);
 }

@@ -1,11 +1,12 @@
 //! Both sides of the depth limit, for each construct. The places are counted by hand.
 
 use super::Answer::{Accepted, TooDeep, Unexpected};
-use super::{Answer, answer_to, nested};
-use std::test::Fail;
+use super::{Answer, assert_repeated};
+use std::alloc::Global;
+use std::process::Abort;
 
 /// Programs of depth 200: a front, an opening part so many times, a middle, and a closing part as many times.
-const DEEPEST: [(&[u8], &[u8], usize, &[u8], &[u8]); 11] = [
+static DEEPEST: [(&[u8], &[u8], usize, &[u8], &[u8]); 11] = [
     (b"var x : L; x := ", b"(", 200, b"1", b")"),
     (b"", b"{", 200, b"x:=1", b"}"),
     (b"", b"if 1 then ", 200, b"x:=1", b" else x:=1"),
@@ -20,7 +21,7 @@ const DEEPEST: [(&[u8], &[u8], usize, &[u8], &[u8]); 11] = [
 ];
 
 /// One level more: a front, an opening part so many times, what stands behind, and the answer.
-const TOO_DEEP: [(&[u8], &[u8], usize, &[u8], Answer); 13] = [
+static TOO_DEEP: [(&[u8], &[u8], usize, &[u8], Answer); 13] = [
     (b"x := ", b"(", 1048571, b"", TooDeep(205, 206)),
     (b"var x : L; x := ", b"(", 201, b"1", TooDeep(216, 217)),
     (b"", b"{", 201, b"", TooDeep(200, 201)),
@@ -37,7 +38,7 @@ const TOO_DEEP: [(&[u8], &[u8], usize, &[u8], Answer); 13] = [
 ];
 
 /// The same, with what goes wrong inside a part that is as deep as can be.
-const INSIDE: [(&[u8], &[u8], usize, &[u8], Answer); 13] = [
+static INSIDE: [(&[u8], &[u8], usize, &[u8], Answer); 13] = [
     (b"if ", b"(", 200, b"1", TooDeep(202, 203)),
     (b"while ", b"(", 200, b"1", TooDeep(205, 206)),
     (b"letvar y := ", b"(", 200, b"1", TooDeep(211, 212)),
@@ -53,51 +54,64 @@ const INSIDE: [(&[u8], &[u8], usize, &[u8], Answer); 13] = [
     (b"x := 1 < 1", b" + 1", 199, b" < 1", Unexpected(807, 808)),
 ];
 
-#[test]
-fn takes_the_deepest(rt: HostRuntime) -> Result<(), Fail> {
-    let alloc = rt.alloc();
-    for (front, opening, times, middle, closing) in DEEPEST {
-        let text = nested(alloc, front, opening, times, middle, closing)?;
-        assert_eq!(rt; answer_to(alloc, &text), Accepted);
+/// Asserts the answer to each front with an opening part so many times and what stands behind.
+fn assert_nested(rt: &impl Abort, alloc: Global, rows: &[(&[u8], &[u8], usize, &[u8], Answer)]) {
+    for (front, opening, times, behind, wanted) in rows {
+        let parts = [(*front, 1), (*opening, *times), (*behind, 1)];
+        assert_repeated(rt, alloc, &parts, *wanted);
     }
-    Ok(())
 }
 
 #[test]
-fn refuses_one_level_more(rt: HostRuntime) -> Result<(), Fail> {
-    let alloc = rt.alloc();
-    for (front, opening, times, behind, wanted) in TOO_DEEP {
-        let text = nested(alloc, front, opening, times, behind, b"")?;
-        assert_eq!(rt; answer_to(alloc, &text), wanted);
+fn takes_the_deepest(rt: HostRuntime) {
+    for (front, opening, times, middle, closing) in &DEEPEST {
+        let parts = [
+            (*front, 1),
+            (*opening, *times),
+            (*middle, 1),
+            (*closing, *times),
+        ];
+        assert_repeated(&rt, rt.alloc(), &parts, Accepted);
     }
-    Ok(())
 }
 
 #[test]
-fn refuses_inside_the_deepest(rt: HostRuntime) -> Result<(), Fail> {
-    let alloc = rt.alloc();
-    for (front, opening, times, behind, wanted) in INSIDE {
-        let text = nested(alloc, front, opening, times, behind, b"")?;
-        assert_eq!(rt; answer_to(alloc, &text), wanted);
+fn refuses_one_level_more(rt: HostRuntime) {
+    assert_nested(&rt, rt.alloc(), &TOO_DEEP);
+}
+
+#[test]
+fn refuses_inside_the_deepest(rt: HostRuntime) {
+    assert_nested(&rt, rt.alloc(), &INSIDE);
+}
+
+/// Asserts the answers to so many brackets round a 1, each with what stands behind.
+fn assert_bracketed(rt: &impl Abort, alloc: Global, rows: &[(usize, &[u8], Answer)]) {
+    for (times, behind, wanted) in rows {
+        let parts: [(&[u8], usize); 5] = [
+            (b"x := ", 1),
+            (b"(", *times),
+            (b"1", 1),
+            (b")", *times),
+            (behind, 1),
+        ];
+        assert_repeated(rt, alloc, &parts, *wanted);
     }
-    Ok(())
 }
 
 /// A bracket 200 deep is an operand one level too deep, and the operator behind it is where that shows.
 #[test]
-fn refuses_an_operator_behind_the_deepest(rt: HostRuntime) -> Result<(), Fail> {
-    let alloc = rt.alloc();
-    for (times, behind, wanted) in [
-        (199, b" + 1".as_slice(), Accepted),
-        (200, b" + 1".as_slice(), TooDeep(407, 408)),
-        (200, b" * 1".as_slice(), TooDeep(407, 408)),
-        (200, b" = 1".as_slice(), TooDeep(407, 408)),
-        (200, b" 1".as_slice(), Unexpected(407, 408)),
-        (200, b" ; x := 1".as_slice(), Accepted),
-    ] {
-        let mut text = nested(alloc, b"x := ", b"(", times, b"1", b")")?;
-        text.extend_from_slice(behind)?;
-        assert_eq!(rt; answer_to(alloc, &text), wanted);
-    }
-    Ok(())
+fn refuses_an_operator_behind_the_deepest(rt: HostRuntime) {
+    assert_bracketed(
+        &rt,
+        rt.alloc(),
+        &[
+            (199, b" + 1", Accepted),
+            (200, b" + 1", TooDeep(407, 408)),
+            (200, b" * 1", TooDeep(407, 408)),
+            (200, b" = 1", TooDeep(407, 408)),
+            (200, b" 1", Unexpected(407, 408)),
+            (200, b" ; x := 1", Accepted),
+        ],
+    );
 }

@@ -1,10 +1,10 @@
 //! Texts with the answers of another, independent program.
 
 use super::Answer::{Accepted, Unexpected};
-use super::{Answer, answer_to};
+use super::{Answer, assert_answers};
 
 /// Texts, and what becomes of each.
-const ROWS: [(&[u8], Answer); 60] = [
+static ROWS: [(&[u8], Answer); 60] = [
     (
         b"var x : L ; while x - y do { while ( x 2 do x := ( y ) }",
         Unexpected(39, 40),
@@ -135,7 +135,5 @@ const ROWS: [(&[u8], Answer); 60] = [
 
 #[test]
 fn answers_as_elsewhere(rt: HostRuntime) {
-    for (text, wanted) in ROWS {
-        assert_eq!(rt; answer_to(rt.alloc(), text), wanted);
-    }
+    assert_answers(&rt, rt.alloc(), &ROWS);
 }

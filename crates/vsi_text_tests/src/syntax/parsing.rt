@@ -1,44 +1,52 @@
 //! Trees, and where the first token stands that no program has there.
 
 use super::Answer::{Accepted, Unexpected};
-use super::answer_to;
-use std::test::Fail;
-use vsi_syntax::{Expr, Op, Stmt, lex, parse};
+use super::{assert_answers, program_of};
+use std::alloc::Global;
+use std::process::Abort;
+use vsi_syntax::{Declaration, Expr, Op, Program, Stmt};
 
 #[test]
 fn finds_the_first_wrong_token(rt: HostRuntime) {
-    for (text, wanted) in [
-        (b"".as_slice(), Unexpected(0, 0)),
-        (b"x := 1;".as_slice(), Unexpected(7, 7)),
-        (b"x := 1 < 2 < 3".as_slice(), Unexpected(11, 12)),
-        (b"if x then x := 1".as_slice(), Unexpected(16, 16)),
-        (b"var x : L; x := * 2".as_slice(), Unexpected(16, 17)),
-        (b"x := 1 } x".as_slice(), Unexpected(7, 8)),
-        (b"x := 1 # end\n".as_slice(), Accepted),
-        (b"x := (1 < 2) < 3".as_slice(), Accepted),
-        (b"x := 1 = 2 * 3 - 4".as_slice(), Accepted),
-        (b"x := - 1".as_slice(), Unexpected(5, 6)),
-        (b"{}".as_slice(), Unexpected(1, 2)),
-        (b"x := 1; var y : L; y := 1".as_slice(), Unexpected(8, 11)),
-        (b"letvar t : := 1 in x := t".as_slice(), Unexpected(11, 13)),
-        (b"x : = 1".as_slice(), Unexpected(2, 3)),
-    ] {
-        assert_eq!(rt; answer_to(rt.alloc(), text), wanted);
-    }
+    assert_answers(
+        &rt,
+        rt.alloc(),
+        &[
+            (b"", Unexpected(0, 0)),
+            (b"x := 1;", Unexpected(7, 7)),
+            (b"x := 1 < 2 < 3", Unexpected(11, 12)),
+            (b"if x then x := 1", Unexpected(16, 16)),
+            (b"var x : L; x := * 2", Unexpected(16, 17)),
+            (b"x := 1 } x", Unexpected(7, 8)),
+            (b"x := 1 # end\n", Accepted),
+            (b"x := (1 < 2) < 3", Accepted),
+            (b"x := 1 = 2 * 3 - 4", Accepted),
+            (b"x := - 1", Unexpected(5, 6)),
+            (b"{}", Unexpected(1, 2)),
+            (b"x := 1; var y : L; y := 1", Unexpected(8, 11)),
+            (b"letvar t : := 1 in x := t", Unexpected(11, 13)),
+            (b"x : = 1", Unexpected(2, 3)),
+        ],
+    );
+}
+
+/// Asserts the numbers of globals and commands, and what is kept of the second global.
+fn assert_kept(rt: &impl Abort, program: &Program<'_>) {
+    assert_eq!(rt; program.globals().len(), 2);
+    assert_eq!(rt; program.body().len(), 2);
+    let Declaration { name, class } = program.globals()[1];
+    assert_eq!(rt;
+        (name.text, class.text),
+        (b"b".as_slice(), b"High".as_slice())
+    );
+    assert_eq!(rt; (class.span.start, class.span.stop), (19, 23));
 }
 
 #[test]
-fn keeps_globals_and_commands(rt: HostRuntime) -> Result<(), Fail> {
-    let alloc = rt.alloc();
-    let tokens = lex(alloc, b"var a : L; var b : High; a := 1; b := a")?;
-    let program = parse(alloc, &tokens)?;
-    assert_eq!(rt; program.globals().len(), 2);
-    assert_eq!(rt; program.body().len(), 2);
-    let second = program.globals()[1];
-    assert_eq!(rt; second.name.text, b"b".as_slice());
-    assert_eq!(rt; second.class.text, b"High".as_slice());
-    assert_eq!(rt; (second.class.span.start, second.class.span.stop), (19, 23));
-    Ok(())
+fn keeps_globals_and_commands(rt: HostRuntime) {
+    let text = b"var a : L; var b : High; a := 1; b := a";
+    let program = program_of(rt.alloc(), text).expect(&rt, "a program");
+    assert_kept(&rt, &program);
 }
 
 /// The operator at the top of an expression, and that at the top of its left operand.
@@ -63,19 +71,25 @@ fn first_operators(body: &[Stmt]) -> Option<(Op, Op)> {
     }
 }
 
-#[test]
-fn groups_to_the_left(rt: HostRuntime) -> Result<(), Fail> {
-    let alloc = rt.alloc();
-    for (text, wanted) in [
-        (b"x := 1 - 2 + 3".as_slice(), Some((Op::Add, Op::Sub))),
-        (b"x := 1 * 2 - 3".as_slice(), Some((Op::Sub, Op::Mul))),
-        (b"x := 1 - 2 * 3".as_slice(), None),
-        (b"x := 1 + 2 < 3 * 4".as_slice(), Some((Op::Lt, Op::Add))),
-        (b"x := 1 - (2 + 3)".as_slice(), None),
-    ] {
-        let tokens = lex(alloc, text)?;
-        let program = parse(alloc, &tokens)?;
-        assert_eq!(rt; first_operators(program.body()), wanted);
+/// Asserts the operators that `first_operators` finds in each text.
+fn assert_grouped(rt: &impl Abort, alloc: Global, rows: &[(&[u8], Option<(Op, Op)>)]) {
+    for (text, wanted) in rows {
+        let program = program_of(alloc, text).expect(rt, "a program");
+        assert_eq!(rt; first_operators(program.body()), *wanted);
     }
-    Ok(())
+}
+
+#[test]
+fn groups_to_the_left(rt: HostRuntime) {
+    assert_grouped(
+        &rt,
+        rt.alloc(),
+        &[
+            (b"x := 1 - 2 + 3", Some((Op::Add, Op::Sub))),
+            (b"x := 1 * 2 - 3", Some((Op::Sub, Op::Mul))),
+            (b"x := 1 - 2 * 3", None),
+            (b"x := 1 + 2 < 3 * 4", Some((Op::Lt, Op::Add))),
+            (b"x := 1 - (2 + 3)", None),
+        ],
+    );
 }
