@@ -6,34 +6,17 @@ mod walks;
 ghost use Rattle.std.specs.Prelude.{◌≡◌, true, map, IfSome};
 ghost use Rattle.std.specs.List.{All};
 ghost use Rattle.vsi_lattice.specs.Order.{IsClass};
+ghost use Rattle.vsi_lattice.specs.Named.{order};
+ghost use Rattle.vsi_types.specs.Security.{program as program_of};
 ghost use Rattle.vsi_infer.specs.Inference.{AreClasses};
 
+use crate::programs::{are_classes, resolved};
 use std::alloc::Global as Heap;
-use vsi_infer::{InferError, check_walk, check_walk_in, explain, infer, infer_in};
+use std::process::Abort;
+use vsi_infer::{InferError, Walk, check_walk, check_walk_in, explain, infer, infer_in};
 use vsi_lattice::{Class, Classes, Lattice, read_lattice};
-use vsi_scope::{Entry, Global, Resolved, resolve};
-use vsi_syntax::{lex, parse};
+use vsi_scope::{Entry, Resolved};
 use vsi_types::Profile;
-
-// Two classes, L below H.
-const TWO_CLASSES: &[u8] = b"classes = [\"L\", \"H\"]\nbelow = [[\"L\", \"H\"]]\n";
-
-// Four classes: L below A and B, and these below H.
-const FOUR_CLASSES: &[u8] = b"classes = [\"L\", \"A\", \"B\", \"H\"]
-below = [[\"L\", \"A\"], [\"L\", \"B\"], [\"A\", \"H\"], [\"B\", \"H\"]]
-";
-
-// Whether each class of the globals is one of the lattice.
-fn are_classes<C: Classes>(lattice: &C, globals: &[Global<'_>]) -> bool
-    ensures { result ≡ true → All (IsClass (C.lattice lattice.now)) (map (λ g. g.class) globals.now) }
-{
-    for g in globals {
-        if g.class.index() >= lattice.count() {
-            return false;
-        }
-    }
-    true
-}
 
 // Whether a declared class is one of the lattice.
 fn is_within<C: Classes>(lattice: &C, class: Option<Class>) -> bool
@@ -57,6 +40,64 @@ fn are_declared<C: Classes>(lattice: &C, letvars: &[Entry<'_>]) -> bool
     true
 }
 
+// The least classes, by `infer` for the base profile.
+fn inferred(
+    alloc: Heap,
+    profile: Profile,
+    lattice: &Lattice,
+    program: &Resolved<'_>,
+) -> Result<Vec<Class>, InferError>
+    requires globals { All (IsClass (order lattice.now)) (program_of program.now).globals }
+    requires declared { AreClasses (order lattice.now) (program_of program.now).declared }
+{
+    match profile {
+        Profile::Base => infer(alloc, lattice, program),
+        Profile::Strict => infer_in(alloc, profile, lattice, program),
+    }
+}
+
+// Whether a walk is bad, by `check_walk` for the base profile.
+fn is_bad(profile: Profile, lattice: &Lattice, program: &Resolved<'_>, walk: &Walk) -> bool
+    requires globals { All (IsClass (order lattice.now)) (program_of program.now).globals }
+    requires declared { AreClasses (order lattice.now) (program_of program.now).declared }
+{
+    match profile {
+        Profile::Base => check_walk(lattice, program, walk),
+        Profile::Strict => check_walk_in(profile, lattice, program, walk),
+    }
+}
+
+// The text of a walk that is bad.
+fn explained(
+    alloc: Heap,
+    profile: Profile,
+    source: &[u8],
+    lattice: &Lattice,
+    program: &Resolved<'_>,
+    walk: &Walk,
+) -> Option<Vec<u8>>
+    requires globals { All (IsClass (order lattice.now)) (program_of program.now).globals }
+    requires declared { AreClasses (order lattice.now) (program_of program.now).declared }
+{
+    if is_bad(profile, lattice, program, walk)
+        && check_walk_in(Profile::Strict, lattice, program, walk)
+    {
+        explain(alloc, source, lattice, program, walk).ok()
+    } else {
+        None
+    }
+}
+
+// The numbers of classes, a digit each.
+fn digits(alloc: Heap, classes: &[Class]) -> Option<Vec<u8>> {
+    let mut text = Vec::new(alloc);
+    for class in classes {
+        let number = u8::try_from(class.index()).ok()?;
+        text.push(b'0'.wrapping_add(number)).ok()?;
+    }
+    Some(text)
+}
+
 // The numbers of the least classes, a digit each, or the text of the walk that refuses the program.
 fn answer(
     alloc: Heap,
@@ -68,40 +109,30 @@ fn answer(
     if !are_classes(lattice, program.globals()) || !are_declared(lattice, program.letvars()) {
         return None;
     }
-    let found = match profile {
-        Profile::Base => infer(alloc, lattice, program),
-        Profile::Strict => infer_in(alloc, profile, lattice, program),
-    };
-    match found {
-        Ok(classes) => {
-            let mut text = Vec::new(alloc);
-            for class in classes.iter() {
-                text.push(b'0'.wrapping_add(class.index() as u8)).ok()?;
-            }
-            Some(text)
-        }
+    match inferred(alloc, profile, lattice, program) {
+        Ok(classes) => digits(alloc, &classes),
         Err(InferError::Refused(walk)) => {
-            let bad = match profile {
-                Profile::Base => check_walk(lattice, program, &walk),
-                Profile::Strict => check_walk_in(profile, lattice, program, &walk),
-            };
-            if bad && check_walk_in(Profile::Strict, lattice, program, &walk) {
-                explain(alloc, source, lattice, program, &walk).ok()
-            } else {
-                None
-            }
+            explained(alloc, profile, source, lattice, program, &walk)
         }
         Err(InferError::Memory) => None,
     }
 }
 
+// The answer on a text over the classes of a lattice.
+fn answered_over(
+    alloc: Heap,
+    profile: Profile,
+    lattice: &Lattice,
+    source: &[u8],
+) -> Option<Vec<u8>> {
+    let program = resolved(alloc, lattice, source)?;
+    answer(alloc, profile, source, lattice, &program)
+}
+
 // The answer on a text, under the order of a lattice's text.
 fn answered(alloc: Heap, profile: Profile, order: &[u8], source: &[u8]) -> Option<Vec<u8>> {
     let lattice = read_lattice(alloc, order).ok()?;
-    let tokens = lex(alloc, source).ok()?;
-    let program = parse(alloc, &tokens).ok()?;
-    let resolved = resolve(alloc, &program, &lattice).ok()?;
-    answer(alloc, profile, source, &lattice, &resolved)
+    answered_over(alloc, profile, &lattice, source)
 }
 
 // Whether the answer on a text is this one.
@@ -109,5 +140,18 @@ fn says(alloc: Heap, profile: Profile, order: &[u8], source: &[u8], want: &[u8])
     match answered(alloc, profile, order, source) {
         Some(text) => text.as_slice() == want,
         None => false,
+    }
+}
+
+// Asserts the answer on each text.
+fn assert_says(
+    rt: &impl Abort,
+    alloc: Heap,
+    profile: Profile,
+    order: &[u8],
+    rows: &[(&[u8], &[u8])],
+) {
+    for (source, want) in rows {
+        assert!(rt; says(alloc, profile, order, source, want));
     }
 }

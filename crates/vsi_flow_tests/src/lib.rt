@@ -4,4 +4,6 @@
 #[cfg(test)]
 mod infer;
 #[cfg(test)]
+mod programs;
+#[cfg(test)]
 mod types;

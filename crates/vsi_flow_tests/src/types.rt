@@ -3,23 +3,16 @@ mod base;
 mod emptied;
 mod strict;
 
-ghost use Rattle.std.specs.Prelude.{◌≡◌, true, map};
+ghost use Rattle.std.specs.Prelude.{◌≡◌, true};
 ghost use Rattle.std.specs.List.{All};
 ghost use Rattle.vsi_lattice.specs.Order.{IsClass};
 
-use std::alloc::Global as Heap;
-use vsi_lattice::{Class, Classes, read_lattice};
-use vsi_scope::{Global, Resolved, resolve};
-use vsi_syntax::{lex, parse};
+use crate::programs::{are_classes, resolved};
+use std::alloc::{AllocError, Global as Heap};
+use std::process::Abort;
+use vsi_lattice::{Class, Classes, Lattice, read_lattice};
+use vsi_scope::Resolved;
 use vsi_types::{CheckError, Profile, Rule, check, check_in};
-
-// Two classes, L below H.
-const TWO_CLASSES: &[u8] = b"classes = [\"L\", \"H\"]\nbelow = [[\"L\", \"H\"]]\n";
-
-// Four classes: L below A and B, and these below H.
-const FOUR_CLASSES: &[u8] = b"classes = [\"L\", \"A\", \"B\", \"H\"]
-below = [[\"L\", \"A\"], [\"L\", \"B\"], [\"A\", \"H\"], [\"B\", \"H\"]]
-";
 
 // What was answered.
 #[derive(Clone, Copy, Debug, PartialEq, Eq)]
@@ -46,18 +39,6 @@ fn told(answer: Result<(), CheckError>) -> Said {
             f.target.0,
         ),
     }
-}
-
-// Whether each class of the globals is one of the lattice.
-fn are_classes<C: Classes>(lattice: &C, globals: &[Global<'_>]) -> bool
-    ensures { result ≡ true → All (IsClass (C.lattice lattice.now)) (map (λ g. g.class) globals.now) }
-{
-    for g in globals {
-        if g.class.index() >= lattice.count() {
-            return false;
-        }
-    }
-    true
 }
 
 // Whether each given class is one of the lattice.
@@ -89,25 +70,60 @@ fn answer<C: Classes>(
     }
 }
 
-// The answer on a text, under the order of a lattice's text, with these classes.
-fn judged(alloc: Heap, profile: Profile, order: &[u8], text: &[u8], choice: &[u8]) -> Said {
+// The classes of these numbers.
+fn classes_of(alloc: Heap, numbers: &[u8]) -> Result<Vec<Class>, AllocError> {
     let mut classes = Vec::new(alloc);
-    for c in choice {
-        let Ok(()) = classes.push(Class::at(*c)) else {
-            return Said::Memory;
-        };
+    for number in numbers {
+        classes.push(Class::at(*number))?;
     }
-    let Ok(lattice) = read_lattice(alloc, order) else {
-        return Said::Unread;
-    };
-    let Ok(tokens) = lex(alloc, text) else {
-        return Said::Unread;
-    };
-    let Ok(program) = parse(alloc, &tokens) else {
-        return Said::Unread;
-    };
-    match resolve(alloc, &program, &lattice) {
-        Ok(resolved) => answer(alloc, profile, &lattice, &resolved, &classes),
+    Ok(classes)
+}
+
+// The answer on a program with the classes of these numbers.
+fn judged_with(
+    alloc: Heap,
+    profile: Profile,
+    lattice: &Lattice,
+    program: &Resolved<'_>,
+    choice: &[u8],
+) -> Said {
+    match classes_of(alloc, choice) {
+        Ok(classes) => answer(alloc, profile, lattice, program, &classes),
+        Err(_) => Said::Memory,
+    }
+}
+
+// The answer on a text over the classes of a lattice.
+fn judged_over(
+    alloc: Heap,
+    profile: Profile,
+    lattice: &Lattice,
+    text: &[u8],
+    choice: &[u8],
+) -> Said {
+    match resolved(alloc, lattice, text) {
+        Some(program) => judged_with(alloc, profile, lattice, &program, choice),
+        None => Said::Unread,
+    }
+}
+
+// The answer on a text, under the order of a lattice's text, with the classes of these numbers.
+fn judged(alloc: Heap, profile: Profile, order: &[u8], text: &[u8], choice: &[u8]) -> Said {
+    match read_lattice(alloc, order) {
+        Ok(lattice) => judged_over(alloc, profile, &lattice, text, choice),
         Err(_) => Said::Unread,
+    }
+}
+
+// Asserts the answer on each text with the classes beside it.
+fn assert_judged(
+    rt: &impl Abort,
+    alloc: Heap,
+    profile: Profile,
+    order: &[u8],
+    rows: &[(&[u8], &[u8], Said)],
+) {
+    for (text, choice, want) in rows {
+        assert_eq!(rt; judged(alloc, profile, order, text, choice), *want);
     }
 }

@@ -1,11 +1,13 @@
 //! Walks that aren't bad, and a long one.
 
-use super::{TWO_CLASSES, answered, are_classes, are_declared, says};
-use std::alloc::Global as Heap;
+use super::{answered, are_declared, assert_says};
+use crate::programs::{TWO_CLASSES, are_classes, resolved};
+use std::alloc::{AllocError, Global as Heap};
+use std::process::Abort;
 use vsi_infer::{Walk, check_walk};
 use vsi_lattice::{Lattice, read_lattice};
-use vsi_scope::{Resolved, Var, resolve};
-use vsi_syntax::{Span, lex, parse};
+use vsi_scope::{Resolved, Var};
+use vsi_syntax::Span;
 use vsi_types::{Profile, Rule, Step};
 
 // A step by its rule, its variables, and where what is read and what is written start; each name has one byte.
@@ -36,116 +38,121 @@ fn is_bad(alloc: Heap, lattice: &Lattice, program: &Resolved<'_>, steps: &[Step]
     Some(check_walk(lattice, program, &walk))
 }
 
+// The same of a text over the classes of a lattice.
+fn judged_over(alloc: Heap, lattice: &Lattice, source: &[u8], steps: &[Step]) -> Option<bool> {
+    let program = resolved(alloc, lattice, source)?;
+    is_bad(alloc, lattice, &program, steps)
+}
+
 // The same of a text over two classes.
 fn judged(alloc: Heap, source: &[u8], steps: &[Step]) -> Option<bool> {
     let lattice = read_lattice(alloc, TWO_CLASSES).ok()?;
-    let tokens = lex(alloc, source).ok()?;
-    let program = parse(alloc, &tokens).ok()?;
-    let resolved = resolve(alloc, &program, &lattice).ok()?;
-    is_bad(alloc, &lattice, &resolved, steps)
+    judged_over(alloc, &lattice, source, steps)
+}
+
+// Asserts whether these steps are a bad walk of a text's program over two classes.
+fn assert_judged(rt: &impl Abort, alloc: Heap, source: &[u8], steps: &[Step], want: bool) {
+    assert_eq!(rt; judged(alloc, source, steps), Some(want));
 }
 
 #[test]
 fn walks_are_checked(rt: HostRuntime) {
     let alloc = rt.alloc();
     let one = b"var h : H; var l : L; l := h";
+    let right = [step(Rule::Assign, 0, 1, 27, 22)];
+    let elsewhere = [step(Rule::Assign, 0, 1, 27, 23)];
+    assert_judged(&rt, alloc, one, &right, true);
+    assert_judged(&rt, alloc, one, &elsewhere, false);
     let two = b"var h : H; var l : L; letvar t := 0 in { if h then t := 1 else t := 0; l := t }";
-    assert_eq!(rt;
-        judged(
-            alloc,
-            two,
-            &[
-                step(Rule::If, 0, 2, 44, 51),
-                step(Rule::Assign, 2, 1, 76, 71)
-            ]
-        ),
-        Some(true)
-    );
-    assert_eq!(rt;
-        judged(alloc, two, &[step(Rule::If, 0, 2, 44, 51)]),
-        Some(false)
-    );
-    assert_eq!(rt;
-        judged(
-            alloc,
-            two,
-            &[
-                step(Rule::Assign, 2, 1, 76, 71),
-                step(Rule::If, 0, 2, 44, 51)
-            ]
-        ),
-        Some(false)
-    );
-    assert_eq!(rt; judged(alloc, two, &[]), Some(false));
-    assert_eq!(rt;
-        judged(alloc, one, &[step(Rule::Assign, 0, 1, 27, 22)]),
-        Some(true)
-    );
-    assert_eq!(rt;
-        judged(alloc, one, &[step(Rule::Assign, 0, 1, 27, 23)]),
-        Some(false)
-    );
+    let steps = [
+        step(Rule::If, 0, 2, 44, 51),
+        step(Rule::Assign, 2, 1, 76, 71),
+    ];
+    let reversed = [steps[1], steps[0]];
+    assert_judged(&rt, alloc, two, &steps, true);
+    assert_judged(&rt, alloc, two, &steps[..1], false);
+    assert_judged(&rt, alloc, two, &reversed, false);
+    assert_judged(&rt, alloc, two, &[], false);
+}
+
+// Adds `a` and the two digits of a number below 100.
+fn add_name(text: &mut Vec<u8>, number: u8) -> Result<(), AllocError> {
+    let tens = b'0'.wrapping_add(number / 10);
+    let ones = b'0'.wrapping_add(number % 10);
+    text.extend_from_slice(&[b'a', tens, ones])?;
+    Ok(())
 }
 
 // Adds `aK := aJ; ` for K from 99 down to 1 with J = K - 1.
-fn add_copies(text: &mut Vec<u8>) -> Option<()> {
+fn add_copies(text: &mut Vec<u8>) -> Result<(), AllocError> {
     for j in 0..99u8 {
         let k = 99 - j;
-        for number in [k, k - 1] {
-            text.extend_from_slice(b"a").ok()?;
-            text.push(b'0'.wrapping_add(number / 10)).ok()?;
-            text.push(b'0'.wrapping_add(number % 10)).ok()?;
-            text.extend_from_slice(if number == k { b" := " } else { b"; " })
-                .ok()?;
-        }
+        add_name(text, k)?;
+        text.extend_from_slice(b" := ")?;
+        add_name(text, k - 1)?;
+        text.extend_from_slice(b"; ")?;
     }
-    Some(())
+    Ok(())
 }
 
-// A loop that copies each of 100 variables to the next, from `h` on; with the way out the last one flows to `l`.
-fn chain(alloc: Heap, way_out: bool) -> Option<Vec<u8>> {
-    let mut text = Vec::new(alloc);
-    text.extend_from_slice(b"var h : H; var l : L; ").ok()?;
+// Adds `letvar aK := 0 in ` for K from 0 to 99.
+fn add_letvars(text: &mut Vec<u8>) -> Result<(), AllocError> {
     for k in 0..100u8 {
-        text.extend_from_slice(b"letvar a").ok()?;
-        text.push(b'0'.wrapping_add(k / 10)).ok()?;
-        text.push(b'0'.wrapping_add(k % 10)).ok()?;
-        text.extend_from_slice(b" := 0 in ").ok()?;
+        text.extend_from_slice(b"letvar ")?;
+        add_name(text, k)?;
+        text.extend_from_slice(b" := 0 in ")?;
     }
-    text.extend_from_slice(b"while l < 3 do { ").ok()?;
-    add_copies(&mut text)?;
-    text.extend_from_slice(b"a00 := h; ").ok()?;
-    if way_out {
-        text.extend_from_slice(b"l := a99; ").ok()?;
-    }
-    text.extend_from_slice(b"l := l + 1 }").ok()?;
-    Some(text)
+    Ok(())
+}
+
+// Adds a loop that copies each of 100 variables to the next, from `h` on, and then what stands behind.
+fn add_loop(text: &mut Vec<u8>, behind: &[u8]) -> Result<(), AllocError> {
+    text.extend_from_slice(b"var h : H; var l : L; ")?;
+    add_letvars(text)?;
+    text.extend_from_slice(b"while l < 3 do { ")?;
+    add_copies(text)?;
+    text.extend_from_slice(behind)?;
+    Ok(())
+}
+
+// The loop as a text; with the way out the last variable flows to `l`.
+fn chain(alloc: Heap, way_out: bool) -> Result<Vec<u8>, AllocError> {
+    let behind = if way_out {
+        b"a00 := h; l := a99; l := l + 1 }".as_slice()
+    } else {
+        b"a00 := h; l := l + 1 }".as_slice()
+    };
+    let mut text = Vec::new(alloc);
+    add_loop(&mut text, behind)?;
+    Ok(text)
 }
 
 #[test]
 fn a_long_chain_is_accepted(rt: HostRuntime) {
-    let alloc = rt.alloc();
-    let accepted = match chain(alloc, false) {
-        Some(text) => says(alloc, Profile::Base, TWO_CLASSES, &text, &[b'1'; 100]),
-        None => false,
-    };
-    assert!(rt; accepted);
+    let text = chain(rt.alloc(), false).expect(&rt, "memory");
+    let rows = [(text.as_slice(), [b'1'; 100].as_slice())];
+    assert_says(&rt, rt.alloc(), Profile::Base, TWO_CLASSES, &rows);
 }
 
-#[test]
-fn a_long_chain_is_refused_by_all_its_steps(rt: HostRuntime) {
-    let alloc = rt.alloc();
-    let Some(text) = chain(alloc, true) else {
-        panic!(rt; "no memory");
-    };
-    let Some(answer) = answered(alloc, Profile::Base, TWO_CLASSES, &text) else {
-        panic!(rt; "no answer");
-    };
+// The number of lines of a text.
+fn count_lines(text: &[u8]) -> usize {
     let mut lines: usize = 0;
-    for byte in answer.iter() {
+    for byte in text {
         if *byte == b'\n' {
             lines = lines.wrapping_add(1);
         }
     }
-    assert_eq!(rt; lines, 102);
+    lines
+}
+
+// The number of lines of the answer on a text over two classes.
+fn lines_answered(alloc: Heap, source: &[u8]) -> Option<usize> {
+    let answer = answered(alloc, Profile::Base, TWO_CLASSES, source)?;
+    Some(count_lines(&answer))
+}
+
+#[test]
+fn a_long_chain_is_refused_by_all_its_steps(rt: HostRuntime) {
+    let text = chain(rt.alloc(), true).expect(&rt, "memory");
+    assert_eq!(rt; lines_answered(rt.alloc(), &text), Some(102));
 }

@@ -2,11 +2,12 @@
 
 ghost use Rattle.std.specs.Prelude.{◌≡◌};
 
-use super::{Said, TWO_CLASSES, answer};
+use super::{Said, answer};
+use crate::programs::{TWO_CLASSES, resolved};
 use std::alloc::Global as Heap;
-use vsi_lattice::read_lattice;
-use vsi_scope::{Cmd, Ex, Resolved, resolve};
-use vsi_syntax::{Span, lex, parse};
+use vsi_lattice::{Lattice, read_lattice};
+use vsi_scope::{Cmd, Ex, Resolved};
+use vsi_syntax::Span;
 use vsi_types::Profile::{Base, Strict};
 use vsi_types::{LOOP, Profile, Rule};
 
@@ -39,23 +40,32 @@ fn emptied<'a>(alloc: Heap, program: &Resolved<'a>) -> Option<Resolved<'a>> {
     program.rebuilt(alloc, Vec::new(alloc), body).ok()
 }
 
-// The answer on the emptied program of one global of class H.
-fn judged(alloc: Heap, profile: Profile) -> Said {
-    let Ok(lattice) = read_lattice(alloc, TWO_CLASSES) else {
-        return Said::Unread;
-    };
-    let Ok(tokens) = lex(alloc, b"var h : H; if h then h := 1 else h := 2") else {
-        return Said::Unread;
-    };
-    let Ok(program) = parse(alloc, &tokens) else {
-        return Said::Unread;
-    };
-    let Ok(resolved) = resolve(alloc, &program, &lattice) else {
-        return Said::Unread;
-    };
-    match emptied(alloc, &resolved) {
-        Some(program) => answer(alloc, profile, &lattice, &program, &[]),
+// The answer on the emptied program.
+fn judged_emptied(
+    alloc: Heap,
+    profile: Profile,
+    lattice: &Lattice,
+    program: &Resolved<'_>,
+) -> Said {
+    match emptied(alloc, program) {
+        Some(program) => answer(alloc, profile, lattice, &program, &[]),
         None => Said::Memory,
+    }
+}
+
+// The answer on the emptied program of one global of class H, over the classes of a lattice.
+fn judged_over(alloc: Heap, profile: Profile, lattice: &Lattice) -> Said {
+    match resolved(alloc, lattice, b"var h : H; if h then h := 1 else h := 2") {
+        Some(program) => judged_emptied(alloc, profile, lattice, &program),
+        None => Said::Unread,
+    }
+}
+
+// The same over two classes.
+fn judged(alloc: Heap, profile: Profile) -> Said {
+    match read_lattice(alloc, TWO_CLASSES) {
+        Ok(lattice) => judged_over(alloc, profile, &lattice),
+        Err(_) => Said::Unread,
     }
 }
 

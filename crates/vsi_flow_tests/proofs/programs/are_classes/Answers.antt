@@ -4,7 +4,7 @@ use Rattle.std.proofs.lemmas.List.{take_all}
 use Rattle.std.proofs.lemmas.List.Elements.{All-push}
 use Rattle.vsi_lattice.specs.Order.{IsClass}
 use Rattle.vsi_types.proofs.Tables.{map_more}
-use Rattle.vsi_flow_tests.proofs.types.are_classes.Goals as goal
+use Rattle.vsi_flow_tests.proofs.programs.are_classes.Goals as goal
 
 pub loop-g-preserved : goal.loop-g-preserved
 loop-g-preserved g c =
