@@ -4,7 +4,7 @@ use std::process::Abort;
 use vsi_lattice::*;
 
 /// Asserts that of four classes the second and the third are between the first and the last.
-fn assert_four_classes(rt: &impl Abort, lattice: &impl Classes) {
+pub fn assert_four_classes(rt: &impl Abort, lattice: &impl Classes) {
     let (a, b) = (Class::at(1), Class::at(2));
     assert_eq!(rt; lattice.count(), 4);
     assert_eq!(rt;

@@ -66,17 +66,17 @@ fn places(alloc: Heap, body: &[Cmd]) -> Result<Vec<Place>, AllocError> {
     Ok(out)
 }
 
-// Asserts the places of commands.
-fn assert_noted(rt: &impl Abort, alloc: Heap, body: &[Cmd], wanted: &[Place]) {
+// Asserts the number of commands, and their places.
+fn assert_noted(rt: &impl Abort, alloc: Heap, body: &[Cmd], commands: usize, wanted: &[Place]) {
+    assert_eq!(rt; body.len(), commands);
     let found = places(alloc, body).expect(rt, "room");
     assert_eq!(rt; found.as_slice(), wanted);
 }
 
-// Asserts the number of commands of a text, and its places.
+// The same of the commands of a text.
 fn assert_places(rt: &impl Abort, alloc: Heap, text: &[u8], commands: usize, wanted: &[Place]) {
     let program = resolved(alloc, text).expect(rt, "a resolved program");
-    assert_eq!(rt; program.body().len(), commands);
-    assert_noted(rt, alloc, program.body(), wanted);
+    assert_noted(rt, alloc, program.body(), commands, wanted);
 }
 
 #[test]
@@ -126,34 +126,41 @@ fn location_is_used_again(rt: HostRuntime) {
     assert_places(&rt, rt.alloc(), text, 1, &wanted);
 }
 
-// Asserts the name of each global, the number of its class and the name of its class.
-fn assert_globals(rt: &impl Abort, globals: &[Global<'_>], wanted: &[(&[u8], u8, &[u8])]) {
-    assert_eq!(rt; globals.len(), wanted.len());
-    for i in 0..wanted.len() {
-        let (name, class, class_name) = wanted[i];
-        assert_eq!(rt; globals[i].class, Class::at(class));
-        assert_eq!(rt;
-            (globals[i].name, globals[i].class_name),
-            (name, class_name)
-        );
-    }
+// Asserts the name of a global, the number of its class and the name of its class.
+fn assert_global(rt: &impl Abort, global: &Global<'_>, wanted: (&[u8], u8, &[u8])) {
+    let (name, class, class_name) = wanted;
+    let found = (global.name, global.class, global.class_name);
+    assert_eq!(rt; found, (name, Class::at(class), class_name));
 }
 
-// Asserts the name of each letvar, its class, and where its name starts and stops.
-fn assert_letvars(
+// Asserts the globals of the program of `globals_and_letvars`.
+fn assert_globals(rt: &impl Abort, globals: &[Global<'_>]) {
+    let [first, second] = globals else {
+        panic!(rt; "not two globals");
+    };
+    assert_global(rt, first, (b"x", 0, b"L"));
+    assert_global(rt, second, (b"y", 1, b"H"));
+}
+
+// Asserts the name of a letvar, its class, and where its name starts and stops.
+fn assert_letvar(
     rt: &impl Abort,
-    letvars: &[Entry<'_>],
-    wanted: &[(&[u8], Option<Class>, usize, usize)],
+    letvar: &Entry<'_>,
+    wanted: (&[u8], Option<Class>, usize, usize),
 ) {
-    assert_eq!(rt; letvars.len(), wanted.len());
-    for i in 0..wanted.len() {
-        let (name, class, start, stop) = wanted[i];
-        assert_eq!(rt; letvars[i].name, name);
-        assert_eq!(rt;
-            (letvars[i].class, letvars[i].span),
-            (class, Span { start, stop })
-        );
-    }
+    let (name, class, start, stop) = wanted;
+    let found = (letvar.name, letvar.class, letvar.span);
+    assert_eq!(rt; found, (name, class, Span { start, stop }));
+}
+
+// Asserts the letvars of the program of `globals_and_letvars`.
+fn assert_letvars(rt: &impl Abort, letvars: &[Entry<'_>]) {
+    let [first, second, third] = letvars else {
+        panic!(rt; "not three letvars");
+    };
+    assert_letvar(rt, first, (b"t", Some(Class::at(1)), 29, 30));
+    assert_letvar(rt, second, (b"u", None, 52, 53));
+    assert_letvar(rt, third, (b"v", None, 77, 78));
 }
 
 #[test]
@@ -161,16 +168,8 @@ fn globals_and_letvars(rt: HostRuntime) {
     let text =
         b"var x : L; var y : H; letvar t : H := y in { letvar u := x in t := u; letvar v := t in { y := v } }";
     let program = resolved(rt.alloc(), text).expect(&rt, "a resolved program");
-    assert_globals(&rt, program.globals(), &[(b"x", 0, b"L"), (b"y", 1, b"H")]);
-    assert_letvars(
-        &rt,
-        program.letvars(),
-        &[
-            (b"t", Some(Class::at(1)), 29, 30),
-            (b"u", None, 52, 53),
-            (b"v", None, 77, 78),
-        ],
-    );
+    assert_globals(&rt, program.globals());
+    assert_letvars(&rt, program.letvars());
 }
 
 // The program of the same globals without a letvar or a command.
@@ -191,8 +190,9 @@ fn assert_shown(rt: &impl Abort, program: &Resolved<'_>, wanted: (usize, usize, 
     assert_eq!(rt; found, wanted);
 }
 
-// Asserts what is left of a program of one global without its letvars and commands.
+// Asserts what is left of a program of one global and one command without its letvars and commands.
 fn assert_emptied(rt: &impl Abort, alloc: Heap, program: &Resolved<'_>) {
+    assert_eq!(rt; program.body().len(), 1);
     let empty = emptied(alloc, program).expect(rt, "room for the globals");
     assert_shown(rt, &empty, (1, 0, 0));
 }
@@ -202,6 +202,5 @@ fn rebuilt_without_commands(rt: HostRuntime) {
     let alloc = rt.alloc();
     let text = b"var x : L; letvar t := 1 in x := t";
     let program = resolved(alloc, text).expect(&rt, "a resolved program");
-    assert_eq!(rt; program.body().len(), 1);
     assert_emptied(&rt, alloc, &program);
 }

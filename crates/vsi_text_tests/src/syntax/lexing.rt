@@ -5,15 +5,17 @@ use super::{assert_answers, assert_repeated};
 use std::process::Abort;
 use vsi_syntax::{Kind, Span, Token, is_name, lex, line_column};
 
-/// Asserts the kinds of tokens, each with where it starts and stops.
+/// Asserts the kind of a token, and where it starts and stops.
+fn assert_token(rt: &impl Abort, token: &Token<'_>, wanted: (Kind, usize, usize)) {
+    let Span { start, stop } = token.span;
+    assert_eq!(rt; (token.kind, start, stop), wanted);
+}
+
+/// Asserts the same of each token.
 fn assert_tokens(rt: &impl Abort, tokens: &[Token<'_>], wanted: &[(Kind, usize, usize)]) {
     assert_eq!(rt; tokens.len(), wanted.len());
     for i in 0..wanted.len() {
-        let (kind, start, stop) = wanted[i];
-        assert_eq!(rt;
-            (tokens[i].kind, tokens[i].span),
-            (kind, Span { start, stop })
-        );
+        assert_token(rt, &tokens[i], wanted[i]);
     }
 }
 

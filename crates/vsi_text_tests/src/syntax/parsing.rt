@@ -71,11 +71,16 @@ fn first_operators(body: &[Stmt]) -> Option<(Op, Op)> {
     }
 }
 
-/// Asserts the operators that `first_operators` finds in each text.
+/// The same of the program of a text, where it is one.
+fn operators_of(alloc: Global, text: &[u8]) -> Option<Option<(Op, Op)>> {
+    let program = program_of(alloc, text)?;
+    Some(first_operators(program.body()))
+}
+
+/// Asserts the operators that are found in each text.
 fn assert_grouped(rt: &impl Abort, alloc: Global, rows: &[(&[u8], Option<(Op, Op)>)]) {
     for (text, wanted) in rows {
-        let program = program_of(alloc, text).expect(rt, "a program");
-        assert_eq!(rt; first_operators(program.body()), *wanted);
+        assert_eq!(rt; operators_of(alloc, text), Some(*wanted));
     }
 }
 
