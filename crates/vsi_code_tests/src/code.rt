@@ -1,23 +1,30 @@
 //! The code of worked programs, instruction by instruction, and code at the limits.
 
+use crate::image::{is_read, is_written};
+use crate::texts::resolved;
 use std::alloc::{AllocError, Global};
 use vsi_code::generate;
-use vsi_image::{Instr, Verified, decode, encode};
-use vsi_lattice::read_lattice;
-use vsi_scope::resolve;
-use vsi_syntax::{lex, parse};
+use vsi_image::{Image, Instr, Verified};
 
 // The image of a program over the classes L and H, L below H.
 fn image_of(alloc: Global, text: &[u8]) -> Option<Verified> {
-    let lattice = read_lattice(
-        alloc,
-        b"classes = [\"L\", \"H\"]\nbelow = [[\"L\", \"H\"]]\n",
-    )
-    .ok()?;
-    let tokens = lex(alloc, text).ok()?;
-    let program = parse(alloc, &tokens).ok()?;
-    let resolved = resolve(alloc, &program, &lattice).ok()?;
+    let resolved = resolved(alloc, text)?;
     generate(alloc, &resolved).ok()
+}
+
+// The instructions, the slots and the operands of a text's image, each by their number.
+fn sizes(alloc: Global, text: &[u8]) -> Option<(usize, u16, u16)> {
+    let verified = image_of(alloc, text)?;
+    let image = verified.image();
+    Some((image.code.len(), image.slots, image.stack))
+}
+
+// Whether a text's image has this code.
+fn is_code(alloc: Global, text: &[u8], code: &[Instr]) -> bool {
+    match image_of(alloc, text) {
+        Some(verified) => verified.image().code.as_slice() == code,
+        None => false,
+    }
 }
 
 // Puts a part behind a text so many times.
@@ -28,11 +35,25 @@ fn repeat(text: &mut Vec<u8>, part: &[u8], count: usize) -> Result<(), AllocErro
     Ok(())
 }
 
+// A text of parts, each so many times.
+fn text_of(alloc: Global, parts: &[(&[u8], usize)]) -> Result<Vec<u8>, AllocError> {
+    let mut text = Vec::new(alloc);
+    for (part, count) in parts.iter() {
+        repeat(&mut text, part, *count)?;
+    }
+    Ok(text)
+}
+
+// The sizes of the image of a text of parts.
+fn sizes_of_parts(alloc: Global, parts: &[(&[u8], usize)]) -> Option<(usize, u16, u16)> {
+    let text = text_of(alloc, parts).ok()?;
+    sizes(alloc, &text)
+}
+
 #[test]
 fn operands_before_operators(rt: HostRuntime) {
     let text = b"var x : L; var y : H; y := 10 - x * 3 < (x = 2) + 1";
-    let verified = image_of(rt.alloc(), text).expect(&rt, "an image");
-    let want = [
+    let code = [
         Instr::Push(10),
         Instr::Load(0),
         Instr::Push(3),
@@ -47,9 +68,8 @@ fn operands_before_operators(rt: HostRuntime) {
         Instr::Store(1),
         Instr::Halt,
     ];
-    let image = verified.image();
-    assert_eq!(rt; image.code.as_slice(), want.as_slice());
-    assert_eq!(rt; (image.slots, image.stack), (2, 3));
+    assert!(rt; is_code(rt.alloc(), text, &code));
+    assert_eq!(rt; sizes(rt.alloc(), text), Some((13, 2, 3)));
 }
 
 // The bytes of a sum that isn't folded, in version 1: PUSH 1, PUSH 2, ADD, STORE 0, HALT.
@@ -61,39 +81,43 @@ const SUM: [u8; 41] = [
 #[test]
 fn sum_that_is_not_folded(rt: HostRuntime) {
     let alloc = rt.alloc();
-    let verified = image_of(alloc, b"var x : L; x := 1 + 2").expect(&rt, "an image");
-    assert_eq!(rt; verified.image().code.len(), 5);
-    let Ok(first) = decode(alloc, &SUM) else {
-        panic!(rt; "the bytes are an image's");
-    };
-    assert!(rt; verified.image() == &first);
     let mut second = SUM;
     second[3] = 2;
-    let Ok(written) = encode(alloc, verified.image()) else {
-        panic!(rt; "an image within its limits");
-    };
-    assert_eq!(rt; written.as_slice(), second.as_slice());
+    let verified = image_of(alloc, b"var x : L; x := 1 + 2").expect(&rt, "an image");
+    let image = verified.image();
+    assert!(rt; image.code.len() == 5 && is_read(alloc, &SUM, image));
+    assert!(rt; is_written(alloc, image, &second));
+}
+
+// The globals of an image with their classes.
+fn globals_of(alloc: Global, image: &Image) -> Result<Vec<u8>, AllocError> {
+    let mut globals = Vec::new(alloc);
+    for (name, class_name) in image.globals.iter() {
+        globals.extend_from_slice(name)?;
+        globals.extend_from_slice(b" : ")?;
+        globals.extend_from_slice(class_name)?;
+        globals.extend_from_slice(b"; ")?;
+    }
+    Ok(globals)
+}
+
+// The globals of a text's image with their classes.
+fn declared(alloc: Global, text: &[u8]) -> Option<Vec<u8>> {
+    let verified = image_of(alloc, text)?;
+    globals_of(alloc, verified.image()).ok()
 }
 
 #[test]
 fn globals_with_their_classes(rt: HostRuntime) {
     let text = b"var x : L; var secret : H; x := 1 + 2";
-    let verified = image_of(rt.alloc(), text).expect(&rt, "an image");
-    let mut globals = Vec::new(rt.alloc());
-    for (name, class_name) in verified.image().globals.iter() {
-        repeat(&mut globals, name, 1).expect(&rt, "room");
-        repeat(&mut globals, b" : ", 1).expect(&rt, "room");
-        repeat(&mut globals, class_name, 1).expect(&rt, "room");
-        repeat(&mut globals, b"; ", 1).expect(&rt, "room");
-    }
+    let globals = declared(rt.alloc(), text).expect(&rt, "an image");
     assert_eq!(rt; globals.as_slice(), b"x : L; secret : H; ".as_slice());
 }
 
 #[test]
 fn choice(rt: HostRuntime) {
     let text = b"var h : H; if h then h := 1 else h := 2";
-    let verified = image_of(rt.alloc(), text).expect(&rt, "an image");
-    let want = [
+    let code = [
         Instr::Load(0),
         Instr::Jz(5),
         Instr::Push(1),
@@ -103,15 +127,14 @@ fn choice(rt: HostRuntime) {
         Instr::Store(0),
         Instr::Halt,
     ];
-    let image = verified.image();
-    assert_eq!(rt; image.code.as_slice(), want.as_slice());
-    assert_eq!(rt; (image.slots, image.stack), (1, 1));
+    assert!(rt; is_code(rt.alloc(), text, &code));
+    assert_eq!(rt; sizes(rt.alloc(), text), Some((8, 1, 1)));
 }
 
 #[test]
 fn loop_without_end(rt: HostRuntime) {
-    let verified = image_of(rt.alloc(), b"var h : H; while h do h := h").expect(&rt, "an image");
-    let want = [
+    let text = b"var h : H; while h do h := h";
+    let code = [
         Instr::Load(0),
         Instr::Jz(5),
         Instr::Load(0),
@@ -119,16 +142,14 @@ fn loop_without_end(rt: HostRuntime) {
         Instr::Jmp(0),
         Instr::Halt,
     ];
-    let image = verified.image();
-    assert_eq!(rt; image.code.as_slice(), want.as_slice());
-    assert_eq!(rt; (image.slots, image.stack), (1, 1));
+    assert!(rt; is_code(rt.alloc(), text, &code));
+    assert_eq!(rt; sizes(rt.alloc(), text), Some((6, 1, 1)));
 }
 
 #[test]
 fn letvar_in_a_loop(rt: HostRuntime) {
     let text = b"var l : L; while l < 2 do letvar t := 0 in { t := t + 1; l := l + t }";
-    let verified = image_of(rt.alloc(), text).expect(&rt, "an image");
-    let want = [
+    let code = [
         Instr::Load(0),
         Instr::Push(2),
         Instr::Lt,
@@ -146,32 +167,31 @@ fn letvar_in_a_loop(rt: HostRuntime) {
         Instr::Jmp(0),
         Instr::Halt,
     ];
-    let image = verified.image();
-    assert_eq!(rt; image.code.as_slice(), want.as_slice());
-    assert_eq!(rt; (image.slots, image.stack), (2, 2));
+    assert!(rt; is_code(rt.alloc(), text, &code));
+    assert_eq!(rt; sizes(rt.alloc(), text), Some((16, 2, 2)));
 }
 
 #[test]
 fn letvar_without_globals(rt: HostRuntime) {
-    let verified = image_of(rt.alloc(), b"letvar t := 1 in t := 2").expect(&rt, "an image");
-    let want = [
+    let text = b"letvar t := 1 in t := 2";
+    let code = [
         Instr::Push(1),
         Instr::Store(0),
         Instr::Push(2),
         Instr::Store(0),
         Instr::Halt,
     ];
-    let image = verified.image();
-    assert_eq!(rt; image.code.as_slice(), want.as_slice());
-    assert_eq!(rt; (image.globals.len(), image.slots, image.stack), (0, 1, 1));
+    assert!(rt; is_code(rt.alloc(), text, &code));
+    assert_eq!(rt; sizes(rt.alloc(), text), Some((5, 1, 1)));
+    let globals = declared(rt.alloc(), text).expect(&rt, "an image");
+    assert!(rt; globals.is_empty());
 }
 
 // An assignment that nothing reads has its code too.
 #[test]
 fn assignments_to_a_letvar(rt: HostRuntime) {
     let text = b"var x : L; letvar t := 1 in { t := 2; x := t; t := 3 }";
-    let verified = image_of(rt.alloc(), text).expect(&rt, "an image");
-    let want = [
+    let code = [
         Instr::Push(1),
         Instr::Store(1),
         Instr::Push(2),
@@ -182,50 +202,63 @@ fn assignments_to_a_letvar(rt: HostRuntime) {
         Instr::Store(1),
         Instr::Halt,
     ];
-    let image = verified.image();
-    assert_eq!(rt; image.code.as_slice(), want.as_slice());
-    assert_eq!(rt; (image.slots, image.stack), (2, 1));
+    assert!(rt; is_code(rt.alloc(), text, &code));
+    assert_eq!(rt; sizes(rt.alloc(), text), Some((9, 2, 1)));
 }
 
 #[test]
 fn letvars_in_turn_share_a_slot(rt: HostRuntime) {
-    let mut text = Vec::new(rt.alloc());
-    repeat(&mut text, b"var x : L; letvar t := 0 in x := 1", 1).expect(&rt, "room");
-    repeat(&mut text, b"; letvar t := 0 in x := 1", 1_022).expect(&rt, "room");
-    let verified = image_of(rt.alloc(), &text).expect(&rt, "an image");
-    let image = verified.image();
-    assert_eq!(rt; (image.code.len(), image.slots, image.stack), (4_093, 2, 1));
+    let parts: [(&[u8], usize); 2] = [
+        (b"var x : L; letvar t := 0 in x := 1", 1),
+        (b"; letvar t := 0 in x := 1", 1_022),
+    ];
+    let sizes = sizes_of_parts(rt.alloc(), &parts);
+    assert_eq!(rt; sizes, Some((4_093, 2, 1)));
+}
+
+// Whether the code of a text's image ends so.
+fn is_end_of_code(alloc: Global, text: &[u8], code: &[Instr]) -> bool {
+    match image_of(alloc, text) {
+        Some(verified) => verified.image().code.ends_with(code),
+        None => false,
+    }
 }
 
 #[test]
 fn letvars_in_each_other_have_slots_of_their_own(rt: HostRuntime) {
-    let mut text = Vec::new(rt.alloc());
-    repeat(&mut text, b"var x : L; ", 1).expect(&rt, "room");
-    repeat(&mut text, b"letvar t := x in ", 198).expect(&rt, "room");
-    repeat(&mut text, b"x := t", 1).expect(&rt, "room");
-    let verified = image_of(rt.alloc(), &text).expect(&rt, "an image");
-    let image = verified.image();
-    assert_eq!(rt; (image.code.len(), image.slots, image.stack), (399, 199, 1));
+    let parts: [(&[u8], usize); 3] = [
+        (b"var x : L; ", 1),
+        (b"letvar t := x in ", 198),
+        (b"x := t", 1),
+    ];
+    let text = text_of(rt.alloc(), &parts).expect(&rt, "room");
+    assert_eq!(rt; sizes(rt.alloc(), &text), Some((399, 199, 1)));
     let last = [
         Instr::Store(198),
         Instr::Load(198),
         Instr::Store(0),
         Instr::Halt,
     ];
-    assert_eq!(rt; image.code.get(395..399), Some(last.as_slice()));
+    assert!(rt; is_end_of_code(rt.alloc(), &text, &last));
 }
 
 #[test]
 fn most_instructions(rt: HostRuntime) {
-    let mut text = Vec::new(rt.alloc());
-    repeat(&mut text, b"var x : L; x := 1", 1).expect(&rt, "room");
-    repeat(&mut text, b";x := 1", 32_766).expect(&rt, "room");
-    let verified = image_of(rt.alloc(), &text).expect(&rt, "an image");
-    let image = verified.image();
-    assert_eq!(rt;
-        (image.code.len(), image.slots, image.stack),
-        (65_535, 1, 1)
-    );
+    let parts: [(&[u8], usize); 2] = [(b"var x : L; x := 1", 1), (b";x := 1", 32_766)];
+    let sizes = sizes_of_parts(rt.alloc(), &parts);
+    assert_eq!(rt; sizes, Some((65_535, 1, 1)));
+}
+
+// The operands of an expression in which a part stands so many times, the next one in its brackets.
+fn operands_of(alloc: Global, part: &[u8], count: usize) -> Option<u16> {
+    let parts: [(&[u8], usize); 4] = [
+        (b"var x : L; x := ", 1),
+        (part, count),
+        (b"1", 1),
+        (b")", count),
+    ];
+    let (_, _, stack) = sizes_of_parts(alloc, &parts)?;
+    Some(stack)
 }
 
 // 100 sums, each the right operand of the one before in brackets, are 200 deep and wait with 100 left operands for the
@@ -233,17 +266,6 @@ fn most_instructions(rt: HostRuntime) {
 // deep too, and wait with 150.
 #[test]
 fn stack_of_the_deepest_expressions(rt: HostRuntime) {
-    let parts = [
-        (b"1 + (".as_slice(), 100, 101),
-        (b"1 < 1 + 1 * (".as_slice(), 50, 151),
-    ];
-    for (part, count, stack) in parts {
-        let mut text = Vec::new(rt.alloc());
-        repeat(&mut text, b"var x : L; x := ", 1).expect(&rt, "room");
-        repeat(&mut text, part, count).expect(&rt, "room");
-        repeat(&mut text, b"1", 1).expect(&rt, "room");
-        repeat(&mut text, b")", count).expect(&rt, "room");
-        let verified = image_of(rt.alloc(), &text).expect(&rt, "an image");
-        assert_eq!(rt; verified.image().stack, stack);
-    }
+    assert_eq!(rt; operands_of(rt.alloc(), b"1 + (", 100), Some(101));
+    assert_eq!(rt; operands_of(rt.alloc(), b"1 < 1 + 1 * (", 50), Some(151));
 }

@@ -9,3 +9,5 @@ mod image;
 mod machine;
 #[cfg(test)]
 mod opt;
+#[cfg(test)]
+mod texts;

@@ -1,10 +1,10 @@
 //! Worked programs: what is left of a body, and of the entries of its `letvar`s.
 
+use crate::texts::resolved;
 use std::alloc::{AllocError, Global};
-use vsi_lattice::{Lattice, read_lattice};
 use vsi_opt::optimise;
-use vsi_scope::{Cmd, Ex, Resolved, resolve, size};
-use vsi_syntax::{Op, lex, parse};
+use vsi_scope::{Cmd, Ex, Resolved, size};
+use vsi_syntax::Op;
 
 // A body as a list, each part behind those that it is made of: `n` a literal, `l` a location that is read, `:` one
 // that is assigned, the operators, and `?`, `|`, `w`, `v` and `;` where an `if`, its second branch, a loop, a letvar
@@ -85,183 +85,187 @@ fn note(out: &mut Shape, c: &Cmd) -> Result<(), AllocError> {
     }
 }
 
-// The lattice of two classes, L below H.
-fn two_classes(alloc: Global) -> Option<Lattice> {
-    read_lattice(
-        alloc,
-        b"classes = [\"L\", \"H\"]\nbelow = [[\"L\", \"H\"]]\n",
-    )
-    .ok()
+// What is left of a program over the classes L and H.
+fn left<'a>(alloc: Global, text: &'a [u8]) -> Option<Resolved<'a>> {
+    let resolved = resolved(alloc, text)?;
+    optimise(alloc, &resolved).ok()
 }
 
-// What is left of a program: its size with HALT, its shape, and the places of the names of its letvars.
-fn left(alloc: Global, text: &[u8]) -> Option<(u32, Shape, Vec<usize>)> {
-    let lattice = two_classes(alloc)?;
-    let tokens = lex(alloc, text).ok()?;
-    let program = parse(alloc, &tokens).ok()?;
-    let resolved = resolve(alloc, &program, &lattice).ok()?;
-    let small = optimise(alloc, &resolved).ok()?;
-    let shape = shape(alloc, &small).ok()?;
-    let places = places(alloc, &small).ok()?;
-    Some((size(small.body()).saturating_add(1), shape, places))
+// The size of what is left of a program, with HALT.
+fn count(alloc: Global, text: &[u8]) -> Option<u32> {
+    let small = left(alloc, text)?;
+    Some(size(small.body()).saturating_add(1))
 }
 
-fn shape(alloc: Global, program: &Resolved) -> Result<Shape, AllocError> {
-    let mut out = Vec::new(alloc);
-    note_all(&mut out, program.body())?;
-    Ok(out)
+// Whether a program has this shape.
+fn has_shape(alloc: Global, program: &Resolved, want: &[(u8, i64)]) -> bool {
+    let mut shape = Vec::new(alloc);
+    note_all(&mut shape, program.body()).is_ok() && shape.as_slice() == want
 }
 
-fn places(alloc: Global, program: &Resolved) -> Result<Vec<usize>, AllocError> {
-    let mut out = Vec::new(alloc);
-    for entry in program.letvars() {
-        out.push(entry.span.start)?;
+// Whether what is left of a program has this shape.
+fn is_left(alloc: Global, text: &[u8], want: &[(u8, i64)]) -> bool {
+    match left(alloc, text) {
+        Some(small) => has_shape(alloc, &small, want),
+        None => false,
     }
-    Ok(out)
+}
+
+// The first row of which something else is left.
+fn first_other(alloc: Global, rows: &[(&[u8], &[(u8, i64)])]) -> Option<usize> {
+    for (row, (text, want)) in rows.iter().enumerate() {
+        if !is_left(alloc, text, want) {
+            return Some(row);
+        }
+    }
+    None
+}
+
+// Whether the names of a program's letvars stand at these places.
+fn has_places(program: &Resolved, want: &[usize]) -> bool {
+    let letvars = program.letvars();
+    for (row, entry) in letvars.iter().enumerate() {
+        if want.get(row) != Some(&entry.span.start) {
+            return false;
+        }
+    }
+    letvars.len() == want.len()
+}
+
+// Whether what is left of a program has letvars with their names at these places.
+fn keeps_letvars(alloc: Global, text: &[u8], want: &[usize]) -> bool {
+    match left(alloc, text) {
+        Some(small) => has_places(&small, want),
+        None => false,
+    }
 }
 
 #[test]
 fn operators_on_two_literals(rt: HostRuntime) {
-    for (text, want) in [
+    let rows: [(&[u8], &[(u8, i64)]); 5] = [
+        (b"var x : L; x := 1 + 2", &[(b'n', 3), (b':', 0)]),
         (
-            b"var x : L; x := 1 + 2".as_slice(),
-            [(b'n', 3), (b':', 0)].as_slice(),
+            b"var x : L; x := 9223372036854775807 + 1",
+            &[(b'n', i64::MIN), (b':', 0)],
         ),
         (
-            b"var x : L; x := 9223372036854775807 + 1".as_slice(),
-            [(b'n', i64::MIN), (b':', 0)].as_slice(),
+            b"var x : L; x := 0 - 9223372036854775807 - 1 < 1",
+            &[(b'n', 1), (b':', 0)],
         ),
         (
-            b"var x : L; x := 0 - 9223372036854775807 - 1 < 1".as_slice(),
-            [(b'n', 1), (b':', 0)].as_slice(),
+            b"var x : L; x := 9223372036854775807 * 2",
+            &[(b'n', -2), (b':', 0)],
         ),
         (
-            b"var x : L; x := 9223372036854775807 * 2".as_slice(),
-            [(b'n', -2), (b':', 0)].as_slice(),
+            b"var x : L; x := 1 + 2 + x",
+            &[(b'n', 3), (b'l', 0), (b'+', 0), (b':', 0)],
         ),
-        (
-            b"var x : L; x := 1 + 2 + x".as_slice(),
-            [(b'n', 3), (b'l', 0), (b'+', 0), (b':', 0)].as_slice(),
-        ),
-    ] {
-        let (_, shape, _) = left(rt.alloc(), text).expect(&rt, "a program");
-        assert_eq!(rt; shape.as_slice(), want);
-    }
+    ];
+    assert_eq!(rt; first_other(rt.alloc(), &rows), None);
 }
 
 #[test]
 fn other_operators_stay(rt: HostRuntime) {
-    for (text, want) in [
+    let rows: [(&[u8], &[(u8, i64)]); 3] = [
         (
-            b"var x : L; x := 0 - x".as_slice(),
-            [(b'n', 0), (b'l', 0), (b'-', 0), (b':', 0)].as_slice(),
+            b"var x : L; x := 0 - x",
+            &[(b'n', 0), (b'l', 0), (b'-', 0), (b':', 0)],
         ),
         (
-            b"var x : L; x := x * 0 + 1".as_slice(),
-            [
+            b"var x : L; x := x * 0 + 1",
+            &[
                 (b'l', 0),
                 (b'n', 0),
                 (b'*', 0),
                 (b'n', 1),
                 (b'+', 0),
                 (b':', 0),
-            ]
-            .as_slice(),
+            ],
         ),
         (
-            b"var x : L; x := x + 1 + 2".as_slice(),
-            [
+            b"var x : L; x := x + 1 + 2",
+            &[
                 (b'l', 0),
                 (b'n', 1),
                 (b'+', 0),
                 (b'n', 2),
                 (b'+', 0),
                 (b':', 0),
-            ]
-            .as_slice(),
+            ],
         ),
-    ] {
-        let (_, shape, _) = left(rt.alloc(), text).expect(&rt, "a program");
-        assert_eq!(rt; shape.as_slice(), want);
-    }
+    ];
+    assert_eq!(rt; first_other(rt.alloc(), &rows), None);
 }
 
 #[test]
 fn guards_that_are_literals(rt: HostRuntime) {
-    for (text, want) in [
+    let rows: [(&[u8], &[(u8, i64)]); 5] = [
         (
-            b"var h : H; var l : L; if 0 then l := h else l := 1".as_slice(),
-            [(b'n', 1), (b':', 1)].as_slice(),
+            b"var h : H; var l : L; if 0 then l := h else l := 1",
+            &[(b'n', 1), (b':', 1)],
         ),
         (
-            b"var x : L; if 2 - 3 then { x := 1; x := 2 } else x := 3; x := 4".as_slice(),
-            [
+            b"var x : L; if 2 - 3 then { x := 1; x := 2 } else x := 3; x := 4",
+            &[
                 (b'n', 1),
                 (b':', 0),
                 (b'n', 2),
                 (b':', 0),
                 (b'n', 4),
                 (b':', 0),
-            ]
-            .as_slice(),
+            ],
         ),
-        (b"var x : L; while 0 do x := 1".as_slice(), [].as_slice()),
+        (b"var x : L; while 0 do x := 1", &[]),
         (
-            b"var x : L; while 1 do while 1 < 1 do x := 1".as_slice(),
-            [(b'n', 1), (b'w', 0), (b';', 0)].as_slice(),
+            b"var x : L; while 1 do while 1 < 1 do x := 1",
+            &[(b'n', 1), (b'w', 0), (b';', 0)],
         ),
         (
-            b"var h : H; while h do h := h".as_slice(),
-            [(b'l', 0), (b'w', 0), (b'l', 0), (b':', 0), (b';', 0)].as_slice(),
+            b"var h : H; while h do h := h",
+            &[(b'l', 0), (b'w', 0), (b'l', 0), (b':', 0), (b';', 0)],
         ),
-    ] {
-        let (_, shape, _) = left(rt.alloc(), text).expect(&rt, "a program");
-        assert_eq!(rt; shape.as_slice(), want);
-    }
+    ];
+    assert_eq!(rt; first_other(rt.alloc(), &rows), None);
 }
 
 #[test]
 fn instructions(rt: HostRuntime) {
-    for (text, want) in [
-        (b"var x : L; x := 1 + 2".as_slice(), 3),
-        (b"letvar t := 1 in t := 2".as_slice(), 3),
-        (b"var x : L; while 0 do x := 1".as_slice(), 1),
+    let rows: [(&[u8], u32); 5] = [
+        (b"var x : L; x := 1 + 2", 3),
+        (b"letvar t := 1 in t := 2", 3),
+        (b"var x : L; while 0 do x := 1", 1),
+        (b"var x : L; letvar t := 1 in { t := 2; x := t; t := 3 }", 7),
         (
-            b"var x : L; letvar t := 1 in { t := 2; x := t; t := 3 }".as_slice(),
-            7,
-        ),
-        (
-            b"var l : L; letvar t := 0 in while l < 2 do { t := 1; t := 2; l := l + t }".as_slice(),
+            b"var l : L; letvar t := 0 in while l < 2 do { t := 1; t := 2; l := l + t }",
             16,
         ),
-    ] {
-        let (count, _, _) = left(rt.alloc(), text).expect(&rt, "a program");
-        assert_eq!(rt; count, want);
+    ];
+    for (text, want) in rows.iter() {
+        assert_eq!(rt; count(rt.alloc(), text), Some(*want));
     }
 }
 
 #[test]
 fn assignments_outside_loops(rt: HostRuntime) {
-    for (text, want) in [
+    let rows: [(&[u8], &[(u8, i64)]); 3] = [
         (
-            b"var x : L; var y : L; y := 9223372036854775807; x := y + 1".as_slice(),
-            [
+            b"var x : L; var y : L; y := 9223372036854775807; x := y + 1",
+            &[
                 (b'n', i64::MAX),
                 (b':', 1),
                 (b'l', 1),
                 (b'n', 1),
                 (b'+', 0),
                 (b':', 0),
-            ]
-            .as_slice(),
+            ],
         ),
         (
-            b"letvar t := 1 in t := 2".as_slice(),
-            [(b'n', 1), (b'v', 0), (b';', 0)].as_slice(),
+            b"letvar t := 1 in t := 2",
+            &[(b'n', 1), (b'v', 0), (b';', 0)],
         ),
         (
-            b"var x : L; letvar t := 0 in { if x then t := 1 else t := 2; t := 3; x := t }".as_slice(),
-            [
+            b"var x : L; letvar t := 0 in { if x then t := 1 else t := 2; t := 3; x := t }",
+            &[
                 (b'n', 0),
                 (b'v', 0),
                 (b'l', 0),
@@ -273,92 +277,77 @@ fn assignments_outside_loops(rt: HostRuntime) {
                 (b'l', 1),
                 (b':', 0),
                 (b';', 0),
-            ]
-            .as_slice(),
+            ],
         ),
-    ] {
-        let (_, shape, _) = left(rt.alloc(), text).expect(&rt, "a program");
-        assert_eq!(rt; shape.as_slice(), want);
-    }
+    ];
+    assert_eq!(rt; first_other(rt.alloc(), &rows), None);
 }
 
 #[test]
 fn assignments_in_loops(rt: HostRuntime) {
     let text = b"var l : L; letvar t := 5 in while l < 2 do { l := l + t; t := 1 }";
-    let (_, shape, _) = left(rt.alloc(), text).expect(&rt, "a program");
-    assert_eq!(rt;
-        shape.as_slice(),
-        [
-            (b'n', 5),
-            (b'v', 0),
-            (b'l', 0),
-            (b'n', 2),
-            (b'<', 0),
-            (b'w', 0),
-            (b'l', 0),
-            (b'l', 1),
-            (b'+', 0),
-            (b':', 0),
-            (b'n', 1),
-            (b':', 1),
-            (b';', 0),
-            (b';', 0),
-        ]
-        .as_slice()
-    );
+    let want = [
+        (b'n', 5),
+        (b'v', 0),
+        (b'l', 0),
+        (b'n', 2),
+        (b'<', 0),
+        (b'w', 0),
+        (b'l', 0),
+        (b'l', 1),
+        (b'+', 0),
+        (b':', 0),
+        (b'n', 1),
+        (b':', 1),
+        (b';', 0),
+        (b';', 0),
+    ];
+    assert!(rt; is_left(rt.alloc(), text, &want));
 }
 
 #[test]
 fn a_location_of_two_letvars(rt: HostRuntime) {
     let text =
         b"var x : L; letvar a := 1 in { a := 2; x := 5 }; letvar b := 1 in { b := 3; x := b }";
-    let (_, shape, _) = left(rt.alloc(), text).expect(&rt, "a program");
-    assert_eq!(rt;
-        shape.as_slice(),
-        [
-            (b'n', 1),
-            (b'v', 0),
-            (b'n', 5),
-            (b':', 0),
-            (b';', 0),
-            (b'n', 1),
-            (b'v', 0),
-            (b'n', 3),
-            (b':', 1),
-            (b'l', 1),
-            (b':', 0),
-            (b';', 0),
-        ]
-        .as_slice()
-    );
+    let want = [
+        (b'n', 1),
+        (b'v', 0),
+        (b'n', 5),
+        (b':', 0),
+        (b';', 0),
+        (b'n', 1),
+        (b'v', 0),
+        (b'n', 3),
+        (b':', 1),
+        (b'l', 1),
+        (b':', 0),
+        (b';', 0),
+    ];
+    assert!(rt; is_left(rt.alloc(), text, &want));
 }
 
 #[test]
 fn a_location_of_two_letvars_in_a_loop(rt: HostRuntime) {
     let text =
         b"var x : L; while x < 9 do { letvar a := 1 in a := 2; letvar b := 1 in { b := 3; x := b } }";
-    let (_, shape, _) = left(rt.alloc(), text).expect(&rt, "a program");
-    assert_eq!(rt;
-        shape.as_slice(),
-        [
-            (b'l', 0),
-            (b'n', 9),
-            (b'<', 0),
-            (b'w', 0),
-            (b'n', 1),
-            (b'v', 0),
-            (b';', 0),
-            (b'n', 1),
-            (b'v', 0),
-            (b'n', 3),
-            (b':', 1),
-            (b'l', 1),
-            (b':', 0),
-            (b';', 0),
-            (b';', 0),
-        ]
-        .as_slice()
-    );
+    let want = [
+        (b'l', 0),
+        (b'n', 9),
+        (b'<', 0),
+        (b'w', 0),
+        (b'n', 1),
+        (b'v', 0),
+        (b';', 0),
+        (b'n', 1),
+        (b'v', 0),
+        (b'n', 3),
+        (b':', 1),
+        (b'l', 1),
+        (b':', 0),
+        (b';', 0),
+        (b';', 0),
+    ];
+    assert!(rt; is_left(rt.alloc(), text, &want));
 }
 
 #[test]
@@ -367,11 +356,6 @@ fn entries(rt: HostRuntime) {
         b"var x : L; if 0 then letvar a := 1 in x := a else letvar b := 2 in x := b; letvar c := 3 in x := c";
     let loops =
         b"var x : L; while 0 do letvar a := 1 in x := a; letvar b := 2 in letvar c := 3 in x := b";
-    for (text, want) in [
-        (choice.as_slice(), [57, 82].as_slice()),
-        (loops.as_slice(), [54, 71].as_slice()),
-    ] {
-        let (_, _, places) = left(rt.alloc(), text).expect(&rt, "a program");
-        assert_eq!(rt; places.as_slice(), want);
-    }
+    assert!(rt; keeps_letvars(rt.alloc(), choice, &[57, 82]));
+    assert!(rt; keeps_letvars(rt.alloc(), loops, &[54, 71]));
 }

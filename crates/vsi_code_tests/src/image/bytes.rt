@@ -1,9 +1,8 @@
 //! The bytes of images, whole, cut and changed.
 
-use super::image;
+use super::{image, invalidity, is_read, is_written};
 use std::alloc::{AllocError, Global};
-use std::test::*;
-use vsi_image::{DecodeError, Instr, VerifyError, decode, encode, verify};
+use vsi_image::{DecodeError, Image, Instr, VerifyError, decode};
 
 /// The bytes of an image in version 1: it pushes 3, stores it in `x` and halts.
 const STORES: [u8; 31] = [
@@ -61,45 +60,44 @@ fn fault(alloc: Global, bytes: &[u8]) -> Option<DecodeError> {
     decode(alloc, bytes).err()
 }
 
+/// Whether the bytes in version 1 are read as an image, and those that it is written as in version 2 too.
+fn are_both(alloc: Global, bytes: &[u8], image: &Image) -> bool {
+    match changed(bytes, 3, &[2], alloc) {
+        Ok(second) => {
+            is_written(alloc, image, &second)
+                && is_read(alloc, bytes, image)
+                && is_read(alloc, &second, image)
+        }
+        Err(_) => false,
+    }
+}
+
+/// Whether the bytes stand so for an image that there was memory for.
+fn stand_for(alloc: Global, bytes: &[u8], image: Result<Image, AllocError>) -> bool {
+    match image {
+        Ok(image) => are_both(alloc, bytes, &image),
+        Err(_) => false,
+    }
+}
+
 #[test]
-fn reads_and_writes_images(rt: HostRuntime) -> Result<(), Fail> {
+fn reads_and_writes_images(rt: HostRuntime) {
     use Instr::{Halt, Jmp, Jz, Load, Mul, Push, Store};
     let alloc = rt.alloc();
     let stores = [Push(3), Store(0), Halt];
+    let image_of_stores = image(alloc, &[(b"x", b"L")], 1, 1, &stores);
+    assert!(rt; stand_for(alloc, &STORES, image_of_stores));
     let loops = [Load(0), Jz(5), Load(0), Store(0), Jmp(0), Halt];
+    let image_of_loops = image(alloc, &[(b"h", b"H")], 1, 1, &loops);
+    assert!(rt; stand_for(alloc, &LOOPS, image_of_loops));
     let multiplies = [Load(0), Load(1), Mul, Store(0), Halt];
-    let both = [
-        (b"x".as_slice(), b"L".as_slice()),
-        (b"y".as_slice(), b"L".as_slice()),
-    ];
-    for (bytes, image) in [
-        (
-            STORES.as_slice(),
-            image(alloc, &[(b"x", b"L")], 1, 1, &stores)?,
-        ),
-        (
-            LOOPS.as_slice(),
-            image(alloc, &[(b"h", b"H")], 1, 1, &loops)?,
-        ),
-        (
-            MULTIPLIES.as_slice(),
-            image(alloc, &both, 2, 2, &multiplies)?,
-        ),
-    ] {
-        let second = changed(bytes, 3, &[2], alloc)?;
-        let written = encode(alloc, &image).ok();
-        assert!(rt; written.as_deref() == Some(second.as_slice()));
-        let read = decode(alloc, bytes).ok();
-        assert!(rt; read.as_ref() == Some(&image));
-        let read = decode(alloc, &second).ok();
-        assert!(rt; read.as_ref() == Some(&image));
-    }
-    Ok(())
+    let image_of_product = image(alloc, &[(b"x", b"L"), (b"y", b"L")], 2, 2, &multiplies);
+    assert!(rt; stand_for(alloc, &MULTIPLIES, image_of_product));
 }
 
 #[test]
 fn cuts(rt: HostRuntime) {
-    for version in [1, 2] {
+    for version in 1..=2 {
         let mut row = STORES;
         row[3] = version;
         for count in 0..31 {
@@ -110,54 +108,71 @@ fn cuts(rt: HostRuntime) {
     }
 }
 
-#[test]
-fn refuses_changed_bytes(rt: HostRuntime) -> Result<(), Fail> {
-    let alloc = rt.alloc();
-    let mut second = STORES;
-    second[3] = 2;
-    for (at, others, want) in [
-        (0, [0x57].as_slice(), DecodeError::BadMagic),
-        (3, [9].as_slice(), DecodeError::BadVersion),
-        (3, [3].as_slice(), DecodeError::BadVersion),
-        (18, [0].as_slice(), DecodeError::BadOpcode(18)),
-        (14, [0].as_slice(), DecodeError::BadField(14)),
-        (14, [0x21].as_slice(), DecodeError::BadField(14)),
-        (14, [2].as_slice(), DecodeError::BadField(15)),
-        (4, [1, 1].as_slice(), DecodeError::BadField(4)),
-        (6, [2, 1].as_slice(), DecodeError::BadField(6)),
-        (8, [1, 1].as_slice(), DecodeError::BadField(8)),
-        (10, [0, 1, 0, 0].as_slice(), DecodeError::BadField(10)),
-    ] {
-        for row in [STORES, second] {
-            let found = fault(alloc, &changed(&row, at, others, alloc)?);
-            assert_eq!(rt; found, Some(want), "{others:?} at {at}");
+/// Why the bytes with others from a place on are no image's.
+fn fault_of_changed(alloc: Global, bytes: &[u8], at: usize, others: &[u8]) -> Option<DecodeError> {
+    let all = changed(bytes, at, others, alloc).ok()?;
+    fault(alloc, &all)
+}
+
+/// Why the bytes and a zero are no image's.
+fn fault_of_longer(alloc: Global, bytes: &[u8]) -> Option<DecodeError> {
+    let mut longer = Vec::from_slice(alloc, bytes).ok()?;
+    longer.push(0).ok()?;
+    fault(alloc, &longer)
+}
+
+/// The first row of a place, the bytes from it on and their fault in which the fault is another.
+fn first_other(alloc: Global, bytes: &[u8], rows: &[(usize, &[u8], DecodeError)]) -> Option<usize> {
+    for (row, (at, others, want)) in rows.iter().enumerate() {
+        if fault_of_changed(alloc, bytes, *at, others) != Some(*want) {
+            return Some(row);
         }
     }
-    for row in [STORES, second] {
-        let mut longer = Vec::from_slice(alloc, &row)?;
-        longer.push(0)?;
-        assert_eq!(rt; fault(alloc, &longer), Some(DecodeError::Trailing(31)));
-    }
-    for (at, other, want) in [
-        (3, 1, DecodeError::BadOpcode(28)),
-        (3, 3, DecodeError::BadVersion),
-        (19, 0x78, DecodeError::BadField(19)),
-    ] {
-        let found = fault(alloc, &changed(&MULTIPLIES, at, &[other], alloc)?);
-        assert_eq!(rt; found, Some(want));
-    }
-    Ok(())
+    None
 }
 
 #[test]
-fn reads_what_is_not_valid(rt: HostRuntime) -> Result<(), Fail> {
+fn refuses_changed_bytes(rt: HostRuntime) {
+    let alloc = rt.alloc();
+    let mut second = STORES;
+    second[3] = 2;
+    let rows: [(usize, &[u8], DecodeError); 11] = [
+        (0, &[0x57], DecodeError::BadMagic),
+        (3, &[9], DecodeError::BadVersion),
+        (3, &[3], DecodeError::BadVersion),
+        (18, &[0], DecodeError::BadOpcode(18)),
+        (14, &[0], DecodeError::BadField(14)),
+        (14, &[0x21], DecodeError::BadField(14)),
+        (14, &[2], DecodeError::BadField(15)),
+        (4, &[1, 1], DecodeError::BadField(4)),
+        (6, &[2, 1], DecodeError::BadField(6)),
+        (8, &[1, 1], DecodeError::BadField(8)),
+        (10, &[0, 1, 0, 0], DecodeError::BadField(10)),
+    ];
+    for row in [&STORES, &second].iter() {
+        assert_eq!(rt; first_other(alloc, row.as_slice(), &rows), None);
+        let found = fault_of_longer(alloc, row.as_slice());
+        assert_eq!(rt; found, Some(DecodeError::Trailing(31)));
+    }
+    let of_product: [(usize, &[u8], DecodeError); 3] = [
+        (3, &[1], DecodeError::BadOpcode(28)),
+        (3, &[3], DecodeError::BadVersion),
+        (19, &[0x78], DecodeError::BadField(19)),
+    ];
+    assert_eq!(rt; first_other(alloc, &MULTIPLIES, &of_product), None);
+}
+
+/// Why the image of the bytes isn't valid.
+fn invalidity_of(alloc: Global, bytes: &[u8]) -> Option<VerifyError> {
+    let image = decode(alloc, bytes).ok()?;
+    invalidity(image)
+}
+
+#[test]
+fn reads_what_is_not_valid(rt: HostRuntime) {
     let bytes = [0x56, 0x53, 0x49, 1, 0, 0, 0, 0, 0, 2, 0, 0, 0, 2, 4, 10];
-    let image = decode(rt.alloc(), &bytes)
-        .ok()
-        .ok_or("the bytes are an image's")?;
-    let fault = verify(image).err().map(|(_, fault)| fault);
+    let fault = invalidity_of(rt.alloc(), &bytes);
     assert_eq!(rt; fault, Some(VerifyError::Underflow(0)));
-    Ok(())
 }
 
 /// Whether the bytes, where they are an image's, are written again in version 2, and whether they are an image's.
@@ -166,10 +181,7 @@ fn is_kept(alloc: Global, bytes: &[u8; 31]) -> (bool, bool) {
         Ok(image) => {
             let mut second = *bytes;
             second[3] = 2;
-            match encode(alloc, &image) {
-                Ok(written) => (written.as_slice() == second.as_slice(), true),
-                Err(_) => (false, true),
-            }
+            (is_written(alloc, &image, &second), true)
         }
         Err(e) => (e != DecodeError::Memory, false),
     }

@@ -1,9 +1,8 @@
 //! Faults that `verify` and `encode` name.
 
-use super::image;
+use super::{deep, image, invalidity};
 use std::alloc::{AllocError, Global};
-use std::test::*;
-use vsi_image::{EncodeError, Instr, Limit, VerifyError, encode, verify};
+use vsi_image::{EncodeError, Image, Instr, Limit, VerifyError, encode, verify};
 
 /// Why `verify` refuses an image without globals, or nothing where it is valid.
 fn fault(
@@ -13,11 +12,17 @@ fn fault(
     code: &[Instr],
 ) -> Result<Option<VerifyError>, AllocError> {
     let image = image(alloc, &[], slots, stack, code)?;
-    Ok(verify(image).err().map(|(_, fault)| fault))
+    Ok(invalidity(image))
+}
+
+/// How many instructions an image has, where it is valid.
+fn count(image: Image) -> Option<usize> {
+    let verified = verify(image).ok()?;
+    Some(verified.image().code.len())
 }
 
 #[test]
-fn keeps_a_valid_image(rt: HostRuntime) -> Result<(), Fail> {
+fn keeps_a_valid_image(rt: HostRuntime) -> Result<(), AllocError> {
     let image = image(
         rt.alloc(),
         &[(b"x", b"L")],
@@ -25,95 +30,64 @@ fn keeps_a_valid_image(rt: HostRuntime) -> Result<(), Fail> {
         1,
         &[Instr::Push(3), Instr::Store(0), Instr::Halt],
     )?;
-    let verified = verify(image).ok().ok_or("the image is valid")?;
-    assert_eq!(rt; verified.image().code.len(), 3);
+    assert_eq!(rt; count(image), Some(3));
     Ok(())
 }
 
 #[test]
-fn names_the_first_fault(rt: HostRuntime) -> Result<(), Fail> {
+fn names_the_first_fault(rt: HostRuntime) -> Result<(), AllocError> {
     use Instr::{Halt, Jmp, Load, Push, Store};
-    for (code, want) in [
-        ([Push(1), Jmp(0)].as_slice(), Some(VerifyError::NotEmpty(1))),
-        ([Push(1), Store(0)].as_slice(), Some(VerifyError::RunsOff)),
-        ([Load(1), Halt].as_slice(), Some(VerifyError::BadSlot(0))),
-        ([Jmp(2)].as_slice(), Some(VerifyError::BadTarget(0))),
-        (
-            [Push(1), Push(1), Halt].as_slice(),
-            Some(VerifyError::Overflow(1)),
-        ),
-        (
-            [Push(1), Store(0), Jmp(1)].as_slice(),
-            Some(VerifyError::NotEmpty(2)),
-        ),
-        ([Store(0), Halt].as_slice(), Some(VerifyError::Underflow(0))),
-        ([].as_slice(), Some(VerifyError::RunsOff)),
-        ([Jmp(0)].as_slice(), None),
-    ] {
-        let found = fault(rt.alloc(), 1, 1, code)?;
-        assert_eq!(rt; found, want);
+    let rows: [(&[Instr], Option<VerifyError>); 9] = [
+        (&[Push(1), Jmp(0)], Some(VerifyError::NotEmpty(1))),
+        (&[Push(1), Store(0)], Some(VerifyError::RunsOff)),
+        (&[Load(1), Halt], Some(VerifyError::BadSlot(0))),
+        (&[Jmp(2)], Some(VerifyError::BadTarget(0))),
+        (&[Push(1), Push(1), Halt], Some(VerifyError::Overflow(1))),
+        (&[Push(1), Store(0), Jmp(1)], Some(VerifyError::NotEmpty(2))),
+        (&[Store(0), Halt], Some(VerifyError::Underflow(0))),
+        (&[], Some(VerifyError::RunsOff)),
+        (&[Jmp(0)], None),
+    ];
+    for (code, want) in rows.iter() {
+        assert_eq!(rt; fault(rt.alloc(), 1, 1, code)?, *want);
     }
-    let found = fault(rt.alloc(), 0, 0, &[Jmp(0)])?;
-    assert_eq!(rt; found, None);
+    assert_eq!(rt; fault(rt.alloc(), 0, 0, &[Jmp(0)])?, None);
     Ok(())
 }
 
-/// So many pushes, and then 256 stores and a halt.
-fn deep(alloc: Global, pushes: usize) -> Result<Vec<Instr>, AllocError> {
-    let mut code = Vec::new(alloc);
-    for _ in 0..pushes {
-        code.push(Instr::Push(1))?;
-    }
-    for _ in 0..256 {
-        code.push(Instr::Store(0))?;
-    }
-    code.push(Instr::Halt)?;
-    Ok(code)
+/// Why `verify` refuses so many pushes in room for 256, before 256 stores and a halt.
+fn fault_of_deep(alloc: Global, pushes: usize) -> Result<Option<VerifyError>, AllocError> {
+    let code = deep(alloc, pushes)?;
+    fault(alloc, 1, 256, &code)
 }
 
 #[test]
-fn fills_the_stack(rt: HostRuntime) -> Result<(), Fail> {
-    let full = fault(rt.alloc(), 1, 256, &deep(rt.alloc(), 256)?)?;
+fn fills_the_stack(rt: HostRuntime) -> Result<(), AllocError> {
+    let full = fault_of_deep(rt.alloc(), 256)?;
     assert_eq!(rt; full, None);
-    let over = fault(rt.alloc(), 1, 256, &deep(rt.alloc(), 257)?)?;
+    let over = fault_of_deep(rt.alloc(), 257)?;
     assert_eq!(rt; over, Some(VerifyError::Overflow(256)));
     Ok(())
 }
 
+/// Whether `encode` and `verify` name this limit of an image.
+fn is_past(alloc: Global, image: Image, limit: Limit) -> bool {
+    encode(alloc, &image).err() == Some(EncodeError::Unencodable(limit))
+        && invalidity(image) == Some(VerifyError::Unencodable(limit))
+}
+
 #[test]
-fn names_the_first_limit(rt: HostRuntime) -> Result<(), Fail> {
-    let alloc = rt.alloc();
-    for (globals, slots, stack, want) in [
-        ([].as_slice(), 0, 257, Limit::Stack),
-        ([].as_slice(), 513, 257, Limit::Slots),
-        (
-            [(b"x".as_slice(), b"L".as_slice())].as_slice(),
-            0,
-            0,
-            Limit::Slots,
-        ),
-        (
-            [(b"x".as_slice(), b"if".as_slice())].as_slice(),
-            1,
-            0,
-            Limit::Class(0),
-        ),
-        (
-            [
-                (b"x".as_slice(), b"L".as_slice()),
-                (b"x".as_slice(), b"L".as_slice()),
-            ]
-            .as_slice(),
-            2,
-            0,
-            Limit::Name(1),
-        ),
-    ] {
-        let image = image(alloc, globals, slots, stack, &[Instr::Halt])?;
-        let refused = encode(alloc, &image).err();
-        assert_eq!(rt; refused, Some(EncodeError::Unencodable(want)));
-        let fault = verify(image).err().map(|(_, fault)| fault);
-        assert_eq!(rt; fault, Some(VerifyError::Unencodable(want)));
+fn names_the_first_limit(rt: HostRuntime) -> Result<(), AllocError> {
+    let rows: [(&[(&[u8], &[u8])], u16, u16, Limit); 5] = [
+        (&[], 0, 257, Limit::Stack),
+        (&[], 513, 257, Limit::Slots),
+        (&[(b"x", b"L")], 0, 0, Limit::Slots),
+        (&[(b"x", b"if")], 1, 0, Limit::Class(0)),
+        (&[(b"x", b"L"), (b"x", b"L")], 2, 0, Limit::Name(1)),
+    ];
+    for (globals, slots, stack, limit) in rows.iter() {
+        let image = image(rt.alloc(), globals, *slots, *stack, &[Instr::Halt])?;
+        assert!(rt; is_past(rt.alloc(), image, *limit), "at {limit:?}");
     }
     Ok(())
 }
