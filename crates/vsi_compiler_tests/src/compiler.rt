@@ -7,12 +7,12 @@ mod programs;
 mod walks;
 
 use std::alloc::{AllocError, Global};
-use std::test::Fail;
 use vsi_compiler::{
     CompileError, RunError, classes_text, classes_text_in, compile, format_text, run_source,
 };
+use vsi_image::Verified;
 use vsi_lattice::{Lattice, LatticeError, read_lattice};
-use vsi_machine::Outcome;
+use vsi_machine::{Outcome, StartError};
 use vsi_scope::ScopeError;
 use vsi_syntax::{LexError, ParseError};
 use vsi_types::Profile;
@@ -76,14 +76,6 @@ fn scope_place(error: &ScopeError) -> (u8, usize, usize) {
     }
 }
 
-/// The number of a text's refusal, or 100 where it is accepted.
-fn judged(alloc: Global, lattice: &Lattice, text: &[u8]) -> u8 {
-    match compile(alloc, lattice, text) {
-        Ok(_) => 100,
-        Err(error) => placed(&error).0,
-    }
-}
-
 /// How many instructions an accepted text has, or the number and the place of its refusal.
 fn counted(alloc: Global, lattice: &Lattice, text: &[u8]) -> Result<usize, (u8, usize, usize)> {
     match compile(alloc, lattice, text) {
@@ -92,88 +84,111 @@ fn counted(alloc: Global, lattice: &Lattice, text: &[u8]) -> Result<usize, (u8, 
     }
 }
 
+/// The image of a text over two classes.
+fn image_of(alloc: Global, text: &[u8]) -> Option<Verified> {
+    let lattice = two(alloc).ok()?;
+    compile(alloc, &lattice, text).ok()
+}
+
+/// How a run over two classes from the store with this budget ends, with its last words.
+fn ran(alloc: Global, text: &[u8], store: &[i64], budget: u64) -> Option<(Outcome, Vec<i64>)> {
+    let lattice = two(alloc).ok()?;
+    run_source(alloc, &lattice, text, store, budget).ok()
+}
+
 /// Whether a run from the store with this budget halts, with these words.
-fn ends_in(
-    alloc: Global,
-    lattice: &Lattice,
-    text: &[u8],
-    store: &[i64],
-    budget: u64,
-    words: &[i64],
-) -> bool {
-    match run_source(alloc, lattice, text, store, budget) {
-        Ok((Outcome::Halted, last)) => last.as_slice() == words,
+fn ends_in(alloc: Global, text: &[u8], store: &[i64], budget: u64, words: &[i64]) -> bool {
+    match ran(alloc, text, store, budget) {
+        Some((Outcome::Halted, last)) => last.as_slice() == words,
         _ => false,
     }
 }
 
 /// Whether a run from the store with this budget is out of it.
-fn goes_on(alloc: Global, lattice: &Lattice, text: &[u8], store: &[i64], budget: u64) -> bool {
+fn goes_on(alloc: Global, text: &[u8], store: &[i64], budget: u64) -> bool {
     matches!(
-        run_source(alloc, lattice, text, store, budget),
-        Ok((Outcome::OutOfBudget, _))
+        ran(alloc, text, store, budget),
+        Some((Outcome::OutOfBudget, _))
     )
 }
 
+/// Whether a text has this canonical text.
+fn is_formatted(alloc: Global, text: &[u8], wanted: &[u8]) -> bool {
+    match format_text(alloc, text) {
+        Ok(out) => out.as_slice() == wanted,
+        Err(_) => false,
+    }
+}
+
 #[test]
-fn formats(rt: HostRuntime) -> Result<(), Fail> {
+fn formats(rt: HostRuntime) {
     let text = b"var x:L;x:=01+(2);if x<3 then{x:=1;x:=2}else x:=0 # a comment";
     let wanted =
         b"var x : L;\nx := 1 + (2);\nif x < 3 then {\n  x := 1;\n  x := 2\n} else x := 0\n";
-    let out = format_text(rt.alloc(), text.as_slice())?;
-    assert_eq!(rt; out.as_slice(), wanted.as_slice());
-    assert!(rt;
-        matches!(
-            format_text(rt.alloc(), b"x := 1;"),
-            Err(CompileError::Parse(_))
-        )
-    );
-    Ok(())
+    assert!(rt; is_formatted(rt.alloc(), text, wanted));
+    let refused = format_text(rt.alloc(), b"x := 1;");
+    assert!(rt; matches!(refused, Err(CompileError::Parse(_))));
+}
+
+/// Whether this is told of a text's classes under a profile.
+fn tells(alloc: Global, profile: Profile, lattice: &Lattice, text: &[u8], wanted: &[u8]) -> bool {
+    match classes_text_in(alloc, profile, lattice, text) {
+        Ok(told) => told.as_slice() == wanted,
+        Err(_) => false,
+    }
+}
+
+/// Whether `classes_text` tells this.
+fn tells_in_base(alloc: Global, lattice: &Lattice, text: &[u8], wanted: &[u8]) -> bool {
+    match classes_text(alloc, lattice, text) {
+        Ok(told) => told.as_slice() == wanted,
+        Err(_) => false,
+    }
 }
 
 #[test]
-fn tells_classes(rt: HostRuntime) -> Result<(), Fail> {
+fn tells_classes(rt: HostRuntime) -> Result<(), LatticeError> {
     let lattice = four(rt.alloc())?;
-    let text = b"var a : A; var b : B; var h : H; letvar t := a + b in h := t";
-    let out = classes_text(rt.alloc(), &lattice, text.as_slice())?;
-    assert_eq!(rt;
-        out.as_slice(),
-        b"1:5 a : A\n1:16 b : B\n1:27 h : H\n1:41 t : H\n".as_slice()
-    );
-    let low = classes_text(
-        rt.alloc(),
-        &lattice,
-        b"var a : A;\nletvar t := a in\n  letvar u := 0 in t := t + u",
-    )?;
-    assert_eq!(rt;
-        low.as_slice(),
-        b"1:5 a : A\n2:8 t : A\n3:10 u : L\n".as_slice()
-    );
-    Ok(())
-}
-
-#[test]
-fn tells_classes_of_the_strict_profile(rt: HostRuntime) -> Result<(), Fail> {
-    let lattice = two(rt.alloc())?;
-    let text =
-        b"var h : H; var l : L; letvar a := 0 in letvar b := 0 in while l < 3 do { b := a; a := h; l := l + 1 }";
-    let wanted = b"1:5 h : H\n1:16 l : L\n1:30 a : H\n1:47 b : H\n";
-    for profile in [Profile::Base, Profile::Strict] {
-        let out = classes_text_in(rt.alloc(), profile, &lattice, text.as_slice())?;
-        assert_eq!(rt; out.as_slice(), wanted.as_slice());
+    let rows: [(&[u8], &[u8]); 2] = [
+        (
+            b"var a : A; var b : B; var h : H; letvar t := a + b in h := t",
+            b"1:5 a : A\n1:16 b : B\n1:27 h : H\n1:41 t : H\n",
+        ),
+        (
+            b"var a : A;\nletvar t := a in\n  letvar u := 0 in t := t + u",
+            b"1:5 a : A\n2:8 t : A\n3:10 u : L\n",
+        ),
+    ];
+    for (text, wanted) in rows.iter() {
+        assert!(rt; tells_in_base(rt.alloc(), &lattice, text, wanted));
     }
     Ok(())
 }
 
 #[test]
-fn wants_one_word_per_global(rt: HostRuntime) -> Result<(), Fail> {
-    let lattice = two(rt.alloc())?;
-    let answer = run_source(rt.alloc(), &lattice, b"var x : L; x := 1 + 2", &[1, 2], 3);
-    assert!(rt;
-        matches!(
-            answer,
-            Err(RunError::Start(vsi_machine::StartError::WrongStore(2)))
-        )
-    );
+fn tells_classes_of_the_strict_profile(rt: HostRuntime) -> Result<(), LatticeError> {
+    let alloc = rt.alloc();
+    let lattice = two(alloc)?;
+    let text =
+        b"var h : H; var l : L; letvar a := 0 in letvar b := 0 in while l < 3 do { b := a; a := h; l := l + 1 }";
+    let wanted = b"1:5 h : H\n1:16 l : L\n1:30 a : H\n1:47 b : H\n";
+    let is_told = tells(alloc, Profile::Base, &lattice, text, wanted)
+        && tells(alloc, Profile::Strict, &lattice, text, wanted);
+    assert!(rt; is_told);
     Ok(())
+}
+
+/// How many words the store has, where no run over two classes starts from it for their number.
+fn wrong_store(alloc: Global, text: &[u8], store: &[i64]) -> Option<usize> {
+    let lattice = two(alloc).ok()?;
+    match run_source(alloc, &lattice, text, store, 3) {
+        Err(RunError::Start(StartError::WrongStore(count))) => Some(count),
+        _ => None,
+    }
+}
+
+#[test]
+fn wants_one_word_per_global(rt: HostRuntime) {
+    let refused = wrong_store(rt.alloc(), b"var x : L; x := 1 + 2", &[1, 2]);
+    assert_eq!(rt; refused, Some(2));
 }

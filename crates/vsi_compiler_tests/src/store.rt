@@ -3,9 +3,8 @@
 ghost use Rattle.std.specs.Prelude.{◌≡◌, IfOk, length};
 
 use std::alloc::{AllocError, Global};
-use std::test::Fail;
 use vsi_image::{Image, Instr, Verified, verify};
-use vsi_lattice::{Classes, Lattice, read_lattice};
+use vsi_lattice::{Classes, Lattice, LatticeError, read_lattice};
 use vsi_store::{StoreError, View, ViewError, read_store, store_text, view};
 
 const TWO_CLASSES: &[u8] = b"classes = [\"L\", \"H\"]\nbelow = [[\"L\", \"H\"]]\n";
@@ -49,8 +48,16 @@ const STEPS: [Instr; 7] = [
     Instr::Halt,
 ];
 
+/// Whether a text gives these words to the globals of an image.
+fn reads(alloc: Global, image: &Image, text: &[u8], want: &[i64]) -> bool {
+    match read_store(alloc, image, text) {
+        Ok(words) => words.as_slice() == want,
+        Err(_) => false,
+    }
+}
+
 #[test]
-fn reads_a_store(rt: HostRuntime) -> Result<(), Fail> {
+fn reads_a_store(rt: HostRuntime) -> Result<(), AllocError> {
     let image = image(rt.alloc(), [b"x", b"y"], [b"L", b"L"], &[Instr::Halt])?;
     let cases: [(&[u8], [i64; 2]); 3] = [
         (b"x = 5", [5, 0]),
@@ -60,9 +67,8 @@ fn reads_a_store(rt: HostRuntime) -> Result<(), Fail> {
             [9223372036854775807, -7],
         ),
     ];
-    for (text, want) in cases {
-        let words = read_store(rt.alloc(), &image, text)?;
-        assert_eq!(rt; words.as_slice(), want.as_slice());
+    for (text, want) in cases.iter() {
+        assert!(rt; reads(rt.alloc(), &image, text, want));
     }
     Ok(())
 }
@@ -77,8 +83,16 @@ fn refusal(error: &StoreError) -> (u8, &[u8]) {
     }
 }
 
+/// Whether a text is refused with this number and this key.
+fn refuses(alloc: Global, image: &Image, text: &[u8], number: u8, key: &[u8]) -> bool {
+    match read_store(alloc, image, text) {
+        Ok(_) => false,
+        Err(error) => refusal(&error) == (number, key),
+    }
+}
+
 #[test]
-fn refuses_a_store(rt: HostRuntime) -> Result<(), Fail> {
+fn refuses_a_store(rt: HostRuntime) -> Result<(), AllocError> {
     let image = image(rt.alloc(), [b"x", b"y"], [b"L", b"L"], &[Instr::Halt])?;
     let cases: [(&[u8], u8, &[u8]); 6] = [
         (b"z = 1", 42, b"z"),
@@ -88,21 +102,14 @@ fn refuses_a_store(rt: HostRuntime) -> Result<(), Fail> {
         (b"z = 1\nq = 2", 42, b"q"),
         (b"y = \"a\"\nx.y = 1", 41, b"x"),
     ];
-    for (text, number, key) in cases {
-        match read_store(rt.alloc(), &image, text) {
-            Ok(words) => assert!(rt; words.is_empty(), "read"),
-            Err(error) => {
-                let told = refusal(&error);
-                assert_eq!(rt; told.0, number);
-                assert_eq!(rt; told.1, key);
-            }
-        }
+    for (text, number, key) in cases.iter() {
+        assert!(rt; refuses(rt.alloc(), &image, text, *number, key));
     }
     Ok(())
 }
 
 #[test]
-fn prints_a_store(rt: HostRuntime) -> Result<(), Fail> {
+fn prints_a_store(rt: HostRuntime) -> Result<(), AllocError> {
     let image = image(rt.alloc(), [b"x", b"y"], [b"L", b"L"], &[Instr::Halt])?;
     let text = store_text(
         rt.alloc(),
@@ -115,15 +122,25 @@ fn prints_a_store(rt: HostRuntime) -> Result<(), Fail> {
 }
 
 /// The image that counts, verified.
-fn counting(alloc: Global) -> Result<Option<Verified>, AllocError> {
-    let image = image(alloc, [b"h", b"l"], [b"H", b"L"], &STEPS)?;
-    match verify(image) {
-        Ok(verified) => Ok(Some(verified)),
-        Err(_) => Ok(None),
-    }
+fn counting(alloc: Global) -> Option<Verified> {
+    let image = image(alloc, [b"h", b"l"], [b"H", b"L"], &STEPS).ok()?;
+    verify(image).ok()
 }
 
-/// Whether the class of this name sees this text of a run, and none where the budget is spent.
+/// What the class of this name sees of a run of the image that counts.
+fn seen(
+    alloc: Global,
+    lattice: &Lattice,
+    class: &[u8],
+    words: &[i64],
+    budget: u64,
+) -> Option<View> {
+    let class = lattice.class_named(class)?;
+    let verified = counting(alloc)?;
+    view(alloc, lattice, &verified, class, words, budget).ok()
+}
+
+/// Whether the class of this name sees this text of such a run, and none where the budget is spent.
 fn sees(
     alloc: Global,
     lattice: &Lattice,
@@ -131,22 +148,16 @@ fn sees(
     words: &[i64],
     budget: u64,
     want: Option<&[u8]>,
-) -> Result<bool, AllocError> {
-    let Some(verified) = counting(alloc)? else {
-        return Ok(false);
-    };
-    let Some(class) = lattice.class_named(class) else {
-        return Ok(false);
-    };
-    match view(alloc, lattice, &verified, class, words, budget) {
-        Ok(View::Text(text)) => Ok(want == Some(text.as_slice())),
-        Ok(View::OutOfBudget) => Ok(want.is_none()),
-        Err(_) => Ok(false),
+) -> bool {
+    match seen(alloc, lattice, class, words, budget) {
+        Some(View::Text(text)) => want == Some(text.as_slice()),
+        Some(View::OutOfBudget) => want.is_none(),
+        None => false,
     }
 }
 
 #[test]
-fn sees_what_is_below(rt: HostRuntime) -> Result<(), Fail> {
+fn sees_what_is_below(rt: HostRuntime) -> Result<(), LatticeError> {
     let lattice = read_lattice(rt.alloc(), TWO_CLASSES)?;
     let cases: [(&[u8], [i64; 2], u64, Option<&[u8]>); 5] = [
         (b"L", [5, 1], 7, Some(b"l = 2\n")),
@@ -155,30 +166,24 @@ fn sees_what_is_below(rt: HostRuntime) -> Result<(), Fail> {
         (b"L", [5, 1], 6, None),
         (b"H", [5, 1], 6, None),
     ];
-    for (class, words, budget, want) in cases {
-        assert!(rt; sees(rt.alloc(), &lattice, class, &words, budget, want)?);
+    for (class, words, budget, want) in cases.iter() {
+        assert!(rt; sees(rt.alloc(), &lattice, class, words, *budget, *want));
     }
     Ok(())
 }
 
+/// Why the lowest of these classes sees nothing of a run of an image from one word.
+fn unseen(alloc: Global, verified: &Verified, classes: &[u8]) -> Option<ViewError> {
+    let lattice = read_lattice(alloc, classes).ok()?;
+    view(alloc, &lattice, verified, lattice.bottom(), &[1], 7).err()
+}
+
 #[test]
-fn a_view_judges_the_classes_first(rt: HostRuntime) -> Result<(), Fail> {
-    let verified = counting(rt.alloc())?;
-    assert!(rt; verified.is_some());
-    let Some(verified) = verified else {
-        return Ok(());
-    };
-    for (text, lacks) in [
-        (b"classes = [\"L\"]\nbelow = []\n".as_slice(), true),
-        (TWO_CLASSES, false),
-    ] {
-        let lattice = read_lattice(rt.alloc(), text)?;
-        let answer = view(rt.alloc(), &lattice, &verified, lattice.bottom(), &[1], 7);
-        if lacks {
-            assert!(rt; matches!(&answer, Err(ViewError::ClassNotInLattice(0))));
-        } else {
-            assert!(rt; matches!(&answer, Err(ViewError::WrongStore(1))));
-        }
-    }
-    Ok(())
+fn a_view_judges_the_classes_first(rt: HostRuntime) {
+    let alloc = rt.alloc();
+    let verified = counting(alloc).expect(&rt, "a valid image");
+    let lacking = unseen(alloc, &verified, b"classes = [\"L\"]\nbelow = []\n");
+    assert!(rt; matches!(lacking, Some(ViewError::ClassNotInLattice(0))));
+    let wrong = unseen(alloc, &verified, TWO_CLASSES);
+    assert!(rt; matches!(wrong, Some(ViewError::WrongStore(1))));
 }

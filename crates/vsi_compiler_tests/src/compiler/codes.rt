@@ -1,16 +1,26 @@
 //! The instructions of texts, images of the first version, and runs that go on.
 
-use super::two;
-use std::test::Fail;
-use vsi_compiler::compile;
-use vsi_image::{Instr, decode, verify};
+use super::image_of;
+use std::alloc::Global;
+use vsi_image::{Image, Instr, Verified, decode, verify};
 use vsi_machine::{Machine, Outcome};
 
+/// Whether an image has so many globals, slots and operands, and this code.
+fn has_code(image: &Image, fields: (usize, u16, u16), code: &[Instr]) -> bool {
+    (image.globals.len(), image.slots, image.stack) == fields && image.code.as_slice() == code
+}
+
+/// Whether a text's image has these fields and this code.
+fn is_coded(alloc: Global, text: &[u8], fields: (usize, u16, u16), code: &[Instr]) -> bool {
+    match image_of(alloc, text) {
+        Some(verified) => has_code(verified.image(), fields, code),
+        None => false,
+    }
+}
+
 #[test]
-fn instructions(rt: HostRuntime) -> Result<(), Fail> {
+fn instructions(rt: HostRuntime) {
     use Instr::{Add, Halt, Jmp, Jz, Load, Lt, Push, Store};
-    let alloc = rt.alloc();
-    let lattice = two(alloc)?;
     let rows: [(&[u8], (usize, u16, u16), &[Instr]); 6] = [
         (
             b"letvar t := 1 in t := 2",
@@ -86,23 +96,33 @@ fn instructions(rt: HostRuntime) -> Result<(), Fail> {
             &[Push(i64::MIN), Store(0), Halt],
         ),
     ];
-    for (text, fields, code) in rows {
-        let verified = compile(alloc, &lattice, text)?;
-        let image = verified.image();
-        assert_eq!(rt; (image.globals.len(), image.slots, image.stack), fields);
-        assert_eq!(rt; image.code.as_slice(), code);
+    for (text, fields, code) in rows.iter() {
+        assert!(rt; is_coded(rt.alloc(), text, *fields, code));
     }
-    Ok(())
 }
 
 /// The bytes of the image of `var x : L; x := 1 + 2` in the first version.
 const THREE: &[u8] =
     b"VSI\x01\x00\x01\x00\x01\x00\x01\x00\x00\x00\x03\x01x\x01L\x01\x00\x00\x00\x00\x00\x00\x00\x03\x03\x00\x00\x0a";
 
+/// Whether the bytes are read as an image.
+fn is_read(alloc: Global, bytes: &[u8], image: &Image) -> bool {
+    match decode(alloc, bytes) {
+        Ok(read) => &read == image,
+        Err(_) => false,
+    }
+}
+
+/// Whether the bytes are read as a text's image.
+fn is_image(alloc: Global, text: &[u8], bytes: &[u8]) -> bool {
+    match image_of(alloc, text) {
+        Some(verified) => is_read(alloc, bytes, verified.image()),
+        None => false,
+    }
+}
+
 #[test]
-fn images_of_the_first_version(rt: HostRuntime) -> Result<(), Fail> {
-    let alloc = rt.alloc();
-    let lattice = two(alloc)?;
+fn images_of_the_first_version(rt: HostRuntime) {
     let rows: [(&[u8], &[u8]); 3] = [
         (b"var x : L; x := 1 + 2", THREE),
         (
@@ -114,26 +134,36 @@ fn images_of_the_first_version(rt: HostRuntime) -> Result<(), Fail> {
             b"VSI\x01\x00\x01\x00\x01\x00\x00\x00\x00\x00\x01\x01x\x01L\x0a",
         ),
     ];
-    for (text, bytes) in rows {
-        let verified = compile(alloc, &lattice, text)?;
-        let image = decode(alloc, bytes).ok().ok_or("the bytes are an image's")?;
-        assert!(rt; verified.image() == &image);
+    for (text, bytes) in rows.iter() {
+        assert!(rt; is_image(rt.alloc(), text, bytes));
     }
-    Ok(())
+}
+
+/// The image of bytes, where it is valid.
+fn verified(alloc: Global, bytes: &[u8]) -> Option<Verified> {
+    let image = decode(alloc, bytes).ok()?;
+    verify(image).ok()
+}
+
+/// Whether runs with these budgets, one after the other, end so.
+fn ends(machine: &mut Machine, runs: &[(u64, Outcome)]) -> bool {
+    for (budget, outcome) in runs.iter() {
+        if machine.run(*budget) != *outcome {
+            return false;
+        }
+    }
+    true
 }
 
 #[test]
-fn a_run_goes_on(rt: HostRuntime) -> Result<(), Fail> {
-    let alloc = rt.alloc();
-    let image = decode(alloc, THREE).ok().ok_or("the bytes are an image's")?;
-    let verified = verify(image).ok().ok_or("the image is valid")?;
-    let mut machine = Machine::new(alloc, &verified, &[0])
-        .ok()
-        .ok_or("the machine starts")?;
-    assert_eq!(rt; machine.run(0), Outcome::OutOfBudget);
-    assert_eq!(rt; machine.run(2), Outcome::OutOfBudget);
-    assert_eq!(rt; machine.run(1), Outcome::Halted);
-    assert_eq!(rt; machine.run(0), Outcome::Halted);
-    assert_eq!(rt; machine.store(), [3].as_slice());
-    Ok(())
+fn a_run_goes_on(rt: HostRuntime) {
+    let verified = verified(rt.alloc(), THREE).expect(&rt, "a valid image");
+    let mut machine = Machine::new(rt.alloc(), &verified, &[0]).expect(&rt, "a start");
+    let runs = [
+        (0, Outcome::OutOfBudget),
+        (2, Outcome::OutOfBudget),
+        (1, Outcome::Halted),
+        (0, Outcome::Halted),
+    ];
+    assert!(rt; ends(&mut machine, &runs) && machine.store() == [3].as_slice());
 }

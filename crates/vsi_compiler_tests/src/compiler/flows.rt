@@ -4,20 +4,37 @@ ghost use Rattle.std.specs.Prelude.{◌≡◌, true, map};
 ghost use Rattle.std.specs.List.{All};
 ghost use Rattle.vsi_lattice.specs.Order.{IsClass};
 
-use super::{counted, four, judged, two};
+use super::{counted, four, placed, two};
 use std::alloc::Global as Heap;
-use std::test::Fail;
-use vsi_compiler::{CompileError, compile, compile_in};
-use vsi_lattice::{Classes, Lattice};
+use vsi_compiler::{compile, compile_in};
+use vsi_image::Image;
+use vsi_lattice::{Classes, Lattice, LatticeError};
 use vsi_opt::optimise;
-use vsi_scope::{Global, resolve};
-use vsi_syntax::{lex, parse};
+use vsi_scope::{Global, Resolved, resolve};
+use vsi_syntax::{Program, lex, parse};
 use vsi_types::{Profile, check};
 
+/// The number of a text's refusal, or 100 where it is accepted.
+fn judged(alloc: Heap, lattice: &Lattice, text: &[u8]) -> u8 {
+    match compile(alloc, lattice, text) {
+        Ok(_) => 100,
+        Err(error) => placed(&error).0,
+    }
+}
+
+/// The first row whose text is judged otherwise.
+fn first_other(alloc: Heap, lattice: &Lattice, rows: &[(&[u8], u8)]) -> Option<usize> {
+    for (row, (text, wanted)) in rows.iter().enumerate() {
+        if judged(alloc, lattice, text) != *wanted {
+            return Some(row);
+        }
+    }
+    None
+}
+
 #[test]
-fn judges_flows(rt: HostRuntime) -> Result<(), Fail> {
-    let alloc = rt.alloc();
-    let lattice = two(alloc)?;
+fn judges_flows(rt: HostRuntime) -> Result<(), LatticeError> {
+    let lattice = two(rt.alloc())?;
     let rows: [(&[u8], u8); 12] = [
         (b"var h : H; var l : L; l := h", 25),
         (b"var h : H; var l : L; if h then l := 1 else l := 0", 25),
@@ -44,16 +61,26 @@ fn judges_flows(rt: HostRuntime) -> Result<(), Fail> {
         (b"var h : H; letvar t : L := h in t := 1", 25),
         (b"var h : H; letvar t : H := h in t := 1", 100),
     ];
-    for (text, wanted) in rows {
-        assert_eq!(rt; judged(alloc, &lattice, text), wanted);
-    }
+    assert_eq!(rt; first_other(rt.alloc(), &lattice, &rows), None);
     Ok(())
 }
 
-#[test]
-fn tells_faults_with_their_places(rt: HostRuntime) -> Result<(), Fail> {
-    let alloc = rt.alloc();
+/// The first row whose text isn't refused over two classes with this number at this place.
+fn first_not_refused(
+    alloc: Heap,
+    rows: &[(&[u8], (u8, usize, usize))],
+) -> Result<Option<usize>, LatticeError> {
     let lattice = two(alloc)?;
+    for (row, (text, wanted)) in rows.iter().enumerate() {
+        if counted(alloc, &lattice, text) != Err(*wanted) {
+            return Ok(Some(row));
+        }
+    }
+    Ok(None)
+}
+
+#[test]
+fn tells_faults_with_their_places(rt: HostRuntime) -> Result<(), LatticeError> {
     let rows: [(&[u8], (u8, usize, usize)); 14] = [
         (b"x := 1 $ 2", (12, 7, 7)),
         (b"1x := 2", (13, 0, 2)),
@@ -70,103 +97,105 @@ fn tells_faults_with_their_places(rt: HostRuntime) -> Result<(), Fail> {
         (b"var x : L; letvar t := t in x := t", (19, 23, 24)),
         (b"var x : L; letvar t : L := t in x := t", (19, 27, 28)),
     ];
-    for (text, wanted) in rows {
-        assert_eq!(rt; counted(alloc, &lattice, text), Err(wanted));
-    }
+    assert_eq!(rt; first_not_refused(rt.alloc(), &rows)?, None);
     Ok(())
 }
 
 /// Each text has two faults, of which the one that is judged first stands last.
 #[test]
-fn judges_the_order_of_faults(rt: HostRuntime) -> Result<(), Fail> {
-    let alloc = rt.alloc();
-    let lattice = two(alloc)?;
+fn judges_the_order_of_faults(rt: HostRuntime) -> Result<(), LatticeError> {
     let rows: [(&[u8], (u8, usize, usize)); 3] = [
         (b"x := := $", (12, 8, 8)),
         (b"x := 1;", (15, 7, 7)),
         (b"var h : H; var l : L; l := h; x := 1", (19, 30, 31)),
     ];
-    for (text, wanted) in rows {
-        assert_eq!(rt; counted(alloc, &lattice, text), Err(wanted));
+    assert_eq!(rt; first_not_refused(rt.alloc(), &rows)?, None);
+    Ok(())
+}
+
+#[test]
+fn judges_incomparable_classes(rt: HostRuntime) -> Result<(), LatticeError> {
+    let lattice = four(rt.alloc())?;
+    let rows: [(&[u8], u8); 4] = [
+        (b"var a : A; var b : B; b := a", 25),
+        (b"var a : A; var h : H; h := a", 100),
+        (
+            b"var a : A; var b : B; var h : H; letvar t := a + b in h := t",
+            100,
+        ),
+        (
+            b"var a : A; var b : B; var x : A; letvar t := a + b in x := t",
+            25,
+        ),
+    ];
+    assert_eq!(rt; first_other(rt.alloc(), &lattice, &rows), None);
+    Ok(())
+}
+
+/// The first row whose text isn't judged so under the strict profile: whether it is accepted.
+fn first_other_strict(alloc: Heap, lattice: &Lattice, rows: &[(&[u8], bool)]) -> Option<usize> {
+    for (row, (text, wanted)) in rows.iter().enumerate() {
+        if compile_in(alloc, Profile::Strict, lattice, text).is_ok() != *wanted {
+            return Some(row);
+        }
     }
-    Ok(())
+    None
 }
 
-#[test]
-fn judges_incomparable_classes(rt: HostRuntime) -> Result<(), Fail> {
-    let alloc = rt.alloc();
-    let lattice = four(alloc)?;
-    assert_eq!(rt;
-        judged(alloc, &lattice, b"var a : A; var b : B; b := a"),
-        25
-    );
-    assert_eq!(rt;
-        judged(alloc, &lattice, b"var a : A; var h : H; h := a"),
-        100
-    );
-    assert_eq!(rt;
-        judged(
-            alloc,
-            &lattice,
-            b"var a : A; var b : B; var h : H; letvar t := a + b in h := t"
-        ),
-        100
-    );
-    assert_eq!(rt;
-        judged(
-            alloc,
-            &lattice,
-            b"var a : A; var b : B; var x : A; letvar t := a + b in x := t"
-        ),
-        25
-    );
-    Ok(())
-}
-
-/// Whether the text is accepted under the strict profile.
-fn is_strict(alloc: Heap, lattice: &Lattice, text: &[u8]) -> bool {
-    compile_in(alloc, Profile::Strict, lattice, text).is_ok()
-}
-
-#[test]
-fn judges_endings_under_the_strict_profile(rt: HostRuntime) -> Result<(), Fail> {
-    let alloc = rt.alloc();
+/// The same over two classes.
+fn first_other_over_two(
+    alloc: Heap,
+    rows: &[(&[u8], bool)],
+) -> Result<Option<usize>, LatticeError> {
     let lattice = two(alloc)?;
-    assert!(rt; !is_strict(alloc, &lattice, b"var h : H; while h do h := h"));
-    assert!(rt;
-        !is_strict(
-            alloc,
-            &lattice,
-            b"var h : H; var k : H; if h then while 0 do k := 1 else k := 2"
-        )
-    );
-    assert!(rt;
-        !is_strict(
-            alloc,
-            &lattice,
-            b"var h : H; letvar t := h in while t do t := 0"
-        )
-    );
-    assert!(rt; is_strict(alloc, &lattice, b"var x : L; while 1 do x := x"));
-    assert!(rt; is_strict(alloc, &lattice, b"var x : L; x := 1 + 2"));
-    let middle = four(alloc)?;
-    assert!(rt; !is_strict(alloc, &middle, b"var a : A; while a < 3 do a := a + 1"));
-    Ok(())
+    Ok(first_other_strict(alloc, &lattice, rows))
 }
 
 #[test]
-fn the_strict_profile_keeps_images(rt: HostRuntime) -> Result<(), Fail> {
-    let alloc = rt.alloc();
-    let lattice = two(alloc)?;
+fn judges_endings_under_the_strict_profile(rt: HostRuntime) -> Result<(), LatticeError> {
+    let rows: [(&[u8], bool); 5] = [
+        (b"var h : H; while h do h := h", false),
+        (
+            b"var h : H; var k : H; if h then while 0 do k := 1 else k := 2",
+            false,
+        ),
+        (b"var h : H; letvar t := h in while t do t := 0", false),
+        (b"var x : L; while 1 do x := x", true),
+        (b"var x : L; x := 1 + 2", true),
+    ];
+    assert_eq!(rt; first_other_over_two(rt.alloc(), &rows)?, None);
+    let middle = four(rt.alloc())?;
+    let apart: [(&[u8], bool); 1] = [(b"var a : A; while a < 3 do a := a + 1", false)];
+    assert_eq!(rt; first_other_strict(rt.alloc(), &middle, &apart), None);
+    Ok(())
+}
+
+/// Whether a text has this image under the strict profile.
+fn is_strict_image(alloc: Heap, lattice: &Lattice, text: &[u8], image: &Image) -> bool {
+    match compile_in(alloc, Profile::Strict, lattice, text) {
+        Ok(strict) => strict.image() == image,
+        Err(_) => false,
+    }
+}
+
+/// Whether a text has one image under both profiles.
+fn keeps_image(alloc: Heap, lattice: &Lattice, text: &[u8]) -> bool {
+    match compile(alloc, lattice, text) {
+        Ok(base) => is_strict_image(alloc, lattice, text, base.image()),
+        Err(_) => false,
+    }
+}
+
+#[test]
+fn the_strict_profile_keeps_images(rt: HostRuntime) -> Result<(), LatticeError> {
+    let lattice = two(rt.alloc())?;
     let rows: [&[u8]; 3] = [
         b"var x : L; x := 1 + 2",
         b"var x : L; while 1 do x := x",
         b"var h : H; var l : L; letvar a := 0 in letvar b := 0 in while l < 3 do { b := a; a := h; l := l + 1 }",
     ];
-    for text in rows {
-        let strict = compile_in(alloc, Profile::Strict, &lattice, text)?;
-        let base = compile(alloc, &lattice, text)?;
-        assert!(rt; strict.image() == base.image());
+    for text in rows.iter() {
+        assert!(rt; keeps_image(rt.alloc(), &lattice, text));
     }
     Ok(())
 }
@@ -183,25 +212,41 @@ fn are_classes<C: Classes>(lattice: &C, globals: &[Global<'_>]) -> bool
     true
 }
 
-/// Whether the optimised program of a text has a derivation without classes of `letvar`s.
-fn is_typed(alloc: Heap, lattice: &Lattice, text: &[u8]) -> Result<bool, CompileError> {
-    let tokens = lex(alloc, text)?;
-    let program = parse(alloc, &tokens)?;
-    let resolved = resolve(alloc, &program, lattice)?;
-    let optimised = optimise(alloc, &resolved)?;
-    if !are_classes(lattice, optimised.globals()) {
-        return Ok(false);
-    }
-    Ok(check(alloc, lattice, &optimised, &[]).is_ok())
+/// The program that a text writes.
+fn parsed<'a>(alloc: Heap, text: &'a [u8]) -> Option<Program<'a>> {
+    let tokens = lex(alloc, text).ok()?;
+    parse(alloc, &tokens).ok()
+}
+
+/// What is left of a program, with its names resolved.
+fn optimised<'a>(alloc: Heap, lattice: &Lattice, program: &Program<'a>) -> Option<Resolved<'a>> {
+    let resolved = resolve(alloc, program, lattice).ok()?;
+    optimise(alloc, &resolved).ok()
+}
+
+/// Whether a program has a derivation without classes of `letvar`s.
+fn has_derivation(alloc: Heap, lattice: &Lattice, program: &Resolved) -> bool {
+    are_classes(lattice, program.globals()) && check(alloc, lattice, program, &[]).is_ok()
+}
+
+/// Whether the optimised program of a text has such a derivation.
+fn is_typed(alloc: Heap, lattice: &Lattice, text: &[u8]) -> Option<bool> {
+    let program = parsed(alloc, text)?;
+    let optimised = optimised(alloc, lattice, &program)?;
+    Some(has_derivation(alloc, lattice, &optimised))
 }
 
 #[test]
-fn optimised_programs_are_typed(rt: HostRuntime) -> Result<(), Fail> {
-    let alloc = rt.alloc();
-    let lattice = two(alloc)?;
-    assert!(rt; is_typed(alloc, &lattice, b"var x : L; while 0 do x := 1")?);
-    assert!(rt; is_typed(alloc, &lattice, b"var h : H; while h do h := h")?);
-    // The check wants a class for the `letvar`.
-    assert!(rt; !is_typed(alloc, &lattice, b"letvar t := 1 in t := 2")?);
+fn optimised_programs_are_typed(rt: HostRuntime) -> Result<(), LatticeError> {
+    let lattice = two(rt.alloc())?;
+    // The check wants a class for the `letvar` of the last one.
+    let rows: [(&[u8], bool); 3] = [
+        (b"var x : L; while 0 do x := 1", true),
+        (b"var h : H; while h do h := h", true),
+        (b"letvar t := 1 in t := 2", false),
+    ];
+    for (text, wanted) in rows.iter() {
+        assert_eq!(rt; is_typed(rt.alloc(), &lattice, text), Some(*wanted));
+    }
     Ok(())
 }

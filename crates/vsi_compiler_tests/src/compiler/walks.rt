@@ -1,11 +1,10 @@
 //! Refused flows, step by step.
 
-use super::{ends_in, four, two};
+use super::{ends_in, four, image_of, two};
 use std::alloc::{AllocError, Global};
-use std::test::Fail;
 use vsi_compiler::{CompileError, classes_text, compile_in, explanation_text};
-use vsi_infer::Walk;
-use vsi_lattice::Lattice;
+use vsi_infer::{Step, Walk};
+use vsi_lattice::{Lattice, LatticeError};
 use vsi_scope::Var;
 use vsi_types::Profile;
 
@@ -17,27 +16,50 @@ fn walk_of(alloc: Global, profile: Profile, lattice: &Lattice, text: &[u8]) -> O
     }
 }
 
-/// Whether a text is refused under a profile and this is told of its walk.
-fn tells(
-    alloc: Global,
-    profile: Profile,
-    lattice: &Lattice,
-    text: &[u8],
-    wanted: &[u8],
-) -> Result<bool, AllocError> {
-    match walk_of(alloc, profile, lattice, text) {
-        Some(walk) => {
-            let told = explanation_text(alloc, lattice, text, &walk)?;
-            Ok(told.as_slice() == wanted)
-        }
-        None => Ok(false),
+/// Whether this is told of a walk.
+fn is_told(alloc: Global, lattice: &Lattice, text: &[u8], walk: &Walk, wanted: &[u8]) -> bool {
+    match explanation_text(alloc, lattice, text, walk) {
+        Ok(told) => told.as_slice() == wanted,
+        Err(_) => false,
     }
 }
 
-#[test]
-fn explains_walks(rt: HostRuntime) -> Result<(), Fail> {
-    let alloc = rt.alloc();
+/// Whether a text is refused under a profile and this is told of its walk.
+fn tells(alloc: Global, profile: Profile, lattice: &Lattice, text: &[u8], wanted: &[u8]) -> bool {
+    match walk_of(alloc, profile, lattice, text) {
+        Some(walk) => is_told(alloc, lattice, text, &walk, wanted),
+        None => false,
+    }
+}
+
+/// The first row whose text is not refused so under a profile.
+fn first_other(
+    alloc: Global,
+    profile: Profile,
+    lattice: &Lattice,
+    rows: &[(&[u8], &[u8])],
+) -> Option<usize> {
+    for (row, (text, wanted)) in rows.iter().enumerate() {
+        if !tells(alloc, profile, lattice, text, wanted) {
+            return Some(row);
+        }
+    }
+    None
+}
+
+/// The same over two classes.
+fn first_other_over_two(
+    alloc: Global,
+    profile: Profile,
+    rows: &[(&[u8], &[u8])],
+) -> Result<Option<usize>, LatticeError> {
     let lattice = two(alloc)?;
+    Ok(first_other(alloc, profile, &lattice, rows))
+}
+
+#[test]
+fn explains_walks(rt: HostRuntime) -> Result<(), LatticeError> {
+    let alloc = rt.alloc();
     let rows: [(&[u8], &[u8]); 6] = [
         (
             b"var h : H; var l : L; l := h",
@@ -64,21 +86,18 @@ fn explains_walks(rt: HostRuntime) -> Result<(), Fail> {
             b"1:53 h flows to l by IF at 1:60\nh : H may not flow to l : L\n",
         ),
     ];
-    for (text, wanted) in rows {
-        assert!(rt; tells(alloc, Profile::Base, &lattice, text, wanted)?);
-    }
-    let four = four(alloc)?;
+    assert_eq!(rt; first_other_over_two(alloc, Profile::Base, &rows)?, None);
     let apart = b"var a : A; var b : B; var x : A; letvar t := a + b in x := t";
     let through =
         b"1:50 b flows to t by LETVAR at 1:41\n1:60 t flows to x by ASSIGN at 1:55\nb : B may not flow to x : A\n";
-    assert!(rt; tells(alloc, Profile::Base, &four, apart, through)?);
+    let four = four(alloc)?;
+    assert!(rt; tells(alloc, Profile::Base, &four, apart, through));
     Ok(())
 }
 
 #[test]
-fn explains_endings(rt: HostRuntime) -> Result<(), Fail> {
+fn explains_endings(rt: HostRuntime) -> Result<(), LatticeError> {
     let alloc = rt.alloc();
-    let lattice = two(alloc)?;
     let rows: [(&[u8], &[u8]); 3] = [
         (
             b"var h : H; while h do h := h",
@@ -93,33 +112,40 @@ fn explains_endings(rt: HostRuntime) -> Result<(), Fail> {
             b"1:24 h flows to t by LETVAR at 1:19\n1:35 t flows to (loop) by LOOP at 1:35\nh : H may not flow to (loop) : L\n",
         ),
     ];
-    for (text, wanted) in rows {
-        assert!(rt; tells(alloc, Profile::Strict, &lattice, text, wanted)?);
-        assert!(rt; walk_of(alloc, Profile::Base, &lattice, text).is_none());
+    assert_eq!(rt; first_other_over_two(alloc, Profile::Strict, &rows)?, None);
+    for (text, _) in rows.iter() {
+        assert!(rt; image_of(alloc, text).is_some());
     }
-    let four = four(alloc)?;
     let apart = b"var a : A; while a < 3 do a := a + 1";
     let ending = b"1:18 a flows to (loop) by LOOP at 1:18\na : A may not flow to (loop) : L\n";
-    assert!(rt; tells(alloc, Profile::Strict, &four, apart, ending)?);
+    let four = four(alloc)?;
+    assert!(rt; tells(alloc, Profile::Strict, &four, apart, ending));
     Ok(())
 }
 
+/// The first of the texts of which a walk tells something.
+fn first_told(alloc: Global, lattice: &Lattice, texts: &[&[u8]], walk: &Walk) -> Option<usize> {
+    for (place, text) in texts.iter().enumerate() {
+        if !is_told(alloc, lattice, text, walk, b"") {
+            return Some(place);
+        }
+    }
+    None
+}
+
 #[test]
-fn explains_no_walk_of_another_text(rt: HostRuntime) -> Result<(), Fail> {
+fn explains_no_walk_of_another_text(rt: HostRuntime) -> Result<(), LatticeError> {
     let alloc = rt.alloc();
     let lattice = two(alloc)?;
     let text = b"var h : H; var l : L; l := h";
-    let walk = walk_of(alloc, Profile::Base, &lattice, text).ok_or("a flow is refused")?;
+    let walk = walk_of(alloc, Profile::Base, &lattice, text).expect(&rt, "a refused flow");
     let others: [&[u8]; 4] = [
         b"var h : H; var l : L;  l := h",
         b"var h : L; var l : L; l := h",
         b"var h : H; var l : L; l := 1",
         b"x := 1;",
     ];
-    for other in others {
-        let told = explanation_text(alloc, &lattice, other, &walk)?;
-        assert!(rt; told.is_empty());
-    }
+    assert_eq!(rt; first_told(alloc, &lattice, &others, &walk), None);
     Ok(())
 }
 
@@ -133,60 +159,103 @@ fn add_link(text: &mut Vec<u8>, k: u16) -> Result<(), AllocError> {
     text.extend_from_slice(buffer.format(k).as_bytes())
 }
 
-/// A loop that copies each variable of the chain to the next one, from `h` on, and another command.
-fn chain(alloc: Global, way_out: &[u8]) -> Result<Vec<u8>, AllocError> {
-    let mut text = Vec::from_slice(alloc, b"var h : H; var l : L; ")?;
+/// Adds the declarations of the chain's variables.
+fn add_declarations(text: &mut Vec<u8>) -> Result<(), AllocError> {
     for k in 0..LINKS {
         text.extend_from_slice(b"letvar ")?;
-        add_link(&mut text, k)?;
+        add_link(text, k)?;
         text.extend_from_slice(b" := 0 in ")?;
     }
-    text.extend_from_slice(b"while l < 3 do { ")?;
+    Ok(())
+}
+
+/// Adds a copy of each variable of the chain to the next one, the last copy first.
+fn add_copies(text: &mut Vec<u8>) -> Result<(), AllocError> {
     for turn in 1..LINKS {
         let k = LINKS - turn;
-        add_link(&mut text, k)?;
+        add_link(text, k)?;
         text.extend_from_slice(b" := ")?;
-        add_link(&mut text, k - 1)?;
+        add_link(text, k - 1)?;
         text.extend_from_slice(b"; ")?;
     }
+    Ok(())
+}
+
+/// Adds a loop that copies along the chain, from `h` on, and another command.
+fn add_loop(text: &mut Vec<u8>, way_out: &[u8]) -> Result<(), AllocError> {
+    text.extend_from_slice(b"while l < 3 do { ")?;
+    add_copies(text)?;
     text.extend_from_slice(b"a0 := h; ")?;
     text.extend_from_slice(way_out)?;
-    text.extend_from_slice(b"l := l + 1 }")?;
+    text.extend_from_slice(b"l := l + 1 }")
+}
+
+/// A program with such a loop.
+fn chain(alloc: Global, way_out: &[u8]) -> Result<Vec<u8>, AllocError> {
+    let mut text = Vec::from_slice(alloc, b"var h : H; var l : L; ")?;
+    add_declarations(&mut text)?;
+    add_loop(&mut text, way_out)?;
     Ok(text)
 }
 
-#[test]
-fn a_chain_of_variables_is_high(rt: HostRuntime) -> Result<(), Fail> {
-    let alloc = rt.alloc();
-    let lattice = two(alloc)?;
-    let text = chain(alloc, b"")?;
-    let lines = classes_text(alloc, &lattice, &text)?;
-    let (mut low, mut high) = (0u32, 0u32);
+/// How many of the lines tell the class `H`, and how many `L`.
+fn count_classes(lines: &[u8]) -> (u32, u32) {
+    let (mut high, mut low) = (0u32, 0u32);
     for line in lines.split(|byte| *byte == b'\n') {
         high = high.saturating_add(u32::from(line.ends_with(b" : H")));
         low = low.saturating_add(u32::from(line.ends_with(b" : L")));
     }
-    assert_eq!(rt; (high, low), (101, 1));
-    assert!(rt; ends_in(alloc, &lattice, &text, &[0, 0], 1000000, &[0, 3]));
+    (high, low)
+}
+
+/// What is told of the classes of a text over two classes.
+fn classes_of(alloc: Global, text: &[u8]) -> Option<Vec<u8>> {
+    let lattice = two(alloc).ok()?;
+    classes_text(alloc, &lattice, text).ok()
+}
+
+#[test]
+fn a_chain_of_variables_is_high(rt: HostRuntime) -> Result<(), AllocError> {
+    let text = chain(rt.alloc(), b"")?;
+    let lines = classes_of(rt.alloc(), &text).expect(&rt, "an accepted text");
+    assert_eq!(rt; count_classes(&lines), (101, 1));
+    assert!(rt; ends_in(rt.alloc(), &text, &[0, 0], 1000000, &[0, 3]));
     Ok(())
+}
+
+/// Whether steps go from variable 0 through those of the chain to variable 1, each from where the last one led.
+fn is_along_chain(steps: &[Step]) -> bool {
+    let mut at = Var(0);
+    let mut next: u16 = 2;
+    for step in steps {
+        if step.source != at {
+            return false;
+        }
+        at = Var(if next < 102 { next } else { 1 });
+        if step.target != at {
+            return false;
+        }
+        next = next.saturating_add(1);
+    }
+    at == Var(1)
+}
+
+/// The walk that refuses a text over two classes.
+fn walk_over_two(alloc: Global, text: &[u8]) -> Option<Walk> {
+    let lattice = two(alloc).ok()?;
+    walk_of(alloc, Profile::Base, &lattice, text)
+}
+
+/// The walk that refuses a chain with a way out.
+fn walk_of_chain(alloc: Global, way_out: &[u8]) -> Option<Walk> {
+    let text = chain(alloc, way_out).ok()?;
+    walk_over_two(alloc, &text)
 }
 
 /// The globals are variables 0 and 1, and `aK` is variable K + 2.
 #[test]
-fn a_chain_of_variables_is_walked(rt: HostRuntime) -> Result<(), Fail> {
-    let alloc = rt.alloc();
-    let lattice = two(alloc)?;
-    let text = chain(alloc, b"l := a99; ")?;
-    let walk = walk_of(alloc, Profile::Base, &lattice, &text).ok_or("a flow is refused")?;
+fn a_chain_of_variables_is_walked(rt: HostRuntime) {
+    let walk = walk_of_chain(rt.alloc(), b"l := a99; ").expect(&rt, "a refused flow");
     assert_eq!(rt; walk.steps.len(), 101);
-    let mut at = Var(0);
-    let mut next: u16 = 2;
-    for step in &walk.steps {
-        assert_eq!(rt; step.source, at);
-        at = Var(if next < 102 { next } else { 1 });
-        assert_eq!(rt; step.target, at);
-        next = next.saturating_add(1);
-    }
-    assert_eq!(rt; at, Var(1));
-    Ok(())
+    assert!(rt; is_along_chain(&walk.steps));
 }
