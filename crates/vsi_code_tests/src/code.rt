@@ -19,10 +19,13 @@ fn sizes(alloc: Global, text: &[u8]) -> Option<(usize, u16, u16)> {
     Some((image.code.len(), image.slots, image.stack))
 }
 
-// Whether a text's image has this code.
-fn is_code(alloc: Global, text: &[u8], code: &[Instr]) -> bool {
+// Whether a text's image has so many slots and operands, and this code.
+fn is_image(alloc: Global, text: &[u8], slots: u16, stack: u16, code: &[Instr]) -> bool {
     match image_of(alloc, text) {
-        Some(verified) => verified.image().code.as_slice() == code,
+        Some(verified) => {
+            let image = verified.image();
+            image.slots == slots && image.stack == stack && image.code.as_slice() == code
+        }
         None => false,
     }
 }
@@ -68,8 +71,7 @@ fn operands_before_operators(rt: HostRuntime) {
         Instr::Store(1),
         Instr::Halt,
     ];
-    assert!(rt; is_code(rt.alloc(), text, &code));
-    assert_eq!(rt; sizes(rt.alloc(), text), Some((13, 2, 3)));
+    assert!(rt; is_image(rt.alloc(), text, 2, 3, &code));
 }
 
 // The bytes of a sum that isn't folded, in version 1: PUSH 1, PUSH 2, ADD, STORE 0, HALT.
@@ -107,11 +109,18 @@ fn declared(alloc: Global, text: &[u8]) -> Option<Vec<u8>> {
     globals_of(alloc, verified.image()).ok()
 }
 
+// Whether these are the globals of a text's image with their classes.
+fn declares(alloc: Global, text: &[u8], want: &[u8]) -> bool {
+    match declared(alloc, text) {
+        Some(globals) => globals.as_slice() == want,
+        None => false,
+    }
+}
+
 #[test]
 fn globals_with_their_classes(rt: HostRuntime) {
     let text = b"var x : L; var secret : H; x := 1 + 2";
-    let globals = declared(rt.alloc(), text).expect(&rt, "an image");
-    assert_eq!(rt; globals.as_slice(), b"x : L; secret : H; ".as_slice());
+    assert!(rt; declares(rt.alloc(), text, b"x : L; secret : H; "));
 }
 
 #[test]
@@ -127,8 +136,7 @@ fn choice(rt: HostRuntime) {
         Instr::Store(0),
         Instr::Halt,
     ];
-    assert!(rt; is_code(rt.alloc(), text, &code));
-    assert_eq!(rt; sizes(rt.alloc(), text), Some((8, 1, 1)));
+    assert!(rt; is_image(rt.alloc(), text, 1, 1, &code));
 }
 
 #[test]
@@ -142,8 +150,7 @@ fn loop_without_end(rt: HostRuntime) {
         Instr::Jmp(0),
         Instr::Halt,
     ];
-    assert!(rt; is_code(rt.alloc(), text, &code));
-    assert_eq!(rt; sizes(rt.alloc(), text), Some((6, 1, 1)));
+    assert!(rt; is_image(rt.alloc(), text, 1, 1, &code));
 }
 
 #[test]
@@ -167,8 +174,7 @@ fn letvar_in_a_loop(rt: HostRuntime) {
         Instr::Jmp(0),
         Instr::Halt,
     ];
-    assert!(rt; is_code(rt.alloc(), text, &code));
-    assert_eq!(rt; sizes(rt.alloc(), text), Some((16, 2, 2)));
+    assert!(rt; is_image(rt.alloc(), text, 2, 2, &code));
 }
 
 #[test]
@@ -181,10 +187,8 @@ fn letvar_without_globals(rt: HostRuntime) {
         Instr::Store(0),
         Instr::Halt,
     ];
-    assert!(rt; is_code(rt.alloc(), text, &code));
-    assert_eq!(rt; sizes(rt.alloc(), text), Some((5, 1, 1)));
-    let globals = declared(rt.alloc(), text).expect(&rt, "an image");
-    assert!(rt; globals.is_empty());
+    assert!(rt; is_image(rt.alloc(), text, 1, 1, &code));
+    assert!(rt; declares(rt.alloc(), text, b""));
 }
 
 // An assignment that nothing reads has its code too.
@@ -202,8 +206,7 @@ fn assignments_to_a_letvar(rt: HostRuntime) {
         Instr::Store(1),
         Instr::Halt,
     ];
-    assert!(rt; is_code(rt.alloc(), text, &code));
-    assert_eq!(rt; sizes(rt.alloc(), text), Some((9, 2, 1)));
+    assert!(rt; is_image(rt.alloc(), text, 2, 1, &code));
 }
 
 #[test]

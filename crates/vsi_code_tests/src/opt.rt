@@ -42,6 +42,21 @@ fn note_expression(out: &mut Shape, e: &Ex) -> Result<(), AllocError> {
     }
 }
 
+// Adds the shape of an expression, and what stands behind it.
+fn note_head(out: &mut Shape, e: &Ex, sign: u8) -> Result<(), AllocError> {
+    note_expression(out, e)?;
+    out.push((sign, 0))?;
+    Ok(())
+}
+
+// Adds the shape of commands, and what stands behind them.
+#[cycle(noting)]
+fn note_part(out: &mut Shape, body: &[Cmd], end: u8) -> Result<(), AllocError> {
+    note_all(out, body)?;
+    out.push((end, 0))?;
+    Ok(())
+}
+
 // Adds the shape of commands.
 #[cycle(noting)]
 fn note_all(out: &mut Shape, body: &[Cmd]) -> Result<(), AllocError> {
@@ -51,6 +66,7 @@ fn note_all(out: &mut Shape, body: &[Cmd]) -> Result<(), AllocError> {
     Ok(())
 }
 
+// Adds the shape of a command.
 #[cycle(noting)]
 fn note(out: &mut Shape, c: &Cmd) -> Result<(), AllocError> {
     match c {
@@ -60,27 +76,17 @@ fn note(out: &mut Shape, c: &Cmd) -> Result<(), AllocError> {
             Ok(())
         }
         Cmd::If { guard, yes, no } => {
-            note_expression(out, guard)?;
-            out.push((b'?', 0))?;
-            note_all(out, yes)?;
-            out.push((b'|', 0))?;
-            note_all(out, no)?;
-            out.push((b';', 0))?;
-            Ok(())
+            note_head(out, guard, b'?')?;
+            note_part(out, yes, b'|')?;
+            note_part(out, no, b';')
         }
         Cmd::While { guard, body } => {
-            note_expression(out, guard)?;
-            out.push((b'w', 0))?;
-            note_all(out, body)?;
-            out.push((b';', 0))?;
-            Ok(())
+            note_head(out, guard, b'w')?;
+            note_part(out, body, b';')
         }
         Cmd::Letvar { value, body } => {
-            note_expression(out, value)?;
-            out.push((b'v', 0))?;
-            note_all(out, body)?;
-            out.push((b';', 0))?;
-            Ok(())
+            note_head(out, value, b'v')?;
+            note_part(out, body, b';')
         }
     }
 }

@@ -131,11 +131,8 @@ fn first_other(alloc: Global, bytes: &[u8], rows: &[(usize, &[u8], DecodeError)]
     None
 }
 
-#[test]
-fn refuses_changed_bytes(rt: HostRuntime) {
-    let alloc = rt.alloc();
-    let mut second = STORES;
-    second[3] = 2;
+/// Whether the bytes of `STORES` in either version are refused with each of these changes.
+fn are_refused(alloc: Global, bytes: &[u8]) -> bool {
     let rows: [(usize, &[u8], DecodeError); 11] = [
         (0, &[0x57], DecodeError::BadMagic),
         (3, &[9], DecodeError::BadVersion),
@@ -149,17 +146,22 @@ fn refuses_changed_bytes(rt: HostRuntime) {
         (8, &[1, 1], DecodeError::BadField(8)),
         (10, &[0, 1, 0, 0], DecodeError::BadField(10)),
     ];
-    for row in [&STORES, &second].iter() {
-        assert_eq!(rt; first_other(alloc, row.as_slice(), &rows), None);
-        let found = fault_of_longer(alloc, row.as_slice());
-        assert_eq!(rt; found, Some(DecodeError::Trailing(31)));
-    }
-    let of_product: [(usize, &[u8], DecodeError); 3] = [
+    first_other(alloc, bytes, &rows).is_none()
+        && fault_of_longer(alloc, bytes) == Some(DecodeError::Trailing(31))
+}
+
+#[test]
+fn refuses_changed_bytes(rt: HostRuntime) {
+    let alloc = rt.alloc();
+    let mut second = STORES;
+    second[3] = 2;
+    assert!(rt; are_refused(alloc, &STORES) && are_refused(alloc, &second));
+    let rows: [(usize, &[u8], DecodeError); 3] = [
         (3, &[1], DecodeError::BadOpcode(28)),
         (3, &[3], DecodeError::BadVersion),
         (19, &[0x78], DecodeError::BadField(19)),
     ];
-    assert_eq!(rt; first_other(alloc, &MULTIPLIES, &of_product), None);
+    assert_eq!(rt; first_other(alloc, &MULTIPLIES, &rows), None);
 }
 
 /// Why the image of the bytes isn't valid.

@@ -34,6 +34,19 @@ fn keeps_a_valid_image(rt: HostRuntime) -> Result<(), AllocError> {
     Ok(())
 }
 
+/// The first row whose code with a slot and an operand is refused otherwise.
+fn first_other(
+    alloc: Global,
+    rows: &[(&[Instr], Option<VerifyError>)],
+) -> Result<Option<usize>, AllocError> {
+    for (row, (code, want)) in rows.iter().enumerate() {
+        if fault(alloc, 1, 1, code)? != *want {
+            return Ok(Some(row));
+        }
+    }
+    Ok(None)
+}
+
 #[test]
 fn names_the_first_fault(rt: HostRuntime) -> Result<(), AllocError> {
     use Instr::{Halt, Jmp, Load, Push, Store};
@@ -48,9 +61,7 @@ fn names_the_first_fault(rt: HostRuntime) -> Result<(), AllocError> {
         (&[], Some(VerifyError::RunsOff)),
         (&[Jmp(0)], None),
     ];
-    for (code, want) in rows.iter() {
-        assert_eq!(rt; fault(rt.alloc(), 1, 1, code)?, *want);
-    }
+    assert_eq!(rt; first_other(rt.alloc(), &rows)?, None);
     assert_eq!(rt; fault(rt.alloc(), 0, 0, &[Jmp(0)])?, None);
     Ok(())
 }
