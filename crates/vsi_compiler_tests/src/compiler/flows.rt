@@ -4,11 +4,11 @@ ghost use Rattle.std.specs.Prelude.{◌≡◌, true, map};
 ghost use Rattle.std.specs.List.{All};
 ghost use Rattle.vsi_lattice.specs.Order.{IsClass};
 
-use super::{counted, four, placed, two};
+use super::{FOUR, TWO, counted, placed, two};
 use std::alloc::Global as Heap;
 use vsi_compiler::{compile, compile_in};
 use vsi_image::Image;
-use vsi_lattice::{Classes, Lattice, LatticeError};
+use vsi_lattice::{Classes, Lattice, LatticeError, read_lattice};
 use vsi_opt::optimise;
 use vsi_scope::{Global, Resolved, resolve};
 use vsi_syntax::{Program, lex, parse};
@@ -22,19 +22,26 @@ fn judged(alloc: Heap, lattice: &Lattice, text: &[u8]) -> u8 {
     }
 }
 
-/// The first row whose text is judged otherwise.
-fn first_other(alloc: Heap, lattice: &Lattice, rows: &[(&[u8], u8)]) -> Option<usize> {
-    for (row, (text, wanted)) in rows.iter().enumerate() {
+/// Whether each text is judged so.
+fn all_judged(alloc: Heap, lattice: &Lattice, rows: &[(&[u8], u8)]) -> bool {
+    for (text, wanted) in rows.iter() {
         if judged(alloc, lattice, text) != *wanted {
-            return Some(row);
+            return false;
         }
     }
-    None
+    true
+}
+
+/// Whether each text is judged so over these classes.
+fn are_judged(alloc: Heap, classes: &[u8], rows: &[(&[u8], u8)]) -> bool {
+    match read_lattice(alloc, classes) {
+        Ok(lattice) => all_judged(alloc, &lattice, rows),
+        Err(_) => false,
+    }
 }
 
 #[test]
-fn judges_flows(rt: HostRuntime) -> Result<(), LatticeError> {
-    let lattice = two(rt.alloc())?;
+fn judges_flows(rt: HostRuntime) {
     let rows: [(&[u8], u8); 12] = [
         (b"var h : H; var l : L; l := h", 25),
         (b"var h : H; var l : L; if h then l := 1 else l := 0", 25),
@@ -61,26 +68,29 @@ fn judges_flows(rt: HostRuntime) -> Result<(), LatticeError> {
         (b"var h : H; letvar t : L := h in t := 1", 25),
         (b"var h : H; letvar t : H := h in t := 1", 100),
     ];
-    assert_eq!(rt; first_other(rt.alloc(), &lattice, &rows), None);
-    Ok(())
+    assert!(rt; are_judged(rt.alloc(), TWO, &rows));
 }
 
-/// The first row whose text isn't refused over two classes with this number at this place.
-fn first_not_refused(
-    alloc: Heap,
-    rows: &[(&[u8], (u8, usize, usize))],
-) -> Result<Option<usize>, LatticeError> {
-    let lattice = two(alloc)?;
-    for (row, (text, wanted)) in rows.iter().enumerate() {
-        if counted(alloc, &lattice, text) != Err(*wanted) {
-            return Ok(Some(row));
+/// Whether each text is refused over the classes with this number at this place.
+fn are_refused(alloc: Heap, lattice: &Lattice, rows: &[(&[u8], (u8, usize, usize))]) -> bool {
+    for (text, wanted) in rows.iter() {
+        if counted(alloc, lattice, text) != Err(*wanted) {
+            return false;
         }
     }
-    Ok(None)
+    true
+}
+
+/// Whether each text is refused so over two classes.
+fn are_refused_over_two(alloc: Heap, rows: &[(&[u8], (u8, usize, usize))]) -> bool {
+    match two(alloc) {
+        Ok(lattice) => are_refused(alloc, &lattice, rows),
+        Err(_) => false,
+    }
 }
 
 #[test]
-fn tells_faults_with_their_places(rt: HostRuntime) -> Result<(), LatticeError> {
+fn tells_faults_with_their_places(rt: HostRuntime) {
     let rows: [(&[u8], (u8, usize, usize)); 14] = [
         (b"x := 1 $ 2", (12, 7, 7)),
         (b"1x := 2", (13, 0, 2)),
@@ -97,25 +107,22 @@ fn tells_faults_with_their_places(rt: HostRuntime) -> Result<(), LatticeError> {
         (b"var x : L; letvar t := t in x := t", (19, 23, 24)),
         (b"var x : L; letvar t : L := t in x := t", (19, 27, 28)),
     ];
-    assert_eq!(rt; first_not_refused(rt.alloc(), &rows)?, None);
-    Ok(())
+    assert!(rt; are_refused_over_two(rt.alloc(), &rows));
 }
 
 /// Each text has two faults, of which the one that is judged first stands last.
 #[test]
-fn judges_the_order_of_faults(rt: HostRuntime) -> Result<(), LatticeError> {
+fn judges_the_order_of_faults(rt: HostRuntime) {
     let rows: [(&[u8], (u8, usize, usize)); 3] = [
         (b"x := := $", (12, 8, 8)),
         (b"x := 1;", (15, 7, 7)),
         (b"var h : H; var l : L; l := h; x := 1", (19, 30, 31)),
     ];
-    assert_eq!(rt; first_not_refused(rt.alloc(), &rows)?, None);
-    Ok(())
+    assert!(rt; are_refused_over_two(rt.alloc(), &rows));
 }
 
 #[test]
-fn judges_incomparable_classes(rt: HostRuntime) -> Result<(), LatticeError> {
-    let lattice = four(rt.alloc())?;
+fn judges_incomparable_classes(rt: HostRuntime) {
     let rows: [(&[u8], u8); 4] = [
         (b"var a : A; var b : B; b := a", 25),
         (b"var a : A; var h : H; h := a", 100),
@@ -128,31 +135,29 @@ fn judges_incomparable_classes(rt: HostRuntime) -> Result<(), LatticeError> {
             25,
         ),
     ];
-    assert_eq!(rt; first_other(rt.alloc(), &lattice, &rows), None);
-    Ok(())
+    assert!(rt; are_judged(rt.alloc(), FOUR, &rows));
 }
 
-/// The first row whose text isn't judged so under the strict profile: whether it is accepted.
-fn first_other_strict(alloc: Heap, lattice: &Lattice, rows: &[(&[u8], bool)]) -> Option<usize> {
-    for (row, (text, wanted)) in rows.iter().enumerate() {
+/// Whether each text is accepted under the strict profile, or refused, as its row says.
+fn all_judged_strictly(alloc: Heap, lattice: &Lattice, rows: &[(&[u8], bool)]) -> bool {
+    for (text, wanted) in rows.iter() {
         if compile_in(alloc, Profile::Strict, lattice, text).is_ok() != *wanted {
-            return Some(row);
+            return false;
         }
     }
-    None
+    true
 }
 
-/// The same over two classes.
-fn first_other_over_two(
-    alloc: Heap,
-    rows: &[(&[u8], bool)],
-) -> Result<Option<usize>, LatticeError> {
-    let lattice = two(alloc)?;
-    Ok(first_other_strict(alloc, &lattice, rows))
+/// Whether each text is judged so under the strict profile over these classes.
+fn are_judged_strictly(alloc: Heap, classes: &[u8], rows: &[(&[u8], bool)]) -> bool {
+    match read_lattice(alloc, classes) {
+        Ok(lattice) => all_judged_strictly(alloc, &lattice, rows),
+        Err(_) => false,
+    }
 }
 
 #[test]
-fn judges_endings_under_the_strict_profile(rt: HostRuntime) -> Result<(), LatticeError> {
+fn judges_endings_under_the_strict_profile(rt: HostRuntime) {
     let rows: [(&[u8], bool); 5] = [
         (b"var h : H; while h do h := h", false),
         (
@@ -163,11 +168,9 @@ fn judges_endings_under_the_strict_profile(rt: HostRuntime) -> Result<(), Lattic
         (b"var x : L; while 1 do x := x", true),
         (b"var x : L; x := 1 + 2", true),
     ];
-    assert_eq!(rt; first_other_over_two(rt.alloc(), &rows)?, None);
-    let middle = four(rt.alloc())?;
+    assert!(rt; are_judged_strictly(rt.alloc(), TWO, &rows));
     let apart: [(&[u8], bool); 1] = [(b"var a : A; while a < 3 do a := a + 1", false)];
-    assert_eq!(rt; first_other_strict(rt.alloc(), &middle, &apart), None);
-    Ok(())
+    assert!(rt; are_judged_strictly(rt.alloc(), FOUR, &apart));
 }
 
 /// Whether a text has this image under the strict profile.

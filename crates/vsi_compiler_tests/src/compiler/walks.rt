@@ -1,10 +1,10 @@
 //! Refused flows, step by step.
 
-use super::{ends_in, four, image_of, two};
+use super::{FOUR, TWO, ends_in, image_of, two};
 use std::alloc::{AllocError, Global};
 use vsi_compiler::{CompileError, classes_text, compile_in, explanation_text};
 use vsi_infer::{Step, Walk};
-use vsi_lattice::{Lattice, LatticeError};
+use vsi_lattice::{Lattice, LatticeError, read_lattice};
 use vsi_scope::Var;
 use vsi_types::Profile;
 
@@ -32,33 +32,26 @@ fn tells(alloc: Global, profile: Profile, lattice: &Lattice, text: &[u8], wanted
     }
 }
 
-/// The first row whose text is not refused so under a profile.
-fn first_other(
-    alloc: Global,
-    profile: Profile,
-    lattice: &Lattice,
-    rows: &[(&[u8], &[u8])],
-) -> Option<usize> {
-    for (row, (text, wanted)) in rows.iter().enumerate() {
+/// Whether each text is refused so under a profile.
+fn all_told(alloc: Global, profile: Profile, lattice: &Lattice, rows: &[(&[u8], &[u8])]) -> bool {
+    for (text, wanted) in rows.iter() {
         if !tells(alloc, profile, lattice, text, wanted) {
-            return Some(row);
+            return false;
         }
     }
-    None
+    true
 }
 
-/// The same over two classes.
-fn first_other_over_two(
-    alloc: Global,
-    profile: Profile,
-    rows: &[(&[u8], &[u8])],
-) -> Result<Option<usize>, LatticeError> {
-    let lattice = two(alloc)?;
-    Ok(first_other(alloc, profile, &lattice, rows))
+/// Whether each text is refused so under a profile over these classes.
+fn are_told(alloc: Global, profile: Profile, classes: &[u8], rows: &[(&[u8], &[u8])]) -> bool {
+    match read_lattice(alloc, classes) {
+        Ok(lattice) => all_told(alloc, profile, &lattice, rows),
+        Err(_) => false,
+    }
 }
 
 #[test]
-fn explains_walks(rt: HostRuntime) -> Result<(), LatticeError> {
+fn explains_walks(rt: HostRuntime) {
     let alloc = rt.alloc();
     let rows: [(&[u8], &[u8]); 6] = [
         (
@@ -86,17 +79,16 @@ fn explains_walks(rt: HostRuntime) -> Result<(), LatticeError> {
             b"1:53 h flows to l by IF at 1:60\nh : H may not flow to l : L\n",
         ),
     ];
-    assert_eq!(rt; first_other_over_two(alloc, Profile::Base, &rows)?, None);
-    let apart = b"var a : A; var b : B; var x : A; letvar t := a + b in x := t";
-    let through =
-        b"1:50 b flows to t by LETVAR at 1:41\n1:60 t flows to x by ASSIGN at 1:55\nb : B may not flow to x : A\n";
-    let four = four(alloc)?;
-    assert!(rt; tells(alloc, Profile::Base, &four, apart, through));
-    Ok(())
+    assert!(rt; are_told(alloc, Profile::Base, TWO, &rows));
+    let apart: [(&[u8], &[u8]); 1] = [(
+        b"var a : A; var b : B; var x : A; letvar t := a + b in x := t",
+        b"1:50 b flows to t by LETVAR at 1:41\n1:60 t flows to x by ASSIGN at 1:55\nb : B may not flow to x : A\n",
+    )];
+    assert!(rt; are_told(alloc, Profile::Base, FOUR, &apart));
 }
 
 #[test]
-fn explains_endings(rt: HostRuntime) -> Result<(), LatticeError> {
+fn explains_endings(rt: HostRuntime) {
     let alloc = rt.alloc();
     let rows: [(&[u8], &[u8]); 3] = [
         (
@@ -112,40 +104,46 @@ fn explains_endings(rt: HostRuntime) -> Result<(), LatticeError> {
             b"1:24 h flows to t by LETVAR at 1:19\n1:35 t flows to (loop) by LOOP at 1:35\nh : H may not flow to (loop) : L\n",
         ),
     ];
-    assert_eq!(rt; first_other_over_two(alloc, Profile::Strict, &rows)?, None);
+    assert!(rt; are_told(alloc, Profile::Strict, TWO, &rows));
     for (text, _) in rows.iter() {
         assert!(rt; image_of(alloc, text).is_some());
     }
-    let apart = b"var a : A; while a < 3 do a := a + 1";
-    let ending = b"1:18 a flows to (loop) by LOOP at 1:18\na : A may not flow to (loop) : L\n";
-    let four = four(alloc)?;
-    assert!(rt; tells(alloc, Profile::Strict, &four, apart, ending));
-    Ok(())
+    let apart: [(&[u8], &[u8]); 1] = [(
+        b"var a : A; while a < 3 do a := a + 1",
+        b"1:18 a flows to (loop) by LOOP at 1:18\na : A may not flow to (loop) : L\n",
+    )];
+    assert!(rt; are_told(alloc, Profile::Strict, FOUR, &apart));
 }
 
-/// The first of the texts of which a walk tells something.
-fn first_told(alloc: Global, lattice: &Lattice, texts: &[&[u8]], walk: &Walk) -> Option<usize> {
-    for (place, text) in texts.iter().enumerate() {
+/// Whether nothing is told of a walk where the text is any of these.
+fn are_silent(alloc: Global, lattice: &Lattice, texts: &[&[u8]], walk: &Walk) -> bool {
+    for text in texts.iter() {
         if !is_told(alloc, lattice, text, walk, b"") {
-            return Some(place);
+            return false;
         }
     }
-    None
+    true
+}
+
+/// Whether a text is refused and nothing is told of its walk with the other texts.
+fn is_told_alone(alloc: Global, lattice: &Lattice, text: &[u8], others: &[&[u8]]) -> bool {
+    match walk_of(alloc, Profile::Base, lattice, text) {
+        Some(walk) => are_silent(alloc, lattice, others, &walk),
+        None => false,
+    }
 }
 
 #[test]
 fn explains_no_walk_of_another_text(rt: HostRuntime) -> Result<(), LatticeError> {
-    let alloc = rt.alloc();
-    let lattice = two(alloc)?;
+    let lattice = two(rt.alloc())?;
     let text = b"var h : H; var l : L; l := h";
-    let walk = walk_of(alloc, Profile::Base, &lattice, text).expect(&rt, "a refused flow");
     let others: [&[u8]; 4] = [
         b"var h : H; var l : L;  l := h",
         b"var h : L; var l : L; l := h",
         b"var h : H; var l : L; l := 1",
         b"x := 1;",
     ];
-    assert_eq!(rt; first_told(alloc, &lattice, &others, &walk), None);
+    assert!(rt; is_told_alone(rt.alloc(), &lattice, text, &others));
     Ok(())
 }
 
