@@ -34,13 +34,13 @@ fn keeps_a_valid_image(rt: HostRuntime) -> Result<(), AllocError> {
     Ok(())
 }
 
-/// The first row whose code with a slot and an operand is refused otherwise.
+/// The first row whose code is refused otherwise with so many slots and operands.
 fn first_other(
     alloc: Global,
-    rows: &[(&[Instr], Option<VerifyError>)],
+    rows: &[(u16, &[Instr], Option<VerifyError>)],
 ) -> Result<Option<usize>, AllocError> {
-    for (row, (code, want)) in rows.iter().enumerate() {
-        if fault(alloc, 1, 1, code)? != *want {
+    for (row, (room, code, want)) in rows.iter().enumerate() {
+        if fault(alloc, *room, *room, code)? != *want {
             return Ok(Some(row));
         }
     }
@@ -50,19 +50,23 @@ fn first_other(
 #[test]
 fn names_the_first_fault(rt: HostRuntime) -> Result<(), AllocError> {
     use Instr::{Halt, Jmp, Load, Push, Store};
-    let rows: [(&[Instr], Option<VerifyError>); 9] = [
-        (&[Push(1), Jmp(0)], Some(VerifyError::NotEmpty(1))),
-        (&[Push(1), Store(0)], Some(VerifyError::RunsOff)),
-        (&[Load(1), Halt], Some(VerifyError::BadSlot(0))),
-        (&[Jmp(2)], Some(VerifyError::BadTarget(0))),
-        (&[Push(1), Push(1), Halt], Some(VerifyError::Overflow(1))),
-        (&[Push(1), Store(0), Jmp(1)], Some(VerifyError::NotEmpty(2))),
-        (&[Store(0), Halt], Some(VerifyError::Underflow(0))),
-        (&[], Some(VerifyError::RunsOff)),
-        (&[Jmp(0)], None),
+    let rows: [(u16, &[Instr], Option<VerifyError>); 10] = [
+        (1, &[Push(1), Jmp(0)], Some(VerifyError::NotEmpty(1))),
+        (1, &[Push(1), Store(0)], Some(VerifyError::RunsOff)),
+        (1, &[Load(1), Halt], Some(VerifyError::BadSlot(0))),
+        (1, &[Jmp(2)], Some(VerifyError::BadTarget(0))),
+        (1, &[Push(1), Push(1), Halt], Some(VerifyError::Overflow(1))),
+        (
+            1,
+            &[Push(1), Store(0), Jmp(1)],
+            Some(VerifyError::NotEmpty(2)),
+        ),
+        (1, &[Store(0), Halt], Some(VerifyError::Underflow(0))),
+        (1, &[], Some(VerifyError::RunsOff)),
+        (1, &[Jmp(0)], None),
+        (0, &[Jmp(0)], None),
     ];
     assert_eq!(rt; first_other(rt.alloc(), &rows)?, None);
-    assert_eq!(rt; fault(rt.alloc(), 0, 0, &[Jmp(0)])?, None);
     Ok(())
 }
 
