@@ -1,61 +1,73 @@
 //! Whole texts through devices.
 
 use crate::engine::fakes::{Failure, drip_of, scant_of};
+use crate::engine::tallies::{given_by, taken_by};
+use std::alloc::{AllocError, Global};
 use std::io;
 use std::test::Fail;
 use vsi_engine::{Counted, EngineError, read_all, write_out};
 
 const TEXT: &[u8] = b"compiled";
 
-#[test]
-fn reads_until_a_fault(rt: HostRuntime) -> Result<(), Fail> {
-    for fails_at in 1..12 {
-        let mut reader = drip_of(TEXT, fails_at);
-        match read_all(rt.alloc(), &mut reader) {
-            Ok(bytes) => {
-                assert!(rt; fails_at > 9 && reader.faults() == 0);
-                assert_eq!(rt; bytes.as_slice(), TEXT);
-                assert_eq!(rt; reader.into_inner().calls, 9);
-            }
-            Err(error) => {
-                assert!(rt; matches!(&error, EngineError::ReadFault), "at {fails_at}");
-                assert!(rt; fails_at <= 9 && reader.faults() == 1);
-                assert_eq!(rt; reader.into_inner().calls, fails_at);
-            }
-        }
+/// Whether the text is read up to the fault of a reader, or to its end in 9 calls.
+fn reads_to_the_fault(alloc: Global, fails_at: u64) -> bool {
+    let mut reader = drip_of(TEXT, fails_at);
+    let answer = read_all(alloc, &mut reader);
+    let given = given_by(reader);
+    match &answer {
+        Ok(bytes) => fails_at > 9 && given.is(9, 0) && bytes.as_slice() == TEXT,
+        Err(EngineError::ReadFault) => fails_at <= 9 && given.is(fails_at, 1),
+        Err(_) => false,
     }
-    Ok(())
+}
+
+#[test]
+fn reads_until_a_fault(rt: HostRuntime) {
+    for fails_at in 1..12 {
+        assert!(rt; reads_to_the_fault(rt.alloc(), fails_at), "at {fails_at}");
+    }
+}
+
+/// How many bytes are read of a reader without end, and how many calls failed.
+fn read_of_endless(alloc: Global) -> Result<(usize, u64), EngineError> {
+    let mut reader = Counted::new(io::repeat(b' '));
+    let bytes = read_all(alloc, &mut reader)?;
+    Ok((bytes.len(), reader.faults()))
 }
 
 #[test]
 fn stops_at_the_limit(rt: HostRuntime) -> Result<(), Fail> {
-    let mut reader = Counted::new(io::repeat(b' '));
-    let bytes = read_all(rt.alloc(), &mut reader)?;
-    assert_eq!(rt; bytes.len(), 1_048_577);
-    assert_eq!(rt; reader.faults(), 0);
+    let (length, faults) = read_of_endless(rt.alloc())?;
+    assert_eq!(rt; length, 1_048_577);
+    assert_eq!(rt; faults, 0);
     Ok(())
+}
+
+/// Whether the text is written up to the fault of a writer, or whole in 8 calls.
+fn writes_to_the_fault(alloc: Global, fails_at: u64, failure: Failure) -> Result<bool, AllocError> {
+    let mut writer = scant_of(alloc, fails_at, failure)?;
+    let answer = write_out(TEXT, &mut writer);
+    let taken = taken_by(writer, TEXT);
+    Ok(match &answer {
+        Ok(()) => fails_at > 8 && taken.is_whole(8),
+        Err(EngineError::WriteFault) => {
+            fails_at <= 8 && taken.is_cut(fails_at) && taken.flushes == 0
+        }
+        Err(_) => false,
+    })
 }
 
 #[test]
 fn writes_until_a_fault(rt: HostRuntime) -> Result<(), Fail> {
-    for failure in [Failure::Refuses, Failure::TakesNothing] {
-        for fails_at in 1..11 {
-            let mut writer = scant_of(rt.alloc(), fails_at, failure)?;
-            let answer = write_out(TEXT, &mut writer);
-            let faults = writer.faults();
-            let writer = writer.into_inner();
-            assert_eq!(rt; writer.flushes, 0);
-            if fails_at <= 8 {
-                assert!(rt; matches!(&answer, Err(EngineError::WriteFault)) && faults == 1);
-                assert!(rt; TEXT.starts_with(writer.bytes.as_slice()));
-                assert_eq!(rt; writer.bytes.len(), (fails_at - 1) as usize);
-                assert_eq!(rt; writer.calls, fails_at);
-            } else {
-                assert!(rt; answer.is_ok() && faults == 0);
-                assert_eq!(rt; writer.bytes.as_slice(), TEXT);
-                assert_eq!(rt; writer.calls, 8);
-            }
-        }
+    for fails_at in 1..11 {
+        assert!(rt;
+            writes_to_the_fault(rt.alloc(), fails_at, Failure::Refuses)?,
+            "at {fails_at}"
+        );
+        assert!(rt;
+            writes_to_the_fault(rt.alloc(), fails_at, Failure::TakesNothing)?,
+            "at {fails_at}"
+        );
     }
     Ok(())
 }

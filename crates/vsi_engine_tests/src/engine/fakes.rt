@@ -83,6 +83,21 @@ impl Write for Scant {
     }
 }
 
+/// The calls, counted from 1, at which a reader and a writer fail, and what the writer does there; at 0 none fails.
+#[derive(Clone, Copy)]
+pub(crate) struct Faults {
+    pub read: u64,
+    pub write: u64,
+    pub failure: Failure,
+}
+
+/// No call fails.
+pub(crate) const NO_FAULTS: Faults = Faults {
+    read: 0,
+    write: 0,
+    failure: Failure::Refuses,
+};
+
 /// The room that a writer is given.
 const ROOM: usize = 64;
 

@@ -1,15 +1,15 @@
 //! Refused lattice files, images, store files and views.
 
-use super::two;
+use super::TWO;
 use std::alloc::{AllocError, Global};
 use std::test::Fail;
 use vsi_faults::{Fault, fault_text};
-use vsi_image::{DecodeError, Image, Instr, Limit, VerifyError, decode, verify};
-use vsi_lattice::{Class, Classes, LatticeError, read_lattice};
+use vsi_image::{DecodeError, Image, Instr, Limit, Verified, VerifyError, decode, verify};
+use vsi_lattice::{Class, Classes, Lattice, LatticeError, read_lattice};
 use vsi_store::{StoreError, ViewError, read_store, view};
 
 /// Whether this is told of a fault.
-fn is_told(alloc: Global, fault: Fault, wanted: &[u8]) -> Result<bool, AllocError> {
+fn is_told(alloc: Global, fault: Fault, wanted: &[u8]) -> Result<bool, Fail> {
     let text = fault_text(alloc, &fault)?;
     Ok(text.as_slice() == wanted)
 }
@@ -42,10 +42,18 @@ fn lattices(rt: HostRuntime) -> Result<(), Fail> {
         ),
         (LatticeError::Memory, b"out of memory\n"),
     ];
-    for (error, wanted) in rows {
-        assert!(rt; is_told(rt.alloc(), Fault::Lattice(error), wanted)?);
+    for (error, wanted) in &rows {
+        assert!(rt; is_told(rt.alloc(), Fault::Lattice(*error), wanted)?);
     }
     Ok(())
+}
+
+/// Whether a lattice file is refused, and told of so.
+fn is_lattice_told(alloc: Global, text: &[u8], wanted: &[u8]) -> Result<bool, Fail> {
+    match read_lattice(alloc, text).err() {
+        None => Ok(false),
+        Some(error) => is_told(alloc, Fault::Lattice(error), wanted),
+    }
 }
 
 #[test]
@@ -76,11 +84,8 @@ fn lattice_files(rt: HostRuntime) -> Result<(), Fail> {
         (b"classes = [\"L\"]", b"refused: 2 BadShape\n"),
         (b"classes = ", b"refused: 1 NotToml\n"),
     ];
-    for (text, wanted) in rows {
-        let error = read_lattice(rt.alloc(), text)
-            .err()
-            .ok_or("the file is refused")?;
-        assert!(rt; is_told(rt.alloc(), Fault::Lattice(error), wanted)?);
+    for (text, wanted) in &rows {
+        assert!(rt; is_lattice_told(rt.alloc(), text, wanted)?);
     }
     Ok(())
 }
@@ -99,8 +104,8 @@ fn bytes_that_are_no_image(rt: HostRuntime) -> Result<(), Fail> {
         ),
         (DecodeError::Memory, b"out of memory\n"),
     ];
-    for (error, wanted) in rows {
-        assert!(rt; is_told(rt.alloc(), Fault::Decode(error), wanted)?);
+    for (error, wanted) in &rows {
+        assert!(rt; is_told(rt.alloc(), Fault::Decode(*error), wanted)?);
     }
     Ok(())
 }
@@ -142,8 +147,8 @@ fn images_that_are_not_valid(rt: HostRuntime) -> Result<(), Fail> {
         (VerifyError::NotEmpty(2), b"refused: 37 NotEmpty 2\n"),
         (VerifyError::RunsOff, b"refused: 38 RunsOff\n"),
     ];
-    for (error, wanted) in rows {
-        assert!(rt; is_told(rt.alloc(), Fault::Verify(error), wanted)?);
+    for (error, wanted) in &rows {
+        assert!(rt; is_told(rt.alloc(), Fault::Verify(*error), wanted)?);
     }
     Ok(())
 }
@@ -162,10 +167,17 @@ fn halting(alloc: Global) -> Result<Image, AllocError> {
     })
 }
 
+/// Whether a store file of the image is refused, and told of so.
+fn is_store_told(alloc: Global, text: &[u8], wanted: &[u8]) -> Result<bool, Fail> {
+    let image = halting(alloc)?;
+    match read_store(alloc, &image, text) {
+        Ok(_) => Ok(false),
+        Err(error) => is_told(alloc, Fault::Store(error), wanted),
+    }
+}
+
 #[test]
 fn store_files(rt: HostRuntime) -> Result<(), Fail> {
-    let alloc = rt.alloc();
-    let image = halting(alloc)?;
     let rows: [(&[u8], &[u8]); 5] = [
         (b"z = 1", b"refused: 42 UnknownGlobal z\n"),
         (b"x = \"a\"", b"refused: 41 NotANumber x\n"),
@@ -173,56 +185,79 @@ fn store_files(rt: HostRuntime) -> Result<(), Fail> {
         (b"x =", b"refused: 40 NotToml\n"),
         (b"\"a key\" = 1", b"refused: 42 UnknownGlobal a key\n"),
     ];
-    for (text, wanted) in rows {
-        let error = read_store(alloc, &image, text)
-            .err()
-            .ok_or("a store file is refused")?;
-        assert!(rt; is_told(alloc, Fault::Store(error), wanted)?);
+    for (text, wanted) in &rows {
+        assert!(rt; is_store_told(rt.alloc(), text, wanted)?);
     }
-    assert!(rt; is_told(alloc, Fault::Store(StoreError::Memory), b"out of memory\n")?);
+    let memory = Fault::Store(StoreError::Memory);
+    assert!(rt; is_told(rt.alloc(), memory, b"out of memory\n")?);
     Ok(())
 }
 
 #[test]
 fn views(rt: HostRuntime) -> Result<(), Fail> {
-    let rows: [(ViewError, &[u8]); 3] = [
-        (ViewError::WrongStore(2), b"refused: 39 WrongStore 2\n"),
-        (
-            ViewError::ClassNotInLattice(30),
-            b"refused: 43 ClassNotInLattice 30\n",
-        ),
-        (ViewError::Memory, b"out of memory\n"),
-    ];
-    for (error, wanted) in rows {
-        assert!(rt; is_told(rt.alloc(), Fault::View(error), wanted)?);
-    }
+    let store = Fault::View(ViewError::WrongStore(2));
+    assert!(rt; is_told(rt.alloc(), store, b"refused: 39 WrongStore 2\n")?);
+    let class = Fault::View(ViewError::ClassNotInLattice(30));
+    assert!(rt; is_told(rt.alloc(), class, b"refused: 43 ClassNotInLattice 30\n")?);
+    let memory = Fault::View(ViewError::Memory);
+    assert!(rt; is_told(rt.alloc(), memory, b"out of memory\n")?);
     Ok(())
+}
+
+/// Whether an image that is read and not valid is told of.
+fn is_image_told(alloc: Global) -> Result<bool, Fail> {
+    let bytes = b"VSI\x01\x00\x00\x00\x00\x00\x02\x00\x00\x00\x02\x04\x0a";
+    match verify(decode(alloc, bytes)?) {
+        Ok(_) => Ok(false),
+        Err((_, error)) => is_told(alloc, Fault::Verify(error), b"refused: 35 Underflow 0\n"),
+    }
+}
+
+/// Whether a view by the least class is refused, and told of so.
+fn is_view_told(
+    alloc: Global,
+    lattice: &Lattice,
+    verified: &Verified,
+    words: &[i64],
+    wanted: &[u8],
+) -> Result<bool, Fail> {
+    match view(alloc, lattice, verified, lattice.bottom(), words, 1) {
+        Ok(_) => Ok(false),
+        Err(error) => is_told(alloc, Fault::View(error), wanted),
+    }
+}
+
+/// Whether a view of the image is refused over a lattice, and told of so.
+fn is_view_told_over(
+    alloc: Global,
+    lattice: &Lattice,
+    words: &[i64],
+    wanted: &[u8],
+) -> Result<bool, Fail> {
+    match verify(halting(alloc)?) {
+        Ok(verified) => is_view_told(alloc, lattice, &verified, words, wanted),
+        Err(_) => Ok(false),
+    }
+}
+
+/// Whether a view of the image is refused over the lattice of a file, and told of so.
+fn is_view_told_by(
+    alloc: Global,
+    classes: &[u8],
+    words: &[i64],
+    wanted: &[u8],
+) -> Result<bool, Fail> {
+    let lattice = read_lattice(alloc, classes)?;
+    is_view_told_over(alloc, &lattice, words, wanted)
 }
 
 /// An image that is read and not valid, and a view of an image by a class that its lattice lacks.
 #[test]
 fn faults_that_are_met(rt: HostRuntime) -> Result<(), Fail> {
-    let alloc = rt.alloc();
-    let bytes = b"VSI\x01\x00\x00\x00\x00\x00\x02\x00\x00\x00\x02\x04\x0a";
-    let image = decode(alloc, bytes).ok().ok_or("the bytes are an image's")?;
-    let (_, error) = verify(image).err().ok_or("the image isn't valid")?;
-    assert!(rt; is_told(alloc, Fault::Verify(error), b"refused: 35 Underflow 0\n")?);
-    let verified = verify(halting(alloc)?).ok().ok_or("the image is valid")?;
-    let other = read_lattice(alloc, b"classes = [\"M\"]\nbelow = []\n")?;
-    let error = view(alloc, &other, &verified, other.bottom(), &[0, 0], 1)
-        .err()
-        .ok_or("a class is lacking")?;
-    assert!(rt;
-        is_told(
-            alloc,
-            Fault::View(error),
-            b"refused: 43 ClassNotInLattice 0\n"
-        )?
-    );
-    let lattice = two(alloc)?;
-    let error = view(alloc, &lattice, &verified, lattice.bottom(), &[0], 1)
-        .err()
-        .ok_or("a word is lacking")?;
-    assert!(rt; is_told(alloc, Fault::View(error), b"refused: 39 WrongStore 1\n")?);
+    assert!(rt; is_image_told(rt.alloc())?);
+    let other = b"classes = [\"M\"]\nbelow = []\n";
+    let lacking = b"refused: 43 ClassNotInLattice 0\n";
+    assert!(rt; is_view_told_by(rt.alloc(), other, &[0, 0], lacking)?);
+    assert!(rt; is_view_told_by(rt.alloc(), TWO, &[0], b"refused: 39 WrongStore 1\n")?);
     Ok(())
 }

@@ -1,23 +1,62 @@
 //! Refused source texts.
 
-use super::two;
+use super::TWO;
 use std::alloc::{AllocError, Global};
 use std::test::Fail;
 use vsi_compiler::{CompileError, compile};
 use vsi_faults::refusal_text;
 use vsi_lattice::{Lattice, read_lattice};
 
-/// What is told of a text that is refused.
-fn told_of(alloc: Global, lattice: &Lattice, text: &[u8]) -> Result<Option<Vec<u8>>, AllocError> {
+/// Whether this is told of an error by a text.
+fn is_text(
+    alloc: Global,
+    lattice: &Lattice,
+    text: &[u8],
+    error: &CompileError,
+    wanted: &[u8],
+) -> Result<bool, Fail> {
+    let told = refusal_text(alloc, lattice, text, error)?;
+    Ok(told.as_slice() == wanted)
+}
+
+/// Whether a text is refused over a lattice, and this is told of it by another text.
+fn is_told_over(
+    alloc: Global,
+    lattice: &Lattice,
+    text: &[u8],
+    other: &[u8],
+    wanted: &[u8],
+) -> Result<bool, Fail> {
     match compile(alloc, lattice, text) {
-        Ok(_) => Ok(None),
-        Err(error) => Ok(Some(refusal_text(alloc, lattice, text, &error)?)),
+        Ok(_) => Ok(false),
+        Err(error) => is_text(alloc, lattice, other, &error, wanted),
     }
+}
+
+/// Whether a text is refused over the lattice of a file, and this is told of it by another text.
+fn is_told_by(
+    alloc: Global,
+    classes: &[u8],
+    text: &[u8],
+    other: &[u8],
+    wanted: &[u8],
+) -> Result<bool, Fail> {
+    let lattice = read_lattice(alloc, classes)?;
+    is_told_over(alloc, &lattice, text, other, wanted)
+}
+
+/// Whether each text is refused over two classes, and told of so.
+fn are_told(alloc: Global, rows: &[(&[u8], &[u8])]) -> Result<bool, Fail> {
+    for (text, wanted) in rows {
+        if !is_told_by(alloc, TWO, text, text, wanted)? {
+            return Ok(false);
+        }
+    }
+    Ok(true)
 }
 
 #[test]
 fn words_trees_and_scopes(rt: HostRuntime) -> Result<(), Fail> {
-    let lattice = two(rt.alloc())?;
     let rows: [(&[u8], &[u8]); 14] = [
         (b"x := 1 $ 2", b"refused: 12 BadByte 1:8\n"),
         (b"1x := 2", b"refused: 13 BadWord 1:1\n"),
@@ -49,10 +88,7 @@ fn words_trees_and_scopes(rt: HostRuntime) -> Result<(), Fail> {
             b"refused: 19 Unbound 3:9\n",
         ),
     ];
-    for (text, wanted) in rows {
-        let told = told_of(rt.alloc(), &lattice, text)?;
-        assert!(rt; told.as_deref() == Some(wanted));
-    }
+    assert!(rt; are_told(rt.alloc(), &rows)?);
     Ok(())
 }
 
@@ -85,48 +121,30 @@ fn with_globals(alloc: Global, count: u32) -> Result<Vec<u8>, AllocError> {
     Ok(text)
 }
 
+/// Whether a text is refused over two classes, and told of so.
+fn is_told(alloc: Global, text: Vec<u8>, wanted: &[u8]) -> Result<bool, Fail> {
+    is_told_by(alloc, TWO, &text, &text, wanted)
+}
+
 #[test]
 fn limits(rt: HostRuntime) -> Result<(), Fail> {
     let alloc = rt.alloc();
-    let lattice = two(alloc)?;
-    let rows: [(Vec<u8>, &[u8]); 5] = [
-        (
-            repeated(alloc, b"var x : L; x := 1 + 2", b" ", 1048556, b"")?,
-            b"refused: 11 TooLong\n",
-        ),
-        (
-            repeated(alloc, b"var x : L; x := ", b"(", 201, b"1")?,
-            b"refused: 16 TooDeep 1:217\n",
-        ),
-        (
-            with_globals(alloc, 257)?,
-            b"refused: 20 TooManyGlobals 1:3333\n",
-        ),
-        (
-            repeated(
-                alloc,
-                b"var x : L; ",
-                b"letvar t := 0 in x := 1; ",
-                1024,
-                b"x := 1",
-            )?,
-            b"refused: 21 TooManyDeclarations 1:25594\n",
-        ),
-        (
-            repeated(alloc, b"var x : L; ", b"x := 1;", 32767, b"x := 1")?,
-            b"refused: 22 TooLarge\n",
-        ),
-    ];
-    for (text, wanted) in &rows {
-        let told = told_of(alloc, &lattice, text)?;
-        assert!(rt; told.as_deref() == Some(*wanted));
-    }
+    let long = repeated(alloc, b"var x : L; x := 1 + 2", b" ", 1048556, b"")?;
+    assert!(rt; is_told(alloc, long, b"refused: 11 TooLong\n")?);
+    let deep = repeated(alloc, b"var x : L; x := ", b"(", 201, b"1")?;
+    assert!(rt; is_told(alloc, deep, b"refused: 16 TooDeep 1:217\n")?);
+    let globals = with_globals(alloc, 257)?;
+    assert!(rt; is_told(alloc, globals, b"refused: 20 TooManyGlobals 1:3333\n")?);
+    let part = b"letvar t := 0 in x := 1; ";
+    let letvars = repeated(alloc, b"var x : L; ", part, 1024, b"x := 1")?;
+    assert!(rt; is_told(alloc, letvars, b"refused: 21 TooManyDeclarations 1:25594\n")?);
+    let large = repeated(alloc, b"var x : L; ", b"x := 1;", 32767, b"x := 1")?;
+    assert!(rt; is_told(alloc, large, b"refused: 22 TooLarge\n")?);
     Ok(())
 }
 
 #[test]
 fn flows(rt: HostRuntime) -> Result<(), Fail> {
-    let lattice = two(rt.alloc())?;
     let rows: [(&[u8], &[u8]); 6] = [
         (
             b"var h : H; var l : L; l := h",
@@ -153,45 +171,45 @@ fn flows(rt: HostRuntime) -> Result<(), Fail> {
             b"refused: 25 Refused\n3:7 h flows to l by WHILE at 4:3\nh : H may not flow to l : L\n",
         ),
     ];
-    for (text, wanted) in rows {
-        let told = told_of(rt.alloc(), &lattice, text)?;
-        assert!(rt; told.as_deref() == Some(wanted));
-    }
+    assert!(rt; are_told(rt.alloc(), &rows)?);
     Ok(())
 }
 
 #[test]
 fn flows_between_four_classes(rt: HostRuntime) -> Result<(), Fail> {
-    let lattice = read_lattice(
-        rt.alloc(),
-        b"classes = [\"L\", \"A\", \"B\", \"H\"]\nbelow = [[\"L\", \"A\"], [\"L\", \"B\"], [\"A\", \"H\"], [\"B\", \"H\"]]\n",
-    )?;
+    let classes =
+        b"classes = [\"L\", \"A\", \"B\", \"H\"]\nbelow = [[\"L\", \"A\"], [\"L\", \"B\"], [\"A\", \"H\"], [\"B\", \"H\"]]\n";
     let text = b"var a : A; var b : B; var x : A; letvar t := a + b in x := t";
     let wanted =
         b"refused: 25 Refused\n1:50 b flows to t by LETVAR at 1:41\n1:60 t flows to x by ASSIGN at 1:55\nb : B may not flow to x : A\n";
-    let told = told_of(rt.alloc(), &lattice, text)?;
-    assert!(rt; told.as_deref() == Some(wanted.as_slice()));
+    assert!(rt; is_told_by(rt.alloc(), classes, text, text, wanted)?);
     Ok(())
+}
+
+/// Whether the refusal of a flow is told of by another text with no explanation.
+fn is_not_explained(alloc: Global, other: &[u8]) -> Result<bool, Fail> {
+    let text = b"var h : H; var l : L; l := h";
+    is_told_by(alloc, TWO, text, other, b"refused: 25 Refused\n")
+}
+
+/// Whether want of memory is told of.
+fn is_memory_told(alloc: Global) -> Result<bool, Fail> {
+    let lattice = read_lattice(alloc, TWO)?;
+    is_text(
+        alloc,
+        &lattice,
+        b"",
+        &CompileError::Memory,
+        b"out of memory\n",
+    )
 }
 
 /// A walk is explained by the text that it is bad in alone.
 #[test]
 fn a_flow_of_another_text(rt: HostRuntime) -> Result<(), Fail> {
-    let alloc = rt.alloc();
-    let lattice = two(alloc)?;
-    let error = compile(alloc, &lattice, b"var h : H; var l : L; l := h")
-        .err()
-        .ok_or("a flow is refused")?;
-    let others: [&[u8]; 3] = [
-        b"var h : H; var l : L; h := l",
-        b"var h : H; var l : H; l := h",
-        b"",
-    ];
-    for other in others {
-        let text = refusal_text(alloc, &lattice, other, &error)?;
-        assert_eq!(rt; text.as_slice(), b"refused: 25 Refused\n".as_slice());
-    }
-    let text = refusal_text(alloc, &lattice, b"", &CompileError::Memory)?;
-    assert_eq!(rt; text.as_slice(), b"out of memory\n".as_slice());
+    assert!(rt; is_not_explained(rt.alloc(), b"var h : H; var l : L; h := l")?);
+    assert!(rt; is_not_explained(rt.alloc(), b"var h : H; var l : H; l := h")?);
+    assert!(rt; is_not_explained(rt.alloc(), b"")?);
+    assert!(rt; is_memory_told(rt.alloc())?);
     Ok(())
 }
