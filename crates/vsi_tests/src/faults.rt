@@ -1,8 +1,20 @@
 //! The texts of refused lattice files and images.
 
-use super::devices::{THREE, TWO, show};
+use super::devices::{THREE, TWO};
+use super::tables::{are_refused, shows};
 use std::alloc::{AllocError, Global};
 use std::test::Fail;
+
+/// Whether a lattice file is refused before the next file is read.
+fn is_lattice_refused(alloc: Global, lattice: &str, refusal: &str) -> Result<bool, AllocError> {
+    let stored = [("lattice", lattice.as_bytes())];
+    let lines = [
+        "check lattice absent",
+        "build lattice absent made",
+        "view lattice absent --class L --budget 1",
+    ];
+    are_refused(alloc, &stored, &lines, refusal)
+}
 
 #[test]
 fn judges_lattices(rt: HostRuntime) -> Result<(), Fail> {
@@ -32,17 +44,11 @@ fn judges_lattices(rt: HostRuntime) -> Result<(), Fail> {
             "10 NoMeet 0 1",
         ),
     ];
-    for (lattice, refusal) in rows {
-        let stored = [("lattice", lattice.as_bytes())];
-        let error = format!(in rt.alloc(); "refused: {refusal}\n")?;
-        for line in [
-            "check lattice absent",
-            "build lattice absent made",
-            "view lattice absent --class L --budget 1",
-        ] {
-            let found = show(rt.alloc(), line, stored.as_slice())?;
-            assert!(rt; found.is(1, "", error.as_str()), "at {refusal} by {line}");
-        }
+    for (lattice, refusal) in &rows {
+        assert!(rt;
+            is_lattice_refused(rt.alloc(), lattice, refusal)?,
+            "at {refusal}"
+        );
     }
     Ok(())
 }
@@ -55,6 +61,34 @@ fn patched(alloc: Global, bytes: &[u8], place: usize, patch: &[u8]) -> Result<Ve
         made.push(*other.unwrap_or(byte))?;
     }
     Ok(made)
+}
+
+/// Whether the image is refused with these bytes in place of its own from a place on.
+fn is_patch_refused(
+    alloc: Global,
+    place: usize,
+    patch: &[u8],
+    refusal: &str,
+) -> Result<bool, AllocError> {
+    let image = patched(alloc, THREE, place, patch)?;
+    let stored = [("image", image.as_slice())];
+    let lines = ["list image", "run image --budget 3"];
+    are_refused(alloc, &stored, &lines, refusal)
+}
+
+/// Whether the image is refused with a byte behind it.
+fn is_longer_refused(alloc: Global) -> Result<bool, AllocError> {
+    let mut longer = Vec::from_slice(alloc, THREE)?;
+    longer.push(0)?;
+    let stored = [("image", longer.as_slice())];
+    shows(
+        alloc,
+        &stored,
+        "list image",
+        1,
+        "",
+        "refused: 32 Trailing 31\n",
+    )
 }
 
 #[test]
@@ -76,53 +110,72 @@ fn decodes_images(rt: HostRuntime) -> Result<(), Fail> {
         (27, b"\x0a", "30 BadOpcode 28"),
         (13, b"\x02", "32 Trailing 30"),
     ];
-    for (place, patch, refusal) in rows {
-        let image = patched(rt.alloc(), THREE, place, patch)?;
-        let stored = [("image", image.as_slice())];
-        let error = format!(in rt.alloc(); "refused: {refusal}\n")?;
-        for line in ["list image", "run image --budget 3"] {
-            let found = show(rt.alloc(), line, stored.as_slice())?;
-            assert!(rt; found.is(1, "", error.as_str()), "at {refusal} by {line}");
+    for (place, patch, refusal) in &rows {
+        assert!(rt;
+            is_patch_refused(rt.alloc(), *place, patch, refusal)?,
+            "at {refusal}"
+        );
+    }
+    assert!(rt; is_longer_refused(rt.alloc())?);
+    Ok(())
+}
+
+/// The place of the field of the image that stands around or behind so many bytes.
+fn field_at(length: usize) -> usize {
+    let mut place = 0;
+    for start in &[0, 3, 4, 6, 8, 10, 14, 15, 16, 17, 18, 19, 27, 28, 30] {
+        if *start <= length {
+            place = *start;
         }
     }
-    let mut longer = Vec::from_slice(rt.alloc(), THREE)?;
-    longer.push(0)?;
-    let stored = [("image", longer.as_slice())];
-    let found = show(rt.alloc(), "list image", stored.as_slice())?;
-    assert!(rt; found.is(1, "", "refused: 32 Trailing 31\n"));
-    Ok(())
+    place
+}
+
+/// Whether the first bytes of the image are refused by the field that they end in.
+fn is_cut_refused(alloc: Global, cut: &[u8]) -> Result<bool, AllocError> {
+    let place = field_at(cut.len());
+    let error = format!(in alloc; "refused: 31 Truncated {place}\n")?;
+    let stored = [("image", cut)];
+    shows(alloc, &stored, "list image", 1, "", error.as_str())
 }
 
 #[test]
 fn decodes_cut_images(rt: HostRuntime) -> Result<(), Fail> {
-    let starts = [0, 3, 4, 6, 8, 10, 14, 15, 16, 17, 18, 19, 27, 28, 30];
-    let mut cut = Vec::new(rt.alloc());
-    for byte in THREE {
-        let length = cut.len();
-        let start = starts.iter().filter(|start| **start <= length).max();
-        let place = start.copied().unwrap_or(0);
-        let error = format!(in rt.alloc(); "refused: 31 Truncated {place}\n")?;
-        let stored = [("image", cut.as_slice())];
-        let found = show(rt.alloc(), "list image", stored.as_slice())?;
-        assert!(rt; found.is(1, "", error.as_str()), "at {length}");
-        cut.push(*byte)?;
+    for length in 0..THREE.len() {
+        assert!(rt;
+            is_cut_refused(rt.alloc(), &THREE[..length])?,
+            "at {length}"
+        );
     }
-    assert!(rt; cut.len() == 31);
+    assert!(rt; THREE.len() == 31);
     Ok(())
 }
 
-/// The bytes of an image without globals, of the first version.
-fn image(alloc: Global, head: [u8; 3], code: &[u8]) -> Result<Vec<u8>, AllocError> {
+/// The bytes of an image without globals, of the first version, whose code is so many pushes and the rest.
+fn image(alloc: Global, head: [u8; 3], pushes: usize, rest: &[u8]) -> Result<Vec<u8>, AllocError> {
     let [slots, stack, count] = head;
     let mut bytes = Vec::from_slice(alloc, b"VSI\x01\x00\x00")?;
     bytes.extend_from_slice(&[0, slots, 0, stack, 0, 0, 0, count])?;
-    bytes.extend_from_slice(code)?;
+    for _ in 0..pushes {
+        bytes.extend_from_slice(b"\x01\x00\x00\x00\x00\x00\x00\x00\x01")?;
+    }
+    bytes.extend_from_slice(rest)?;
     Ok(bytes)
+}
+
+/// Whether an image is refused as one that isn't valid.
+fn is_not_valid(alloc: Global, image: Vec<u8>, refusal: &str) -> Result<bool, AllocError> {
+    let stored = [("image", image.as_slice()), ("k2", TWO)];
+    let lines = [
+        "list image",
+        "run image --budget 9",
+        "view k2 image --class L --budget 9",
+    ];
+    are_refused(alloc, &stored, &lines, refusal)
 }
 
 #[test]
 fn verifies_images(rt: HostRuntime) -> Result<(), Fail> {
-    let one: &[u8] = b"\x01\x00\x00\x00\x00\x00\x00\x00\x01";
     let rows: [([u8; 3], usize, &[u8], &str); 9] = [
         ([1, 1, 2], 0, b"\x02\x00\x01\x0a", "33 BadSlot 0"),
         ([1, 1, 1], 0, b"\x09\x00\x00\x00\x02", "34 BadTarget 0"),
@@ -139,23 +192,9 @@ fn verifies_images(rt: HostRuntime) -> Result<(), Fail> {
         ([1, 1, 2], 1, b"\x03\x00\x00", "38 RunsOff"),
         ([1, 1, 0], 0, b"", "38 RunsOff"),
     ];
-    for (head, pushes, rest, refusal) in rows {
-        let mut code = Vec::new(rt.alloc());
-        for _ in 0..pushes {
-            code.extend_from_slice(one)?;
-        }
-        code.extend_from_slice(rest)?;
-        let bytes = image(rt.alloc(), head, code.as_slice())?;
-        let stored = [("image", bytes.as_slice()), ("k2", TWO)];
-        let error = format!(in rt.alloc(); "refused: {refusal}\n")?;
-        for line in [
-            "list image",
-            "run image --budget 9",
-            "view k2 image --class L --budget 9",
-        ] {
-            let found = show(rt.alloc(), line, stored.as_slice())?;
-            assert!(rt; found.is(1, "", error.as_str()), "at {refusal} by {line}");
-        }
+    for (head, pushes, rest, refusal) in &rows {
+        let bytes = image(rt.alloc(), *head, *pushes, rest)?;
+        assert!(rt; is_not_valid(rt.alloc(), bytes, refusal)?, "at {refusal}");
     }
     Ok(())
 }

@@ -1,7 +1,16 @@
 //! What `build`, `list`, `run` and `view` show of images.
 
 use super::devices::{FOUR, THREE, TWO, image_of, show};
+use super::tables::{Row, Stored, all_show, shows};
+use std::alloc::{AllocError, Global};
 use std::test::Fail;
+
+/// Whether `build` fills a file with these bytes, and shows nothing.
+fn is_filled(alloc: Global, source: &str, bytes: &[u8]) -> Result<bool, AllocError> {
+    let stored = [("k2", TWO), ("source", source.as_bytes())];
+    let found = show(alloc, "build k2 source made", &stored)?;
+    Ok(found.is(0, "", "") && found.written.as_slice() == bytes)
+}
 
 #[test]
 fn fills_image_files(rt: HostRuntime) -> Result<(), Fail> {
@@ -26,13 +35,23 @@ fn fills_image_files(rt: HostRuntime) -> Result<(), Fail> {
             \x02\x00\x00\x02\x00\x01\x0b\x03\x00\x00\x0a",
         ),
     ];
-    for (source, bytes) in rows {
-        let stored = [("k2", TWO), ("source", source.as_bytes())];
-        let found = show(rt.alloc(), "build k2 source made", stored.as_slice())?;
-        assert!(rt; found.is(0, "", ""), "at {source}");
-        assert_eq!(rt; found.written.as_slice(), bytes, "at {source}");
+    for (source, bytes) in &rows {
+        assert!(rt; is_filled(rt.alloc(), source, bytes)?, "at {source}");
     }
     Ok(())
+}
+
+/// Whether a build under the strict profile shows nothing, and fills a file with what one under the base profile does.
+fn is_built_alike(alloc: Global, stored: &[Stored]) -> Result<bool, AllocError> {
+    let base = show(alloc, "build k2 three made", stored)?;
+    let strict = show(alloc, "build k2 three made --strict", stored)?;
+    Ok(strict.is(0, "", "") && strict.written.as_slice() == base.written.as_slice())
+}
+
+/// Whether a loop is refused by this error under the strict profile, before a file is made.
+fn is_refused(alloc: Global, stored: &[Stored], error: &str) -> Result<bool, AllocError> {
+    let refused = show(alloc, "build --strict k2 turns made", stored)?;
+    Ok(refused.is(1, "", error) && refused.log.as_str() == "k2 turns")
 }
 
 #[test]
@@ -42,24 +61,18 @@ fn builds_the_same_under_each_profile(rt: HostRuntime) -> Result<(), Fail> {
         ("three", b"var x : L; x := 1 + 2".as_slice()),
         ("turns", b"var h : H; while h do h := h".as_slice()),
     ];
-    let base = show(rt.alloc(), "build k2 three made", stored.as_slice())?;
-    let strict = show(
-        rt.alloc(),
-        "build k2 three made --strict",
-        stored.as_slice(),
-    )?;
-    assert!(rt; strict.is(0, "", ""));
-    assert_eq!(rt; strict.written, base.written);
-    let refused = show(
-        rt.alloc(),
-        "build --strict k2 turns made",
-        stored.as_slice(),
-    )?;
+    assert!(rt; is_built_alike(rt.alloc(), &stored)?);
     let error = "refused: 25 Refused\n1:18 h flows to (loop) by LOOP at 1:18\n\
         h : H may not flow to (loop) : L\n";
-    assert!(rt; refused.is(1, "", error));
-    assert_eq!(rt; refused.log.as_str(), "k2 turns");
+    assert!(rt; is_refused(rt.alloc(), &stored, error)?);
     Ok(())
+}
+
+/// Whether the image of a source text is listed so.
+fn is_listed(alloc: Global, source: &str, listing: &str) -> Result<bool, AllocError> {
+    let image = image_of(alloc, TWO, source)?;
+    let stored = [("image", image.as_slice())];
+    shows(alloc, &stored, "list image", 0, listing, "")
 }
 
 #[test]
@@ -86,11 +99,8 @@ fn lists_images(rt: HostRuntime) -> Result<(), Fail> {
             12: LOAD 0\n13: ADD\n14: LT\n15: STORE 0\n16: HALT\n",
         ),
     ];
-    for (source, listing) in rows {
-        let image = image_of(rt.alloc(), TWO, source)?;
-        let stored = [("image", image.as_slice())];
-        let found = show(rt.alloc(), "list image", stored.as_slice())?;
-        assert!(rt; found.is(0, listing, ""), "at {source}");
+    for (source, listing) in &rows {
+        assert!(rt; is_listed(rt.alloc(), source, listing)?, "at {source}");
     }
     Ok(())
 }
@@ -126,11 +136,29 @@ fn runs_for_a_budget(rt: HostRuntime) -> Result<(), Fail> {
             b"VSI\x01\x00\x00\x00\x00\x00\x00\x00\x00\x00\x01\x09\x00\x00\x00\x00".as_slice(),
         ),
     ];
-    for (line, status, output, error) in rows {
-        let found = show(rt.alloc(), line, stored.as_slice())?;
-        assert!(rt; found.is(status, output, error), "at {line}");
-    }
-    Ok(())
+    all_show(rt.alloc(), &stored, &rows)
+}
+
+/// A source text, a store file, a budget, the status, and what the output and the error stream are given.
+type Run<'a> = (&'a str, &'a str, &'a str, u8, &'a str, &'a str);
+
+/// Whether an image runs so from a store file.
+fn is_run<'a>(
+    alloc: Global,
+    image: &'a [u8],
+    store: &'a [u8],
+    row: &Run,
+) -> Result<bool, AllocError> {
+    let (_, _, budget, status, output, error) = row;
+    let line = format!(in alloc; "run image --store store --budget {budget}")?;
+    let stored = [("image", image), ("store", store)];
+    shows(alloc, &stored, line.as_str(), *status, output, error)
+}
+
+/// Whether the image of a source text runs so from a store file.
+fn is_built_and_run(alloc: Global, row: &Run) -> Result<bool, AllocError> {
+    let image = image_of(alloc, TWO, row.0)?;
+    is_run(alloc, image.as_slice(), row.1.as_bytes(), row)
 }
 
 #[test]
@@ -180,29 +208,33 @@ fn runs_from_stores(rt: HostRuntime) -> Result<(), Fail> {
             "refused: 40 NotToml\n",
         ),
     ];
-    for (source, store, budget, status, output, error) in rows {
-        let image = image_of(rt.alloc(), TWO, source)?;
-        let stored = [("image", image.as_slice()), ("store", store.as_bytes())];
-        let line = format!(in rt.alloc(); "run image --store store --budget {budget}")?;
-        let found = show(rt.alloc(), line.as_str(), stored.as_slice())?;
-        assert!(rt; found.is(status, output, error), "at {source} from {store}");
+    for row in &rows {
+        let (source, store, ..) = row;
+        assert!(rt;
+            is_built_and_run(rt.alloc(), row)?,
+            "at {source} from {store}"
+        );
     }
     Ok(())
 }
 
-#[test]
-fn views_runs(rt: HostRuntime) -> Result<(), Fail> {
-    let image = image_of(rt.alloc(), TWO, "var h : H; var l : L; l := l + 1; h := l")?;
+/// Fails at the first view of the image that shows something else.
+fn all_view(alloc: Global, image: &[u8], rows: &[Row]) -> Result<(), Fail> {
     let stored = [
         ("k2", TWO),
         ("k4", FOUR),
         ("one", b"classes = [\"L\"]\nbelow = []\n".as_slice()),
         ("other", b"classes = [\"H\"]\nbelow = []\n".as_slice()),
-        ("image", image.as_slice()),
+        ("image", image),
         ("five", b"h = 5\nl = 1\n".as_slice()),
         ("nine", b"h = 9\nl = 1\n".as_slice()),
         ("odd", b"z = 1\n".as_slice()),
     ];
+    all_show(alloc, &stored, rows)
+}
+
+#[test]
+fn views_runs(rt: HostRuntime) -> Result<(), Fail> {
     let spent = "out of budget\n";
     let rows = [
         (
@@ -275,9 +307,6 @@ fn views_runs(rt: HostRuntime) -> Result<(), Fail> {
             "refused: 42 UnknownGlobal z\n",
         ),
     ];
-    for (line, status, output, error) in rows {
-        let found = show(rt.alloc(), line, stored.as_slice())?;
-        assert!(rt; found.is(status, output, error), "at {line}");
-    }
-    Ok(())
+    let image = image_of(rt.alloc(), TWO, "var h : H; var l : L; l := l + 1; h := l")?;
+    all_view(rt.alloc(), image.as_slice(), &rows)
 }

@@ -1,6 +1,8 @@
 //! What `check` and `classes` show of source texts, under each profile, and `fmt`.
 
-use super::devices::{FOUR, TWO, show};
+use super::devices::{FOUR, TWO};
+use super::tables::{Row, all_show, failed_at, shows};
+use std::alloc::{AllocError, Global};
 use std::test::Fail;
 
 /// Values pass through two variables, the later one first, so that a single pass would miss one.
@@ -11,7 +13,8 @@ const JOIN: &[u8] = b"var a : A; var b : B; var h : H; letvar t := a + b in h :=
 
 const APART: &[u8] = b"var a : A; var b : B; var x : A; letvar t := a + b in x := t";
 
-const FILES: [(&str, &[u8]); 15] = [
+/// The files that a command line can name.
+static FILES: [(&str, &[u8]); 15] = [
     ("k2", TWO),
     ("k4", FOUR),
     ("one", b"classes = [\"L\"]\nbelow = []\n"),
@@ -34,39 +37,67 @@ const FILES: [(&str, &[u8]); 15] = [
 
 #[test]
 fn accepts_sources(rt: HostRuntime) -> Result<(), Fail> {
-    let rows = [
-        ("check k2 three", "accepted\n"),
-        ("check one three", "accepted\n"),
-        ("check k2 low", "accepted\n"),
-        ("check k2 copies", "accepted\n"),
-        ("check k2 copies --strict", "accepted\n"),
-        ("check k2 turns", "accepted\n"),
-        ("check k2 hidden", "accepted\n"),
-        ("check k2 passed", "accepted\n"),
-        ("check k4 counted", "accepted\n"),
-        ("check k4 up", "accepted\n"),
-        ("check k4 join", "accepted\n"),
+    let rows: [Row; 16] = [
+        ("check k2 three", 0, "accepted\n", ""),
+        ("check one three", 0, "accepted\n", ""),
+        ("check k2 low", 0, "accepted\n", ""),
+        ("check k2 copies", 0, "accepted\n", ""),
+        ("check k2 copies --strict", 0, "accepted\n", ""),
+        ("check k2 turns", 0, "accepted\n", ""),
+        ("check k2 hidden", 0, "accepted\n", ""),
+        ("check k2 passed", 0, "accepted\n", ""),
+        ("check k4 counted", 0, "accepted\n", ""),
+        ("check k4 up", 0, "accepted\n", ""),
+        ("check k4 join", 0, "accepted\n", ""),
         (
             "classes k4 join",
+            0,
             "1:5 a : A\n1:16 b : B\n1:27 h : H\n1:41 t : H\n",
+            "",
         ),
         (
             "classes --strict k4 join",
+            0,
             "1:5 a : A\n1:16 b : B\n1:27 h : H\n1:41 t : H\n",
+            "",
         ),
         (
             "classes k2 copies",
+            0,
             "1:5 h : H\n1:16 l : L\n1:30 a : H\n1:47 b : H\n",
+            "",
         ),
         (
             "classes k2 copies --strict",
+            0,
             "1:5 h : H\n1:16 l : L\n1:30 a : H\n1:47 b : H\n",
+            "",
         ),
-        ("classes k2 passed", "1:5 h : H\n1:19 t : H\n"),
+        ("classes k2 passed", 0, "1:5 h : H\n1:19 t : H\n", ""),
     ];
-    for (line, output) in rows {
-        let found = show(rt.alloc(), line, FILES.as_slice())?;
-        assert!(rt; found.is(0, output, ""), "at {line}");
+    all_show(rt.alloc(), &FILES, &rows)
+}
+
+/// Whether a subcommand ends by this error.
+fn is_refused_by(alloc: Global, word: &str, words: &str, error: &str) -> Result<bool, AllocError> {
+    let line = format!(in alloc; "{word} {words}")?;
+    shows(alloc, &FILES, line.as_str(), 1, "", error)
+}
+
+/// Whether a flow is refused by `check` and by `classes`, and explained so.
+fn is_refused(alloc: Global, words: &str, lines: &str) -> Result<bool, AllocError> {
+    let error = format!(in alloc; "refused: 25 Refused\n{lines}")?;
+    let is_checked = is_refused_by(alloc, "check", words, error.as_str())?;
+    let is_classed = is_refused_by(alloc, "classes", words, error.as_str())?;
+    Ok(is_checked && is_classed)
+}
+
+/// Fails at the first words by which no flow is refused and explained so.
+fn all_are_refused(alloc: Global, rows: &[(&str, &str)]) -> Result<(), Fail> {
+    for (words, lines) in rows {
+        if !is_refused(alloc, words, lines)? {
+            return Err(failed_at(words));
+        }
     }
     Ok(())
 }
@@ -109,15 +140,7 @@ fn refuses_flows(rt: HostRuntime) -> Result<(), Fail> {
             "1:18 a flows to (loop) by LOOP at 1:18\na : A may not flow to (loop) : L\n",
         ),
     ];
-    for (words, lines) in rows {
-        let error = format!(in rt.alloc(); "refused: 25 Refused\n{lines}")?;
-        for word in ["check", "classes"] {
-            let line = format!(in rt.alloc(); "{word} {words}")?;
-            let found = show(rt.alloc(), line.as_str(), FILES.as_slice())?;
-            assert!(rt; found.is(1, "", error.as_str()), "at {line}");
-        }
-    }
-    Ok(())
+    all_are_refused(rt.alloc(), &rows)
 }
 
 #[test]
@@ -126,8 +149,19 @@ fn accepts_loops_on_the_least_class(rt: HostRuntime) -> Result<(), Fail> {
         ("k2", TWO),
         ("endless", b"var x : L; while 1 do x := x".as_slice()),
     ];
-    let found = show(rt.alloc(), "check k2 endless --strict", stored.as_slice())?;
-    assert!(rt; found.is(0, "accepted\n", ""));
+    let line = "check k2 endless --strict";
+    assert!(rt; shows(rt.alloc(), &stored, line, 0, "accepted\n", "")?);
+    Ok(())
+}
+
+/// Fails at the first source text that `fmt` shows otherwise.
+fn all_are_formatted(alloc: Global, rows: &[Row]) -> Result<(), Fail> {
+    for (source, status, output, error) in rows {
+        let stored = [("source", source.as_bytes())];
+        if !shows(alloc, &stored, "fmt source", *status, output, error)? {
+            return Err(failed_at(source));
+        }
+    }
     Ok(())
 }
 
@@ -149,10 +183,5 @@ fn formats_sources(rt: HostRuntime) -> Result<(), Fail> {
         ("x := 1 $ 2", 1, "", "refused: 12 BadByte 1:8\n"),
         ("x := 1;", 1, "", "refused: 15 Unexpected 1:8\n"),
     ];
-    for (source, status, output, error) in rows {
-        let stored = [("source", source.as_bytes())];
-        let found = show(rt.alloc(), "fmt source", stored.as_slice())?;
-        assert!(rt; found.is(status, output, error), "at {source}");
-    }
-    Ok(())
+    all_are_formatted(rt.alloc(), &rows)
 }

@@ -19,3 +19,5 @@ mod order;
 mod rows;
 #[cfg(test)]
 mod stores;
+#[cfg(test)]
+mod tables;

@@ -1,8 +1,19 @@
 //! What runs without words show: the store, or why there is none.
 
-use super::devices::{AMPLE, Room, run, run_within};
+use super::devices::{AMPLE, Room, run_within};
+use super::tables::{failed_at, runs};
 use std::alloc::{AllocError, Global};
 use std::test::Fail;
+
+/// Fails at the first source text whose run doesn't print its store.
+fn all_print(alloc: Global, rows: &[(&str, &str)]) -> Result<(), Fail> {
+    for (source, output) in rows {
+        if !runs(alloc, source.as_bytes(), 0, output, "") {
+            return Err(failed_at(source));
+        }
+    }
+    Ok(())
+}
 
 #[test]
 fn prints_stores(rt: HostRuntime) -> Result<(), Fail> {
@@ -42,9 +53,21 @@ fn prints_stores(rt: HostRuntime) -> Result<(), Fail> {
             "x = -9223372036709301616\n",
         ),
     ];
-    for (source, output) in rows {
-        let shown = run(rt.alloc(), source.as_bytes());
-        assert!(rt; shown.is(0, output, ""), "at {source}");
+    all_print(rt.alloc(), &rows)
+}
+
+/// Whether a source text is refused, by this number, name and place.
+fn is_refused(alloc: Global, source: &str, line: &str) -> Result<bool, AllocError> {
+    let error = format!(in alloc; "refused: {line}\n")?;
+    Ok(runs(alloc, source.as_bytes(), 1, "", error.as_str()))
+}
+
+/// Fails at the first source text that isn't refused so.
+fn all_are_refused(alloc: Global, rows: &[(&str, &str)]) -> Result<(), Fail> {
+    for (source, line) in rows {
+        if !is_refused(alloc, source, line)? {
+            return Err(failed_at(source));
+        }
     }
     Ok(())
 }
@@ -66,17 +89,28 @@ fn tells_refusals(rt: HostRuntime) -> Result<(), Fail> {
         ("var x : M; x := 1", "18 UnknownClass 1:9"),
         ("var x : L;\nletvar t := t in\n  x := t", "19 Unbound 2:13"),
     ];
-    for (source, line) in rows {
-        let error = format!(in rt.alloc(); "refused: {line}\n")?;
-        let shown = run(rt.alloc(), source.as_bytes());
-        assert!(rt; shown.is(1, "", error.as_str()), "at {source}");
-    }
-    Ok(())
+    all_are_refused(rt.alloc(), &rows)
 }
 
-/// The refusal of a flow, with its explanation.
-fn told(alloc: Global, lines: &str) -> Result<String, AllocError> {
-    format!(in alloc; "refused: 25 Refused\n{lines}")
+/// Whether a flow is refused, with these steps and between these classes.
+fn is_explained(
+    alloc: Global,
+    source: &str,
+    steps: &str,
+    classes: &str,
+) -> Result<bool, AllocError> {
+    let error = format!(in alloc; "refused: 25 Refused\n{steps}{classes}\n")?;
+    Ok(runs(alloc, source.as_bytes(), 1, "", error.as_str()))
+}
+
+/// Fails at the first source text whose flow from `h` to `l` isn't explained by these steps.
+fn all_are_explained(alloc: Global, rows: &[(&str, &str)]) -> Result<(), Fail> {
+    for (source, steps) in rows {
+        if !is_explained(alloc, source, steps, "h : H may not flow to l : L")? {
+            return Err(failed_at(source));
+        }
+    }
+    Ok(())
 }
 
 #[test]
@@ -119,50 +153,67 @@ fn explains_refused_flows(rt: HostRuntime) -> Result<(), Fail> {
             "3:13 h flows to t by LETVAR at 3:8\n4:7 t flows to l by ASSIGN at 4:2\n",
         ),
     ];
-    for (source, steps) in rows {
-        let error = format!(in rt.alloc(); "{steps}h : H may not flow to l : L\n")?;
-        let error = told(rt.alloc(), error.as_str())?;
-        let shown = run(rt.alloc(), source.as_bytes());
-        assert!(rt; shown.is(1, "", error.as_str()), "at {source}");
-    }
+    all_are_explained(rt.alloc(), &rows)?;
     let narrow =
         "var h : H; var l : L; letvar t : L := 0 in { if h then t := 1 else t := 0; l := t }";
-    let lines = "1:49 h flows to t by IF at 1:56\nh : H may not flow to t : L\n";
-    let error = told(rt.alloc(), lines)?;
-    let shown = run(rt.alloc(), narrow.as_bytes());
-    assert!(rt; shown.is(1, "", error.as_str()));
+    let step = "1:49 h flows to t by IF at 1:56\n";
+    assert!(rt; is_explained(rt.alloc(), narrow, step, "h : H may not flow to t : L")?);
     Ok(())
 }
 
-#[test]
-fn spends_its_budget(rt: HostRuntime) -> Result<(), Fail> {
-    let endless = run(rt.alloc(), b"var x : L; while 1 do x := x");
-    assert!(rt; endless.is(3, "", "out of budget\n"));
-    // The loop does 9 instructions a turn and 5 at its end with the halt, the branch 7, and each sum 4.
+/// Whether a text of a branch, this, and a loop ends so.
+fn spends(
+    alloc: Global,
+    middle: &str,
+    status: u8,
+    output: &str,
+    error: &str,
+) -> Result<bool, AllocError> {
     let branch = "if x = 0 then y := 1 else y := 2";
     let turns = "while x < 111109 do x := x + 1";
-    let start = "var x : L; var y : L";
-    let exact = format!(in rt.alloc(); "{start}; {branch}; {branch}; {turns}")?;
-    let within = run(rt.alloc(), exact.as_bytes());
-    assert!(rt; within.is(0, "x = 111109\ny = 1\n", ""));
-    let longer = format!(in rt.alloc(); "{start}; {branch}; y := y + 1; y := y + 1; {turns}")?;
-    let beyond = run(rt.alloc(), longer.as_bytes());
-    assert!(rt; beyond.is(3, "", "out of budget\n"));
+    let text = format!(in alloc; "var x : L; var y : L; {branch}; {middle}; {turns}")?;
+    Ok(runs(alloc, text.as_bytes(), status, output, error))
+}
+
+/// The loop does 9 instructions a turn and 5 at its end with the halt, the branch 7, and each sum 4.
+#[test]
+fn spends_its_budget(rt: HostRuntime) -> Result<(), Fail> {
+    let endless = b"var x : L; while 1 do x := x";
+    assert!(rt; runs(rt.alloc(), endless, 3, "", "out of budget\n"));
+    let branch = "if x = 0 then y := 1 else y := 2";
+    assert!(rt; spends(rt.alloc(), branch, 0, "x = 111109\ny = 1\n", "")?);
+    let sums = "y := y + 1; y := y + 1";
+    assert!(rt; spends(rt.alloc(), sums, 3, "", "out of budget\n")?);
     Ok(())
 }
 
+/// The source text whose run the streams fail in.
+const SOURCE: &[u8] = b"var x : L; x := 1 + 2";
+
+/// Whether a run whose input fails at this call tells of that alone.
+fn is_unread(alloc: Global, fails_at: u64) -> bool {
+    run_within(alloc, SOURCE, fails_at, AMPLE).is(4, "", "file fault: -\n")
+}
+
+/// Whether a run whose output takes no more than these tells of that.
+fn is_unwritten(alloc: Global, begun: &str) -> bool {
+    let output = begun.len();
+    let room = Room { output, ..AMPLE };
+    run_within(alloc, SOURCE, 0, room).is(4, begun, "file fault: -\n")
+}
+
+/// Whether a refusal is cut where the error stream takes 3 bytes.
+fn is_unheard(alloc: Global) -> bool {
+    run_within(alloc, b"x := 1;", 0, Room { error: 3, ..AMPLE }).is(1, "", "ref")
+}
+
 #[test]
-fn tells_faults_of_streams(rt: HostRuntime) -> Result<(), Fail> {
-    let source = b"var x : L; x := 1 + 2".as_slice();
+fn tells_faults_of_streams(rt: HostRuntime) {
     for fails_at in 1..23 {
-        let unread = run_within(rt.alloc(), source, fails_at, AMPLE);
-        assert!(rt; unread.is(4, "", "file fault: -\n"), "at {fails_at}");
+        assert!(rt; is_unread(rt.alloc(), fails_at), "at {fails_at}");
     }
-    for (output, begun) in ["", "x", "x ", "x =", "x = ", "x = 3"].iter().enumerate() {
-        let unwritten = run_within(rt.alloc(), source, 0, Room { output, ..AMPLE });
-        assert!(rt; unwritten.is(4, begun, "file fault: -\n"), "at {output}");
+    for begun in &["", "x", "x ", "x =", "x = ", "x = 3"] {
+        assert!(rt; is_unwritten(rt.alloc(), begun), "at {begun}");
     }
-    let unheard = run_within(rt.alloc(), b"x := 1;", 0, Room { error: 3, ..AMPLE });
-    assert!(rt; unheard.is(1, "", "ref"));
-    Ok(())
+    assert!(rt; is_unheard(rt.alloc()));
 }

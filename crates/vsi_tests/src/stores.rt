@@ -1,6 +1,7 @@
 //! Runs from stores that aren't zeros.
 
 use super::devices::TWO;
+use super::tables::failed_at;
 use std::alloc::Global;
 use std::test::Fail;
 use vsi::{RunError, run_source};
@@ -35,45 +36,53 @@ const COPIES: &str = "var h : H; var l : L; letvar a := 0 in letvar b := 0 in \
 
 const ADDS: &str = "var l : L; letvar t := 5 in while l < 2 do { l := l + t; t := 1 }";
 
-#[test]
-fn ends_in_stores(rt: HostRuntime) -> Result<(), Fail> {
-    let rows = [
-        (COPIES, [7, 0].as_slice(), [7, 3].as_slice()),
-        (ADDS, [0].as_slice(), [5].as_slice()),
-        (ADDS, [-10].as_slice(), [2].as_slice()),
-    ];
-    for (source, store, last) in rows {
-        let is_met = ends(rt.alloc(), source, store, 1_000_000, Outcome::Halted, last);
-        assert!(rt; is_met, "at {source}");
+/// A text, the store that it starts from, its budget, how it ends, and its last store.
+type Row<'a> = (&'a str, &'a [i64], u64, Outcome, &'a [i64]);
+
+/// Fails at the first text that ends otherwise.
+fn all_end(alloc: Global, rows: &[Row]) -> Result<(), Fail> {
+    for (source, store, budget, outcome, last) in rows {
+        if !ends(alloc, source, store, *budget, *outcome, last) {
+            return Err(failed_at(source));
+        }
     }
     Ok(())
+}
+
+#[test]
+fn ends_in_stores(rt: HostRuntime) -> Result<(), Fail> {
+    let rows: [Row; 3] = [
+        (COPIES, &[7, 0], 1_000_000, Outcome::Halted, &[7, 3]),
+        (ADDS, &[0], 1_000_000, Outcome::Halted, &[5]),
+        (ADDS, &[-10], 1_000_000, Outcome::Halted, &[2]),
+    ];
+    all_end(rt.alloc(), &rows)
 }
 
 #[test]
 fn spends_budgets(rt: HostRuntime) -> Result<(), Fail> {
     let line = "var x : L; x := 1 + 2";
     let turns = "var h : H; while h do h := h";
-    let rows = [
-        (line, 0, 0, Outcome::OutOfBudget, 0),
-        (line, 0, 2, Outcome::OutOfBudget, 3),
-        (line, 0, 3, Outcome::Halted, 3),
-        (turns, 0, 2, Outcome::OutOfBudget, 0),
-        (turns, 0, 3, Outcome::Halted, 0),
-        (turns, 1, 1_000_000, Outcome::OutOfBudget, 1),
+    let rows: [Row; 6] = [
+        (line, &[0], 0, Outcome::OutOfBudget, &[0]),
+        (line, &[0], 2, Outcome::OutOfBudget, &[3]),
+        (line, &[0], 3, Outcome::Halted, &[3]),
+        (turns, &[0], 2, Outcome::OutOfBudget, &[0]),
+        (turns, &[0], 3, Outcome::Halted, &[0]),
+        (turns, &[1], 1_000_000, Outcome::OutOfBudget, &[1]),
     ];
-    for (source, first, budget, outcome, last) in rows {
-        let is_met = ends(rt.alloc(), source, &[first], budget, outcome, &[last]);
-        assert!(rt; is_met, "at {source} within {budget}");
-    }
-    Ok(())
+    all_end(rt.alloc(), &rows)
+}
+
+/// Whether a store of two words is refused to a text of one global.
+fn is_wrong_store(alloc: Global) -> Result<bool, Fail> {
+    let lattice = read_lattice(alloc, TWO)?;
+    let answer = run_source(alloc, &lattice, b"var x : L; x := 1", &[1, 2], 3);
+    Ok(matches!(&answer, Err(RunError::Start(StartError::WrongStore(2)))))
 }
 
 #[test]
 fn refuses_a_wrong_store(rt: HostRuntime) -> Result<(), Fail> {
-    let Ok(lattice) = read_lattice(rt.alloc(), TWO) else {
-        return Err(Fail::new("no lattice"));
-    };
-    let answer = run_source(rt.alloc(), &lattice, b"var x : L; x := 1", &[1, 2], 3);
-    assert!(rt; matches!(answer, Err(RunError::Start(StartError::WrongStore(2)))));
+    assert!(rt; is_wrong_store(rt.alloc())?);
     Ok(())
 }
