@@ -8,7 +8,7 @@ source texts, lattices, stores and images, made from worked ones by changes of b
 pieces, deep nesting and great length, or drawn from the grammar. Input number K is the same for the same seed,
 whatever the other options are, so --first K --count 1 gives it again. Reported are a status outside 0 to 5, a signal,
 two runs with different answers (status, both streams, written image), a stream or a written image that isn't of the
-documented form, a run of more than one second of processor time, and one that is stopped after twenty seconds. The
+documented form, a run of more than half a second of processor time, and one that is stopped after twenty seconds. The
 files of reported inputs are copied to FOLDER/K. The last line has the figures, of which the most memory
 is at least a worker's own; the status is 1 where anything was reported. It needs /dev/shm, and leaves nothing there.
 """
@@ -29,7 +29,7 @@ sys.dont_write_bytecode = True
 
 from soak_inputs import Input  # noqa: E402
 
-SLOW_SECONDS = 1.0
+SLOW_SECONDS = 0.5
 STOP_SECONDS = 20.0
 SHOWN_REPORTS = 20
 

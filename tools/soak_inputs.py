@@ -4,6 +4,8 @@ import random
 import re
 import struct
 
+from hostile_texts import some_hostile_text
+
 TEXT_LIMIT = 1_048_576
 
 SOURCES = [text.encode() for text in (
@@ -337,7 +339,10 @@ class Input:
         self.words.append("image")
 
     def with_compilation(self, rng):
-        self.files["source"], self.files["lattice"] = a_source(rng), a_lattice(rng)
+        if rng.random() < 0.001:
+            self.files["source"], self.files["lattice"] = some_hostile_text(rng)
+        else:
+            self.files["source"], self.files["lattice"] = a_source(rng), a_lattice(rng)
         self.words += ["lattice", "source"] + (["written"] if self.command == "build" else [])
         if rng.random() < 0.3:
             self.words.insert(rng.randrange(1, len(self.words) + 1), "--strict")

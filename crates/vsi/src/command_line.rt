@@ -3,7 +3,7 @@
 ghost use Rattle.std.specs.Prelude.{◌≡◌, ◌≢◌, ◌<◌, ◌≤◌, [], IfErr};
 ghost use Rattle.std.specs.Io.KnownBytes.{Keeps};
 ghost use Rattle.vsi.specs.Stops.{status_of, TellsFault};
-ghost use Rattle.vsi_engine.specs.Counted.{device_of, faults_of};
+ghost use Rattle.vsi_devices.specs.Counted.{device_of, faults_of};
 
 use crate::files::Files;
 use crate::reading::{device_stop, refused, two_classes};
@@ -12,9 +12,9 @@ use crate::stop::{STREAM, Stop, write};
 use crate::subcommands::{build, check, classes, format, list};
 use std::alloc::Global;
 use std::io::{Read, Write};
+use vsi_arguments::{ArgumentsError, Request, request_of};
 use vsi_compiler::compile;
-use vsi_engine::{Counted, read_all, write_out};
-use vsi_words::{Request, WordsError, request_of};
+use vsi_devices::{Counted, read_all, write_out};
 
 /// The budget of a run without words, in instructions.
 const DEFAULT_BUDGET: u64 = 1_000_000;
@@ -49,7 +49,7 @@ pub fn command<F: Files, R: Read, W: Write, E: Write>(
     } else {
         match request_of(alloc, words) {
             Ok(request) => perform(alloc, request, files, output),
-            Err(error) => answer_words(error, output),
+            Err(error) => answer_arguments(error, output),
         }
     };
     match answer {
@@ -62,14 +62,17 @@ pub fn command<F: Files, R: Read, W: Write, E: Write>(
 }
 
 /// Help goes to the output; what is wrong with the words is told by the stop.
-fn answer_words<'a, W: Write>(error: WordsError, output: &mut Counted<W>) -> Result<(), Stop<'a>>
+fn answer_arguments<'a, W: Write>(
+    error: ArgumentsError,
+    output: &mut Counted<W>,
+) -> Result<(), Stop<'a>>
     requires { faults_of output.old < u64.MAX }
     ensures fault { TellsFault (faults_of output.old) (faults_of output.new) result }
 {
     match error {
-        WordsError::Help(text) => write(text.as_bytes(), output),
-        WordsError::Mistake(text) => Err(Stop::Usage(text)),
-        WordsError::Memory => Err(Stop::Memory),
+        ArgumentsError::Help(text) => write(text.as_bytes(), output),
+        ArgumentsError::Mistake(text) => Err(Stop::Usage(text)),
+        ArgumentsError::Memory => Err(Stop::Memory),
     }
 }
 

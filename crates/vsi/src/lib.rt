@@ -3,7 +3,7 @@
 //! `compile` and `compile_in` give the image of a source text and promise what is kept of it; `run_source` runs it.
 //! `read_lattice` gives the lattice that they want. `read_all`, `write_out` and `Counted` move texts through devices,
 //! and `refusal_text` and `fault_text` tell why a text or a file is refused. `command` does what the words of a command
-//! line ask for.
+//! line ask for. What an error holds, as a `LexError` or a `Walk` of `Step`s, stands here beside it.
 #![tactic(auto)]
 
 mod command_line;
@@ -19,7 +19,7 @@ pub use vsi_compiler::{
     CompileError, RunError, classes_text, classes_text_in, compile, compile_in, explanation_text,
     format_text, run_source,
 };
-pub use vsi_engine::{
+pub use vsi_devices::{
     Counted, EngineError, READ_LIMIT, build, build_in, read_all, run_image, write_out,
 };
 pub use vsi_faults::{Fault, fault_text, refusal_text};
@@ -27,7 +27,10 @@ pub use vsi_image::{
     DecodeError, EncodeError, Image, Instr, Limit, Verified, VerifyError, decode, encode, listing,
     verify,
 };
+pub use vsi_infer::Walk;
 pub use vsi_lattice::{Class, Classes, Lattice, LatticeError, read_lattice};
 pub use vsi_machine::{Machine, Outcome, StartError};
+pub use vsi_scope::{ScopeError, Var};
 pub use vsi_store::{StoreError, View, ViewError, read_store, store_text, view};
-pub use vsi_types::Profile;
+pub use vsi_syntax::{LexError, ParseError, Span};
+pub use vsi_types::{LOOP, Profile, Rule, Step};

@@ -2,13 +2,13 @@
 
 ghost use Rattle.std.specs.Prelude.{◌≡◌};
 ghost use Rattle.vsi.specs.Stops.{status_of};
-ghost use Rattle.vsi_engine.specs.declared.error.EngineError.TheVariants.{ReadFault, WriteFault};
+ghost use Rattle.vsi_devices.specs.declared.error.EngineError.TheVariants.{ReadFault, WriteFault};
 
 use crate::files::Files;
 use crate::stop::{STREAM, Stop};
 use std::alloc::Global;
 use vsi_compiler::CompileError;
-use vsi_engine::{Counted, EngineError, READ_LIMIT, read_all};
+use vsi_devices::{Counted, EngineError, READ_LIMIT, read_all};
 use vsi_faults::{Fault, fault_text, refusal_text};
 use vsi_image::{DecodeError, Verified, decode, verify};
 use vsi_lattice::{Lattice, LatticeError, read_lattice};

@@ -3,19 +3,19 @@
 ghost use Rattle.std.specs.Prelude.{◌<◌, IfOk};
 ghost use Rattle.vsi.specs.Stops.{TellsFault};
 ghost use Rattle.vsi.specs.Zeros.{EndsInText};
-ghost use Rattle.vsi_engine.specs.Counted.{faults_of};
+ghost use Rattle.vsi_devices.specs.Counted.{faults_of};
 
 use crate::files::Files;
 use crate::reading::{device_stop, faulty, image_in, lattice_in, store_in};
 use crate::stop::{Stop, write};
 use std::alloc::Global;
 use std::io::Write;
-use vsi_engine::{Counted, run_image};
+use vsi_arguments::Execution;
+use vsi_devices::{Counted, run_image};
 use vsi_faults::Fault;
 use vsi_image::Verified;
 use vsi_machine::{Machine, Outcome};
 use vsi_store::{View, read_store, store_text};
-use vsi_words::Execution;
 
 /// The text of the store in which an image ends from zeros. There is one word per global, so that the machine can't be
 /// started only for want of memory.

@@ -4,11 +4,11 @@ ghost use Rattle.std.specs.Prelude.{◌≡◌, ◌<◌, ◌≤◌, IfErr, OnOk};
 ghost use Rattle.std.specs.Io.KnownBytes.{Appends};
 ghost use Rattle.vsi.specs.Stops.{status_of, TellsFault};
 ghost use Rattle.vsi.specs.declared.stop.Stop.TheVariants.{Memory};
-ghost use Rattle.vsi_engine.specs.Counted.{device_of, faults_of};
+ghost use Rattle.vsi_devices.specs.Counted.{device_of, faults_of};
 
 use std::alloc::{AllocError, AllocFailed};
 use std::io::Write;
-use vsi_engine::{Counted, EngineError, write_out};
+use vsi_devices::{Counted, EngineError, write_out};
 
 /// Standard input and output, in a file fault.
 pub(crate) const STREAM: &str = "-";

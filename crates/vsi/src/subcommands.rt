@@ -2,19 +2,19 @@
 
 ghost use Rattle.std.specs.Prelude.{◌<◌};
 ghost use Rattle.vsi.specs.Stops.{TellsFault};
-ghost use Rattle.vsi_engine.specs.Counted.{faults_of};
+ghost use Rattle.vsi_devices.specs.Counted.{faults_of};
 
 use crate::files::Files;
 use crate::reading::{bytes_in, image_in, lattice_in, refused, two_classes};
 use crate::stop::{Stop, write};
 use std::alloc::Global;
 use std::io::Write;
+use vsi_arguments::Compilation;
 use vsi_compiler::{classes_text_in, compile_in, format_text};
-use vsi_engine::{Counted, EngineError, build_in, write_out};
+use vsi_devices::{Counted, EngineError, build_in, write_out};
 use vsi_image::listing;
 use vsi_lattice::Lattice;
 use vsi_types::Profile;
-use vsi_words::Compilation;
 
 /// The profile that judges a text.
 fn profile(is_strict: bool) -> Profile {

@@ -7,13 +7,13 @@ use Rattle.vsi_image.specs.declared.instr.Instr.{Instr}
 use Rattle.vsi_image.specs.declared.instr.Instr.TheVariants.{Halt}
 use Rattle.vsi_image.specs.declared.instr.Image.{Image}
 use Rattle.vsi_image.specs.Meaning.{State, acted, stepped, after, start, ended}
-use Rattle.vsi_scope.specs.Phrase.{Command, HasPlaces, size, nesting}
+use Rattle.vsi_scope.specs.Language.{Command, HasPlaces, size, nesting}
 use Rattle.vsi_scope.specs.Meaning.{Store as Words, runs, Evaluates}
 use Rattle.vsi_scope.proofs.Evaluation.{length_kept}
 use Rattle.vsi_code.specs.Layout.{code_at, whole_code}
 use Rattle.vsi_code.specs.Behaves.{Halts, Behaves}
 use Rattle.vsi_code.proofs.Placed.{HasAt, has_front, has_back, has_all, command_long}
-use Rattle.vsi_code.proofs.Stretches.{Runs, Ends, GoesOn}
+use Rattle.vsi_code.proofs.Stretches.{Runs, StretchEnds, GoesOn}
 use Rattle.vsi_code.proofs.Runs.{command_runs}
 
 -- A halted machine stays as it is.
@@ -83,7 +83,7 @@ module _
 
   -- A run that comes to the end halts.
   halts_at : (m m' : Words) (r : ℕ) → length m' ≡ g →
-      Ends image.code.items (start image m) (0 + size c) r m' → (b : ℕ) × Halts image g m b m'
+      StretchEnds image.code.items (start image m) (0 + size c) r m' → (b : ℕ) × Halts image g m b m'
   halts_at m m' r l e =
       let x = e.comes.by 1 in
       let t = ended (0 + size c) true [] (m' ++ e.rest) in

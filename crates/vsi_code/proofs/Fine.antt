@@ -13,10 +13,10 @@ use Rattle.vsi_image.specs.Fields.{fields, IsAllowed}
 use Rattle.vsi_image.specs.Valid.{IsFine, IsValid}
 use Rattle.vsi_syntax.specs.declared.operator.Op.{Op}
 use Rattle.vsi_syntax.specs.declared.operator.Op.TheVariants.{Add, Sub, Mul, Eq, Lt}
-use Rattle.vsi_scope.specs.Phrase.{Phrase, Literal, Contents, Apply, Command, Nothing, Put, Then, Choose, Repeat, Allocate, HasLocations, HasPlaces, phrase_size, size, nesting}
-use Rattle.vsi_code.specs.Needs.{IsGreatestDepth, phrase_height, height}
-use Rattle.vsi_code.specs.Layout.{op_code, phrase_code, code_at, whole_code}
-use Rattle.vsi_code.proofs.Placed.{HasAt, has_front, has_back, has_all, phrase_long, command_long, whole_long}
+use Rattle.vsi_scope.specs.Language.{Expression, Number, Location, Operator, Command, Skip, Assign, Sequence, If, While, Letvar, HasLocations, HasPlaces, expression_size, size, nesting}
+use Rattle.vsi_code.specs.Needs.{IsGreatestDepth, expression_height, height}
+use Rattle.vsi_code.specs.Layout.{op_code, expression_code, code_at, whole_code}
+use Rattle.vsi_code.proofs.Placed.{HasAt, has_front, has_back, has_all, expression_long, command_long, whole_long}
 
 module _ (image : Image) where
   -- The depth of operands at a place.
@@ -143,14 +143,15 @@ module _ (image : Image) where
 
   -- An expression's code is fine where the stack has room for its height; it leaves one operand more, and is as deep
   -- as the expression is high.
-  phrase_fine : (e : Phrase) (pc d k : ℕ) → HasLocations k e → k ≤ image.slots → d + phrase_height e ≤ image.stack →
-      Stands pc (phrase_code e) → depth pc ≡ d →
-      AllFine pc (phrase_code e) × (depth (pc + phrase_size e) ≡ d + 1) × Peak (d + phrase_height e)
-  phrase_fine (Literal n) pc d k p s r h e =
+  expression_fine : (e : Expression) (pc d k : ℕ) → HasLocations k e → k ≤ image.slots →
+      d + expression_height e ≤ image.stack →
+      Stands pc (expression_code e) → depth pc ≡ d →
+      AllFine pc (expression_code e) × (depth (pc + expression_size e) ≡ d + 1) × Peak (d + expression_height e)
+  expression_fine (Number n) pc d k p s r h e =
       let one : depth pc - 0 + 1 ≡ d + 1 = omega (arith, e) in
       let behind = depth_next pc (Push n) h.0 ∙ one in
       ((plain (Push n) pc d e refl refl refl (omega arith) (omega (arith, r)), tt), behind, (pc + 1, behind))
-  phrase_fine (Contents l span) pc d k p s r h e =
+  expression_fine (Location l span) pc d k p s r h e =
       let one : depth pc - 0 + 1 ≡ d + 1 = omega (arith, e) in
       let fine : IsFine image (Load l) (depth pc) = record {
         slot = omega (arith, p, s);
@@ -161,25 +162,27 @@ module _ (image : Image) where
       } in
       let behind = depth_next pc (Load l) h.0 ∙ one in
       ((fine, tt), behind, (pc + 1, behind))
-  phrase_fine (Apply o a b) pc d k p s r h e =
-      let pc1 = pc + phrase_size a in
-      let pc2 = pc1 + phrase_size b in
-      let back = phrase_code b ++ op_code o ∷ [] in
-      let ha = has_front image.code.items pc (phrase_code a) _ h in
-      let hr = has_back image.code.items pc (phrase_code a) back (phrase_size a) (phrase_long a) h in
-      let hb = has_front image.code.items pc1 (phrase_code b) _ hr in
-      let ho = has_back image.code.items pc1 (phrase_code b) (op_code o ∷ []) (phrase_size b) (phrase_long b) hr in
-      let fa = phrase_fine a pc d k p.0 s (omega (arith, r)) ha e in
-      let fb = phrase_fine b pc1 (d + 1) k p.1 s (omega (arith, r)) hb fa.1 in
+  expression_fine (Operator o a b) pc d k p s r h e =
+      let pc1 = pc + expression_size a in
+      let pc2 = pc1 + expression_size b in
+      let back = expression_code b ++ op_code o ∷ [] in
+      let ha = has_front image.code.items pc (expression_code a) _ h in
+      let hr = has_back image.code.items pc (expression_code a) back (expression_size a) (expression_long a) h in
+      let hb = has_front image.code.items pc1 (expression_code b) _ hr in
+      let ho = has_back image.code.items pc1 (expression_code b) (op_code o ∷ []) (expression_size b)
+      (expression_long b) hr in
+      let fa = expression_fine a pc d k p.0 s (omega (arith, r)) ha e in
+      let fb = expression_fine b pc1 (d + 1) k p.1 s (omega (arith, r)) hb fa.1 in
       let two : depth pc2 ≡ d + 2 = omega (arith, fb.1) in
-      let end : pc + (phrase_size a + phrase_size b + 1) ≡ pc2 + 1 = omega arith in
+      let end : pc + (expression_size a + expression_size b + 1) ≡ pc2 + 1 = omega arith in
       let last : AllFine pc2 (op_code o ∷ []) = (op_fine o pc2 d two (omega (arith, r)), tt) in
-      let second = all_join (phrase_code b) (op_code o ∷ []) pc1 (phrase_size b) (phrase_long b) fb.0 last in
-      let A = phrase_height a in
-      let B = phrase_height b in
+      let second = all_join (expression_code b) (op_code o ∷ []) pc1 (expression_size b)
+      (expression_long b) fb.0 last in
+      let A = expression_height a in
+      let B = expression_height b in
       let most : max (d + A) (d + 1 + B) ≡ d + max A (B + 1) = omega arith in
       let peak = higher (d + A) (d + 1 + B) fa.2 fb.2 in (
-        all_join (phrase_code a) back pc (phrase_size a) (phrase_long a) fa.0 second,
+        all_join (expression_code a) back pc (expression_size a) (expression_long a) fa.0 second,
         ap depth end ∙ depth_next pc2 (op_code o) ho.0 ∙ ap (λ x. depth_after x (op_code o)) two ∙ op_depth o d,
         peak_as (max (d + A) (d + 1 + B)) (d + max A (B + 1)) most peak,
       )
@@ -195,30 +198,31 @@ module _ (image : Image) where
       depth_next pc i e ∙ ap (λ b. if b then 0 else left i (depth pc)) o ∙ ap (left i) d ∙ l
 
   -- A guard's or a value's greatest depth is its height.
-  peak_of : (e : Phrase) → Peak (0 + phrase_height e) → Peak (phrase_height e)
-  peak_of e p = let z : 0 + phrase_height e ≡ phrase_height e = omega arith in peak_as _ _ z p
+  peak_of : (e : Expression) → Peak (0 + expression_height e) → Peak (expression_height e)
+  peak_of e p = let z : 0 + expression_height e ≡ expression_height e = omega arith in peak_as _ _ z p
 
   -- A command's code is fine where the slots and the stack have room for it; it leaves no operand, and is as deep as
   -- the command is high.
   command_fine : (c : Command) (pc k : ℕ) → HasPlaces k c → k + nesting c ≤ image.slots → height c ≤ image.stack →
       Stands pc (code_at pc k c) → depth pc ≡ 0 → pc + size c < length image.code.items →
       AllFine pc (code_at pc k c) × (depth (pc + size c) ≡ 0) × Peak (height c)
-  command_fine Nothing pc k p s r h e w =
+  command_fine Skip pc k p s r h e w =
       let z : pc + 0 ≡ pc = omega arith in
       (tt, ap depth z ∙ e, (pc, e))
-  command_fine (Put l span x) pc k p s r h e w =
-      let pc1 = pc + phrase_size x in
-      let hx = has_front image.code.items pc (phrase_code x) _ h in
-      let hs = has_back image.code.items pc (phrase_code x) (Store l ∷ []) (phrase_size x) (phrase_long x) h in
-      let fx = phrase_fine x pc 0 k p.1 (omega (arith, s)) (omega (arith, r)) hx e in
-      let end : pc + (phrase_size x + 1) ≡ pc1 + 1 = omega arith in
+  command_fine (Assign l span x) pc k p s r h e w =
+      let pc1 = pc + expression_size x in
+      let hx = has_front image.code.items pc (expression_code x) _ h in
+      let hs = has_back image.code.items pc (expression_code x) (Store l ∷ []) (expression_size x)
+      (expression_long x) h in
+      let fx = expression_fine x pc 0 k p.1 (omega (arith, s)) (omega (arith, r)) hx e in
+      let end : pc + (expression_size x + 1) ≡ pc1 + 1 = omega arith in
       let one : depth pc1 ≡ 1 = omega (arith, fx.1) in
       let last : AllFine pc1 (Store l ∷ []) = (store_fine l pc1 one (omega (arith, p.0, s)), tt) in (
-        all_join (phrase_code x) (Store l ∷ []) pc (phrase_size x) (phrase_long x) fx.0 last,
+        all_join (expression_code x) (Store l ∷ []) pc (expression_size x) (expression_long x) fx.0 last,
         ap depth end ∙ behind_one pc1 (Store l) hs.0 refl refl one,
         peak_of x fx.2,
       )
-  command_fine (Then a b) pc k p s r h e w =
+  command_fine (Sequence a b) pc k p s r h e w =
       let pc1 = pc + size a in
       let A = code_at pc k a in
       let B = code_at pc1 k b in
@@ -229,8 +233,8 @@ module _ (image : Image) where
       let end : pc + (size a + size b) ≡ pc1 + size b = omega arith in
       let peak = higher (height a) (height b) fa.2 fb.2 in
       (all_join A B pc (size a) (command_long a pc k) fa.0 fb.0, ap depth end ∙ fb.1, peak)
-  command_fine (Choose x a b) pc k p s r h e w =
-      let test = pc + phrase_size x in
+  command_fine (If x a b) pc k p s r h e w =
+      let test = pc + expression_size x in
       let first = test + 1 in
       let jump = first + size a in
       let second = jump + 1 in
@@ -238,59 +242,63 @@ module _ (image : Image) where
       let A = code_at first k a in
       let B = code_at second k b in
       let back = Jz second ∷ (A ++ (Jmp end ∷ B)) in
-      let hx = has_front image.code.items pc (phrase_code x) _ h in
-      let h1 = has_back image.code.items pc (phrase_code x) back (phrase_size x) (phrase_long x) h in
+      let hx = has_front image.code.items pc (expression_code x) _ h in
+      let h1 = has_back image.code.items pc (expression_code x) back (expression_size x) (expression_long x) h in
       let ha = has_front image.code.items first A _ h1.1 in
       let h2 = has_back image.code.items first A (Jmp end ∷ B) (size a) (command_long a first k) h1.1 in
-      let fx = phrase_fine x pc 0 k p.0 (omega (arith, s)) (omega (arith, r)) hx e in
+      let fx = expression_fine x pc 0 k p.0 (omega (arith, s)) (omega (arith, r)) hx e in
       let one : depth test ≡ 1 = omega (arith, fx.1) in
       let d1 = behind_one test (Jz second) h1.0 refl refl one in
       let fa = command_fine a first k p.1 (omega (arith, s)) (omega (arith, r)) ha d1 (omega (arith, w)) in
       let d2 = behind_jmp jump end h2.0 in
       let fb = command_fine b second k p.2 (omega (arith, s)) (omega (arith, r)) h2.1 d2 (omega (arith, w)) in
-      let at : pc + (phrase_size x + size a + size b + 2) ≡ end = omega arith in
+      let at : pc + (expression_size x + size a + size b + 2) ≡ end = omega arith in
       let leave = jmp_fine end jump fa.1 (omega (arith, w)) fb.1 in
       let branches = all_join A (Jmp end ∷ B) first (size a) (command_long a first k) fa.0 (leave, fb.0) in
       let choice : AllFine test back = (jz_fine second test one (omega (arith, w)) d2, branches) in
       let inner = higher (height a) (height b) fa.2 fb.2 in
-      let peak = higher (phrase_height x) (max (height a) (height b)) (peak_of x fx.2) inner in
-      (all_join (phrase_code x) back pc (phrase_size x) (phrase_long x) fx.0 choice, ap depth at ∙ fb.1, peak)
-  command_fine (Repeat x c) pc k p s r h e w =
-      let test = pc + phrase_size x in
+      let peak = higher (expression_height x) (max (height a) (height b)) (peak_of x fx.2) inner in (
+        all_join (expression_code x) back pc (expression_size x) (expression_long x) fx.0 choice,
+        ap depth at
+            ∙ fb.1,
+        peak,
+      )
+  command_fine (While x c) pc k p s r h e w =
+      let test = pc + expression_size x in
       let body = test + 1 in
       let jump = body + size c in
       let end = jump + 1 in
       let C = code_at body k c in
       let back = Jz end ∷ (C ++ Jmp pc ∷ []) in
-      let hx = has_front image.code.items pc (phrase_code x) _ h in
-      let h1 = has_back image.code.items pc (phrase_code x) back (phrase_size x) (phrase_long x) h in
+      let hx = has_front image.code.items pc (expression_code x) _ h in
+      let h1 = has_back image.code.items pc (expression_code x) back (expression_size x) (expression_long x) h in
       let hc = has_front image.code.items body C _ h1.1 in
       let h2 = has_back image.code.items body C (Jmp pc ∷ []) (size c) (command_long c body k) h1.1 in
-      let fx = phrase_fine x pc 0 k p.0 (omega (arith, s)) (omega (arith, r)) hx e in
+      let fx = expression_fine x pc 0 k p.0 (omega (arith, s)) (omega (arith, r)) hx e in
       let one : depth test ≡ 1 = omega (arith, fx.1) in
       let d1 = behind_one test (Jz end) h1.0 refl refl one in
       let fc = command_fine c body k p.1 (omega (arith, s)) (omega (arith, r)) hc d1 (omega (arith, w)) in
       let d2 = behind_jmp jump pc h2.0 in
-      let at : pc + (phrase_size x + size c + 2) ≡ end = omega arith in
+      let at : pc + (expression_size x + size c + 2) ≡ end = omega arith in
       let again : AllFine jump (Jmp pc ∷ []) = (jmp_fine pc jump fc.1 (omega (arith, w)) e, tt) in
       let turn = all_join C (Jmp pc ∷ []) body (size c) (command_long c body k) fc.0 again in
       let loop : AllFine test back = (jz_fine end test one (omega (arith, w)) d2, turn) in
-      let peak = higher (phrase_height x) (height c) (peak_of x fx.2) fc.2 in
-      (all_join (phrase_code x) back pc (phrase_size x) (phrase_long x) fx.0 loop, ap depth at ∙ d2, peak)
-  command_fine (Allocate x c) pc k p s r h e w =
-      let pc1 = pc + phrase_size x in
+      let peak = higher (expression_height x) (height c) (peak_of x fx.2) fc.2 in
+      (all_join (expression_code x) back pc (expression_size x) (expression_long x) fx.0 loop, ap depth at ∙ d2, peak)
+  command_fine (Letvar x c) pc k p s r h e w =
+      let pc1 = pc + expression_size x in
       let body = pc1 + 1 in
       let back = Store k ∷ code_at body (k + 1) c in
-      let hx = has_front image.code.items pc (phrase_code x) _ h in
-      let h1 = has_back image.code.items pc (phrase_code x) back (phrase_size x) (phrase_long x) h in
-      let fx = phrase_fine x pc 0 k p.0 (omega (arith, s)) (omega (arith, r)) hx e in
+      let hx = has_front image.code.items pc (expression_code x) _ h in
+      let h1 = has_back image.code.items pc (expression_code x) back (expression_size x) (expression_long x) h in
+      let fx = expression_fine x pc 0 k p.0 (omega (arith, s)) (omega (arith, r)) hx e in
       let one : depth pc1 ≡ 1 = omega (arith, fx.1) in
       let d1 = behind_one pc1 (Store k) h1.0 refl refl one in
       let fc = command_fine c body (k + 1) p.1 (omega (arith, s)) (omega (arith, r)) h1.1 d1 (omega (arith, w)) in
-      let at : pc + (phrase_size x + size c + 1) ≡ body + size c = omega arith in
+      let at : pc + (expression_size x + size c + 1) ≡ body + size c = omega arith in
       let rest : AllFine pc1 back = (store_fine k pc1 one (omega (arith, s)), fc.0) in
-      let peak = higher (phrase_height x) (height c) (peak_of x fx.2) fc.2 in
-      (all_join (phrase_code x) back pc (phrase_size x) (phrase_long x) fx.0 rest, ap depth at ∙ fc.1, peak)
+      let peak = higher (expression_height x) (height c) (peak_of x fx.2) fc.2 in
+      (all_join (expression_code x) back pc (expression_size x) (expression_long x) fx.0 rest, ap depth at ∙ fc.1, peak)
 
   -- The code is fine, leaves no operand before the HALT, and is as deep as the body is high.
   body_fine : (g : ℕ) (c : Command) → HasPlaces g c → image.code.items ≡ whole_code g c →

@@ -2,9 +2,9 @@
 use Rattle.std.proofs.Common.{◌≡◌, ℕ, ◌+◌, ◌<◌, ◌≤◌, max, List, [], ◌∷◌, ◌++◌, length, take, get_or, sym, ap, ◌∙◌, arith}
 use Rattle.std.proofs.lemmas.List.{take_more}
 use Rattle.vsi_scope.specs.declared.program.Cmd.{Cmd}
-use Rattle.vsi_scope.specs.Phrase.{Phrase, Literal, Contents, Apply, Command, Nothing, Put, Then, Choose, Repeat, Allocate, nesting, phrase_depth, depth}
+use Rattle.vsi_scope.specs.Language.{Expression, Number, Location, Operator, Command, Skip, Assign, Sequence, If, While, Letvar, nesting, expression_depth, depth}
 use Rattle.vsi_scope.specs.View.{command, sequence}
-use Rattle.vsi_code.specs.Needs.{phrase_height, height}
+use Rattle.vsi_code.specs.Needs.{expression_height, height}
 
 -- A sequence with one command more is as high as the higher of the two.
 height_push : (cs : List Cmd) (c : Cmd) →
@@ -35,17 +35,18 @@ nesting_more cs i c lt e =
     ∙ ap (λ x. max (nesting (sequence (take i cs))) (nesting (command x))) (sym e)
 
 -- An expression has at most one operand more at a time than it is deep.
-phrase_height-within_depth : (e : Phrase) → phrase_height e ≤ phrase_depth e + 1
-phrase_height-within_depth (Literal n) = omega arith
-phrase_height-within_depth (Contents l s) = omega arith
-phrase_height-within_depth (Apply o a b) = omega (arith, phrase_height-within_depth a, phrase_height-within_depth b)
+expression_height-within_depth : (e : Expression) → expression_height e ≤ expression_depth e + 1
+expression_height-within_depth (Number n) = omega arith
+expression_height-within_depth (Location l s) = omega arith
+expression_height-within_depth (Operator o a b) =
+    omega (arith, expression_height-within_depth a, expression_height-within_depth b)
 
 -- So has a command.
 pub height-within_depth : (c : Command) → height c ≤ depth c + 1
-height-within_depth Nothing = omega arith
-height-within_depth (Put l s e) = phrase_height-within_depth e
-height-within_depth (Then a b) = omega (arith, height-within_depth a, height-within_depth b)
-height-within_depth (Choose e a b) =
-    omega (arith, phrase_height-within_depth e, height-within_depth a, height-within_depth b)
-height-within_depth (Repeat e c) = omega (arith, phrase_height-within_depth e, height-within_depth c)
-height-within_depth (Allocate e c) = omega (arith, phrase_height-within_depth e, height-within_depth c)
+height-within_depth Skip = omega arith
+height-within_depth (Assign l s e) = expression_height-within_depth e
+height-within_depth (Sequence a b) = omega (arith, height-within_depth a, height-within_depth b)
+height-within_depth (If e a b) =
+    omega (arith, expression_height-within_depth e, height-within_depth a, height-within_depth b)
+height-within_depth (While e c) = omega (arith, expression_height-within_depth e, height-within_depth c)
+height-within_depth (Letvar e c) = omega (arith, expression_height-within_depth e, height-within_depth c)

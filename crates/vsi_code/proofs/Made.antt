@@ -2,17 +2,19 @@
 use Rattle.std.proofs.Common.{◌≡◌, ℕ, ◌+◌, min, List, [], length, ap, ◌∙◌, sym, subst, arith}
 use Rattle.std.proofs.lemmas.List.{length-map}
 use Rattle.vsi_image.specs.declared.instr.Image.{Image}
+use Rattle.vsi_image.specs.declared.instr.Instr.{Instr}
 use Rattle.vsi_image.specs.Fields as image
-use Rattle.vsi_image.specs.Fields.{AreGlobals, IsAllowed, fields}
+use Rattle.vsi_image.specs.Fields.{Fields, AreGlobals, IsAllowed, fields}
 use Rattle.vsi_image.specs.Valid.{IsValid}
 use Rattle.vsi_scope.specs.declared.program.Cmd.{Cmd}
 use Rattle.vsi_scope.specs.declared.resolved.Global.{Global}
-use Rattle.vsi_scope.specs.Phrase.{nesting, size}
-use Rattle.vsi_scope.specs.Program.{Source, IsResolved}
+use Rattle.vsi_scope.specs.Language.{nesting, size}
+use Rattle.vsi_scope.specs.Program.{Resolved, IsResolved}
 use Rattle.vsi_scope.specs.View.{sequence}
 use Rattle.vsi_code.specs.Behaves.{Behaves}
+use Rattle.vsi_code.specs.Generated.{image_of}
 use Rattle.vsi_code.specs.Layout.{Fits, whole_code}
-use Rattle.vsi_code.specs.Names.{named, all_named}
+use Rattle.vsi_code.specs.Names.{named_global, all_named}
 use Rattle.vsi_code.specs.Needs.{IsGreatestDepth, height, slots_of}
 use Rattle.vsi_code.proofs.Correct.{behaves}
 use Rattle.vsi_code.proofs.Fine.{valid, greatest}
@@ -21,7 +23,7 @@ use Rattle.vsi_code.proofs.Names.{are_globals, copies_long}
 use Rattle.vsi_code.proofs.Placed.{whole_long}
 
 -- The whole code of a resolved program fits.
-pub whole_fits : (r : Source) (b : List Cmd) (n : ℕ) → IsResolved r → b ≡ r.body → n ≡ length r.globals →
+pub whole_fits : (r : Resolved) (b : List Cmd) (n : ℕ) → IsResolved r → b ≡ r.body → n ≡ length r.globals →
     Fits 0 n (sequence b)
 whole_fits r b n is hb hn =
     let fits : Fits 0 n (sequence r.body) = record {
@@ -31,14 +33,14 @@ whole_fits r b n is hb hn =
     subst (λ b. Fits 0 n (sequence b)) (sym hb) fits
 
 -- An image holds a program's globals and code, and the slots and the stack that these need.
-pub record IsMade (r : Source) (i : Image) : Type 0 where
+pub record IsMade (r : Resolved) (i : Image) : Type 0 where
   pub globals : image.globals i.globals.items ≡ all_named r.globals
   pub code : i.code.items ≡ whole_code (length r.globals) (sequence r.body)
   pub slots : i.slots ≡ slots_of r
   pub stack : i.stack ≡ height (sequence r.body)
 
 -- An image of a resolved program's parts, as they were counted and measured, holds the program.
-pub made : (r : Source) (i : Image) (gs : List Global) (b : List Cmd) (count nested : ℕ) → IsResolved r →
+pub made : (r : Resolved) (i : Image) (gs : List Global) (b : List Cmd) (count nested : ℕ) → IsResolved r →
     gs ≡ r.globals → b ≡ r.body → image.globals i.globals.items ≡ all_named gs → count ≡ length i.globals.items →
     nested ≡ min (nesting (sequence b)) 65535 → i.slots ≡ count + nested →
     i.stack ≡ min (height (sequence b)) 65535 → i.code.items ≡ whole_code count (sequence b) → IsMade r i
@@ -55,13 +57,29 @@ made r i gs b count nested is hg hb names hc hn slots stack code =
       stack = omega (arith, stack, high, height-within_depth c, is.shallow);
     }
 
-module _ (r : Source) (i : Image) (is : IsResolved r) (m : IsMade r i) where
+-- The fields of these parts.
+abbrev parts : List image.Global → ℕ → ℕ → List Instr → Fields
+parts globals slots stack code = record { globals = globals; slots = slots; stack = stack; code = code }
+
+-- An image that holds a program has the fields that are a function of it.
+pub made_fields : (r : Resolved) (i : Image) → IsMade r i → fields i ≡ image_of (all_named r.globals) (sequence r.body)
+made_fields r i m =
+    let gs = all_named r.globals in
+    let c = sequence r.body in
+    let count : length r.globals ≡ length gs = sym (length-map r.globals named_global) in
+    ap (λ x. parts x i.slots i.stack i.code.items) m.globals
+    ∙ ap (λ n. parts gs n i.stack i.code.items) (m.slots ∙ ap (λ n. n + nesting c) count)
+    ∙ ap (λ n. parts gs (length gs + nesting c) n i.code.items) m.stack
+    ∙ ap (parts gs (length gs + nesting c) (height c)) (m.code ∙ ap (λ n. whole_code n c) count)
+
+module _ (r : Resolved) (i : Image) (is : IsResolved r) (m : IsMade r i) where
   -- The fields of the image are within their limits.
   allowed : IsAllowed (fields i)
   allowed =
       let c = sequence r.body in
       let g = length r.globals in
-      let count : length (image.globals i.globals.items) ≡ g = ap length m.globals ∙ length-map r.globals named in
+      let count : length (image.globals i.globals.items) ≡ g = ap length m.globals
+      ∙ length-map r.globals named_global in
       record {
         globals = omega (arith, count, is.few_globals);
         slots_above = omega (arith, count, m.slots);

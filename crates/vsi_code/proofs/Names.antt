@@ -9,7 +9,7 @@ use Rattle.vsi_scope.specs.declared.resolved.Global.{Global}
 use Rattle.vsi_scope.specs.Program.{IsNamed}
 use Rattle.vsi_image.specs.Fields as image
 use Rattle.vsi_image.specs.Fields.{is_taken, AreGlobals}
-use Rattle.vsi_code.specs.Names.{named, all_named}
+use Rattle.vsi_code.specs.Names.{named_global, all_named}
 
 -- A name that none of these globals has, and not the next one, isn't taken by any of them.
 not_taken : (before : List image.Global) (g : image.Global) (name : List ℕ) →
@@ -27,10 +27,10 @@ not_taken (x ∷ before) g name free apart =
 still_free : (before : List image.Global) (g : Global) (gs : List Global) →
     AllByRecursion (λ x. is_taken before x.name.now ≡ false) gs →
     AllByRecursion (λ y. bytes_eq g.name.now y ≡ false) (map (λ x. x.name.now) gs) →
-    AllByRecursion (λ x. is_taken (before ++ named g ∷ []) x.name.now ≡ false) gs
+    AllByRecursion (λ x. is_taken (before ++ named_global g ∷ []) x.name.now ≡ false) gs
 still_free before g [] free apart = tt
 still_free before g (x ∷ gs) free apart =
-    (not_taken before (named g) x.name.now free.0 apart.0, still_free before g gs free.1 apart.1)
+    (not_taken before (named_global g) x.name.now free.0 apart.0, still_free before g gs free.1 apart.1)
 
 -- Distinct names that are free behind some globals are those of globals behind them.
 globals_behind : (before : List image.Global) (gs : List Global) →
@@ -41,7 +41,7 @@ globals_behind before [] names free distinct = tt
 globals_behind before (g ∷ gs) names free distinct =
     let rest = still_free before g gs free.1 distinct.0 in (
       record { name = names.0.0; unlike = free.0; class = names.0.1 },
-      globals_behind (before ++ named g ∷ []) gs names.1 rest distinct.1,
+      globals_behind (before ++ named_global g ∷ []) gs names.1 rest distinct.1,
     )
 
 -- Each name is free behind no global.
@@ -65,10 +65,10 @@ copied_more copies gs i g lt e h name class hn hc =
     ∙ ap (λ l. l ++ (name.items, class.items) ∷ []) h
     ∙ ap (λ n. all_named (take i gs) ++ (n, class.items) ∷ []) hn
     ∙ ap (λ n. all_named (take i gs) ++ (g.name.now, n) ∷ []) hc
-    ∙ ap (λ x. all_named (take i gs) ++ named x ∷ []) e
-    ∙ sym (ap all_named (take_more gs i g lt) ∙ map-append named (take i gs) (get_or gs i g ∷ []))
+    ∙ ap (λ x. all_named (take i gs) ++ named_global x ∷ []) e
+    ∙ sym (ap all_named (take_more gs i g lt) ∙ map-append named_global (take i gs) (get_or gs i g ∷ []))
 
 -- There are as many copies as globals.
 pub copies_long : (copies : List (Vec ℕ × Vec ℕ)) (gs : List Global) →
     image.globals copies ≡ all_named gs → length copies ≡ length gs
-copies_long copies gs h = sym (length-map copies image.global) ∙ ap length h ∙ length-map gs named
+copies_long copies gs h = sym (length-map copies image.global) ∙ ap length h ∙ length-map gs named_global

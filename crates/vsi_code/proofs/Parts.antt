@@ -3,9 +3,9 @@ use Rattle.std.proofs.Common.{◌≡◌, ℕ, zero, suc, ◌+◌, ◌<◌, ◌�
 use Rattle.std.proofs.lemmas.List.{take_more, append-nil}
 use Rattle.vsi_scope.specs.declared.program.Ex.{Ex}
 use Rattle.vsi_scope.specs.declared.program.Cmd.{Cmd}
-use Rattle.vsi_scope.specs.declared.program.Cmd.TheViews.{If, While, Letvar}
-use Rattle.vsi_scope.specs.Phrase.{Phrase, Command, Choose, Repeat, Allocate, phrase_size, size, nesting}
-use Rattle.vsi_scope.specs.View.{phrase, command, sequence}
+use Rattle.vsi_scope.specs.declared.program.Cmd.TheViews as view
+use Rattle.vsi_scope.specs.Language.{Expression, Command, If, While, Letvar, expression_size, size, nesting}
+use Rattle.vsi_scope.specs.View.{expression, command, sequence}
 use Rattle.vsi_scope.proofs.Views.{command_If, command_While, command_Letvar}
 use Rattle.vsi_code.specs.Layout.{code_at, Fits}
 
@@ -60,51 +60,51 @@ fits_next cs i pc k c lt e f =
     record { size = omega (arith, f.size, s, s'); slots = omega (arith, f.slots, n, n') }
 
 -- A command with branches of its own is a choice of their sequences.
-pub choice_is : (x : Cmd) (e : Ex) (v w : Vec Cmd Global) (a b : List Cmd) → x ≡ If e v w → a ≡ v.items →
+pub choice_is : (x : Cmd) (e : Ex) (v w : Vec Cmd Global) (a b : List Cmd) → x ≡ view.If e v w → a ≡ v.items →
     b ≡ w.items →
-    command x ≡ Choose (phrase e) (sequence a) (sequence b)
+    command x ≡ If (expression e) (sequence a) (sequence b)
 choice_is x e v w a b is ha hb =
     ap command is ∙ command_If e v w
-    ∙ ap (λ l. Choose (phrase e) (sequence l) (sequence w.items)) (sym ha)
-    ∙ ap (λ l. Choose (phrase e) (sequence a) (sequence l)) (sym hb)
+    ∙ ap (λ l. If (expression e) (sequence l) (sequence w.items)) (sym ha)
+    ∙ ap (λ l. If (expression e) (sequence a) (sequence l)) (sym hb)
 
 -- A loop with a body of its own is a loop over the body's sequence.
-pub loop_is : (x : Cmd) (e : Ex) (v : Vec Cmd Global) (a : List Cmd) → x ≡ While e v → a ≡ v.items →
-    command x ≡ Repeat (phrase e) (sequence a)
-loop_is x e v a is ha = ap command is ∙ command_While e v ∙ ap (λ l. Repeat (phrase e) (sequence l)) (sym ha)
+pub loop_is : (x : Cmd) (e : Ex) (v : Vec Cmd Global) (a : List Cmd) → x ≡ view.While e v → a ≡ v.items →
+    command x ≡ While (expression e) (sequence a)
+loop_is x e v a is ha = ap command is ∙ command_While e v ∙ ap (λ l. While (expression e) (sequence l)) (sym ha)
 
 -- A letvar with a body of its own is a letvar over the body's sequence.
-pub letvar_is : (x : Cmd) (e : Ex) (v : Vec Cmd Global) (a : List Cmd) → x ≡ Letvar e v → a ≡ v.items →
-    command x ≡ Allocate (phrase e) (sequence a)
-letvar_is x e v a is ha = ap command is ∙ command_Letvar e v ∙ ap (λ l. Allocate (phrase e) (sequence l)) (sym ha)
+pub letvar_is : (x : Cmd) (e : Ex) (v : Vec Cmd Global) (a : List Cmd) → x ≡ view.Letvar e v → a ≡ v.items →
+    command x ≡ Letvar (expression e) (sequence a)
+letvar_is x e v a is ha = ap command is ∙ command_Letvar e v ∙ ap (λ l. Letvar (expression e) (sequence l)) (sym ha)
 
 module _ (pc k : ℕ) (x : Command) (fits : Fits pc k x) where
   -- It fits as each command that it equals.
   pub fits_as : (y : Command) → x ≡ y → Fits pc k y
   fits_as y e = subst (Fits pc k) e fits
 
-  module _ (e : Phrase) (a b : Command) (is : x ≡ Choose e a b) where
+  module _ (e : Expression) (a b : Command) (is : x ≡ If e a b) where
     -- The first branch fits behind the guard and its test.
-    pub fits_first : (n : ℕ) → n ≡ pc + phrase_size e + 1 → Fits n k a
+    pub fits_first : (n : ℕ) → n ≡ pc + expression_size e + 1 → Fits n k a
     fits_first n h =
-        let f = fits_as (Choose e a b) is in
+        let f = fits_as (If e a b) is in
         record { size = omega (arith, h, f.size); slots = omega (arith, h, f.slots) }
 
     -- The second branch fits behind the first one and its jump.
-    pub fits_second : (n : ℕ) → n ≡ pc + phrase_size e + 1 + size a + 1 → Fits n k b
+    pub fits_second : (n : ℕ) → n ≡ pc + expression_size e + 1 + size a + 1 → Fits n k b
     fits_second n h =
-        let f = fits_as (Choose e a b) is in
+        let f = fits_as (If e a b) is in
         record { size = omega (arith, h, f.size); slots = omega (arith, h, f.slots) }
 
   -- A loop's body fits behind the guard and its test.
-  pub fits_loop : (e : Phrase) (c : Command) → x ≡ Repeat e c → (n : ℕ) → n ≡ pc + phrase_size e + 1 → Fits n k c
+  pub fits_loop : (e : Expression) (c : Command) → x ≡ While e c → (n : ℕ) → n ≡ pc + expression_size e + 1 → Fits n k c
   fits_loop e c is n h =
-      let f = fits_as (Repeat e c) is in
+      let f = fits_as (While e c) is in
       record { size = omega (arith, h, f.size); slots = omega (arith, h, f.slots) }
 
   -- A letvar's body fits behind its initial value and the store of it, above its word.
-  pub fits_letvar : (e : Phrase) (c : Command) → x ≡ Allocate e c →
-      (n : ℕ) → n ≡ pc + phrase_size e + 1 → Fits n (k + 1) c
+  pub fits_letvar : (e : Expression) (c : Command) → x ≡ Letvar e c →
+      (n : ℕ) → n ≡ pc + expression_size e + 1 → Fits n (k + 1) c
   fits_letvar e c is n h =
-      let f = fits_as (Allocate e c) is in
+      let f = fits_as (Letvar e c) is in
       record { size = omega (arith, h, f.size); slots = omega (arith, h, f.slots) }

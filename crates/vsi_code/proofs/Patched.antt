@@ -4,18 +4,18 @@ use Rattle.std.specs.Prelude.{slice_set}
 use Rattle.std.proofs.Math.Seq.{set-append_seam}
 use Rattle.vsi_image.specs.declared.instr.Instr.{Instr}
 use Rattle.vsi_image.specs.declared.instr.Instr.TheVariants.{Store, Jz, Jmp}
-use Rattle.vsi_scope.specs.Phrase.{Phrase, Command, Choose, Repeat, Allocate, phrase_size, size}
-use Rattle.vsi_code.specs.Layout.{phrase_code, choice_code, loop_code, code_at}
-use Rattle.vsi_code.proofs.Placed.{phrase_long, command_long}
+use Rattle.vsi_scope.specs.Language.{Expression, Command, If, While, Letvar, expression_size, size}
+use Rattle.vsi_code.specs.Layout.{expression_code, choice_code, loop_code, code_at}
+use Rattle.vsi_code.proofs.Placed.{expression_long, command_long}
 
 -- ---- the lengths of what was emitted.
 
 -- Code behind a guard and one instruction.
-pub guard_long : (old c1 : List Instr) (e : Phrase) (i : Instr) →
-    c1 ≡ old ++ (phrase_code e ++ i ∷ []) → length c1 ≡ length old + phrase_size e + 1
+pub guard_long : (old c1 : List Instr) (e : Expression) (i : Instr) →
+    c1 ≡ old ++ (expression_code e ++ i ∷ []) → length c1 ≡ length old + expression_size e + 1
 guard_long old c1 e i h =
-    let back = length-append (phrase_code e) (i ∷ []) in
-    ap length h ∙ omega (arith, phrase_long e, length-append old (phrase_code e ++ i ∷ []), back)
+    let back = length-append (expression_code e) (i ∷ []) in
+    ap length h ∙ omega (arith, expression_long e, length-append old (expression_code e ++ i ∷ []), back)
 
 -- Code behind a command's.
 pub part_long : (old c1 : List Instr) (c : Command) (pc k : ℕ) →
@@ -68,16 +68,16 @@ one_patched old g a c1 c2 c3 c4 x i j t h1 ht h2 h3 h4 =
     ∙ set-append_seam (old ++ g) x (a ++ j ∷ []) i ∙ append_assoc old g (i ∷ (a ++ j ∷ []))
 
 -- A choice's code, whose test is aimed at the second branch and whose jump at the end.
-pub choice_patched : (old : List Instr) (k : ℕ) (e : Phrase) (a b : Command) (c1 c2 c3 c4 c5 c6 : List Instr)
+pub choice_patched : (old : List Instr) (k : ℕ) (e : Expression) (a b : Command) (c1 c2 c3 c4 c5 c6 : List Instr)
     (t u : ℕ) →
-    c1 ≡ old ++ (phrase_code e ++ Jz 0 ∷ []) → t ≡ length old + phrase_size e →
+    c1 ≡ old ++ (expression_code e ++ Jz 0 ∷ []) → t ≡ length old + expression_size e →
     c2 ≡ c1 ++ code_at (length c1) k a → u ≡ length c2 → c3 ≡ c2 ++ Jmp 0 ∷ [] →
     c4 ≡ slice_set c3 t (Jz (length c3)) → c5 ≡ c4 ++ code_at (length c4) k b →
     c6 ≡ slice_set c5 u (Jmp (length c5)) →
-    c6 ≡ old ++ code_at (length old) k (Choose e a b)
+    c6 ≡ old ++ code_at (length old) k (If e a b)
 choice_patched old k e a b c1 c2 c3 c4 c5 c6 t u h1 ht h2 hu h3 h4 h5 h6 =
-    let G = phrase_code e in
-    let first = length old + phrase_size e + 1 in
+    let G = expression_code e in
+    let first = length old + expression_size e + 1 in
     let second = first + size a + 1 in
     let n1 : length c1 ≡ first = guard_long old c1 e (Jz 0) h1 in
     let n2 = part_long c1 c2 a (length c1) k h2 in
@@ -86,7 +86,7 @@ choice_patched old k e a b c1 c2 c3 c4 c5 c6 t u h1 ht h2 hu h3 h4 h5 h6 =
     let n5 : length c5 ≡ second + size b = omega (arith, n4, part_long c4 c5 b (length c4) k h5) in
     let A = code_at first k a in
     let B = code_at second k b in
-    let at : t ≡ length old + length (phrase_code e) = omega (arith, ht, phrase_long e) in
+    let at : t ≡ length old + length (expression_code e) = omega (arith, ht, expression_long e) in
     two_patched old G (code_at (length c1) k a) (code_at (length c4) k b) c1 c2 c3 c4 c5 c6 (Jz 0) (Jmp 0)
     (Jz (length c3)) (Jmp (length c5)) t u h1 at h2 hu h3 h4 h5 h6
     ∙ ap (λ n. old ++ choice_code G (length c3) (code_at n k a) (length c5) (code_at (length c4) k b)) n1
@@ -95,31 +95,31 @@ choice_patched old k e a b c1 c2 c3 c4 c5 c6 t u h1 ht h2 hu h3 h4 h5 h6 =
     ∙ ap (λ n. old ++ choice_code G second A (second + size b) (code_at n k b)) n4
 
 -- A loop's code, whose test is aimed at the end.
-pub loop_patched : (old : List Instr) (k : ℕ) (e : Phrase) (c : Command) (c1 c2 c3 c4 : List Instr) (s t : ℕ) →
-    s ≡ length old → c1 ≡ old ++ (phrase_code e ++ Jz 0 ∷ []) → t ≡ length old + phrase_size e →
+pub loop_patched : (old : List Instr) (k : ℕ) (e : Expression) (c : Command) (c1 c2 c3 c4 : List Instr) (s t : ℕ) →
+    s ≡ length old → c1 ≡ old ++ (expression_code e ++ Jz 0 ∷ []) → t ≡ length old + expression_size e →
     c2 ≡ c1 ++ code_at (length c1) k c → c3 ≡ c2 ++ Jmp s ∷ [] → c4 ≡ slice_set c3 t (Jz (length c3)) →
-    c4 ≡ old ++ code_at (length old) k (Repeat e c)
+    c4 ≡ old ++ code_at (length old) k (While e c)
 loop_patched old k e c c1 c2 c3 c4 s t hs h1 ht h2 h3 h4 =
-    let G = phrase_code e in
-    let body = length old + phrase_size e + 1 in
+    let G = expression_code e in
+    let body = length old + expression_size e + 1 in
     let end = body + size c + 1 in
     let n1 : length c1 ≡ body = guard_long old c1 e (Jz 0) h1 in
     let n2 = part_long c1 c2 c (length c1) k h2 in
     let n3 : length c3 ≡ end = omega (arith, n1, n2, one_long c2 c3 (Jmp s) h3) in
-    let at : t ≡ length old + length (phrase_code e) = omega (arith, ht, phrase_long e) in
+    let at : t ≡ length old + length (expression_code e) = omega (arith, ht, expression_long e) in
     one_patched old G (code_at (length c1) k c) c1 c2 c3 c4 (Jz 0) (Jz (length c3)) (Jmp s) t h1 at h2 h3 h4
     ∙ ap (λ n. old ++ loop_code G (length c3) (code_at n k c) s) n1
     ∙ ap (λ n. old ++ loop_code G n (code_at body k c) s) n3
     ∙ ap (λ n. old ++ loop_code G end (code_at body k c) n) hs
 
 -- A letvar's code.
-pub letvar_joined : (old : List Instr) (k : ℕ) (e : Phrase) (c : Command) (c1 c2 c3 : List Instr) →
-    c1 ≡ old ++ phrase_code e → c2 ≡ c1 ++ Store k ∷ [] → c3 ≡ c2 ++ code_at (length c2) (k + 1) c →
-    c3 ≡ old ++ code_at (length old) k (Allocate e c)
+pub letvar_joined : (old : List Instr) (k : ℕ) (e : Expression) (c : Command) (c1 c2 c3 : List Instr) →
+    c1 ≡ old ++ expression_code e → c2 ≡ c1 ++ Store k ∷ [] → c3 ≡ c2 ++ code_at (length c2) (k + 1) c →
+    c3 ≡ old ++ code_at (length old) k (Letvar e c)
 letvar_joined old k e c c1 c2 c3 h1 h2 h3 =
-    let body = length old + phrase_size e + 1 in
-    let n1 = ap length h1 ∙ length-append old (phrase_code e) in
-    let n2 : length c2 ≡ body = omega (arith, n1, one_long c1 c2 (Store k) h2, phrase_long e) in
+    let body = length old + expression_size e + 1 in
+    let n1 = ap length h1 ∙ length-append old (expression_code e) in
+    let n2 : length c2 ≡ body = omega (arith, n1, one_long c1 c2 (Store k) h2, expression_long e) in
     let g2 = h2 ∙ ap (λ l. l ++ Store k ∷ []) h1 in
     let g3 = h3 ∙ ap (λ n. c2 ++ code_at n (k + 1) c) n2 ∙ ap (λ l. l ++ code_at body (k + 1) c) g2 in
     g3 ∙ simp append_assoc

@@ -5,8 +5,8 @@ use Rattle.std.proofs.Math.Seq.{get_or-append_seam}
 use Rattle.std.proofs.lemmas.Option.{slice_get-get_or}
 use Rattle.vsi_image.specs.declared.instr.Instr.{Instr}
 use Rattle.vsi_image.specs.declared.instr.Instr.TheVariants.{Store, Jz, Jmp, Halt}
-use Rattle.vsi_scope.specs.Phrase.{Phrase, Literal, Contents, Apply, Command, Nothing, Put, Then, Choose, Repeat, Allocate, phrase_size, size}
-use Rattle.vsi_code.specs.Layout.{op_code, phrase_code, choice_code, loop_code, code_at, whole_code}
+use Rattle.vsi_scope.specs.Language.{Expression, Number, Location, Operator, Command, Skip, Assign, Sequence, If, While, Letvar, expression_size, size}
+use Rattle.vsi_code.specs.Layout.{op_code, expression_code, choice_code, loop_code, code_at, whole_code}
 
 -- These instructions stand in the code from a place on.
 abbrev pub HasAt : List Instr → ℕ → List Instr → Type 0
@@ -47,13 +47,13 @@ pub has_all : (code : List Instr) → HasAt code 0 code
 has_all code = has_all_from code []
 
 -- An expression's code has as many instructions as its size says.
-pub phrase_long : (e : Phrase) → length (phrase_code e) ≡ phrase_size e
-phrase_long (Literal n) = refl
-phrase_long (Contents l s) = refl
-phrase_long (Apply o a b) =
-    let whole = length-append (phrase_code a) (phrase_code b ++ op_code o ∷ []) in
-    let back = length-append (phrase_code b) (op_code o ∷ []) in
-    omega (arith, phrase_long a, phrase_long b, whole, back)
+pub expression_long : (e : Expression) → length (expression_code e) ≡ expression_size e
+expression_long (Number n) = refl
+expression_long (Location l s) = refl
+expression_long (Operator o a b) =
+    let whole = length-append (expression_code a) (expression_code b ++ op_code o ∷ []) in
+    let back = length-append (expression_code b) (op_code o ∷ []) in
+    omega (arith, expression_long a, expression_long b, whole, back)
 
 -- The length of a choice from its parts'.
 choice_long : (g y n : List Instr) (p q : ℕ) → length (choice_code g p y q n) ≡ length g + length y + length n + 2
@@ -66,24 +66,24 @@ loop_long g b p q = omega (arith, length-append g (Jz p ∷ (b ++ Jmp q ∷ []))
 
 -- A command's code has as many instructions as its size says.
 pub command_long : (c : Command) (pc k : ℕ) → length (code_at pc k c) ≡ size c
-command_long Nothing pc k = refl
-command_long (Put l s e) pc k = omega (arith, phrase_long e, length-append (phrase_code e) (Store l ∷ []))
-command_long (Then a b) pc k =
+command_long Skip pc k = refl
+command_long (Assign l s e) pc k = omega (arith, expression_long e, length-append (expression_code e) (Store l ∷ []))
+command_long (Sequence a b) pc k =
     let both = length-append (code_at pc k a) (code_at (pc + size a) k b) in
     omega (arith, command_long a pc k, command_long b (pc + size a) k, both)
-command_long (Choose e a b) pc k =
-    let first = pc + phrase_size e + 1 in
+command_long (If e a b) pc k =
+    let first = pc + expression_size e + 1 in
     let second = first + size a + 1 in
-    let both = choice_long (phrase_code e) (code_at first k a) (code_at second k b) second (second + size b) in
-    omega (arith, phrase_long e, command_long a first k, command_long b second k, both)
-command_long (Repeat e c) pc k =
-    let body = pc + phrase_size e + 1 in
-    let both = loop_long (phrase_code e) (code_at body k c) (body + size c + 1) pc in
-    omega (arith, phrase_long e, command_long c body k, both)
-command_long (Allocate e c) pc k =
-    let body = pc + phrase_size e + 1 in
-    let both = length-append (phrase_code e) (Store k ∷ code_at body (k + 1) c) in
-    omega (arith, phrase_long e, command_long c body (k + 1), both)
+    let both = choice_long (expression_code e) (code_at first k a) (code_at second k b) second (second + size b) in
+    omega (arith, expression_long e, command_long a first k, command_long b second k, both)
+command_long (While e c) pc k =
+    let body = pc + expression_size e + 1 in
+    let both = loop_long (expression_code e) (code_at body k c) (body + size c + 1) pc in
+    omega (arith, expression_long e, command_long c body k, both)
+command_long (Letvar e c) pc k =
+    let body = pc + expression_size e + 1 in
+    let both = length-append (expression_code e) (Store k ∷ code_at body (k + 1) c) in
+    omega (arith, expression_long e, command_long c body (k + 1), both)
 
 -- The whole code of a body has one instruction more than the body's size.
 pub whole_long : (g : ℕ) (c : Command) → length (whole_code g c) ≡ size c + 1

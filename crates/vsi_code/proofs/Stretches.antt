@@ -23,7 +23,7 @@ pub record GoesOn (code : List Instr) (n : ℕ) (s : State) : Type 0 where
   pub running : state.halted ≡ false
 
 -- The machine comes to a place with this store, and this many words behind it.
-pub record Ends (code : List Instr) (s : State) (pc r : ℕ) (m : Words) : Type 0 where
+pub record StretchEnds (code : List Instr) (s : State) (pc r : ℕ) (m : Words) : Type 0 where
   pub rest : List ℤ
   pub long : length rest ≡ r
   pub comes : Comes code s (going pc [] (m ++ rest))
@@ -31,7 +31,7 @@ pub record Ends (code : List Instr) (s : State) (pc r : ℕ) (m : Words) : Type 
 -- A command's code ends with the command's store where it has one, and else runs on for n steps.
 abbrev pub Runs : List Instr → ℕ → State → ℕ → ℕ → Option Words → Type 0
 Runs code n s pc r None = GoesOn code n s
-Runs code n s pc r (Some m) = Ends code s pc r m
+Runs code n s pc r (Some m) = StretchEnds code s pc r m
 
 module _ (code : List Instr) where
   -- One instruction leads on.

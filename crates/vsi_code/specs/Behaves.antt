@@ -2,7 +2,7 @@
 use Rattle.std.specs.Prelude.{◌≡◌, ℕ, ◌≤◌, length, take, Some, true}
 use Rattle.vsi_image.specs.declared.instr.Image.{Image}
 use Rattle.vsi_image.specs.Meaning.{State, after, start}
-use Rattle.vsi_scope.specs.Phrase.{Command}
+use Rattle.vsi_scope.specs.Language.{Command}
 use Rattle.vsi_scope.specs.Meaning.{Store, Evaluates}
 
 -- The run from a store with this budget has halted, with these words in the globals.

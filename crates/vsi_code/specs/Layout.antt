@@ -4,7 +4,7 @@ use Rattle.vsi_image.specs.declared.instr.Instr.{Instr}
 use Rattle.vsi_image.specs.declared.instr.Instr.TheVariants as i
 use Rattle.vsi_syntax.specs.declared.operator.Op.{Op}
 use Rattle.vsi_syntax.specs.declared.operator.Op.TheVariants as o
-use Rattle.vsi_scope.specs.Phrase.{Phrase, Literal, Contents, Apply, Command, Nothing, Put, Then, Choose, Repeat, Allocate, phrase_size, size, nesting}
+use Rattle.vsi_scope.specs.Language.{Expression, Number, Location, Operator, Command, Skip, Assign, Sequence, If, While, Letvar, expression_size, size, nesting}
 
 -- The instruction of an operator.
 abbrev pub op_code : Op → Instr
@@ -15,14 +15,14 @@ op_code o.Eq = i.Eq
 op_code o.Lt = i.Lt
 
 -- An expression's code is that of the left operand, that of the right one, and the operator.
-abbrev pub phrase_code : Phrase → List Instr
-phrase_code (Literal n) = i.Push n ∷ []
-phrase_code (Contents l s) = i.Load l ∷ []
-phrase_code (Apply o a b) = phrase_code a ++ (phrase_code b ++ op_code o ∷ [])
+abbrev pub expression_code : Expression → List Instr
+expression_code (Number n) = i.Push n ∷ []
+expression_code (Location l s) = i.Load l ∷ []
+expression_code (Operator o a b) = expression_code a ++ (expression_code b ++ op_code o ∷ [])
 
 -- A guard's code is that of its expression, and a jump to the target where the word is 0.
-abbrev pub guard_code : Phrase → ℕ → List Instr
-guard_code e target = phrase_code e ++ i.Jz target ∷ []
+abbrev pub guard_code : Expression → ℕ → List Instr
+guard_code e target = expression_code e ++ i.Jz target ∷ []
 
 -- A choice is its guard, a jump to the second branch where the word is 0, the first branch, a jump to the end, and
 -- the second branch.
@@ -35,17 +35,17 @@ loop_code guard end body start = guard ++ (i.Jz end ∷ (body ++ i.Jmp start ∷
 
 -- The code of a command that begins at the place pc, with k words in scope.
 abbrev pub code_at : ℕ → ℕ → Command → List Instr
-code_at pc k Nothing = []
-code_at pc k (Put l s e) = phrase_code e ++ i.Store l ∷ []
-code_at pc k (Then a b) = code_at pc k a ++ code_at (pc + size a) k b
-code_at pc k (Choose e a b) =
-    let first = pc + phrase_size e + 1 in
+code_at pc k Skip = []
+code_at pc k (Assign l s e) = expression_code e ++ i.Store l ∷ []
+code_at pc k (Sequence a b) = code_at pc k a ++ code_at (pc + size a) k b
+code_at pc k (If e a b) =
+    let first = pc + expression_size e + 1 in
     let second = first + size a + 1 in
-    choice_code (phrase_code e) second (code_at first k a) (second + size b) (code_at second k b)
-code_at pc k (Repeat e c) =
-    let body = pc + phrase_size e + 1 in
-    loop_code (phrase_code e) (body + size c + 1) (code_at body k c) pc
-code_at pc k (Allocate e c) = phrase_code e ++ (i.Store k ∷ code_at (pc + phrase_size e + 1) (k + 1) c)
+    choice_code (expression_code e) second (code_at first k a) (second + size b) (code_at second k b)
+code_at pc k (While e c) =
+    let body = pc + expression_size e + 1 in
+    loop_code (expression_code e) (body + size c + 1) (code_at body k c) pc
+code_at pc k (Letvar e c) = expression_code e ++ (i.Store k ∷ code_at (pc + expression_size e + 1) (k + 1) c)
 
 -- The code before with that of a command behind it.
 abbrev pub with_code : List Instr → ℕ → Command → List Instr

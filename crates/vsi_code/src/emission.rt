@@ -2,11 +2,11 @@
 //! stands, so that each instruction is written once and no part is measured.
 
 ghost use Rattle.std.specs.Prelude.{◌≡◌, ◌+◌, ◌<◌, ◌≤◌, [], ◌∷◌, ◌++◌, length, slice_set, IfOk, OnOk};
-ghost use Rattle.vsi_code.specs.Layout.{Fits, most_instructions, op_code, phrase_code, guard_code, with_code, whole_code};
+ghost use Rattle.vsi_code.specs.Layout.{Fits, most_instructions, op_code, expression_code, guard_code, with_code, whole_code};
 ghost use Rattle.vsi_image.specs.declared.instr.Instr.{Instr};
 ghost use Rattle.vsi_image.specs.declared.instr.Instr.TheVariants as spec;
-ghost use Rattle.vsi_scope.specs.Phrase.{phrase_size};
-ghost use Rattle.vsi_scope.specs.View.{phrase, command, sequence};
+ghost use Rattle.vsi_scope.specs.Language.{expression_size};
+ghost use Rattle.vsi_scope.specs.View.{expression, command, sequence};
 
 use std::alloc::{AllocError, Global};
 use vsi_image::Instr;
@@ -36,7 +36,7 @@ fn instr_of(op: Op) -> Instr
 
 /// An expression, whose word the code leaves on top of the operands.
 fn emit_expression(code: &mut Vec<Instr>, e: &Ex) -> Result<(), AllocError>
-    ensures { OnOk result (code.new.items ≡ code.old.items ++ phrase_code (phrase e.now)) }
+    ensures { OnOk result (code.new.items ≡ code.old.items ++ expression_code (expression e.now)) }
 {
     match e {
         Ex::Num(n) => put(code, Instr::Push(*n)),
@@ -51,8 +51,8 @@ fn emit_expression(code: &mut Vec<Instr>, e: &Ex) -> Result<(), AllocError>
 
 /// A guard and its test, which is not aimed yet; answers the place of the test.
 fn emit_guard(code: &mut Vec<Instr>, guard: &Ex) -> Result<usize, AllocError>
-    ensures code { OnOk result (code.new.items ≡ code.old.items ++ guard_code (phrase guard.now) 0) }
-    ensures place { IfOk result (λ place. place ≡ length code.old.items + phrase_size (phrase guard.now)) }
+    ensures code { OnOk result (code.new.items ≡ code.old.items ++ guard_code (expression guard.now) 0) }
+    ensures place { IfOk result (λ place. place ≡ length code.old.items + expression_size (expression guard.now)) }
 {
     emit_expression(code, guard)?;
     let place = code.len();

@@ -2,10 +2,11 @@
 
 ghost use Rattle.std.specs.Prelude.{◌≡◌, ◌+◌, IfOk, length};
 ghost use Rattle.vsi_code.specs.Behaves.{Behaves};
+ghost use Rattle.vsi_code.specs.Layout.{whole_code};
 ghost use Rattle.vsi_code.specs.Needs.{IsGreatestDepth, height, slots_of};
 ghost use Rattle.vsi_code.specs.Names.{all_named};
 ghost use Rattle.vsi_image.specs.Fields as fields;
-ghost use Rattle.vsi_scope.specs.Phrase.{size};
+ghost use Rattle.vsi_scope.specs.Language.{size};
 ghost use Rattle.vsi_scope.specs.View.{sequence};
 
 use crate::emission::whole_code;
@@ -34,6 +35,8 @@ pub fn generate(alloc: Heap, program: &Resolved) -> Result<Verified, AllocError>
     ensures globals { IfOk result (λ image. fields.globals image.globals.items ≡ all_named program.now.globals) }
     ensures slots { IfOk result (λ image. image.slots ≡ slots_of program.now) }
     ensures stack { IfOk result (λ image. image.stack ≡ height (sequence program.now.body)) }
+    ensures code { IfOk result (λ image. image.code.items ≡
+        whole_code (length program.now.globals) (sequence program.now.body)) }
     ensures deepest { IfOk result (λ image. IsGreatestDepth image.code.items image.stack) }
     ensures count { IfOk result (λ image. length image.code.items ≡ size (sequence program.now.body) + 1) }
 {

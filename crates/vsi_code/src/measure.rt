@@ -1,15 +1,15 @@
 //! How many operands and letvars are there at a time.
 
 ghost use Rattle.std.specs.Prelude.{◌≡◌, min};
-ghost use Rattle.vsi_code.specs.Needs.{phrase_height, height};
-ghost use Rattle.vsi_scope.specs.Phrase.{nesting};
-ghost use Rattle.vsi_scope.specs.View.{phrase, command, sequence};
+ghost use Rattle.vsi_code.specs.Needs.{expression_height, height};
+ghost use Rattle.vsi_scope.specs.Language.{nesting};
+ghost use Rattle.vsi_scope.specs.View.{expression, command, sequence};
 
 use vsi_scope::{Cmd, Ex};
 
 /// The most operands that an expression has at a time, at most 65,535.
 fn expression_height(e: &Ex) -> u16
-    ensures { result ≡ min (phrase_height (phrase e.now)) 65535 }
+    ensures { result ≡ min (expression_height (expression e.now)) 65535 }
 {
     match e {
         Ex::Num(_) => 1,

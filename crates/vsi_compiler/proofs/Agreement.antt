@@ -9,7 +9,7 @@ use Rattle.vsi_lattice.specs.Order.{Lattice, Below}
 use Rattle.vsi_scope.specs.declared.resolved.Global.{Global}
 use Rattle.vsi_scope.specs.Meaning.{Store}
 use Rattle.vsi_types.specs.Security.{Agree}
-use Rattle.vsi_code.specs.Names.{named, all_named}
+use Rattle.vsi_code.specs.Names.{named_global, all_named}
 use Rattle.vsi_compiler.specs.Observation.{Known, AgreeAt}
 
 -- Each global's class is what its class name stands for.
@@ -28,8 +28,8 @@ class_at gs i g h =
 
 -- The names at the place of a global.
 named_at : (gs : List Global) (i : ℕ) (g : Global) → slice_get gs i ≡ Some g → slice_get (all_named gs) i
-    ≡ Some (named g)
-named_at gs i g h = slice_get-map named gs i ∙ ap (option_map named) h
+    ≡ Some (named_global g)
+named_at gs i g h = slice_get-map named_global gs i ∙ ap (option_map named_global) h
 
 -- What is there is one.
 some_is : {X : Type 0} {x y : X} → Some x ≡ Some y → x ≡ y
@@ -47,7 +47,7 @@ module _ (known : Known) (L : Lattice) (gs : List Global) (im : Image) (has : Ha
     | inl p ↦
         let g = p.0 in
         let at = p.2 in
-        h l (named g) g.class (ap (λ x. slice_get x l) names ∙ named_at gs l g at) (has l g at)
+        h l (named_global g) g.class (ap (λ x. slice_get x l) names ∙ named_at gs l g at) (has l g at)
         (subst (λ c. Below L c a) (class_at gs l g at) below)
     | inr p ↦ absurd (omega (arith, lt, p.0, length-map gs (λ (x : Global). x.class)))
   ]
@@ -57,7 +57,7 @@ module _ (known : Known) (L : Lattice) (gs : List Global) (im : Image) (has : Ha
   agree_named h i g c at is below = elim ((slice_get_cases gs i).1) [
     | inl p ↦
         let found = p.0 in
-        let named_is : named found ≡ g =
+        let named_is : named_global found ≡ g =
         some_is (sym (named_at gs i found p.2) ∙ ap (λ x. slice_get x i) (sym names) ∙ at) in
         let class_is : found.class ≡ c =
         some_is (sym (has i found p.2) ∙ ap (λ (x : image.Global). known x.1) named_is ∙ is) in
@@ -65,5 +65,6 @@ module _ (known : Known) (L : Lattice) (gs : List Global) (im : Image) (has : Ha
         (subst (λ d. Below L d a) (sym (class_at gs i found p.2 ∙ class_is)) below)
     | inr p ↦
         absurd (none_is
-        (sym (slice_get-map named gs i ∙ ap (option_map named) p.1) ∙ ap (λ x. slice_get x i) (sym names) ∙ at))
+        (sym (slice_get-map named_global gs i ∙ ap (option_map named_global) p.1)
+        ∙ ap (λ x. slice_get x i) (sym names) ∙ at))
   ]

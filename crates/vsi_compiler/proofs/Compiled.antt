@@ -1,32 +1,35 @@
 -- What the layers promise of a text together.
-use Rattle.std.proofs.Common.{◌≡◌, ℕ, ◌<◌, List, map, length, refl, sym, ap, subst, ◌∙◌, Option, Some, None, IfSome, arith}
+use Rattle.std.proofs.Common.{◌≡◌, ℕ, ◌+◌, ◌<◌, ◌≤◌, List, map, length, refl, sym, ap, subst, ◌∙◌, Option, Some, None, IfSome, arith}
 use Rattle.vsi_syntax.specs.Tree.{Whole}
 use Rattle.vsi_lattice.specs.Order.{Lattice as Order, IsLattice}
 use Rattle.vsi_lattice.specs.declared.lattice.Lattice.{Lattice}
-use Rattle.vsi_lattice.specs.Named.{class_named, order, names}
+use Rattle.vsi_lattice.specs.LatticeView.{class_named, order, names}
 use Rattle.vsi_lattice.specs.Laws.{lawful_is_lattice}
 use Rattle.vsi_lattice.proofs.NameLemmas.{found}
 use Rattle.vsi_scope.specs.Faults.{Known}
-use Rattle.vsi_scope.specs.Phrase.{Command}
-use Rattle.vsi_scope.specs.Program.{Source}
+use Rattle.vsi_scope.specs.Language.{Command, size}
+use Rattle.vsi_scope.specs.Program.{Resolved}
 use Rattle.vsi_scope.specs.Resolving.{IsResolution, AreBelow}
 use Rattle.vsi_scope.specs.Scopes.{in_sequence}
 use Rattle.vsi_scope.specs.View.{command, sequence}
 use Rattle.vsi_scope.proofs.Complete.{does_all_one}
 use Rattle.vsi_types.specs.declared.rules.Profile.{Profile}
 use Rattle.vsi_types.specs.declared.rules.Step.{Step}
-use Rattle.vsi_types.specs.Security.{program, IsTypable, IsResolved}
+use Rattle.vsi_types.specs.Security.{program, IsTypable, IsWellFormed}
 use Rattle.vsi_types.proofs.Walking.{bad_walks_refute}
 use Rattle.vsi_infer.specs.Inference.{IsShortest, IsLeast}
 use Rattle.vsi_image.specs.declared.instr.Image.{Image}
 use Rattle.vsi_image.specs.Fields as image
 use Rattle.vsi_code.specs.Behaves.{Behaves}
+use Rattle.vsi_opt.specs.Optimised.{optimised}
+use Rattle.vsi_code.specs.Generated.{image_of}
 use Rattle.vsi_code.specs.Names.{all_named}
+use Rattle.vsi_code.proofs.Made.{IsMade, made_fields}
 use Rattle.vsi_compiler.specs.Source.{Reads}
 use Rattle.vsi_compiler.specs.Stands.{Stands}
 use Rattle.vsi_compiler.specs.Acceptance.{IsAccepted, program_of}
-use Rattle.vsi_compiler.specs.Headline.{HasGlobals, KeepsMeaning, named}
-use Rattle.vsi_compiler.specs.Refusal.{HasBadWalk, Refuses}
+use Rattle.vsi_compiler.specs.Headline.{HasGlobals, KeepsMeaning, IsImageOf, IsNoLarger, declared_global}
+use Rattle.vsi_compiler.specs.Refusal.{HasShortestBadWalk, Refuses}
 use Rattle.vsi_compiler.specs.Errors.{flowing}
 use Rattle.vsi_compiler.specs.declared.error.CompileError.TheVariants.{Memory}
 use Rattle.vsi_infer.specs.declared.error.InferError.{InferError}
@@ -46,7 +49,7 @@ known_below l x = below (class_named l x) refl
 pub lawful : (l : Lattice) → IsLattice (order l)
 lawful l = lawful_is_lattice (order l) l.order.lawful
 
-module _ (known : Known) (text : List ℕ) (r : Source) (stands : Stands known text r) where
+module _ (known : Known) (text : List ℕ) (r : Resolved) (stands : Stands known text r) where
   -- There is one tree and one resolution of it.
   one_resolution : (tree : Whole) (commands : List Command) → Reads text tree → IsResolution known tree commands →
       (stands.tree ≡ tree) × (commands ≡ map command r.body)
@@ -77,7 +80,7 @@ module _ (known : Known) (text : List ℕ) (r : Source) (stands : Stands known t
 
   -- A shortest bad walk of the resolved program is one of the tree's.
   pub walk_refused : (L : Order) (P : Profile) (steps : List Step) → IsShortest L P (program r) steps →
-      HasBadWalk known L P text steps
+      HasShortestBadWalk known L P text steps
   walk_refused L P steps shortest =
       record {
         tree = stands.tree;
@@ -101,19 +104,46 @@ module _ (known : Known) (text : List ℕ) (r : Source) (stands : Stands known t
   -- The image's globals are the text's.
   pub globals_kept : (im : Image) → image.globals im.globals.items ≡ all_named r.globals → HasGlobals text im
   globals_kept im e tree reads =
-      e ∙ names_are known stands.tree r stands.resolves ∙ ap (λ (t : Whole). map named t.globals)
+      e ∙ names_are known stands.tree r stands.resolves ∙ ap (λ (t : Whole). map declared_global t.globals)
       (stands.only tree reads)
+
+  -- There are as many globals as the tree declares.
+  count_kept : (tree : Whole) → Reads text tree → length r.globals ≡ length tree.globals
+  count_kept tree reads =
+      count_is known stands.tree r stands.resolves ∙ ap (λ (t : Whole). length t.globals) (stands.only tree reads)
+
+  -- The body is that of the resolution.
+  body_kept : (tree : Whole) (commands : List Command) → Reads text tree → IsResolution known tree commands →
+      sequence r.body ≡ in_sequence commands
+  body_kept tree commands reads resolution =
+      body_is known stands.tree r stands.resolves
+      ∙ ap in_sequence (sym (one_resolution tree commands reads resolution).1)
 
   -- What does the resolved body does the text's.
   pub meaning_kept : (im : Image) → Behaves (length r.globals) (sequence r.body) im → KeepsMeaning known text im
   meaning_kept im behaves tree commands reads resolution =
-      let one = one_resolution tree commands reads resolution in
-      let count : length r.globals ≡ length tree.globals =
-      count_is known stands.tree r stands.resolves ∙ ap (λ (t : Whole). length t.globals) one.0 in
-      let body : sequence r.body ≡ in_sequence commands =
-      body_is known stands.tree r stands.resolves ∙ ap in_sequence (sym one.1) in
-      subst (λ n. Behaves n (in_sequence commands) im) count
-      (subst (λ c. Behaves (length r.globals) c im) body behaves)
+      subst (λ n. Behaves n (in_sequence commands) im) (count_kept tree reads)
+      (subst (λ c. Behaves (length r.globals) c im) (body_kept tree commands reads resolution) behaves)
+
+  -- The image that holds the optimised program is the text's.
+  pub image_kept : (o : Resolved) (im : Image) → IsMade o im → o.globals ≡ r.globals →
+      sequence o.body ≡ optimised (length o.globals) (sequence r.body) → IsImageOf known text im
+  image_kept o im holds globals body tree commands reads resolution =
+      let names : all_named o.globals ≡ map declared_global tree.globals =
+      ap all_named globals ∙ names_are known stands.tree r stands.resolves
+      ∙ ap (λ (t : Whole). map declared_global t.globals) (stands.only tree reads) in
+      let count : length o.globals ≡ length tree.globals = ap length globals ∙ count_kept tree reads in
+      made_fields o im holds
+      ∙ ap (λ gs. image_of gs (sequence o.body)) names
+      ∙ ap (image_of (map declared_global tree.globals))
+      (body ∙ ap (λ n. optimised n (sequence r.body)) count
+      ∙ ap (optimised (length tree.globals)) (body_kept tree commands reads resolution))
+
+  -- An image with one instruction more than the size of a body that is no larger has no more than the text needs.
+  pub size_kept : (o : Resolved) (im : Image) → length im.code.items ≡ size (sequence o.body) + 1 →
+      size (sequence o.body) ≤ size (sequence r.body) → IsNoLarger known text im
+  size_kept o im count smaller tree commands reads resolution =
+      omega (arith, count, smaller, ap size (body_kept tree commands reads resolution))
 
   -- The least choice for the resolved program is that for the tree's.
   pub least_tree : (L : Order) (P : Profile) (s : List ℕ) → IsLeast L P (program r) s →
@@ -127,14 +157,14 @@ module _ (known : Known) (text : List ℕ) (r : Source) (stands : Stands known t
   flow_refused L P (infer.Refused walk) h = walk_refused L P walk.steps.items h
 
   -- An accepted text is refused by the inference for want of memory alone.
-  pub flow_memory : (L : Order) (P : Profile) → IsLattice L → IsResolved L (program r) → (e : InferError) →
+  pub flow_memory : (L : Order) (P : Profile) → IsLattice L → IsWellFormed L (program r) → (e : InferError) →
       inference.Refuses L P (program r) e → IsAccepted known L P text → flowing e ≡ Memory
   flow_memory L P laws ready infer.Memory h a = refl
   flow_memory L P laws ready (infer.Refused walk) h a =
       absurd (not_accepted L P (λ s. bad_walks_refute L P (program r) walk.steps.items s laws ready h.0) a)
 
 -- Two resolved programs of a text are one program for typing.
-pub one_program : (known : Known) (text : List ℕ) (r other : Source) → Stands known text r → Stands known text other →
+pub one_program : (known : Known) (text : List ℕ) (r other : Resolved) → Stands known text r → Stands known text other →
     program other ≡ program r
 one_program known text r other stands others =
     let tree = stands.only others.tree others.reads in

@@ -1,12 +1,12 @@
--- What is typed under the strict profile is typed under the base profile.
-use Rattle.std.proofs.Common.{ℕ, ◌+◌, [], ◌∷◌, ◌++◌, List}
+-- What is typed under the strict profile is typed under the base profile, and a text has one image under both.
+use Rattle.std.proofs.Common.{ℕ, ◌+◌, [], ◌∷◌, ◌++◌, List, sym, ◌∙◌}
 use Rattle.vsi_lattice.specs.Order.{Lattice}
-use Rattle.vsi_scope.specs.Phrase.{Command, letvars}
+use Rattle.vsi_scope.specs.Language.{Command, letvars}
 use Rattle.vsi_types.specs.declared.rules.Profile.TheVariants.{Base, Strict}
 use Rattle.vsi_types.specs.Typing.{Locations, HasCmd, EMPTY, ASSIGN, COMPOSE, IF, WHILE, LETVAR, SUBTYPE_CMD}
 use Rattle.vsi_types.specs.Security.{Program, IsTypable}
 use Rattle.vsi_compiler.specs.Acceptance.{program_of}
-use Rattle.vsi_compiler.specs.Laws.{StrictImpliesBase}
+use Rattle.vsi_compiler.specs.Laws.{OneImage, StrictImpliesBase}
 
 -- A derivation under the strict profile is one under the base profile, where a loop may have any type.
 base_derivation : (L : Lattice) (classes : ℕ → ℕ) (q : Locations) (n : ℕ) (c : Command) (t : ℕ) →
@@ -39,3 +39,10 @@ strict_implies_base known L text a =
       choice = a.choice;
       typable = base_typable L (program_of known a.tree a.commands) a.choice a.typable;
     }
+
+-- The law that the images of one text are one.
+pub one_image : OneImage
+one_image known L P Q text a b first other =
+    let is = first.accepted in
+    first.image is.tree is.commands is.reads is.resolution
+    ∙ sym (other.image is.tree is.commands is.reads is.resolution)

@@ -11,8 +11,8 @@ use Rattle.vsi_lattice.specs.Order.{Lattice, IsClass}
 use Rattle.vsi_scope.specs.declared.resolved.Global.{Global}
 use Rattle.vsi_scope.specs.declared.resolved.Entry.{Entry}
 use Rattle.vsi_scope.specs.Faults.{Known}
-use Rattle.vsi_scope.specs.Phrase.{Command, HasPlaces, letvars}
-use Rattle.vsi_scope.specs.Program.{Source}
+use Rattle.vsi_scope.specs.Language.{Command, HasPlaces, letvars}
+use Rattle.vsi_scope.specs.Program.{Resolved}
 use Rattle.vsi_scope.specs.Program as scope
 use Rattle.vsi_scope.specs.Resolving.{Shown, shown, global_of, Variable, variable, all_variables, Resolves, HasClassesBelow}
 use Rattle.vsi_scope.specs.Scopes.{in_sequence}
@@ -23,7 +23,7 @@ use Rattle.vsi_types.specs.Security as types
 use Rattle.vsi_infer.specs.Inference.{AreClasses}
 use Rattle.vsi_code.specs.Names.{all_named}
 use Rattle.vsi_compiler.specs.Acceptance.{program_of}
-use Rattle.vsi_compiler.specs.Headline.{named}
+use Rattle.vsi_compiler.specs.Headline.{declared_global}
 use Rattle.vsi_compiler.proofs.Agreement.{HaveClasses}
 
 -- A function of what another list shows is a function of the list.
@@ -44,7 +44,7 @@ made globals declared names body = record { globals = globals; declared = declar
 at_place : List Span → ℕ → ℕ → Span
 at_place spans globals v = slice_index_or spans (v - globals) (record { start = 0; stop = 0 })
 
-module _ (known : Known) (tree : Whole) (r : Source) (resolves : Resolves known tree r) where
+module _ (known : Known) (tree : Whole) (r : Resolved) (resolves : Resolves known tree r) where
   -- The classes of the globals.
   globals_are : map (λ (g : Global). g.class) r.globals ≡ map (λ (g : Declared). unwrap_or (known g.class.text) 0)
       tree.globals
@@ -91,7 +91,7 @@ module _ (known : Known) (tree : Whole) (r : Source) (resolves : Resolves known 
       (at_place (map (λ (v : Variable). v.span) (all_variables known tree.body)) (length tree.globals)) c) body_is
 
   -- The names of the image's globals.
-  pub names_are : all_named r.globals ≡ map named tree.globals
+  pub names_are : all_named r.globals ≡ map declared_global tree.globals
   names_are = alike (λ (s : Shown). (s.name, s.class_name)) shown (global_of known) r.globals tree.globals
       resolves.globals
 
@@ -111,8 +111,8 @@ module _ (known : Known) (tree : Whole) (r : Source) (resolves : Resolves known 
           ap known (ap (λ (s : Shown). s.class_name) (sym same)) ∙ ap (λ (s : Shown). s.class) same
 
 -- What typing asks of a resolved program.
-pub typing_ready : (L : Lattice) (r : Source) → scope.IsResolved r → HasClassesBelow L.count r →
-    types.IsResolved L (program r)
+pub typing_ready : (L : Lattice) (r : Resolved) → scope.IsResolved r → HasClassesBelow L.count r →
+    types.IsWellFormed L (program r)
 typing_ready L r kept below =
     let count = length-map r.globals (λ (g : Global). g.class) in
     record {
@@ -123,11 +123,11 @@ typing_ready L r kept below =
     }
 
 -- The declared classes of the letvars are classes.
-pub declared_classes : (L : Lattice) (r : Source) → HasClassesBelow L.count r → AreClasses L (program r).declared
+pub declared_classes : (L : Lattice) (r : Resolved) → HasClassesBelow L.count r → AreClasses L (program r).declared
 declared_classes L r below = All-map (λ d. IfSome d (IsClass L)) (λ (e : Entry). e.class) r.letvars below.letvars
 
 -- The classes of the globals are classes.
-pub global_classes : (L : Lattice) (r : Source) → HasClassesBelow L.count r → All (IsClass L) (program r).globals
+pub global_classes : (L : Lattice) (r : Resolved) → HasClassesBelow L.count r → All (IsClass L) (program r).globals
 global_classes L r below = All-map (IsClass L) (λ (g : Global). g.class) r.globals below.globals
 
 -- Lists that are related element by element are as long.

@@ -1,5 +1,6 @@
 -- What a compiled text's run answers.
-use Rattle.std.proofs.Common.{◌≡◌, ◌≢◌, ℕ, ℤ, List, length, ap, Result, Ok, Err}
+use Rattle.std.proofs.Common.{◌≡◌, ◌≢◌, ℕ, ℤ, List, length, ap, Result, Ok, Err, inl, inr}
+use Rattle.std.proofs.lemmas.Bool.{cases_eq}
 use Rattle.vsi_lattice.specs.Order.{Lattice}
 use Rattle.vsi_scope.specs.Faults.{Known}
 use Rattle.vsi_types.specs.declared.rules.Profile.{Profile}
@@ -8,8 +9,8 @@ use Rattle.vsi_image.specs.declared.instr.Image.{Image}
 use Rattle.vsi_machine.specs.declared.interpreter.StartError.{StartError}
 use Rattle.vsi_machine.specs.declared.interpreter.StartError.TheVariants as start
 use Rattle.vsi_compiler.specs.Acceptance.{IsAccepted}
-use Rattle.vsi_compiler.specs.Headline.{HasGlobals, KeepsMeaning, IsCoded, IsCompiled}
-use Rattle.vsi_compiler.specs.Observation.{IsNoninterfering}
+use Rattle.vsi_compiler.specs.Headline.{HasGlobals, KeepsMeaning, IsCoded, IsImageOf, IsNoLarger, IsCompiled}
+use Rattle.vsi_compiler.specs.Observation.{IsNoninterfering, IsStoreOf}
 use Rattle.vsi_compiler.specs.Refusal.{Refuses, IsRefused}
 use Rattle.vsi_compiler.specs.Run.{compiling, starting, RefusesRun}
 use Rattle.vsi_compiler.specs.declared.error.CompileError.{CompileError}
@@ -22,8 +23,8 @@ base_is_not_strict h = cc
 -- What the compiler promises of an image, in one.
 pub compiled_of : (known : Known) (L : Lattice) (text : List ℕ) (im : Image) → IsAccepted known L Base text →
     HasGlobals text im → KeepsMeaning known text im → IsNoninterfering known L im → IsCoded im →
-    IsCompiled known L Base text im
-compiled_of known L text im accepted globals meaning noninterference coded =
+    IsImageOf known text im → IsNoLarger known text im → IsCompiled known L Base text im
+compiled_of known L text im accepted globals meaning noninterference coded image small =
     record {
       accepted = accepted;
       globals = globals;
@@ -31,6 +32,8 @@ compiled_of known L text im accepted globals meaning noninterference coded =
       noninterference = noninterference;
       endings = λ h. absurd (base_is_not_strict h);
       coded = coded;
+      image = image;
+      size = small;
     }
 
 -- A wrong store isn't want of memory.
@@ -66,6 +69,19 @@ start_refused {X} known L text store im compiled (start.WrongStore n) wrong memo
     told : ◌≡◌ {A = Result X StartError} (Err (start.WrongStore n)) (Err (start.WrongStore (length store))) →
         n ≡ length store
     told h = ap words_told (ap (error_of start.Memory) h)
+
+-- An answer isn't an error.
+ok_is_no_error : {X : Type 0} (x : X) (e : StartError) → ◌≡◌ {A = Result X StartError} (Ok x) (Err e) → ⊥
+ok_is_no_error x e h = cc
+
+-- A machine is started from a store of the image alone.
+pub started_fits : {X : Type 0} (store : List ℤ) (im : Image) (x : X) →
+    (length store ≢ length im.globals.items → ◌≡◌ {A = Result X StartError} (Ok x)
+    (Err (start.WrongStore (length store)))) → IsStoreOf im store
+started_fits store im x wrong = elim (cases_eq (length store) (length im.globals.items)) [
+  | inl same ↦ same
+  | inr differs ↦ absurd (ok_is_no_error x (start.WrongStore (length store)) (wrong differs))
+]
 
 -- What is refused for another reason than want of memory isn't accepted.
 pub is_refused : (known : Known) (L : Lattice) (P : Profile) (text : List ℕ) (e : CompileError) →

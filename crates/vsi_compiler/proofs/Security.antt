@@ -5,13 +5,13 @@ use Rattle.vsi_image.specs.declared.instr.Image.{Image}
 use Rattle.vsi_image.specs.Fields as image
 use Rattle.vsi_lattice.specs.Order.{Lattice, IsLattice}
 use Rattle.vsi_scope.specs.declared.resolved.Global.{Global}
-use Rattle.vsi_scope.specs.Phrase.{Command}
+use Rattle.vsi_scope.specs.Language.{Command}
 use Rattle.vsi_scope.specs.Meaning.{Store, Evaluates}
-use Rattle.vsi_scope.specs.Program.{Source}
+use Rattle.vsi_scope.specs.Program.{Resolved}
 use Rattle.vsi_scope.specs.View.{sequence}
 use Rattle.vsi_types.specs.declared.rules.Profile.{Profile}
 use Rattle.vsi_types.specs.declared.rules.Profile.TheVariants.{Strict}
-use Rattle.vsi_types.specs.Security.{program, IsTypable, IsResolved}
+use Rattle.vsi_types.specs.Security.{program, IsTypable, IsWellFormed}
 use Rattle.vsi_types.proofs.Secure.{noninterference}
 use Rattle.vsi_types.proofs.Endings.{same_ending}
 use Rattle.vsi_opt.specs.Optimised.{RunsAlike}
@@ -29,8 +29,8 @@ behaves_alike k optimised source im alike b =
       complete = λ m m' len e. b.complete m m' len (e.0, alike e.0 m len ∙ e.1);
     }
 
-module _ (known : Known) (L : Lattice) (laws : IsLattice L) (P : Profile) (r : Source) (s : List ℕ) (im : Image)
-    (resolved : IsResolved L (program r)) (typed : IsTypable L P (program r) s)
+module _ (known : Known) (L : Lattice) (laws : IsLattice L) (P : Profile) (r : Resolved) (s : List ℕ) (im : Image)
+    (resolved : IsWellFormed L (program r)) (typed : IsTypable L P (program r) s)
     (has : HaveClasses known r.globals) (names : image.globals im.globals.items ≡ all_named r.globals)
     (behaves : Behaves (length r.globals) (sequence r.body) im) where
   -- The image has as many globals as the program.
@@ -58,8 +58,8 @@ module _ (known : Known) (L : Lattice) (laws : IsLattice L) (P : Profile) (r : S
       (evaluated m₁ m₁' b₁ len₁ h₁) (evaluated m₂ m₂' b₂ len₂ h₂))
 
 -- A program of the strict profile ends alike on stores that agree on the bottom class.
-pub ends_alike : (known : Known) (L : Lattice) → IsLattice L → (r : Source) (s : List ℕ) (im : Image) →
-    IsResolved L (program r) → IsTypable L Strict (program r) s → HaveClasses known r.globals →
+pub ends_alike : (known : Known) (L : Lattice) → IsLattice L → (r : Resolved) (s : List ℕ) (im : Image) →
+    IsWellFormed L (program r) → IsTypable L Strict (program r) s → HaveClasses known r.globals →
     image.globals im.globals.items ≡ all_named r.globals → Behaves (length r.globals) (sequence r.body) im →
     EndsAlike known L im
 ends_alike known L laws r s im resolved typed has names behaves m₁ m₂ m₁' b₁ len₁ len₂ agree h₁ =
@@ -73,7 +73,7 @@ ends_alike known L laws r s im resolved typed has names behaves m₁ m₂ m₁' 
     (b.0, other.0, subst (λ n. Halts im n m₂ b.0 other.0) (sym k) (b.1 b.0 (omega arith)))
 
 -- Code of the optimised program does what the source program does.
-pub behaves_source : (optimised source : Source) (im : Image) → optimised.globals ≡ source.globals →
+pub behaves_source : (optimised source : Resolved) (im : Image) → optimised.globals ≡ source.globals →
     RunsAlike (length optimised.globals) (sequence optimised.body) (sequence source.body) →
     Behaves (length optimised.globals) (sequence optimised.body) im → Behaves (length source.globals)
     (sequence source.body) im

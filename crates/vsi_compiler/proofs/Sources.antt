@@ -5,9 +5,9 @@ use Rattle.vsi_syntax.specs.declared.lexer.LexError.{LexError}
 use Rattle.vsi_syntax.specs.declared.lexer.LexError.TheVariants as lexer
 use Rattle.vsi_syntax.specs.declared.parser.ParseError.{ParseError}
 use Rattle.vsi_syntax.specs.declared.parser.ParseError.TheVariants as parser
-use Rattle.vsi_syntax.specs.Cut.{IsCut, pieces, Explains}
-use Rattle.vsi_syntax.specs.View.{word, words}
-use Rattle.vsi_syntax.specs.Tree.{Whole, Word, IsProgram, write_program}
+use Rattle.vsi_syntax.specs.Cut.{IsCut, pieces, ExplainsText}
+use Rattle.vsi_syntax.specs.View.{lexeme, lexemes}
+use Rattle.vsi_syntax.specs.Tree.{Whole, Lexeme, IsProgram, write_program}
 use Rattle.vsi_syntax.specs.Parsing.{Fails}
 use Rattle.vsi_syntax.specs.Spelling.{word_at}
 use Rattle.vsi_syntax.proofs.Unique.{one_cut}
@@ -17,24 +17,24 @@ use Rattle.vsi_compiler.specs.Source.{Reads}
 use Rattle.vsi_compiler.specs.Refusal.{HasNoTree, RefusesTree}
 
 -- The words of tokens are those of their pieces.
-words_at : (ts : List Token) → words ts ≡ map word_at (pieces ts)
+words_at : (ts : List Token) → lexemes ts ≡ map word_at (pieces ts)
 words_at [] = refl
-words_at (t ∷ ts) = ap (λ (ws : List Word). word t ∷ ws) (words_at ts)
+words_at (t ∷ ts) = ap (λ (ws : List Lexeme). lexeme t ∷ ws) (words_at ts)
 
 -- A tree that writes the tokens of a text reads it.
 pub reads_from : (text : List ℕ) (ts : List Token) (tree : Whole) → length text ≤ 1048576 → IsCut text (pieces ts) →
-    IsProgram tree.body → write_program tree ≡ words ts → Reads text tree
+    IsProgram tree.body → write_program tree ≡ lexemes ts → Reads text tree
 reads_from text ts tree short cut program written =
     record { short = short; tokens = pieces ts; cut = cut; program = program; written = written ∙ words_at ts }
 
 -- A tree that reads a text writes its tokens.
 pub reads_tokens : (text : List ℕ) (ts : List Token) (tree : Whole) → IsCut text (pieces ts) → Reads text tree →
-    write_program tree ≡ words ts
+    write_program tree ≡ lexemes ts
 reads_tokens text ts tree cut r =
     r.written ∙ ap (map word_at) (one_cut text r.tokens (pieces ts) r.cut cut) ∙ sym (words_at ts)
 
 -- A refusal of the words is one of the text.
-pub words_refused : (text : List ℕ) (e : LexError) → Explains text e → RefusesTree text (lexical e)
+pub words_refused : (text : List ℕ) (e : LexError) → ExplainsText text e → RefusesTree text (lexical e)
 words_refused text lexer.Memory h = tt
 words_refused text lexer.TooLong h = (λ q. cc, h)
 words_refused text (lexer.BadByte at) h = (λ q. cc, h)
@@ -51,7 +51,7 @@ some_tree tree h = absurd cc
 
 -- A text whose tokens no tree writes has no tree.
 has_no_tree : (text : List ℕ) (ts : List Token) → length text ≤ 1048576 → IsCut text (pieces ts) →
-    ((tree : Whole) → IsProgram tree.body → write_program tree ≡ words ts → Some tree ≡ None) → HasNoTree text
+    ((tree : Whole) → IsProgram tree.body → write_program tree ≡ lexemes ts → Some tree ≡ None) → HasNoTree text
 has_no_tree text ts short cut only =
     record {
       short = short;
@@ -63,7 +63,7 @@ has_no_tree text ts short cut only =
 -- Tokens that no tree writes are those of a text that no tree reads.
 pub tree_refused : (text : List ℕ) (ts : List Token) (e : ParseError) → length text ≤ 1048576 →
     IsCut text (pieces ts) →
-    ((tree : Whole) → IsProgram tree.body → write_program tree ≡ words ts → Fails e (Some tree)) →
+    ((tree : Whole) → IsProgram tree.body → write_program tree ≡ lexemes ts → Fails e (Some tree)) →
     RefusesTree text (syntactic e)
 tree_refused text ts parser.Memory short cut only = tt
 tree_refused text ts (parser.Unexpected span) short cut only = (λ q. cc, has_no_tree text ts short cut only)

@@ -4,7 +4,7 @@ use Rattle.vsi_lattice.specs.Order.{Lattice}
 use Rattle.vsi_syntax.specs.declared.token.Span.{Span}
 use Rattle.vsi_syntax.specs.Tree.{Whole}
 use Rattle.vsi_scope.specs.Faults.{Known}
-use Rattle.vsi_scope.specs.Phrase.{Command}
+use Rattle.vsi_scope.specs.Language.{Command}
 use Rattle.vsi_scope.specs.Scopes.{in_sequence}
 use Rattle.vsi_scope.specs.Resolving.{Variable, all_variables, IsResolution}
 use Rattle.vsi_types.specs.declared.rules.Profile.{Profile}
@@ -12,8 +12,8 @@ use Rattle.vsi_types.specs.Security.{Program, IsTypable}
 use Rattle.vsi_compiler.specs.Source.{Reads}
 
 -- Where the name of a declaration stands, the first letvar's number being that of the globals.
-abbrev pub place_of : List Variable → ℕ → ℕ → Span
-place_of vs globals v = slice_index_or (map (λ x. x.span) vs) (v - globals) (record { start = 0; stop = 0 })
+abbrev pub declaration_span : List Variable → ℕ → ℕ → Span
+declaration_span vs globals v = slice_index_or (map (λ x. x.span) vs) (v - globals) (record { start = 0; stop = 0 })
 
 -- The program that the typing rules speak of: the declared classes, where names stand, and the body.
 abbrev pub program_of : Known → Whole → List Command → Program
@@ -21,7 +21,7 @@ program_of known tree commands =
     record {
       globals = map (λ g. unwrap_or (known g.class.text) 0) tree.globals;
       declared = map (λ v. v.class) (all_variables known tree.body);
-      names = place_of (all_variables known tree.body) (length tree.globals);
+      names = declaration_span (all_variables known tree.body) (length tree.globals);
       body = in_sequence commands;
     }
 

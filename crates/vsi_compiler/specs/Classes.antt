@@ -5,7 +5,7 @@ use Rattle.vsi_syntax.specs.Lines.{breaks, last_line}
 use Rattle.vsi_syntax.specs.Tree.{Whole, Declared}
 use Rattle.vsi_lattice.specs.Order.{Lattice}
 use Rattle.vsi_scope.specs.Faults.{Known}
-use Rattle.vsi_scope.specs.Phrase.{Command}
+use Rattle.vsi_scope.specs.Language.{Command}
 use Rattle.vsi_scope.specs.Resolving.{Variable, all_variables, IsResolution}
 use Rattle.vsi_types.specs.declared.rules.Profile.{Profile}
 use Rattle.vsi_infer.specs.Inference.{IsLeast}

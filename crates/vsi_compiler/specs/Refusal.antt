@@ -1,7 +1,7 @@
 -- What a refusal says of the text.
 use Rattle.std.specs.Prelude.{◌≢◌, ℕ, ◌≤◌, List, length}
 use Rattle.vsi_lattice.specs.Order.{Lattice}
-use Rattle.vsi_scope.specs.Phrase.{Command}
+use Rattle.vsi_scope.specs.Language.{Command}
 use Rattle.vsi_types.specs.declared.rules.Profile.{Profile}
 use Rattle.vsi_types.specs.declared.rules.Step.{Step}
 use Rattle.vsi_infer.specs.Inference.{IsShortest}
@@ -13,7 +13,7 @@ use Rattle.vsi_syntax.specs.declared.lexer.LexError.TheVariants as lexer
 use Rattle.vsi_syntax.specs.declared.parser.ParseError.TheVariants as parser
 use Rattle.vsi_scope.specs.declared.resolution.ScopeError.TheVariants as scope
 use Rattle.vsi_scope.specs.Faults.{Known}
-use Rattle.vsi_scope.specs.Resolving.{Explains, IsResolution}
+use Rattle.vsi_scope.specs.Resolving.{ExplainsScope, IsResolution}
 use Rattle.vsi_compiler.specs.Source.{Reads}
 use Rattle.vsi_compiler.specs.Acceptance.{IsAccepted, program_of}
 
@@ -27,7 +27,7 @@ pub record HasNoTree (text : List ℕ) : Type 0 where
 -- A refusal of the words or of the tree, where want of memory is never one that the layer below names.
 abbrev pub RefusesTree : List ℕ → CompileError → Type 0
 RefusesTree text Memory = Unit {0}
-RefusesTree text (Lex e) = (e ≢ lexer.Memory) × cut.Explains text e
+RefusesTree text (Lex e) = (e ≢ lexer.Memory) × cut.ExplainsText text e
 RefusesTree text (Parse e) = (e ≢ parser.Memory) × HasNoTree text
 RefusesTree text (Scope e) = ⊥
 RefusesTree text (Flow walk) = ⊥
@@ -37,11 +37,13 @@ abbrev pub RefusesProgram : Known → List ℕ → CompileError → Type 0
 RefusesProgram known text Memory = Unit {0}
 RefusesProgram known text (Lex e) = RefusesTree text (Lex e)
 RefusesProgram known text (Parse e) = RefusesTree text (Parse e)
-RefusesProgram known text (Scope e) = (e ≢ scope.Memory) × ((tree : Whole) × Reads text tree × Explains known tree e)
+RefusesProgram known text (Scope e) = (e ≢ scope.Memory)
+    × ((tree : Whole) × Reads text tree × ExplainsScope known tree e)
 RefusesProgram known text (Flow walk) = ⊥
 
 -- The text has a tree and its resolution, of which these steps are a bad walk, and no bad walk has fewer.
-pub record HasBadWalk (known : Known) (L : Lattice) (P : Profile) (text : List ℕ) (steps : List Step) : Type 0 where
+pub record HasShortestBadWalk (known : Known) (L : Lattice) (P : Profile) (text : List ℕ)
+    (steps : List Step) : Type 0 where
   pub tree : Whole
   pub commands : List Command
   pub reads : Reads text tree
@@ -54,7 +56,7 @@ Refuses known L P text Memory = Unit {0}
 Refuses known L P text (Lex e) = RefusesProgram known text (Lex e)
 Refuses known L P text (Parse e) = RefusesProgram known text (Parse e)
 Refuses known L P text (Scope e) = RefusesProgram known text (Scope e)
-Refuses known L P text (Flow walk) = HasBadWalk known L P text walk.steps.items
+Refuses known L P text (Flow walk) = HasShortestBadWalk known L P text walk.steps.items
 
 -- A refusal of the compiler that a caller passes on: it isn't want of memory, and the text isn't accepted.
 pub record IsRefused (known : Known) (L : Lattice) (P : Profile) (text : List ℕ) (e : CompileError) : Type 0 where

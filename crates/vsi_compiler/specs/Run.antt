@@ -14,6 +14,7 @@ use Rattle.vsi_compiler.specs.declared.error.CompileError.TheVariants as compile
 use Rattle.vsi_compiler.specs.declared.run.RunError.{RunError}
 use Rattle.vsi_compiler.specs.declared.run.RunError.TheVariants.{Compile, Start, Memory}
 use Rattle.vsi_compiler.specs.Headline.{IsCompiled}
+use Rattle.vsi_compiler.specs.Observation.{IsStoreOf}
 use Rattle.vsi_compiler.specs.Refusal.{IsRefused}
 
 -- A refusal of the compiler.
@@ -26,11 +27,12 @@ abbrev pub starting : StartError → RunError
 starting start.Memory = Memory
 starting e = Start e
 
--- The text is compiled, and its image's run from the store with this budget ends so.
+-- The text is compiled, the store has one word per global, and the image's run from it with this budget ends so.
 pub record Ran (known : Known) (L : Lattice) (text : List ℕ) (store : List ℤ) (budget : ℕ) (outcome : Outcome)
     (words : List ℤ) : Type 0 where
   pub image : Image
   pub compiled : IsCompiled known L Base text image
+  pub fits : IsStoreOf image store
   pub last : State
   pub reached : run_of image store budget ≡ Some last
   pub ends : outcome ≡ outcome_of last

@@ -2,12 +2,12 @@
 use Rattle.std.specs.Prelude.{◌≡◌, ℕ, List}
 use Rattle.vsi_syntax.specs.Tree.{Whole}
 use Rattle.vsi_scope.specs.Faults.{Known}
-use Rattle.vsi_scope.specs.Program.{Source}
+use Rattle.vsi_scope.specs.Program.{Resolved}
 use Rattle.vsi_scope.specs.Resolving.{Resolves}
 use Rattle.vsi_compiler.specs.Source.{Reads}
 
 -- The resolved program is that of the one tree that reads the text.
-pub record Stands (known : Known) (text : List ℕ) (r : Source) : Type 0 where
+pub record Stands (known : Known) (text : List ℕ) (r : Resolved) : Type 0 where
   pub tree : Whole
   pub reads : Reads text tree
   pub only : (other : Whole) → Reads text other → tree ≡ other

@@ -1,11 +1,11 @@
 //! From a source text to a verified image.
 
 ghost use Rattle.std.specs.Prelude.{◌≡◌, IfOk, IfErr};
-ghost use Rattle.vsi_lattice.specs.Named.{class_named, order};
+ghost use Rattle.vsi_lattice.specs.LatticeView.{class_named, order};
 ghost use Rattle.vsi_types.specs.declared.rules.Profile.TheVariants.{Base, Strict};
 ghost use Rattle.vsi_compiler.specs.declared.error.CompileError.TheVariants.{Memory};
 ghost use Rattle.vsi_compiler.specs.Acceptance.{IsAccepted};
-ghost use Rattle.vsi_compiler.specs.Headline.{HasGlobals, KeepsMeaning, IsCoded};
+ghost use Rattle.vsi_compiler.specs.Headline.{HasGlobals, KeepsMeaning, IsCoded, IsImageOf, IsNoLarger};
 ghost use Rattle.vsi_compiler.specs.Observation.{IsNoninterfering, EndsAlike};
 ghost use Rattle.vsi_compiler.specs.Refusal.{Refuses};
 
@@ -40,6 +40,8 @@ pub fn compile_in(
     ensures noninterference { IfOk result (IsNoninterfering (class_named lattice.now) (order lattice.now)) }
     ensures endings { profile ≡ Strict → IfOk result (EndsAlike (class_named lattice.now) (order lattice.now)) }
     ensures coded { IfOk result IsCoded }
+    ensures image { IfOk result (IsImageOf (class_named lattice.now) text.now) }
+    ensures size { IfOk result (IsNoLarger (class_named lattice.now) text.now) }
 {
     let resolved = resolved_program(alloc, lattice, text)?;
     let _classes = infer_in(alloc, profile, lattice, &resolved)?;
@@ -59,6 +61,8 @@ pub fn compile(alloc: Global, lattice: &Lattice, text: &[u8]) -> Result<Verified
     ensures meaning { IfOk result (KeepsMeaning (class_named lattice.now) text.now) }
     ensures noninterference { IfOk result (IsNoninterfering (class_named lattice.now) (order lattice.now)) }
     ensures coded { IfOk result IsCoded }
+    ensures image { IfOk result (IsImageOf (class_named lattice.now) text.now) }
+    ensures size { IfOk result (IsNoLarger (class_named lattice.now) text.now) }
 {
     compile_in(alloc, Profile::Base, lattice, text)
 }

@@ -1,7 +1,7 @@
 //! A source text, compiled and run.
 
 ghost use Rattle.std.specs.Prelude.{◌≡◌, IfOk, IfErr};
-ghost use Rattle.vsi_lattice.specs.Named.{class_named, order};
+ghost use Rattle.vsi_lattice.specs.LatticeView.{class_named, order};
 ghost use Rattle.vsi_compiler.specs.Run.{Ran, RefusesRun};
 ghost use Rattle.vsi_compiler.specs.declared.run.RunError.TheVariants.{Memory};
 

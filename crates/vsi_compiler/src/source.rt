@@ -2,13 +2,13 @@
 
 ghost use Rattle.std.specs.Prelude.{◌≡◌, ℕ, List, IfOk, IfErr, MatchResult};
 ghost use Rattle.vsi_syntax.specs.Tree.{Whole};
-ghost use Rattle.vsi_syntax.specs.Program.{whole};
+ghost use Rattle.vsi_syntax.specs.ProgramView.{whole};
 ghost use Rattle.vsi_compiler.specs.declared.error.CompileError.TheVariants.{Memory};
 ghost use Rattle.vsi_compiler.specs.Source.{Reads};
 ghost use Rattle.vsi_compiler.specs.Refusal.{RefusesTree, RefusesProgram};
 ghost use Rattle.vsi_compiler.specs.Stands.{Stands};
-ghost use Rattle.vsi_lattice.specs.Named.{class_named};
-ghost use Rattle.vsi_scope.specs.Phrase.{Command};
+ghost use Rattle.vsi_lattice.specs.LatticeView.{class_named};
+ghost use Rattle.vsi_scope.specs.Language.{Command};
 ghost use Rattle.vsi_scope.specs.Program.{IsResolved};
 ghost use Rattle.vsi_scope.specs.Resolving.{AreBelow, HasClassesBelow, IsResolution};
 

@@ -2,10 +2,10 @@
 
 ghost use Rattle.std.specs.Prelude.{◌≡◌, ◌++◌, ◌≤◌, length, map, decimal, IfOk, IfErr, OnOk};
 ghost use Rattle.std.specs.List.{All};
-ghost use Rattle.vsi_lattice.specs.Named.{class_named, names, order};
+ghost use Rattle.vsi_lattice.specs.LatticeView.{class_named, names, order};
 ghost use Rattle.vsi_lattice.specs.Order.{IsClass};
 ghost use Rattle.vsi_scope.specs.Resolving.{variable};
-ghost use Rattle.vsi_syntax.specs.Programs.{declared};
+ghost use Rattle.vsi_syntax.specs.CommandView.{declared};
 ghost use Rattle.vsi_types.specs.declared.rules.Profile.TheVariants.{Base};
 ghost use Rattle.vsi_syntax.specs.Tree.{Whole};
 ghost use Rattle.vsi_compiler.specs.declared.error.CompileError.TheVariants.{Memory};

@@ -1,7 +1,7 @@
 -- The texts of refusals.
 use Rattle.std.specs.Prelude.{◌≡◌, ℕ, List, [], ◌++◌, codes, Option, Some, None}
 use Rattle.vsi_lattice.specs.declared.lattice.Lattice.{Lattice}
-use Rattle.vsi_compiler.specs.Explaining.{Explains}
+use Rattle.vsi_compiler.specs.Explaining.{ExplainsWalk}
 use Rattle.vsi_compiler.specs.declared.error.CompileError.{CompileError}
 use Rattle.vsi_compiler.specs.declared.error.CompileError.TheVariants as compiler
 use Rattle.vsi_faults.specs.declared.texts.Fault.{Fault}
@@ -34,7 +34,7 @@ fault_line (fault.View e) = view_line e
 
 -- What follows the line of a refused source text: for a flow the explanation of its walk.
 abbrev pub Follows : Lattice → List ℕ → CompileError → List ℕ → Type 0
-Follows l source (compiler.Flow walk) more = Explains l source walk.steps.items more
+Follows l source (compiler.Flow walk) more = ExplainsWalk l source walk.steps.items more
 Follows l source e more = more ≡ []
 
 -- The text of a refused source text.

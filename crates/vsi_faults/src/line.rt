@@ -22,9 +22,9 @@ pub(crate) enum Field<'a> {
 /// The number of a refusal, its name and its field.
 #[derive(Clone, Copy, Debug)]
 pub(crate) struct Line<'a> {
-    pub refusal: usize,
-    pub name: &'a [u8],
-    pub field: Field<'a>,
+    pub(crate) refusal: usize,
+    pub(crate) name: &'a [u8],
+    pub(crate) field: Field<'a>,
 }
 
 /// A number in decimal more.

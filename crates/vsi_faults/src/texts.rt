@@ -9,6 +9,7 @@ use crate::lattice::lattice_line;
 use crate::line::{Field, Line, line_text};
 use crate::source::{lexical_line, scoping_line, syntactic_line};
 use std::alloc::{AllocError, Global};
+use thiserror::Error;
 use vsi_compiler::{CompileError, explanation_text};
 use vsi_image::{DecodeError, VerifyError};
 use vsi_lattice::{Lattice, LatticeError};
@@ -18,17 +19,22 @@ use vsi_store::{StoreError, ViewError};
 const OUT_OF_MEMORY: &[u8] = b"out of memory\n";
 
 /// Why a file other than a source text is refused.
-#[derive(Debug, Drop)]
+#[derive(Debug, Drop, Error)]
 pub enum Fault {
     /// A lattice file declares no lattice.
+    #[error("the lattice file is refused: {0}")]
     Lattice(LatticeError),
     /// The bytes of a file are no image.
+    #[error("the bytes are no image: {0}")]
     Decode(DecodeError),
     /// An image isn't valid.
+    #[error("the image is not valid: {0}")]
     Verify(VerifyError),
     /// A store file gives no store.
+    #[error("the store file is refused: {0}")]
     Store(StoreError),
     /// A class sees nothing of a run.
+    #[error("the class sees nothing of the run: {0}")]
     View(ViewError),
 }
 

@@ -4,7 +4,7 @@ use std::alloc::{AllocError, Global};
 use vsi_syntax::{Expr, Program, Stmt};
 
 /// How many commands are done, over all turns, before a program is given up.
-const MOST_COMMANDS: u32 = 10_000;
+const MAX_COMMANDS: u32 = 10_000;
 
 /// The names that are bound, from the outermost to the innermost, with their words.
 #[derive(Drop)]
@@ -23,7 +23,7 @@ pub fn last_words(
 ) -> Result<Option<Vec<i64>>, AllocError> {
     let mut bound = Bound {
         names: Vec::new(alloc),
-        left: MOST_COMMANDS,
+        left: MAX_COMMANDS,
     };
     for (place, global) in program.globals().iter().enumerate() {
         let word = store.get(place).copied().unwrap_or(0);
@@ -96,7 +96,7 @@ fn ends<'a>(bound: &mut Bound<'a>, command: &Stmt<'a>) -> Result<bool, AllocErro
             return ends(bound, if holds { yes } else { no });
         }
         Stmt::While(guard, body) => {
-            for _ in 0..MOST_COMMANDS {
+            for _ in 0..MAX_COMMANDS {
                 if value(&bound.names, guard) == 0 {
                     return Ok(true);
                 }

@@ -9,7 +9,7 @@ use std::alloc::{AllocError, Global};
 const GLOBALS: &[u8] = b"var h : H; var k : H; var l : L; var m : L;\n";
 
 /// How deep commands stand in one another.
-const MOST_DEPTH: u8 = 3;
+const MAX_DEPTH: u8 = 3;
 
 /// One operand in so many is taken from all names.
 const LEAK_ODDS: u64 = 6;
@@ -66,10 +66,10 @@ pub fn program(alloc: Global, seed: u64) -> Result<Vec<u8>, AllocError> {
         high: false,
         local: None,
     };
-    command(&mut numbers, &mut text, place, MOST_DEPTH)?;
+    command(&mut numbers, &mut text, place, MAX_DEPTH)?;
     for _ in 0..numbers.below(4).saturating_add(2) {
         text.extend_from_slice(b";\n")?;
-        command(&mut numbers, &mut text, place, MOST_DEPTH)?;
+        command(&mut numbers, &mut text, place, MAX_DEPTH)?;
     }
     Ok(text)
 }

@@ -1,7 +1,7 @@
 //! Programs by lot: two stores that agree on the low words, and the meaning of each run.
 //!
-//! The floors of the counts see to it that the tests aren't empty: so many texts are accepted and compared, and so many
-//! leak once all their names are low, where nothing is refused.
+//! The counts see to it that the tests aren't empty: so many texts are accepted and so many compared, and a floor of
+//! texts leak once all their names are low, where nothing is refused.
 
 use crate::{Numbers, last_words, program};
 use std::alloc::Global;
@@ -16,6 +16,12 @@ const TWO_CLASSES: &[u8] = b"classes = [\"L\", \"H\"]\nbelow = [[\"L\", \"H\"]]\
 
 /// How many texts are made, one of each seed below it.
 const PROGRAMS: u8 = 200;
+
+/// How many of them are accepted.
+const ACCEPTED: u32 = 136;
+
+/// From how many of these both runs halt, and both meanings end.
+const COMPARED: u32 = 103;
 
 /// How many instructions a run may do.
 const BUDGET: u64 = 100_000;
@@ -110,8 +116,8 @@ fn keeps_secrets_and_meaning(rt: HostRuntime) -> Result<(), Fail> {
         accepted = accepted.saturating_add(u32::from(seen != Seen::Refused));
         agreed = agreed.saturating_add(u32::from(seen == Seen::Agrees));
     }
-    assert!(rt; (50..=190).contains(&accepted), "{accepted} are accepted");
-    assert!(rt; agreed >= 40, "{agreed} agree");
+    assert_eq!(rt; accepted, ACCEPTED);
+    assert_eq!(rt; agreed, COMPARED);
     Ok(())
 }
 

@@ -10,27 +10,35 @@ ghost use Rattle.vsi_image.specs.Reading as spec;
 ghost use Rattle.vsi_image.specs.Reading.{Gives};
 
 use crate::instr::{Image, Instr};
-use crate::limits::{LONGEST_NAME, MOST_GLOBALS, MOST_INSTRUCTIONS, MOST_OPERANDS, MOST_SLOTS};
+use crate::limits::{MAX_GLOBALS, MAX_INSTRUCTIONS, MAX_NAME_LENGTH, MAX_OPERANDS, MAX_SLOTS};
 use crate::opcodes::{self, MAGIC, VERSION};
 use std::alloc::{AllocError, AllocFailed, Global};
+use thiserror::Error;
 use vsi_syntax::is_name;
 
 /// Why bytes are no image's; a number is the place of the field's first byte, from 0.
-#[derive(Clone, Copy, PartialEq, Eq, Debug)]
+#[derive(Clone, Copy, PartialEq, Eq, Debug, Error)]
 pub enum DecodeError {
     /// There was no memory for the image.
+    #[error("out of memory")]
     Memory,
     /// The bytes don't begin with `VSI`.
+    #[error("the bytes do not begin with `VSI`")]
     BadMagic,
     /// The version is neither 1 nor 2.
+    #[error("the version is neither 1 nor 2")]
     BadVersion,
     /// A number of the head, a name's length or a name isn't allowed.
+    #[error("the field at byte {0} is not allowed")]
     BadField(usize),
     /// The byte is no opcode of the version.
+    #[error("the byte at {0} is no opcode of the version")]
     BadOpcode(usize),
     /// Fewer bytes are left than the field is wide.
+    #[error("the field at byte {0} is cut short")]
     Truncated(usize),
     /// Bytes are left behind the last field, from this one on.
+    #[error("bytes are left behind the last field, from byte {0} on")]
     Trailing(usize),
 }
 
@@ -192,7 +200,7 @@ fn name_at<'a>(
     ensures { Gives (λ x. (x.0.now, x.1.now)) result (spec.name_at (globals before.now) whole bytes.now) }
 {
     let (len, rest) = byte_at(whole, bytes)?;
-    if !(1 <= len && len <= LONGEST_NAME) {
+    if !(1 <= len && len <= MAX_NAME_LENGTH) {
         return Err(DecodeError::BadField(place(whole, bytes)));
     }
     let (name, after) = text_at(len as usize, whole, rest)?;
@@ -331,10 +339,10 @@ fn head_at(whole: usize, bytes: &[u8]) -> Result<(Head, &[u8]), DecodeError>
 {
     let (_, rest) = magic_at(whole, bytes)?;
     let (version, rest) = version_at(whole, rest)?;
-    let (globals, rest) = u16_field(0, MOST_GLOBALS, whole, rest)?;
-    let (slots, rest) = u16_field(globals, MOST_SLOTS, whole, rest)?;
-    let (stack, rest) = u16_field(0, MOST_OPERANDS, whole, rest)?;
-    let (count, rest) = u32_field(0, MOST_INSTRUCTIONS, whole, rest)?;
+    let (globals, rest) = u16_field(0, MAX_GLOBALS, whole, rest)?;
+    let (slots, rest) = u16_field(globals, MAX_SLOTS, whole, rest)?;
+    let (stack, rest) = u16_field(0, MAX_OPERANDS, whole, rest)?;
+    let (count, rest) = u32_field(0, MAX_INSTRUCTIONS, whole, rest)?;
     Ok((
         Head {
             version,

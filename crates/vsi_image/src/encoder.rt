@@ -13,6 +13,7 @@ use crate::instr::{Image, Instr};
 use crate::limits::{Limit, limit_of};
 use crate::opcodes::{self, MAGIC, VERSION};
 use std::alloc::{AllocError, Global};
+use thiserror::Error;
 
 /// Adds a name: its length, a byte, and its bytes.
 fn put_string(out: &mut Vec<u8>, text: &[u8]) -> Result<(), AllocError>
@@ -157,11 +158,13 @@ fn bytes_of(alloc: Global, image: &Image) -> Result<Vec<u8>, AllocError>
 }
 
 /// Why an image was not written as bytes.
-#[derive(Clone, Copy, PartialEq, Eq, Debug)]
+#[derive(Clone, Copy, PartialEq, Eq, Debug, Error)]
 pub enum EncodeError {
     /// There was no memory for the bytes.
+    #[error("out of memory")]
     Memory,
     /// The image is past this limit, the first one.
+    #[error("the image is past a limit: {0}")]
     Unencodable(Limit),
 }
 

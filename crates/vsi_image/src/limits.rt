@@ -6,37 +6,44 @@ ghost use Rattle.vsi_image.specs.Limits as spec;
 
 use crate::decoder::is_taken;
 use crate::instr::Image;
+use thiserror::Error;
 use vsi_syntax::is_name;
 
 /// The most globals of an image.
-pub(crate) const MOST_GLOBALS: u16 = 256;
+pub(crate) const MAX_GLOBALS: u16 = 256;
 
 /// The most slots of an image, globals included.
-pub(crate) const MOST_SLOTS: u16 = 512;
+pub(crate) const MAX_SLOTS: u16 = 512;
 
 /// The most operands that an image asks room for.
-pub(crate) const MOST_OPERANDS: u16 = 256;
+pub(crate) const MAX_OPERANDS: u16 = 256;
 
 /// The most instructions of an image, `Halt` included.
-pub(crate) const MOST_INSTRUCTIONS: u32 = 65535;
+pub(crate) const MAX_INSTRUCTIONS: u32 = 65535;
 
 /// The most bytes of a name.
-pub(crate) const LONGEST_NAME: u8 = 32;
+pub(crate) const MAX_NAME_LENGTH: u8 = 32;
 
 /// A limit that an image is past; a number is a global's, from 0.
-#[derive(Clone, Copy, PartialEq, Eq, Debug)]
+#[derive(Clone, Copy, PartialEq, Eq, Debug, Error)]
 pub enum Limit {
     /// There are more than 256 globals.
+    #[error("there are more than {limit} globals", limit = MAX_GLOBALS)]
     Globals,
     /// There are more than 512 slots, or fewer than globals.
+    #[error("there are more than {limit} slots, or fewer than globals", limit = MAX_SLOTS)]
     Slots,
     /// The operand stack has room for more than 256.
+    #[error("the operand stack has room for more than {limit}", limit = MAX_OPERANDS)]
     Stack,
     /// There are more than 65,535 instructions.
+    #[error("there are more than {limit} instructions", limit = MAX_INSTRUCTIONS)]
     Count,
     /// The global's name is none, or that of a global before it.
+    #[error("the name of global {0} is none, or that of a global before it")]
     Name(usize),
     /// The global's class name is none.
+    #[error("the class name of global {0} is none")]
     Class(usize),
 }
 
@@ -62,15 +69,15 @@ fn globals_limit(all: &[(Vec<u8>, Vec<u8>)]) -> Option<Limit>
 pub(crate) fn limit_of(image: &Image) -> Option<Limit>
     ensures { result ≡ spec.first_limit (fields image.now) }
 {
-    if image.globals.len() > MOST_GLOBALS as usize {
+    if image.globals.len() > MAX_GLOBALS as usize {
         Some(Limit::Globals)
     } else if image.globals.len() > image.slots as usize {
         Some(Limit::Slots)
-    } else if image.slots > MOST_SLOTS {
+    } else if image.slots > MAX_SLOTS {
         Some(Limit::Slots)
-    } else if image.stack > MOST_OPERANDS {
+    } else if image.stack > MAX_OPERANDS {
         Some(Limit::Stack)
-    } else if image.code.len() > MOST_INSTRUCTIONS as usize {
+    } else if image.code.len() > MAX_INSTRUCTIONS as usize {
         Some(Limit::Count)
     } else {
         globals_limit(&image.globals)

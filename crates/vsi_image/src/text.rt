@@ -1,7 +1,6 @@
 //! Instructions and images as text.
 
-ghost use Rattle.std.specs.Prelude.{◌≡◌, ◌++◌, OnOk, IfOk, decimal};
-ghost use Rattle.std.specs.Fmt.{signed_decimal};
+ghost use Rattle.std.specs.Prelude.{◌≡◌, ◌++◌, OnOk, IfOk, decimal, if◌then◌else◌, is_ok};
 ghost use Rattle.std.specs.List.{flat_map};
 ghost use Rattle.vsi_image.specs.Fields.{fields, global, globals};
 ghost use Rattle.vsi_image.specs.Listing as spec;
@@ -18,48 +17,39 @@ fn put_number(out: &mut Vec<u8>, n: usize) -> Result<(), AllocError>
     out.extend_from_slice(buffer.format(n).as_bytes())
 }
 
-/// Adds a number in decimal, with a `-` before a negative one.
-fn put_signed(out: &mut Vec<u8>, n: i64) -> Result<(), AllocError>
-    ensures { OnOk result (out.new.items ≡ out.old.items ++ signed_decimal n) }
+/// Adds a word and its operand, or neither of them.
+fn put_both(out: &mut Vec<u8>, word: &[u8], operand: &[u8]) -> Result<(), AllocError>
+    ensures { out.new.items ≡ (if is_ok result then out.old.items ++ word.now ++ operand.now else out.old.items) }
 {
-    let mut buffer = Buffer::new();
-    out.extend_from_slice(buffer.format(n).as_bytes())
+    let before = out.len();
+    out.extend_from_slice(word)?;
+    let added = out.extend_from_slice(operand);
+    if added.is_err() {
+        out.truncate(before);
+    }
+    added
 }
 
 impl Instr {
     /// Adds the text of the instruction at the end: its word, and its operand in decimal, as in `LOAD 0` or `PUSH -5`.
+    /// Where memory is wanting the text stays as it was.
     pub fn write_to(self, out: &mut Vec<u8>) -> Result<(), AllocError>
-        ensures { OnOk result (out.new.items ≡ out.old.items ++ spec.instr_text self) }
+        ensures { out.new.items ≡ (if is_ok result then out.old.items ++ spec.instr_text self else out.old.items) }
     {
+        let mut buffer = Buffer::new();
         match self {
-            Instr::Push(n) => {
-                out.extend_from_slice(b"PUSH ")?;
-                put_signed(out, n)?;
-            }
-            Instr::Load(s) => {
-                out.extend_from_slice(b"LOAD ")?;
-                put_number(out, s as usize)?;
-            }
-            Instr::Store(s) => {
-                out.extend_from_slice(b"STORE ")?;
-                put_number(out, s as usize)?;
-            }
-            Instr::Add => out.extend_from_slice(b"ADD")?,
-            Instr::Sub => out.extend_from_slice(b"SUB")?,
-            Instr::Mul => out.extend_from_slice(b"MUL")?,
-            Instr::Eq => out.extend_from_slice(b"EQ")?,
-            Instr::Lt => out.extend_from_slice(b"LT")?,
-            Instr::Jz(t) => {
-                out.extend_from_slice(b"JZ ")?;
-                put_number(out, t as usize)?;
-            }
-            Instr::Jmp(t) => {
-                out.extend_from_slice(b"JMP ")?;
-                put_number(out, t as usize)?;
-            }
-            Instr::Halt => out.extend_from_slice(b"HALT")?,
+            Instr::Push(n) => put_both(out, b"PUSH ", buffer.format(n).as_bytes()),
+            Instr::Load(s) => put_both(out, b"LOAD ", buffer.format(s).as_bytes()),
+            Instr::Store(s) => put_both(out, b"STORE ", buffer.format(s).as_bytes()),
+            Instr::Add => out.extend_from_slice(b"ADD"),
+            Instr::Sub => out.extend_from_slice(b"SUB"),
+            Instr::Mul => out.extend_from_slice(b"MUL"),
+            Instr::Eq => out.extend_from_slice(b"EQ"),
+            Instr::Lt => out.extend_from_slice(b"LT"),
+            Instr::Jz(t) => put_both(out, b"JZ ", buffer.format(t).as_bytes()),
+            Instr::Jmp(t) => put_both(out, b"JMP ", buffer.format(t).as_bytes()),
+            Instr::Halt => out.extend_from_slice(b"HALT"),
         }
-        Ok(())
     }
 }
 

@@ -12,23 +12,31 @@ use crate::instr::{Image, Instr};
 use crate::limits::{Limit, limit_of};
 use crate::marks::{WORDS, blank, is_marked, mark_if};
 use crate::verified::Verified;
+use thiserror::Error;
 
 /// Why an image is refused; a number is an instruction's, from 0.
-#[derive(Clone, Copy, PartialEq, Eq, Debug)]
+#[derive(Clone, Copy, PartialEq, Eq, Debug, Error)]
 pub enum VerifyError {
     /// The image is past a limit, as `encode` names it.
+    #[error("the image is past a limit: {0}")]
     Unencodable(Limit),
     /// The instruction names a slot that the image lacks.
+    #[error("instruction {0} names a slot that the image lacks")]
     BadSlot(usize),
     /// The instruction names a target that isn't below the number of instructions.
+    #[error("instruction {0} names a target that is no instruction")]
     BadTarget(usize),
     /// The instruction takes more operands than there are.
+    #[error("instruction {0} takes more operands than there are")]
     Underflow(usize),
     /// The instruction leaves more operands than the stack has room for.
+    #[error("instruction {0} leaves more operands than the stack has room for")]
     Overflow(usize),
     /// A jump or a halt leaves operands, or a jump's target is met with operands.
+    #[error("instruction {0} leaves operands, or its target is met with operands")]
     NotEmpty(usize),
     /// There is no instruction, or the last one goes on to the next.
+    #[error("there is no instruction, or the last one goes on to the next")]
     RunsOff,
 }
 

@@ -3,7 +3,7 @@ use Rattle.std.proofs.Common.{◌≡◌, ℕ, zero, suc, ◌-◌, ◌<◌, ◌==
 use Rattle.std.specs.List.{flat_map}
 use Rattle.std.proofs.lemmas.Bool.{false≢true}
 use Rattle.vsi_lattice.specs.declared.lattice.Lattice.{Lattice}
-use Rattle.vsi_scope.specs.Program.{Source}
+use Rattle.vsi_scope.specs.Program.{Resolved}
 use Rattle.vsi_types.specs.declared.rules.Step.{Step}
 use Rattle.vsi_types.specs.Walks.{last_target}
 use Rattle.vsi_infer.specs.Explanation.{step_line, last_text, explanation}
@@ -14,7 +14,7 @@ last_at x d [] = refl
 last_at x d (y ∷ xs) = last_at y d xs
 
 -- The lines of the steps and the last line are the walk's text.
-pub explained : (l : Lattice) (source : List ℕ) (r : Source) (items : List Step) (d e : Step) → 0 < length items
+pub explained : (l : Lattice) (source : List ℕ) (r : Resolved) (items : List Step) (d e : Step) → 0 < length items
     → flat_map (step_line source r) items ++ last_text l r (get_or items 0 d).source
     (get_or items (length items - 1) e).target ≡ explanation l source r items
 explained l source r [] d e lt = absurd (omega (arith, lt))

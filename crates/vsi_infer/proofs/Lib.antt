@@ -1,15 +1,16 @@
 pub mod FlowLemmas
 pub mod RowLemmas
-pub mod NotingLemmas
+pub mod FlowMatrixLemmas
 pub mod StepLemmas
 pub mod RowsOf
 pub mod OrderLemmas
 pub mod RankLemmas
-pub mod RaiseLemmas
+pub mod WorklistLemmas
 pub mod TargetLemmas
 pub mod Bridge
 pub mod DistanceLemmas
-pub mod SeekLemmas
+pub mod StepSearchLemmas
+pub mod KeptLemmas
 pub mod MemberLemmas
 pub mod PassingLemmas
 pub mod PathLemmas
@@ -18,3 +19,4 @@ pub mod LevelLemmas
 pub mod ShortestLemmas
 pub mod LawLemmas
 pub mod ExplainLemmas
+pub mod LineLemmas

@@ -7,19 +7,19 @@ use Rattle.std.proofs.lemmas.List.Folds.{find-append}
 use Rattle.std.proofs.Math.Seq.{take-append_seam}
 use Rattle.vsi_syntax.specs.declared.token.Span.{Span}
 use Rattle.vsi_scope.specs.declared.program.Cmd.{Cmd}
-use Rattle.vsi_scope.specs.Phrase.{Phrase, Command, Put, Choose, Repeat, Allocate, letvars, has_loop, HasPlaces}
+use Rattle.vsi_scope.specs.Language.{Expression, Command, Assign, If, While, Letvar, letvars, has_loop, HasPlaces}
 use Rattle.vsi_scope.specs.View.{command, sequence}
 use Rattle.vsi_scope.proofs.Views.{letvars_more}
 use Rattle.vsi_types.specs.declared.rules.Profile.{Profile}
-use Rattle.vsi_types.specs.declared.rules.Rule.TheVariants.{If, While, Letvar}
+use Rattle.vsi_types.specs.declared.rules.Rule.TheVariants as typing
 use Rattle.vsi_types.specs.declared.rules.Guard.{Guard}
 use Rattle.vsi_types.specs.declared.rules.Step.{Step}
 use Rattle.vsi_types.specs.Steps.{reads, guarded, flows, endings, steps}
 use Rattle.vsi_types.proofs.Judging.{places_at, letvars_at, steps_at, steps_more}
 use Rattle.vsi_types.specs.Walker.{Place}
 use Rattle.vsi_types.proofs.Places.{place, inside, within_letvar}
-use Rattle.vsi_infer.specs.Seeking.{HasRoom, IsPassed, Sought}
-use Rattle.vsi_infer.proofs.SeekLemmas.{found_left}
+use Rattle.vsi_infer.specs.StepSearch.{HasRoom, IsPassed, Sought}
+use Rattle.vsi_infer.proofs.StepSearchLemmas.{found_left}
 
 module _ (P : Profile) (names : ℕ → Span) (p : Step → Bool) where
   -- The steps of a command at a place.
@@ -53,12 +53,13 @@ module _ (P : Profile) (names : ℕ → Span) (p : Step → Bool) where
       (sought_none (place t g n) b c o i h))
 
   -- An assignment's answer.
-  pub put_answer : (a : Place) (k : Command) (l : ℕ) (s : Span) (e : Phrase) (o : Option Step) → k ≡ Put l s e
-      → o ≡ find p (here a (Put l s e)) → Sought {E = ⊤} P names p a k a (Ok o)
+  pub put_answer : (a : Place) (k : Command) (l : ℕ) (s : Span) (e : Expression) (o : Option Step) → k ≡ Assign l s e
+      → o ≡ find p (here a (Assign l s e)) → Sought {E = ⊤} P names p a k a (Ok o)
   put_answer a k l s e o is h =
       subst (λ c. Sought {E = ⊤} P names p a c a (Ok o)) (sym is) (of_put o h)
     where
-      of_put : (o : Option Step) → o ≡ find p (here a (Put l s e)) → Sought {E = ⊤} P names p a (Put l s e) a (Ok o)
+      of_put : (o : Option Step) → o ≡ find p (here a (Assign l s e)) →
+          Sought {E = ⊤} P names p a (Assign l s e) a (Ok o)
       of_put None h = record { nothing = sym h; scope = refl; guards = refl; next = omega arith }
       of_put (Some x) h = sym h
 
@@ -70,61 +71,67 @@ module _ (P : Profile) (names : ℕ → Span) (p : Step → Bool) where
       ∙ ap (λ x. find p (steps P names x a.scope b.next c)) g
       ∙ ap (λ x. find p (steps P names a.guards a.scope x c)) e) ∙ h
 
-  module _ (a : Place) (e : Phrase) (c d : Command) (none : find p
+  module _ (a : Place) (e : Expression) (c d : Command) (none : find p
       (endings P (has_loop c || has_loop d) (reads a.scope e)) ≡ None) where
-    pub choose_first : (s : Step) → find p (here (inside If e a) c) ≡ Some s → find p (here a (Choose e c d)) ≡ Some s
+    pub choose_first : (s : Step) → find p (here (inside typing.If e a) c) ≡ Some s → find p (here a (If e c d))
+        ≡ Some s
     choose_first s h =
         passed_then (endings P (has_loop c || has_loop d) (reads a.scope e)) _ (Some s) none
-        (found_left p (here (inside If e a) c) (steps P names (a.guards ++ guarded If (reads a.scope e)) a.scope
+        (found_left p (here (inside typing.If e a) c)
+        (steps P names (a.guards ++ guarded typing.If (reads a.scope e)) a.scope
         (a.next + letvars c) d) s h)
 
-    pub choose_second : (b : Place) (o : Option Step) → IsPassed P names p (inside If e a) c b
-        → find p (here b d) ≡ o → find p (here a (Choose e c d)) ≡ o
+    pub choose_second : (b : Place) (o : Option Step) → IsPassed P names p (inside typing.If e a) c b
+        → find p (here b d) ≡ o → find p (here a (If e c d)) ≡ o
     choose_second b o i h =
         passed_then (endings P (has_loop c || has_loop d) (reads a.scope e)) _ o none
-        (passed_then (here (inside If e a) c) (steps P names (a.guards ++ guarded If (reads a.scope e)) a.scope
+        (passed_then (here (inside typing.If e a) c)
+        (steps P names (a.guards ++ guarded typing.If (reads a.scope e)) a.scope
         (a.next + letvars c) d) o i.nothing
-        (moved (inside If e a) b d o i.scope i.guards (a.next + letvars c) i.next h))
+        (moved (inside typing.If e a) b d o i.scope i.guards (a.next + letvars c) i.next h))
 
-    pub choose_none : (b b' z : Place) → IsPassed P names p (inside If e a) c b → IsPassed P names p b d b'
+    pub choose_none : (b b' z : Place) → IsPassed P names p (inside typing.If e a) c b → IsPassed P names p b d b'
         → z.scope ≡ b'.scope → z.guards ≡ take (length a.guards) b'.guards → z.next ≡ b'.next
-        → IsPassed P names p a (Choose e c d) z
+        → IsPassed P names p a (If e c d) z
     choose_none b b' z i j s g n = record {
       nothing = choose_second b None i j.nothing;
       scope = s ∙ j.scope ∙ i.scope;
       guards = g ∙ ap (take (length a.guards)) (j.guards ∙ i.guards)
-          ∙ take-append_seam a.guards (guarded If (reads a.scope e));
+          ∙ take-append_seam a.guards (guarded typing.If (reads a.scope e));
       next = omega (arith, n, j.next, i.next);
     }
 
-  module _ (a : Place) (e : Phrase) (c : Command) (none : find p (endings P true (reads a.scope e)) ≡ None) where
-    pub repeat_some : (o : Option Step) → find p (here (inside While e a) c) ≡ o → find p (here a (Repeat e c)) ≡ o
+  module _ (a : Place) (e : Expression) (c : Command) (none : find p (endings P true (reads a.scope e)) ≡ None) where
+    pub repeat_some : (o : Option Step) → find p (here (inside typing.While e a) c) ≡ o → find p (here a (While e c))
+        ≡ o
     repeat_some o h = passed_then (endings P true (reads a.scope e)) _ o none h
 
-    pub repeat_none : (b z : Place) → IsPassed P names p (inside While e a) c b → z.scope ≡ b.scope
-        → z.guards ≡ take (length a.guards) b.guards → z.next ≡ b.next → IsPassed P names p a (Repeat e c) z
+    pub repeat_none : (b z : Place) → IsPassed P names p (inside typing.While e a) c b → z.scope ≡ b.scope
+        → z.guards ≡ take (length a.guards) b.guards → z.next ≡ b.next → IsPassed P names p a (While e c) z
     repeat_none b z i s g n = record {
       nothing = repeat_some None i.nothing;
       scope = s ∙ i.scope;
-      guards = g ∙ ap (take (length a.guards)) i.guards ∙ take-append_seam a.guards (guarded While (reads a.scope e));
+      guards = g ∙ ap (take (length a.guards)) i.guards
+          ∙ take-append_seam a.guards (guarded typing.While (reads a.scope e));
       next = n ∙ i.next;
     }
 
-  module _ (a : Place) (e : Phrase) (c : Command) where
-    pub allocate_here : (s : Step) → find p (flows a.next (names a.next) (guarded Letvar (reads a.scope e))) ≡ Some
-        s → find p (here a (Allocate e c)) ≡ Some s
-    allocate_here s h = found_left p (flows a.next (names a.next) (guarded Letvar (reads a.scope e)))
+  module _ (a : Place) (e : Expression) (c : Command) where
+    pub allocate_here : (s : Step) → find p (flows a.next (names a.next) (guarded typing.Letvar (reads a.scope e)))
+        ≡ Some
+        s → find p (here a (Letvar e c)) ≡ Some s
+    allocate_here s h = found_left p (flows a.next (names a.next) (guarded typing.Letvar (reads a.scope e)))
         (here (within_letvar a) c) s h
 
-    module _ (none : find p (flows a.next (names a.next) (guarded Letvar (reads a.scope e))) ≡ None) where
+    module _ (none : find p (flows a.next (names a.next) (guarded typing.Letvar (reads a.scope e))) ≡ None) where
       pub allocate_some : (o : Option Step) → find p (here (within_letvar a) c) ≡ o
-          → find p (here a (Allocate e c)) ≡ o
-      allocate_some o h = passed_then (flows a.next (names a.next) (guarded Letvar (reads a.scope e)))
+          → find p (here a (Letvar e c)) ≡ o
+      allocate_some o h = passed_then (flows a.next (names a.next) (guarded typing.Letvar (reads a.scope e)))
           (here (within_letvar a) c) o none h
 
       pub allocate_none : (b z : Place) → IsPassed P names p (within_letvar a) c b
           → z.scope ≡ take (length a.scope) b.scope → z.guards ≡ b.guards → z.next ≡ b.next
-          → IsPassed P names p a (Allocate e c) z
+          → IsPassed P names p a (Letvar e c) z
       allocate_none b z i s g n = record {
         nothing = allocate_some None i.nothing;
         scope = s ∙ ap (take (length a.scope)) i.scope ∙ take-append_seam a.scope (a.next ∷ []);

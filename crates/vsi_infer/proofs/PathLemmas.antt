@@ -10,18 +10,18 @@ use Rattle.std.proofs.lemmas.Bool.{and_parts, or_cases, and_from, false≢true}
 use Rattle.std.proofs.lemmas.Bool.Decides.{nat_tests}
 use Rattle.vsi_lattice.specs.Order.{Lattice, Below}
 use Rattle.vsi_syntax.specs.declared.token.Span.{Span}
-use Rattle.vsi_scope.specs.Phrase.{Phrase, Literal, Contents, Apply, Command, Nothing, Put, Then, Choose, Repeat, Allocate, letvars, has_loop}
+use Rattle.vsi_scope.specs.Language.{Expression, Number, Location, Operator, Command, Skip, Assign, Sequence, If, While, Letvar, letvars, has_loop}
 use Rattle.vsi_types.specs.declared.rules.Profile.{Profile}
 use Rattle.vsi_types.specs.declared.rules.Profile.TheVariants.{Base, Strict}
 use Rattle.vsi_types.specs.declared.rules.Rule.{Rule}
-use Rattle.vsi_types.specs.declared.rules.Rule.TheVariants.{Assign, If, While, Letvar, Loop}
+use Rattle.vsi_types.specs.declared.rules.Rule.TheVariants as typing
 use Rattle.vsi_types.specs.declared.rules.Read.{Read}
 use Rattle.vsi_types.specs.declared.rules.Guard.{Guard}
 use Rattle.vsi_types.specs.declared.rules.Step.{Step}
 use Rattle.vsi_types.specs.Steps.{reads, guarded, flows, endings, steps, sink}
 use Rattle.vsi_types.specs.Security.{Program, steps_of}
 use Rattle.vsi_types.specs.Walks.{IsChain, last_target, IsBad, declared_class}
-use Rattle.vsi_infer.specs.Leading.{minds}
+use Rattle.vsi_infer.specs.Leading.{observes_ending}
 use Rattle.vsi_infer.specs.Membership.{same_rule, same_span, read_is, written_is, same_step, reads_pass, ends_pass, passes}
 use Rattle.vsi_infer.specs.Paths.{IsPath}
 
@@ -165,38 +165,38 @@ found_none p (x ∷ xs) e s c t = by (p x) refl (λ f d. found_none p xs f s d t
 
 -- Steps that are the same are equal.
 rule_is : (r q : Rule) → same_rule r q ≡ true → r ≡ q
-rule_is Assign Assign e = refl
-rule_is If If e = refl
-rule_is While While e = refl
-rule_is Letvar Letvar e = refl
-rule_is Loop Loop e = refl
-rule_is Assign If e = absurd (false≢true e)
-rule_is Assign While e = absurd (false≢true e)
-rule_is Assign Letvar e = absurd (false≢true e)
-rule_is Assign Loop e = absurd (false≢true e)
-rule_is If Assign e = absurd (false≢true e)
-rule_is If While e = absurd (false≢true e)
-rule_is If Letvar e = absurd (false≢true e)
-rule_is If Loop e = absurd (false≢true e)
-rule_is While Assign e = absurd (false≢true e)
-rule_is While If e = absurd (false≢true e)
-rule_is While Letvar e = absurd (false≢true e)
-rule_is While Loop e = absurd (false≢true e)
-rule_is Letvar Assign e = absurd (false≢true e)
-rule_is Letvar If e = absurd (false≢true e)
-rule_is Letvar While e = absurd (false≢true e)
-rule_is Letvar Loop e = absurd (false≢true e)
-rule_is Loop Assign e = absurd (false≢true e)
-rule_is Loop If e = absurd (false≢true e)
-rule_is Loop While e = absurd (false≢true e)
-rule_is Loop Letvar e = absurd (false≢true e)
+rule_is typing.Assign typing.Assign e = refl
+rule_is typing.If typing.If e = refl
+rule_is typing.While typing.While e = refl
+rule_is typing.Letvar typing.Letvar e = refl
+rule_is typing.Loop typing.Loop e = refl
+rule_is typing.Assign typing.If e = absurd (false≢true e)
+rule_is typing.Assign typing.While e = absurd (false≢true e)
+rule_is typing.Assign typing.Letvar e = absurd (false≢true e)
+rule_is typing.Assign typing.Loop e = absurd (false≢true e)
+rule_is typing.If typing.Assign e = absurd (false≢true e)
+rule_is typing.If typing.While e = absurd (false≢true e)
+rule_is typing.If typing.Letvar e = absurd (false≢true e)
+rule_is typing.If typing.Loop e = absurd (false≢true e)
+rule_is typing.While typing.Assign e = absurd (false≢true e)
+rule_is typing.While typing.If e = absurd (false≢true e)
+rule_is typing.While typing.Letvar e = absurd (false≢true e)
+rule_is typing.While typing.Loop e = absurd (false≢true e)
+rule_is typing.Letvar typing.Assign e = absurd (false≢true e)
+rule_is typing.Letvar typing.If e = absurd (false≢true e)
+rule_is typing.Letvar typing.While e = absurd (false≢true e)
+rule_is typing.Letvar typing.Loop e = absurd (false≢true e)
+rule_is typing.Loop typing.Assign e = absurd (false≢true e)
+rule_is typing.Loop typing.If e = absurd (false≢true e)
+rule_is typing.Loop typing.While e = absurd (false≢true e)
+rule_is typing.Loop typing.Letvar e = absurd (false≢true e)
 
 rule_self : (r : Rule) → same_rule r r ≡ true
-rule_self Assign = refl
-rule_self If = refl
-rule_self While = refl
-rule_self Letvar = refl
-rule_self Loop = refl
+rule_self typing.Assign = refl
+rule_self typing.If = refl
+rule_self typing.While = refl
+rule_self typing.Letvar = refl
+rule_self typing.Loop = refl
 
 pub equal : (a b : ℕ) → (a == b) ≡ true → a ≡ b
 equal a b t = grind (arith, nat_tests)
@@ -268,11 +268,11 @@ module _ (x : Step) where
   abbrev pub guards_pass : List Guard → Bool
   guards_pass gs = list_any (λ g. read_is x g.rule g.read.variable g.read.place) gs
 
-  reads_as : (rule : Rule) (scope : List ℕ) (e : Phrase) → guards_pass
+  reads_as : (rule : Rule) (scope : List ℕ) (e : Expression) → guards_pass
       (guarded rule (reads scope e)) ≡ reads_pass x rule scope e
-  reads_as rule scope (Literal z) = refl
-  reads_as rule scope (Contents l s) = or-false (read_is x rule (slice_index scope l) s)
-  reads_as rule scope (Apply o a b) =
+  reads_as rule scope (Number z) = refl
+  reads_as rule scope (Location l s) = or-false (read_is x rule (slice_index scope l) s)
+  reads_as rule scope (Operator o a b) =
       more rule (reads scope a) (reads scope b) ∙ ap (λ t. t || guards_pass (guarded rule (reads scope b)))
       (reads_as rule scope a)
       ∙ ap (λ t. reads_pass x rule scope a || t) (reads_as rule scope b)
@@ -284,19 +284,19 @@ module _ (x : Step) where
           ∙ sym (or_assoc (read_is x rule r.variable r.place) (guards_pass (guarded rule rs))
           (guards_pass (guarded rule qs)))
 
-  ends_as : (scope : List ℕ) (e : Phrase) → list_any (same_step x)
+  ends_as : (scope : List ℕ) (e : Expression) → list_any (same_step x)
       (endings Strict true (reads scope e)) ≡ ends_pass x scope e
-  ends_as scope (Literal z) = refl
-  ends_as scope (Contents l s) = or-false (read_is x Loop (slice_index scope l) s && written_is x sink s)
-  ends_as scope (Apply o a b) = more (reads scope a) (reads scope b)
+  ends_as scope (Number z) = refl
+  ends_as scope (Location l s) = or-false (read_is x typing.Loop (slice_index scope l) s && written_is x sink s)
+  ends_as scope (Operator o a b) = more (reads scope a) (reads scope b)
       ∙ ap (λ t. t || list_any (same_step x) (endings Strict true (reads scope b))) (ends_as scope a)
       ∙ ap (λ t. ends_pass x scope a || t) (ends_as scope b)
     where
       more : (rs qs : List Read) → list_any (same_step x) (endings Strict true (rs ++ qs)) ≡
           (list_any (same_step x) (endings Strict true rs) || list_any (same_step x) (endings Strict true qs))
       more [] qs = refl
-      more (r ∷ rs) qs = ap (λ t. (read_is x Loop r.variable r.place && written_is x sink r.place) || t)
-          (more rs qs) ∙ sym (or_assoc (read_is x Loop r.variable r.place && written_is x sink r.place)
+      more (r ∷ rs) qs = ap (λ t. (read_is x typing.Loop r.variable r.place && written_is x sink r.place) || t)
+          (more rs qs) ∙ sym (or_assoc (read_is x typing.Loop r.variable r.place && written_is x sink r.place)
           (list_any (same_step x) (endings Strict true rs)) (list_any (same_step x) (endings Strict true qs)))
 
   and_true : (t : Bool) → t ≡ (t && true)
@@ -307,8 +307,8 @@ module _ (x : Step) where
   and_false true = refl
   and_false false = refl
 
-  endings_as : (P : Profile) (looping : Bool) (scope : List ℕ) (e : Phrase)
-      → list_any (same_step x) (endings P looping (reads scope e)) ≡ (ends_pass x scope e && minds P looping)
+  endings_as : (P : Profile) (looping : Bool) (scope : List ℕ) (e : Expression)
+      → list_any (same_step x) (endings P looping (reads scope e)) ≡ (ends_pass x scope e && observes_ending P looping)
   endings_as Base looping scope e = and_false (ends_pass x scope e)
   endings_as Strict false scope e = and_false (ends_pass x scope e)
   endings_as Strict true scope e = ends_as scope e ∙ and_true (ends_pass x scope e)
@@ -336,44 +336,44 @@ module _ (x : Step) where
   -- The walk over the commands tells which steps are theirs.
   pub steps_pass : (P : Profile) (names : ℕ → Span) (gs : List Guard) (scope : List ℕ) (n : ℕ) (c : Command)
       → list_any (same_step x) (steps P names gs scope n c) ≡ passes x P names (guards_pass gs) scope n c
-  steps_pass P names gs scope n Nothing = refl
-  steps_pass P names gs scope n (Put l s e) =
-      flows_as (slice_index scope l) s (guarded Assign (reads scope e) ++ gs)
-      ∙ ap (λ t. t && written_is x (slice_index scope l) s) (guards_append (guarded Assign (reads scope e)) gs
-      ∙ ap (λ t. t || guards_pass gs) (reads_as Assign scope e))
-  steps_pass P names gs scope n (Then c d) =
+  steps_pass P names gs scope n Skip = refl
+  steps_pass P names gs scope n (Assign l s e) =
+      flows_as (slice_index scope l) s (guarded typing.Assign (reads scope e) ++ gs)
+      ∙ ap (λ t. t && written_is x (slice_index scope l) s) (guards_append (guarded typing.Assign (reads scope e)) gs
+      ∙ ap (λ t. t || guards_pass gs) (reads_as typing.Assign scope e))
+  steps_pass P names gs scope n (Sequence c d) =
       any_append (steps P names gs scope n c) (steps P names gs scope (n + letvars c) d)
       ∙ ap (λ t. t || list_any (same_step x) (steps P names gs scope (n + letvars c) d))
       (steps_pass P names gs scope n c)
       ∙ ap (λ t. passes x P names (guards_pass gs) scope n c || t) (steps_pass P names gs scope (n + letvars c) d)
-  steps_pass P names gs scope n (Choose e c d) =
-      let around = guards_append gs (guarded If (reads scope e))
-      ∙ ap (λ t. guards_pass gs || t) (reads_as If scope e) in
+  steps_pass P names gs scope n (If e c d) =
+      let around = guards_append gs (guarded typing.If (reads scope e))
+      ∙ ap (λ t. guards_pass gs || t) (reads_as typing.If scope e) in
       any_append (endings P (has_loop c || has_loop d) (reads scope e)) _
-      ∙ ap (λ t. t || list_any (same_step x) (steps P names (gs ++ guarded If (reads scope e)) scope n c
-      ++ steps P names (gs ++ guarded If (reads scope e)) scope (n + letvars c) d))
+      ∙ ap (λ t. t || list_any (same_step x) (steps P names (gs ++ guarded typing.If (reads scope e)) scope n c
+      ++ steps P names (gs ++ guarded typing.If (reads scope e)) scope (n + letvars c) d))
       (endings_as P (has_loop c || has_loop d) scope e)
-      ∙ ap (λ t. (ends_pass x scope e && minds P (has_loop c || has_loop d)) || t)
-      (any_append (steps P names (gs ++ guarded If (reads scope e)) scope n c)
-      (steps P names (gs ++ guarded If (reads scope e)) scope (n + letvars c) d)
-      ∙ ap (λ t. t || list_any (same_step x) (steps P names (gs ++ guarded If (reads scope e)) scope
-      (n + letvars c) d)) (steps_pass P names (gs ++ guarded If (reads scope e)) scope n c
+      ∙ ap (λ t. (ends_pass x scope e && observes_ending P (has_loop c || has_loop d)) || t)
+      (any_append (steps P names (gs ++ guarded typing.If (reads scope e)) scope n c)
+      (steps P names (gs ++ guarded typing.If (reads scope e)) scope (n + letvars c) d)
+      ∙ ap (λ t. t || list_any (same_step x) (steps P names (gs ++ guarded typing.If (reads scope e)) scope
+      (n + letvars c) d)) (steps_pass P names (gs ++ guarded typing.If (reads scope e)) scope n c
       ∙ ap (λ t. passes x P names t scope n c) around)
-      ∙ ap (λ t. passes x P names (guards_pass gs || reads_pass x If scope e) scope n c || t)
-      (steps_pass P names (gs ++ guarded If (reads scope e)) scope (n + letvars c) d
+      ∙ ap (λ t. passes x P names (guards_pass gs || reads_pass x typing.If scope e) scope n c || t)
+      (steps_pass P names (gs ++ guarded typing.If (reads scope e)) scope (n + letvars c) d
       ∙ ap (λ t. passes x P names t scope (n + letvars c) d) around))
-  steps_pass P names gs scope n (Repeat e c) =
-      let around = guards_append gs (guarded While (reads scope e))
-      ∙ ap (λ t. guards_pass gs || t) (reads_as While scope e) in
+  steps_pass P names gs scope n (While e c) =
+      let around = guards_append gs (guarded typing.While (reads scope e))
+      ∙ ap (λ t. guards_pass gs || t) (reads_as typing.While scope e) in
       any_append (endings P true (reads scope e)) _
-      ∙ ap (λ t. t || list_any (same_step x) (steps P names (gs ++ guarded While (reads scope e)) scope n c))
+      ∙ ap (λ t. t || list_any (same_step x) (steps P names (gs ++ guarded typing.While (reads scope e)) scope n c))
       (endings_as P true scope e)
-      ∙ ap (λ t. (ends_pass x scope e && minds P true) || t) (steps_pass P names
-      (gs ++ guarded While (reads scope e)) scope n c ∙ ap (λ t. passes x P names t scope n c) around)
-  steps_pass P names gs scope n (Allocate e c) =
-      any_append (flows n (names n) (guarded Letvar (reads scope e))) _
+      ∙ ap (λ t. (ends_pass x scope e && observes_ending P true) || t) (steps_pass P names
+      (gs ++ guarded typing.While (reads scope e)) scope n c ∙ ap (λ t. passes x P names t scope n c) around)
+  steps_pass P names gs scope n (Letvar e c) =
+      any_append (flows n (names n) (guarded typing.Letvar (reads scope e))) _
       ∙ ap (λ t. t || list_any (same_step x) (steps P names gs (scope ++ n ∷ []) (n + 1) c))
-      (flows_as n (names n) (guarded Letvar (reads scope e))
-      ∙ ap (λ t. t && written_is x n (names n)) (reads_as Letvar scope e))
-      ∙ ap (λ t. (reads_pass x Letvar scope e && written_is x n (names n)) || t)
+      (flows_as n (names n) (guarded typing.Letvar (reads scope e))
+      ∙ ap (λ t. t && written_is x n (names n)) (reads_as typing.Letvar scope e))
+      ∙ ap (λ t. (reads_pass x typing.Letvar scope e && written_is x n (names n)) || t)
       (steps_pass P names gs (scope ++ n ∷ []) (n + 1) c)

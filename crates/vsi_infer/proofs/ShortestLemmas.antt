@@ -10,7 +10,7 @@ use Rattle.vsi_lattice.specs.Order.{Lattice, IsLattice, IsClass, Below}
 use Rattle.vsi_types.specs.declared.rules.Profile.{Profile}
 use Rattle.vsi_types.specs.declared.rules.Step.{Step}
 use Rattle.vsi_types.specs.Steps.{sink}
-use Rattle.vsi_types.specs.Security.{Program, IsResolved, steps_of}
+use Rattle.vsi_types.specs.Security.{Program, IsWellFormed, steps_of}
 use Rattle.vsi_types.specs.Walks.{IsChain, last_target, IsBadFrom, IsBad, declared_class}
 use Rattle.vsi_types.proofs.Walking.{some_same}
 use Rattle.vsi_infer.specs.Leading.{has_step}
@@ -57,7 +57,7 @@ begin_parts rows last now after (Some c) s e =
     let q = and_parts (far_at rows c s.source == now) (far_at rows c (row_of last s.target) == after) e in
     (c, refl, equal (far_at rows c s.source) now q.0, equal (far_at rows c (row_of last s.target)) after q.1)
 
-module _ (L : Lattice) (laws : IsLattice L) (P : Profile) (p : Program) (res : IsResolved L p)
+module _ (L : Lattice) (laws : IsLattice L) (P : Profile) (p : Program) (res : IsWellFormed L p)
     (ds : AreClasses L p.declared) (flows : ℕ → ℕ → Bool) (are : AreFlowsOf P p flows) where
   size : length (table L p) ≡ size_of p + 1
   size = table_length L p res.entries res.limit

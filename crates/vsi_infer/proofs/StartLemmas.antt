@@ -3,9 +3,9 @@ use Rattle.std.proofs.Common.{◌≡◌, ℕ, List, [], length, sym, ap, ◌∙�
 use Rattle.std.proofs.lemmas.List.{length-map}
 use Rattle.vsi_scope.specs.declared.program.Cmd.{Cmd}
 use Rattle.vsi_scope.specs.declared.resolved.Entry.{Entry}
-use Rattle.vsi_scope.specs.Phrase.{HasPlaces}
+use Rattle.vsi_scope.specs.Language.{HasPlaces}
 use Rattle.vsi_scope.specs.View.{sequence}
-use Rattle.vsi_scope.specs.Program.{Source, IsResolved}
+use Rattle.vsi_scope.specs.Program.{Resolved, IsResolved}
 use Rattle.std.specs.Prelude.{Bool, false, Option, Some, None, Result, Ok, Err, IfOk}
 use Rattle.std.specs.List.{find, list_any}
 use Rattle.vsi_types.specs.declared.rules.Profile.{Profile}
@@ -15,11 +15,11 @@ use Rattle.vsi_types.specs.Security.{count_from, program, name_place, steps_of}
 use Rattle.vsi_types.specs.Walker.{Place}
 use Rattle.vsi_types.proofs.Places.{place}
 use Rattle.vsi_types.proofs.Programs.{length_count}
-use Rattle.vsi_infer.specs.Seeking.{HasRoom, Sought}
+use Rattle.vsi_infer.specs.StepSearch.{HasRoom, Sought}
 use Rattle.vsi_infer.specs.Membership.{IsFor, same_step, passes}
 use Rattle.vsi_infer.proofs.PathLemmas.{steps_pass}
 
-module _ (r : Source) (res : IsResolved r) where
+module _ (r : Resolved) (res : IsResolved r) where
   at_start : HasPlaces (length (count_from 0 (length r.globals))) (sequence r.body)
   at_start = subst (λ n. HasPlaces n (sequence r.body)) (sym (length_count 0 (length r.globals))) res.places
 

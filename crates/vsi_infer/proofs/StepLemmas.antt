@@ -9,18 +9,18 @@ use Rattle.std.proofs.Math.Bool.{or-false, and-false}
 use Rattle.std.proofs.lemmas.Bool.{cases_eq, or_cases, and_parts, false≢true}
 use Rattle.std.proofs.lemmas.Bool.Decides.{nat_tests}
 use Rattle.vsi_syntax.specs.declared.token.Span.{Span}
-use Rattle.vsi_scope.specs.Phrase.{Phrase, Literal, Contents, Apply, Command, Nothing, Put, Then, Choose, Repeat, Allocate, letvars, has_loop, HasPlaces, HasLocations}
+use Rattle.vsi_scope.specs.Language.{Expression, Number, Location, Operator, Command, Skip, Assign, Sequence, If, While, Letvar, letvars, has_loop, HasPlaces, HasLocations}
 use Rattle.vsi_types.specs.declared.rules.Profile.{Profile}
 use Rattle.vsi_types.specs.declared.rules.Profile.TheVariants.{Base, Strict}
 use Rattle.vsi_types.specs.declared.rules.Rule.{Rule}
-use Rattle.vsi_types.specs.declared.rules.Rule.TheVariants.{Assign, If, While, Letvar}
+use Rattle.vsi_types.specs.declared.rules.Rule.TheVariants as typing
 use Rattle.vsi_types.specs.declared.rules.Read.{Read}
 use Rattle.vsi_types.specs.declared.rules.Guard.{Guard}
 use Rattle.vsi_types.specs.declared.rules.Step.{Step}
 use Rattle.vsi_types.specs.Steps.{sink, reads, guarded, flows, endings, steps}
-use Rattle.vsi_infer.specs.Leading.{leads, inside, minds, reads_it, has_step, leads_between}
+use Rattle.vsi_infer.specs.Leading.{leads, inside, observes_ending, reads_it, has_step, leads_between}
 use Rattle.vsi_infer.specs.Flowing.{variable_at}
-use Rattle.vsi_infer.proofs.NotingLemmas.{leads_same}
+use Rattle.vsi_infer.proofs.FlowMatrixLemmas.{leads_same}
 
 -- The guards read the variable.
 abbrev pub guards_read : List Guard → ℕ → Bool
@@ -45,10 +45,10 @@ and_over false true false = refl
 and_over false false true = refl
 and_over false false false = refl
 
-reads_as : (scope : List ℕ) (e : Phrase) (v : ℕ) → reads_list (reads scope e) v ≡ reads_it scope e v
-reads_as scope (Literal z) v = refl
-reads_as scope (Contents l s) v = or-false (slice_index scope l == v)
-reads_as scope (Apply o a b) v =
+reads_as : (scope : List ℕ) (e : Expression) (v : ℕ) → reads_list (reads scope e) v ≡ reads_it scope e v
+reads_as scope (Number z) v = refl
+reads_as scope (Location l s) v = or-false (slice_index scope l == v)
+reads_as scope (Operator o a b) v =
     list_any-append (λ (r : Read). r.variable == v) (reads scope a) (reads scope b)
     ∙ ap (λ x. x || reads_list (reads scope b) v) (reads_as scope a v)
     ∙ ap (λ x. reads_it scope a v || x) (reads_as scope b v)
@@ -57,11 +57,11 @@ guarded_as : (rule : Rule) (rs : List Read) (v : ℕ) → guards_read (guarded r
 guarded_as rule [] v = refl
 guarded_as rule (r ∷ rs) v = ap (λ x. (r.variable == v) || x) (guarded_as rule rs v)
 
-guards_as : (rule : Rule) (scope : List ℕ) (e : Phrase) (v : ℕ)
+guards_as : (rule : Rule) (scope : List ℕ) (e : Expression) (v : ℕ)
     → guards_read (guarded rule (reads scope e)) v ≡ reads_it scope e v
 guards_as rule scope e v = guarded_as rule (reads scope e) v ∙ reads_as scope e v
 
-more_guards : (gs : List Guard) (rule : Rule) (scope : List ℕ) (e : Phrase) (v : ℕ)
+more_guards : (gs : List Guard) (rule : Rule) (scope : List ℕ) (e : Expression) (v : ℕ)
     → guards_read (gs ++ guarded rule (reads scope e)) v ≡ inside (guards_read gs) scope e v
 more_guards gs rule scope e v = list_any-append (λ (g : Guard). g.read.variable == v) gs
     (guarded rule (reads scope e)) ∙ ap (λ x. guards_read gs v || x) (guards_as rule scope e v)
@@ -77,8 +77,9 @@ loops_as [] a b = sym (and-false (sink == b))
 loops_as (r ∷ rs) a b = ap (λ x. ((r.variable == a) && (sink == b)) || x) (loops_as rs a b)
     ∙ and_over (r.variable == a) (reads_list rs a) (sink == b)
 
-endings_as : (P : Profile) (looping : Bool) (scope : List ℕ) (e : Phrase) (a b : ℕ)
-    → has_step (endings P looping (reads scope e)) a b ≡ (minds P looping && ((sink == b) && reads_it scope e a))
+endings_as : (P : Profile) (looping : Bool) (scope : List ℕ) (e : Expression) (a b : ℕ)
+    → has_step (endings P looping (reads scope e)) a b
+    ≡ (observes_ending P looping && ((sink == b) && reads_it scope e a))
 endings_as Base looping scope e a b = refl
 endings_as Strict false scope e a b = refl
 endings_as Strict true scope e a b = loops_as (reads scope e) a b ∙ ap (λ x. (sink == b) && x) (reads_as scope e a)
@@ -109,72 +110,74 @@ module _ (k : ℕ) (small : k ≤ 1024) where
     pub steps_as : (gs : List Guard) (scope : List ℕ) (n : ℕ) (c : Command) → HasPlaces (length scope) c
         → n + letvars c ≤ k → All (λ v. v < k) scope → has_step (steps P names gs scope n c) a
         (variable_at k b) ≡ leads P k (guards_read gs) scope n c a b
-    steps_as gs scope n Nothing places limit all = refl
-    steps_as gs scope n (Put l s e) places limit all =
-        flows_as (slice_index scope l) s (guarded Assign (reads scope e) ++ gs) a (variable_at k b)
-        ∙ ap (λ x. x && guards_read (guarded Assign (reads scope e) ++ gs) a)
+    steps_as gs scope n Skip places limit all = refl
+    steps_as gs scope n (Assign l s e) places limit all =
+        flows_as (slice_index scope l) s (guarded typing.Assign (reads scope e) ++ gs) a (variable_at k b)
+        ∙ ap (λ x. x && guards_read (guarded typing.Assign (reads scope e) ++ gs) a)
         (at_variable (slice_index scope l) b (location scope l all places.0))
         ∙ ap (λ x. (b == slice_index scope l) && x) (list_any-append (λ (g : Guard). g.read.variable == a)
-        (guarded Assign (reads scope e)) gs ∙ ap (λ x. x || guards_read gs a) (guards_as Assign scope e a))
-    steps_as gs scope n (Then c d) places limit all =
+        (guarded typing.Assign (reads scope e)) gs
+        ∙ ap (λ x. x || guards_read gs a) (guards_as typing.Assign scope e a))
+    steps_as gs scope n (Sequence c d) places limit all =
         step_append (steps P names gs scope n c) (steps P names gs scope (n + letvars c) d) a (variable_at k b)
         ∙ ap (λ x. x || has_step (steps P names gs scope (n + letvars c) d) a (variable_at k b))
         (steps_as gs scope n c places.0 (omega (arith, limit)) all)
         ∙ ap (λ x. leads P k (guards_read gs) scope n c a b || x)
         (steps_as gs scope (n + letvars c) d places.1 (omega (arith, limit)) all)
-    steps_as gs scope n (Choose e c d) places limit all =
-        let gs' = gs ++ guarded If (reads scope e) in
+    steps_as gs scope n (If e c d) places limit all =
+        let gs' = gs ++ guarded typing.If (reads scope e) in
         let one = steps_as gs' scope n c places.1 (omega (arith, limit)) all
         ∙ leads_same P k (guards_read gs') (inside (guards_read gs) scope e)
-        (more_guards gs If scope e) scope n c a b in
+        (more_guards gs typing.If scope e) scope n c a b in
         let two = steps_as gs' scope (n + letvars c) d places.2 (omega (arith, limit)) all
-        ∙ leads_same P k (guards_read gs') (inside (guards_read gs) scope e) (more_guards gs If scope e) scope
+        ∙ leads_same P k (guards_read gs') (inside (guards_read gs) scope e) (more_guards gs typing.If scope e) scope
         (n + letvars c) d a b in
         step_append (endings P (has_loop c || has_loop d) (reads scope e)) _ a (variable_at k b)
-        ∙ ap (λ x. x || has_step (steps P names (gs ++ guarded If (reads scope e)) scope n c
-        ++ steps P names (gs ++ guarded If (reads scope e)) scope (n + letvars c) d) a (variable_at k b))
+        ∙ ap (λ x. x || has_step (steps P names (gs ++ guarded typing.If (reads scope e)) scope n c
+        ++ steps P names (gs ++ guarded typing.If (reads scope e)) scope (n + letvars c) d) a (variable_at k b))
         (endings_as P (has_loop c || has_loop d) scope e a (variable_at k b)
-        ∙ ap (λ x. minds P (has_loop c || has_loop d) && (x && reads_it scope e a)) (at_sink b le))
-        ∙ ap (λ x. (minds P (has_loop c || has_loop d) && ((b == k) && reads_it scope e a)) || x)
-        (step_append (steps P names (gs ++ guarded If (reads scope e)) scope n c)
-        (steps P names (gs ++ guarded If (reads scope e)) scope (n + letvars c) d) a (variable_at k b)
-        ∙ ap (λ x. x || has_step (steps P names (gs ++ guarded If (reads scope e)) scope (n + letvars c) d) a
+        ∙ ap (λ x. observes_ending P (has_loop c || has_loop d) && (x && reads_it scope e a)) (at_sink b le))
+        ∙ ap (λ x. (observes_ending P (has_loop c || has_loop d) && ((b == k) && reads_it scope e a)) || x)
+        (step_append (steps P names (gs ++ guarded typing.If (reads scope e)) scope n c)
+        (steps P names (gs ++ guarded typing.If (reads scope e)) scope (n + letvars c) d) a (variable_at k b)
+        ∙ ap (λ x. x || has_step (steps P names (gs ++ guarded typing.If (reads scope e)) scope (n + letvars c) d) a
         (variable_at k b)) one
         ∙ ap (λ x. leads P k (inside (guards_read gs) scope e) scope n c a b || x) two)
-    steps_as gs scope n (Repeat e c) places limit all =
-        let gs' = gs ++ guarded While (reads scope e) in
+    steps_as gs scope n (While e c) places limit all =
+        let gs' = gs ++ guarded typing.While (reads scope e) in
         let one = steps_as gs' scope n c places.1 (omega (arith, limit)) all
         ∙ leads_same P k (guards_read gs') (inside (guards_read gs) scope e)
-        (more_guards gs While scope e) scope n c a b in
+        (more_guards gs typing.While scope e) scope n c a b in
         step_append (endings P true (reads scope e)) _ a (variable_at k b)
-        ∙ ap (λ x. x || has_step (steps P names (gs ++ guarded While (reads scope e)) scope n c) a (variable_at k b))
-        (endings_as P true scope e a (variable_at k b) ∙ ap (λ x. minds P true && (x && reads_it scope e a))
+        ∙ ap (λ x. x || has_step (steps P names (gs ++ guarded typing.While (reads scope e)) scope n c) a
+        (variable_at k b))
+        (endings_as P true scope e a (variable_at k b) ∙ ap (λ x. observes_ending P true && (x && reads_it scope e a))
         (at_sink b le))
-        ∙ ap (λ x. (minds P true && ((b == k) && reads_it scope e a)) || x) one
-    steps_as gs scope n (Allocate e c) places limit all =
+        ∙ ap (λ x. (observes_ending P true && ((b == k) && reads_it scope e a)) || x) one
+    steps_as gs scope n (Letvar e c) places limit all =
         let lt : n < k = omega (arith, limit) in
         let size : length (scope ++ n ∷ []) ≡ length scope + 1 = length_push scope n in
-        step_append (flows n (names n) (guarded Letvar (reads scope e))) _ a (variable_at k b)
+        step_append (flows n (names n) (guarded typing.Letvar (reads scope e))) _ a (variable_at k b)
         ∙ ap (λ x. x || has_step (steps P names gs (scope ++ n ∷ []) (n + 1) c) a (variable_at k b))
-        (flows_as n (names n) (guarded Letvar (reads scope e)) a (variable_at k b)
-        ∙ ap (λ x. x && guards_read (guarded Letvar (reads scope e)) a) (at_variable n b lt)
-        ∙ ap (λ x. (b == n) && x) (guards_as Letvar scope e a))
+        (flows_as n (names n) (guarded typing.Letvar (reads scope e)) a (variable_at k b)
+        ∙ ap (λ x. x && guards_read (guarded typing.Letvar (reads scope e)) a) (at_variable n b lt)
+        ∙ ap (λ x. (b == n) && x) (guards_as typing.Letvar scope e a))
         ∙ ap (λ x. ((b == n) && reads_it scope e a) || x)
         (steps_as gs (scope ++ n ∷ []) (n + 1) c (subst (λ m. HasPlaces m c) (sym size) places.1)
         (omega (arith, limit)) (All-push (λ v. v < k) scope n all lt))
 
   -- What is read is a variable of the scope.
-  reads_within : (scope : List ℕ) (e : Phrase) (v : ℕ) → HasLocations (length scope) e → All (λ v. v < k) scope
+  reads_within : (scope : List ℕ) (e : Expression) (v : ℕ) → HasLocations (length scope) e → All (λ v. v < k) scope
       → reads_it scope e v ≡ true → v < k
-  reads_within scope (Literal z) v places all h = absurd (false≢true h)
-  reads_within scope (Contents l s) v places all h = let q = location scope l all places in grind (arith, nat_tests)
-  reads_within scope (Apply o a b) v places all h = ⊎_elim (reads_within scope a v places.0 all)
+  reads_within scope (Number z) v places all h = absurd (false≢true h)
+  reads_within scope (Location l s) v places all h = let q = location scope l all places in grind (arith, nat_tests)
+  reads_within scope (Operator o a b) v places all h = ⊎_elim (reads_within scope a v places.0 all)
       (reads_within scope b v places.1 all) (or_cases (reads_it scope a v) (reads_it scope b v) h)
 
   abbrev Within : (ℕ → Bool) → Type 0
   Within around = (v : ℕ) → around v ≡ true → v < k
 
-  inside_within : (around : ℕ → Bool) (scope : List ℕ) (e : Phrase) → HasLocations (length scope) e
+  inside_within : (around : ℕ → Bool) (scope : List ℕ) (e : Expression) → HasLocations (length scope) e
       → All (λ v. v < k) scope → Within around → Within (inside around scope e)
   inside_within around scope e places all w v h = ⊎_elim (w v) (reads_within scope e v places all)
       (or_cases (around v) (reads_it scope e v) h)
@@ -182,47 +185,47 @@ module _ (k : ℕ) (small : k ≤ 1024) where
   pub leads_within : (P : Profile) (a b : ℕ) (around : ℕ → Bool) → Within around
       → (scope : List ℕ) (n : ℕ) (c : Command) → HasPlaces (length scope) c → n + letvars c ≤ k
       → All (λ v. v < k) scope → leads P k around scope n c a b ≡ true → (a < k) × (b ≤ k)
-  leads_within P a b around w scope n Nothing places limit all h = absurd (false≢true h)
-  leads_within P a b around w scope n (Put l s e) places limit all h =
+  leads_within P a b around w scope n Skip places limit all h = absurd (false≢true h)
+  leads_within P a b around w scope n (Assign l s e) places limit all h =
       let q = and_parts (b == slice_index scope l) (reads_it scope e a || around a) h in
       let lt = location scope l all places.0 in (
         ⊎_elim (reads_within scope e a places.1 all) (w a) (or_cases (reads_it scope e a) (around a) q.1),
         (let t = q.0 in grind (arith, nat_tests)),
       )
-  leads_within P a b around w scope n (Then c d) places limit all h =
+  leads_within P a b around w scope n (Sequence c d) places limit all h =
       ⊎_elim (leads_within P a b around w scope n c places.0 (omega (arith, limit)) all)
       (leads_within P a b around w scope (n + letvars c) d places.1 (omega (arith, limit)) all)
       (or_cases (leads P k around scope n c a b) (leads P k around scope (n + letvars c) d a b) h)
-  leads_within P a b around w scope n (Choose e c d) places limit all h =
+  leads_within P a b around w scope n (If e c d) places limit all h =
       let in' = inside_within around scope e places.0 all w in
       ⊎_elim (λ q. ending_within P a b (has_loop c || has_loop d) scope e places.0 all q)
       (λ q. ⊎_elim (leads_within P a b (inside around scope e) in' scope n c places.1 (omega (arith, limit)) all)
       (leads_within P a b (inside around scope e) in' scope (n + letvars c) d places.2 (omega (arith, limit)) all)
       (or_cases (leads P k (inside around scope e) scope n c a b)
       (leads P k (inside around scope e) scope (n + letvars c) d a b) q))
-      (or_cases (minds P (has_loop c || has_loop d) && ((b == k) && reads_it scope e a)) _ h)
+      (or_cases (observes_ending P (has_loop c || has_loop d) && ((b == k) && reads_it scope e a)) _ h)
     where
-      ending_within : (P : Profile) (a b : ℕ) (looping : Bool) (scope : List ℕ) (e : Phrase)
+      ending_within : (P : Profile) (a b : ℕ) (looping : Bool) (scope : List ℕ) (e : Expression)
           → HasLocations (length scope) e → All (λ v. v < k) scope
-          → (minds P looping && ((b == k) && reads_it scope e a)) ≡ true → (a < k) × (b ≤ k)
+          → (observes_ending P looping && ((b == k) && reads_it scope e a)) ≡ true → (a < k) × (b ≤ k)
       ending_within P a b looping scope e places all h =
-          let q = and_parts (minds P looping) ((b == k) && reads_it scope e a) h in
+          let q = and_parts (observes_ending P looping) ((b == k) && reads_it scope e a) h in
           let r = and_parts (b == k) (reads_it scope e a) q.1 in
           (reads_within scope e a places all r.1, (let t = r.0 in grind (arith, nat_tests)))
-  leads_within P a b around w scope n (Repeat e c) places limit all h =
+  leads_within P a b around w scope n (While e c) places limit all h =
       let in' = inside_within around scope e places.0 all w in
       ⊎_elim (λ q. ending_within P a b true scope e places.0 all q)
       (leads_within P a b (inside around scope e) in' scope n c places.1 (omega (arith, limit)) all)
-      (or_cases (minds P true && ((b == k) && reads_it scope e a)) _ h)
+      (or_cases (observes_ending P true && ((b == k) && reads_it scope e a)) _ h)
     where
-      ending_within : (P : Profile) (a b : ℕ) (looping : Bool) (scope : List ℕ) (e : Phrase)
+      ending_within : (P : Profile) (a b : ℕ) (looping : Bool) (scope : List ℕ) (e : Expression)
           → HasLocations (length scope) e → All (λ v. v < k) scope
-          → (minds P looping && ((b == k) && reads_it scope e a)) ≡ true → (a < k) × (b ≤ k)
+          → (observes_ending P looping && ((b == k) && reads_it scope e a)) ≡ true → (a < k) × (b ≤ k)
       ending_within P a b looping scope e places all h =
-          let q = and_parts (minds P looping) ((b == k) && reads_it scope e a) h in
+          let q = and_parts (observes_ending P looping) ((b == k) && reads_it scope e a) h in
           let r = and_parts (b == k) (reads_it scope e a) q.1 in
           (reads_within scope e a places all r.1, (let t = r.0 in grind (arith, nat_tests)))
-  leads_within P a b around w scope n (Allocate e c) places limit all h =
+  leads_within P a b around w scope n (Letvar e c) places limit all h =
       let lt : n < k = omega (arith, limit) in
       let size : length (scope ++ n ∷ []) ≡ length scope + 1 = length_push scope n in
       ⊎_elim (λ q. let r = and_parts (b == n) (reads_it scope e a) q in

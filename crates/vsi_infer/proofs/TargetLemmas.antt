@@ -5,10 +5,10 @@ use Rattle.std.specs.List.{All}
 use Rattle.std.proofs.lemmas.List.{length_push}
 use Rattle.std.proofs.lemmas.List.Elements.{All-nil, All-cons, All-append, All-push, All-get_or}
 use Rattle.vsi_syntax.specs.declared.token.Span.{Span}
-use Rattle.vsi_scope.specs.Phrase.{Command, Nothing, Put, Then, Choose, Repeat, Allocate, letvars, has_loop, HasPlaces}
+use Rattle.vsi_scope.specs.Language.{Command, Skip, Assign, Sequence, If, While, Letvar, letvars, has_loop, HasPlaces}
 use Rattle.vsi_types.specs.declared.rules.Profile.{Profile}
 use Rattle.vsi_types.specs.declared.rules.Profile.TheVariants.{Base, Strict}
-use Rattle.vsi_types.specs.declared.rules.Rule.TheVariants.{Assign, If, While, Letvar, Loop}
+use Rattle.vsi_types.specs.declared.rules.Rule.TheVariants as typing
 use Rattle.vsi_types.specs.declared.rules.Read.{Read}
 use Rattle.vsi_types.specs.declared.rules.Guard.{Guard}
 use Rattle.vsi_types.specs.declared.rules.Step.{Step}
@@ -45,7 +45,7 @@ module _ (k : ℕ) where
   loops_to : (rs : List Read) → All (HasTarget k) (endings Strict true rs)
   loops_to [] = All-nil (HasTarget k)
   loops_to (r ∷ rs) = All-cons (HasTarget k) (record {
-    rule = Loop;
+    rule = typing.Loop;
     source = r.variable;
     target = sink;
     read =
@@ -65,28 +65,28 @@ module _ (k : ℕ) where
   pub targets : (P : Profile) (names : ℕ → Span) (gs : List Guard) (scope : List ℕ) (n : ℕ) (c : Command)
       → HasPlaces (length scope) c → n + letvars c ≤ k → All (λ v. v < k) scope
       → All (HasTarget k) (steps P names gs scope n c)
-  targets P names gs scope n Nothing places limit all = All-nil (HasTarget k)
-  targets P names gs scope n (Put l s e) places limit all = flows_to (slice_index scope l) s
-      (guarded Assign (reads scope e) ++ gs) (All-get_or (λ v. v < k) scope l 0 places.0 all)
-  targets P names gs scope n (Then c d) places limit all =
+  targets P names gs scope n Skip places limit all = All-nil (HasTarget k)
+  targets P names gs scope n (Assign l s e) places limit all = flows_to (slice_index scope l) s
+      (guarded typing.Assign (reads scope e) ++ gs) (All-get_or (λ v. v < k) scope l 0 places.0 all)
+  targets P names gs scope n (Sequence c d) places limit all =
       All-append (HasTarget k) (steps P names gs scope n c) (steps P names gs scope (n + letvars c) d)
       (targets P names gs scope n c places.0 (omega (arith, limit)) all)
       (targets P names gs scope (n + letvars c) d places.1 (omega (arith, limit)) all)
-  targets P names gs scope n (Choose e c d) places limit all =
+  targets P names gs scope n (If e c d) places limit all =
       All-append (HasTarget k) (endings P (has_loop c || has_loop d) (reads scope e)) _
       (endings_to P (has_loop c || has_loop d) (reads scope e))
-      (All-append (HasTarget k) (steps P names (gs ++ guarded If (reads scope e)) scope n c)
-      (steps P names (gs ++ guarded If (reads scope e)) scope (n + letvars c) d)
-      (targets P names (gs ++ guarded If (reads scope e)) scope n c places.1 (omega (arith, limit)) all)
-      (targets P names (gs ++ guarded If (reads scope e)) scope (n + letvars c) d places.2
+      (All-append (HasTarget k) (steps P names (gs ++ guarded typing.If (reads scope e)) scope n c)
+      (steps P names (gs ++ guarded typing.If (reads scope e)) scope (n + letvars c) d)
+      (targets P names (gs ++ guarded typing.If (reads scope e)) scope n c places.1 (omega (arith, limit)) all)
+      (targets P names (gs ++ guarded typing.If (reads scope e)) scope (n + letvars c) d places.2
       (omega (arith, limit)) all))
-  targets P names gs scope n (Repeat e c) places limit all =
+  targets P names gs scope n (While e c) places limit all =
       All-append (HasTarget k) (endings P true (reads scope e)) _ (endings_to P true (reads scope e))
-      (targets P names (gs ++ guarded While (reads scope e)) scope n c places.1 (omega (arith, limit)) all)
-  targets P names gs scope n (Allocate e c) places limit all =
+      (targets P names (gs ++ guarded typing.While (reads scope e)) scope n c places.1 (omega (arith, limit)) all)
+  targets P names gs scope n (Letvar e c) places limit all =
       let lt : n < k = omega (arith, limit) in
       let size : length (scope ++ n ∷ []) ≡ length scope + 1 = length_push scope n in
-      All-append (HasTarget k) (flows n (names n) (guarded Letvar (reads scope e))) _
-      (flows_to n (names n) (guarded Letvar (reads scope e)) lt)
+      All-append (HasTarget k) (flows n (names n) (guarded typing.Letvar (reads scope e))) _
+      (flows_to n (names n) (guarded typing.Letvar (reads scope e)) lt)
       (targets P names gs (scope ++ n ∷ []) (n + 1) c (subst (λ m. HasPlaces m c) (sym size) places.1)
       (omega (arith, limit)) (All-push (λ v. v < k) scope n all lt))

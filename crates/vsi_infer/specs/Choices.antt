@@ -12,20 +12,20 @@ module _ (flows : ℕ → ℕ → Bool) where
 
 module _ (size : ℕ) (leq : ℕ → ℕ → Bool) (flows : ℕ → ℕ → Bool) (declared : List (Option ℕ)) where
   -- One class of the lattice for each variable, the declared ones kept.
-  pub record IsChoice (s : List ℕ) : Type 0 where
+  pub record KeepsDeclared (s : List ℕ) : Type 0 where
     pub len : length s ≡ length declared
     pub within : (v : ℕ) → v < length declared → slice_index s v < size
     pub keeps : (v c : ℕ) → slice_get declared v ≡ Some (Some c) → slice_index s v ≡ c
 
   -- And every flow is in order.
-  pub record IsTypable (s : List ℕ) : Type 0 where
-    pub choice : IsChoice s
+  pub record IsOrderedChoice (s : List ℕ) : Type 0 where
+    pub choice : KeepsDeclared s
     pub in_order : (a b : ℕ) → flows a b ≡ true → leq (slice_index s a) (slice_index s b) ≡ true
 
   -- Typable, and below every typable choice at each variable.
-  pub record IsLeastTypable (s : List ℕ) : Type 0 where
-    pub typable : IsTypable s
-    pub least : (t : List ℕ) → IsTypable t → (v : ℕ) → v < length declared
+  pub record IsLeastOrderedChoice (s : List ℕ) : Type 0 where
+    pub typable : IsOrderedChoice s
+    pub least : (t : List ℕ) → IsOrderedChoice t → (v : ℕ) → v < length declared
         → leq (slice_index s v) (slice_index t v) ≡ true
 
   -- A walk of n flows from one declared variable to another whose class is not above the first one's.

@@ -3,8 +3,8 @@ use Rattle.std.specs.Prelude.{ℕ, ◌+◌, ◌-◌, ◌==◌, nat_lt, if◌then
 use Rattle.std.specs.List.{flat_map}
 use Rattle.vsi_syntax.specs.Lines.{breaks, last_line}
 use Rattle.vsi_lattice.specs.declared.lattice.Lattice.{Lattice}
-use Rattle.vsi_lattice.specs.Named.{names, order}
-use Rattle.vsi_scope.specs.Program.{Source}
+use Rattle.vsi_lattice.specs.LatticeView.{names, order}
+use Rattle.vsi_scope.specs.Program.{Resolved}
 use Rattle.vsi_types.specs.declared.rules.Rule.{Rule}
 use Rattle.vsi_types.specs.declared.rules.Rule.TheVariants.{Assign, If, While, Letvar, Loop}
 use Rattle.vsi_types.specs.declared.rules.Step.{Step}
@@ -26,7 +26,7 @@ rule_text Letvar = codes "LETVAR"
 rule_text Loop = codes "LOOP"
 
 -- The name of a variable; the ending of a loop has none, and a word of its own.
-abbrev pub name_of : Source → ℕ → List ℕ
+abbrev pub name_of : Resolved → ℕ → List ℕ
 name_of r v =
     if v == sink then codes "(loop)"
     else if nat_lt v (length r.globals) then slice_index_or (map (λ g. g.name.now) r.globals) v []
@@ -38,21 +38,21 @@ class_text l None = []
 class_text l (Some c) = slice_index_or (names l) c []
 
 -- The name of a variable, and that of its declared class.
-abbrev pub variable_text : Lattice → Source → ℕ → List ℕ
+abbrev pub variable_text : Lattice → Resolved → ℕ → List ℕ
 variable_text l r v = name_of r v ++ codes " : " ++ class_text l (declared_class (order l) (program r) v)
 
 -- The line of a step.
-abbrev pub step_line : List ℕ → Source → Step → List ℕ
+abbrev pub step_line : List ℕ → Resolved → Step → List ℕ
 step_line source r s =
     place_text source s.read.start ++ codes " " ++ name_of r s.source ++ codes " flows to " ++ name_of r s.target
     ++ codes " by " ++ rule_text s.rule ++ codes " at " ++ place_text source s.written.start ++ codes "\n"
 
 -- The last line, from the first variable of a walk to its last one.
-abbrev pub last_text : Lattice → Source → ℕ → ℕ → List ℕ
+abbrev pub last_text : Lattice → Resolved → ℕ → ℕ → List ℕ
 last_text l r v w = variable_text l r v ++ codes " may not flow to " ++ variable_text l r w ++ codes "\n"
 
 -- The lines of a walk.
-abbrev pub explanation : Lattice → List ℕ → Source → List Step → List ℕ
+abbrev pub explanation : Lattice → List ℕ → Resolved → List Step → List ℕ
 explanation l source r [] = []
 explanation l source r (s ∷ rest) =
     flat_map (step_line source r) (s ∷ rest) ++ last_text l r s.source (last_target s rest)

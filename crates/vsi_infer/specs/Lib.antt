@@ -6,9 +6,11 @@ pub mod Choices
 pub mod Ranks
 pub mod Inference
 pub mod Distances
-pub mod Seeking
+pub mod StepSearch
+pub mod FirstSteps
 pub mod Membership
 pub mod Paths
 pub mod Shortest
 pub mod Laws
 pub mod Explanation
+pub mod Lines

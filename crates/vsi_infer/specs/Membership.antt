@@ -1,22 +1,22 @@
 -- A step among those of a program, without a list of the guards around.
 use Rattle.std.specs.Prelude.{◌≡◌, ℕ, ◌+◌, ◌≤◌, ◌==◌, Bool, true, false, ◌&&◌, ◌||◌, List, [], ◌∷◌, ◌++◌, length, slice_index}
 use Rattle.vsi_syntax.specs.declared.token.Span.{Span}
-use Rattle.vsi_scope.specs.Phrase.{Phrase, Literal, Contents, Apply, Command, Nothing, Put, Then, Choose, Repeat, Allocate, letvars, has_loop, nesting, HasPlaces}
+use Rattle.vsi_scope.specs.Language.{Expression, Number, Location, Operator, Command, Skip, Assign, Sequence, If, While, Letvar, letvars, has_loop, nesting, HasPlaces}
 use Rattle.vsi_types.specs.declared.rules.Profile.{Profile}
 use Rattle.vsi_types.specs.declared.rules.Rule.{Rule}
-use Rattle.vsi_types.specs.declared.rules.Rule.TheVariants.{Assign, If, While, Letvar, Loop}
+use Rattle.vsi_types.specs.declared.rules.Rule.TheVariants as typing
 use Rattle.vsi_types.specs.declared.rules.Step.{Step}
 use Rattle.vsi_types.specs.Steps.{sink}
-use Rattle.vsi_infer.specs.Leading.{minds}
+use Rattle.vsi_infer.specs.Leading.{observes_ending}
 use Rattle.vsi_infer.specs.declared.membership.Cursor.{Cursor}
 
 -- Two rules are one.
 abbrev pub same_rule : Rule → Rule → Bool
-same_rule Assign Assign = true
-same_rule If If = true
-same_rule While While = true
-same_rule Letvar Letvar = true
-same_rule Loop Loop = true
+same_rule typing.Assign typing.Assign = true
+same_rule typing.If typing.If = true
+same_rule typing.While typing.While = true
+same_rule typing.Letvar typing.Letvar = true
+same_rule typing.Loop typing.Loop = true
 same_rule _ _ = false
 
 -- Two places are one.
@@ -36,32 +36,34 @@ abbrev pub same_step : Step → Step → Bool
 same_step x s = read_is x s.rule s.source s.read && written_is x s.target s.written
 
 -- The step reads what an expression reads.
-abbrev pub reads_pass : Step → Rule → List ℕ → Phrase → Bool
-reads_pass x rule scope (Literal z) = false
-reads_pass x rule scope (Contents l s) = read_is x rule (slice_index scope l) s
-reads_pass x rule scope (Apply o a b) = reads_pass x rule scope a || reads_pass x rule scope b
+abbrev pub reads_pass : Step → Rule → List ℕ → Expression → Bool
+reads_pass x rule scope (Number z) = false
+reads_pass x rule scope (Location l s) = read_is x rule (slice_index scope l) s
+reads_pass x rule scope (Operator o a b) = reads_pass x rule scope a || reads_pass x rule scope b
 
 -- The step goes from what an expression reads to the ending of a loop.
-abbrev pub ends_pass : Step → List ℕ → Phrase → Bool
-ends_pass x scope (Literal z) = false
-ends_pass x scope (Contents l s) = read_is x Loop (slice_index scope l) s && written_is x sink s
-ends_pass x scope (Apply o a b) = ends_pass x scope a || ends_pass x scope b
+abbrev pub ends_pass : Step → List ℕ → Expression → Bool
+ends_pass x scope (Number z) = false
+ends_pass x scope (Location l s) = read_is x typing.Loop (slice_index scope l) s && written_is x sink s
+ends_pass x scope (Operator o a b) = ends_pass x scope a || ends_pass x scope b
 
 -- The step is one of the command's, where `around` says whether it reads what a guard around reads.
 abbrev pub passes : Step → Profile → (ℕ → Span) → Bool → List ℕ → ℕ → Command → Bool
-passes x P names around scope n Nothing = false
-passes x P names around scope n (Put l s e) =
-    (reads_pass x Assign scope e || around) && written_is x (slice_index scope l) s
-passes x P names around scope n (Then c d) =
+passes x P names around scope n Skip = false
+passes x P names around scope n (Assign l s e) =
+    (reads_pass x typing.Assign scope e || around) && written_is x (slice_index scope l) s
+passes x P names around scope n (Sequence c d) =
     passes x P names around scope n c || passes x P names around scope (n + letvars c) d
-passes x P names around scope n (Choose e c d) =
-    (ends_pass x scope e && minds P (has_loop c || has_loop d))
-    || (passes x P names (around || reads_pass x If scope e) scope n c
-    || passes x P names (around || reads_pass x If scope e) scope (n + letvars c) d)
-passes x P names around scope n (Repeat e c) =
-    (ends_pass x scope e && minds P true) || passes x P names (around || reads_pass x While scope e) scope n c
-passes x P names around scope n (Allocate e c) =
-    (reads_pass x Letvar scope e && written_is x n (names n)) || passes x P names around (scope ++ n ∷ []) (n + 1) c
+passes x P names around scope n (If e c d) =
+    (ends_pass x scope e && observes_ending P (has_loop c || has_loop d))
+    || (passes x P names (around || reads_pass x typing.If scope e) scope n c
+    || passes x P names (around || reads_pass x typing.If scope e) scope (n + letvars c) d)
+passes x P names around scope n (While e c) =
+    (ends_pass x scope e && observes_ending P true)
+    || passes x P names (around || reads_pass x typing.While scope e) scope n c
+passes x P names around scope n (Letvar e c) =
+    (reads_pass x typing.Letvar scope e && written_is x n (names n))
+    || passes x P names around (scope ++ n ∷ []) (n + 1) c
 
 -- The variable of each location, and the next declaration.
 pub record Stand : Type 0 where

@@ -1,5 +1,5 @@
 -- Which steps begin a shortest bad walk, and which go on with it.
-use Rattle.std.specs.Prelude.{◌≡◌, ◌⊎◌, ℕ, suc, ◌<◌, ◌≤◌, ◌==◌, ◌&&◌, Bool, false, not, cond, Option, Some, None, List, [], map, length, slice_index, slice_index_or, slice_get}
+use Rattle.std.specs.Prelude.{◌≡◌, ◌⊎◌, ◌+◌, ℕ, suc, nat_lt, ◌<◌, ◌≤◌, ◌==◌, ◌&&◌, Bool, false, not, cond, Option, Some, None, List, [], map, length, slice_index, slice_index_or, slice_get}
 use Rattle.std.specs.List.{Contains}
 use Rattle.vsi_lattice.specs.Order.{Lattice}
 use Rattle.vsi_types.specs.declared.rules.Step.{Step}
@@ -47,6 +47,11 @@ begins ds rows last now after s = steps_from rows last now after (slice_index_or
 -- A step from this variable to one that is `after` away.
 abbrev pub goes_on : ℕ → List ℕ → ℕ → ℕ → Step → Bool
 goes_on at row last after s = (s.source == at) && (slice_index row (row_of last s.target) == after)
+
+-- A step to a variable that is one step less away.
+abbrev pub nearer : List ℕ → ℕ → Step → Bool
+nearer row last s =
+    nat_lt (slice_index row s.source) 65535 && (slice_index row s.source == slice_index row (row_of last s.target) + 1)
 
 -- From each variable that is some steps away, a step leads to one that is a step less away.
 abbrev pub LeadsDown : List Step → ℕ → List ℕ → Type 0

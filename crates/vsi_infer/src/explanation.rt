@@ -3,19 +3,20 @@
 ghost use Rattle.std.specs.Prelude.{◌≡◌, ◌++◌, [], OnOk, IfOk, IfSome, decimal};
 ghost use Rattle.std.specs.List.{All, flat_map};
 ghost use Rattle.vsi_lattice.specs.Order.{IsClass};
-ghost use Rattle.vsi_lattice.specs.Named.{order};
+ghost use Rattle.vsi_lattice.specs.LatticeView.{order};
 ghost use Rattle.vsi_types.specs.Security.{program as program_of};
 ghost use Rattle.vsi_types.specs.Walks.{IsBad};
 ghost use Rattle.vsi_types.specs.declared.rules.Profile.TheVariants.{Strict};
 ghost use Rattle.vsi_infer.specs.Explanation as spec;
 ghost use Rattle.vsi_infer.specs.Inference.{AreClasses};
+ghost use Rattle.vsi_infer.specs.Lines.{IsMarkOf};
 
+use crate::lines::{Mark, marks_of, place_among};
 use crate::walk::{Walk, declared_class};
 use itoa::Buffer;
 use std::alloc::{AllocError, Global as Heap};
 use vsi_lattice::{Class, Lattice};
 use vsi_scope::{Resolved, Var};
-use vsi_syntax::line_column;
 use vsi_types::{LOOP, Rule, Step};
 
 /// Adds a number in decimal.
@@ -27,10 +28,11 @@ fn put_number(text: &mut Vec<u8>, number: usize) -> Result<(), AllocError>
 }
 
 /// Adds the line and the column of a place.
-fn put_place(text: &mut Vec<u8>, source: &[u8], at: usize) -> Result<(), AllocError>
+fn put_place(text: &mut Vec<u8>, source: &[u8], marks: &[Mark], at: usize) -> Result<(), AllocError>
+    requires { All (IsMarkOf source.now) marks.now }
     ensures { OnOk result (text.new.items ≡ text.old.items ++ spec.place_text source.now at) }
 {
-    let (line, column) = line_column(source, at);
+    let (line, column) = place_among(source, marks, at);
     put_number(text, line)?;
     text.extend_from_slice(b":")?;
     put_number(text, column)
@@ -98,12 +100,14 @@ fn put_variable(
 fn put_step(
     text: &mut Vec<u8>,
     source: &[u8],
+    marks: &[Mark],
     program: &Resolved<'_>,
     step: &Step,
 ) -> Result<(), AllocError>
+    requires { All (IsMarkOf source.now) marks.now }
     ensures { OnOk result (text.new.items ≡ text.old.items ++ spec.step_line source.now program.now step.now) }
 {
-    put_place(text, source, step.read.start)?;
+    put_place(text, source, marks, step.read.start)?;
     text.extend_from_slice(b" ")?;
     put_name(text, program, step.source)?;
     text.extend_from_slice(b" flows to ")?;
@@ -111,7 +115,7 @@ fn put_step(
     text.extend_from_slice(b" by ")?;
     text.extend_from_slice(rule_text(step.rule))?;
     text.extend_from_slice(b" at ")?;
-    put_place(text, source, step.written.start)?;
+    put_place(text, source, marks, step.written.start)?;
     text.extend_from_slice(b"\n")
 }
 
@@ -119,14 +123,16 @@ fn put_step(
 fn put_steps(
     text: &mut Vec<u8>,
     source: &[u8],
+    marks: &[Mark],
     program: &Resolved<'_>,
     steps: &[Step],
 ) -> Result<(), AllocError>
+    requires { All (IsMarkOf source.now) marks.now }
     ensures { OnOk result (text.new.items ≡ text.old.items ++ flat_map
         (spec.step_line source.now program.now) steps.now) }
 {
     for step in steps {
-        put_step(text, source, program, step)?;
+        put_step(text, source, marks, program, step)?;
     }
     Ok(())
 }
@@ -170,7 +176,8 @@ pub fn explain(
     }
     let first = steps[0];
     let last = steps[steps.len() - 1];
-    put_steps(&mut text, source, program, steps)?;
+    let marks = marks_of(alloc, source)?;
+    put_steps(&mut text, source, &marks, program, steps)?;
     put_last(&mut text, lattice, program, first.source, last.target)?;
     Ok(text)
 }

@@ -5,16 +5,16 @@ ghost use Rattle.std.specs.List.{All};
 ghost use Rattle.vsi_types.specs.Security.{program as program_of};
 ghost use Rattle.vsi_infer.specs.Flowing.{AreFlowsOf};
 
-use crate::noting::{Noting, note_commands};
-use crate::raise::Flow;
+use crate::flow_matrix::{FlowMatrix, note_commands};
 use crate::rows::has_bit;
+use crate::worklist::Flow;
 use std::alloc::{AllocError, Global as Heap};
 use vsi_scope::Resolved;
 use vsi_types::{Profile, first_variables};
 
 /// For each variable 16 words, a bit for each variable that flows to it; the last row is that of the loops' ending.
 #[derive(Drop)]
-pub struct FlowRows {
+pub(crate) struct FlowRows {
     rows: Vec<u64>,
     ghost lawful: { length rows.items ≤ 16400 },
 }
@@ -30,7 +30,7 @@ impl Flow for FlowRows {
 }
 
 /// The rows of a program's flows.
-pub fn flow_rows(
+pub(crate) fn flow_rows(
     alloc: Heap,
     profile: Profile,
     program: &Resolved<'_>,
@@ -40,12 +40,12 @@ pub fn flow_rows(
     let body = program.body();
     let count = program.globals().len() as u16;
     let sink = count + program.letvars().len() as u16;
-    let mut walk = Noting {
+    let mut walk = FlowMatrix {
         rows: vec![in alloc; 0; sink as usize * 16 + 16]?,
         scope: first_variables(alloc, count)?,
         next: count,
     };
     note_commands(&mut walk, profile, sink, &[0; 16], body)?;
-    let Noting { rows, .. } = walk;
+    let FlowMatrix { rows, .. } = walk;
     Ok(FlowRows { rows })
 }

@@ -6,7 +6,7 @@ ghost use Rattle.vsi_infer.specs.Inference.{AreClasses};
 ghost use Rattle.vsi_infer.specs.Shortest.{is_high, goals_of, far_at as far_at_of, AreLevels, IsFewest};
 
 use crate::distances::distances;
-use crate::raise::Flow;
+use crate::worklist::Flow;
 use std::alloc::{AllocError, Global};
 use vsi_lattice::{Class, Classes};
 
@@ -54,7 +54,7 @@ fn empty_rows(alloc: Global, count: usize) -> Result<Vec<Vec<u16>>, AllocError>
 }
 
 /// A row of distances for each class that is declared.
-pub fn levels<C: Classes, F: Flow>(
+pub(crate) fn levels<C: Classes, F: Flow>(
     alloc: Global,
     lattice: &C,
     flow: &F,
@@ -85,7 +85,7 @@ pub fn levels<C: Classes, F: Flow>(
 }
 
 /// The distance of a place in a row.
-pub fn level(row: &[u16], place: usize) -> u16
+pub(crate) fn level(row: &[u16], place: usize) -> u16
     ensures { result ≡ slice_index row.now place }
 {
     match row.get(place) {
@@ -95,7 +95,7 @@ pub fn level(row: &[u16], place: usize) -> u16
 }
 
 /// The distance of a variable in the row of a class.
-pub fn far_at(rows: &[Vec<u16>], class: Class, place: usize) -> u16
+pub(crate) fn far_at(rows: &[Vec<u16>], class: Class, place: usize) -> u16
     ensures { result ≡ far_at_of (map (λ r. r.items) rows.now) class place }
 {
     match rows.get(class.index()) {
@@ -105,7 +105,7 @@ pub fn far_at(rows: &[Vec<u16>], class: Class, place: usize) -> u16
 }
 
 /// The fewest steps of a bad walk; 65535 where there is none.
-pub fn fewest(rows: &[Vec<u16>], declared: &[Option<Class>]) -> u16
+pub(crate) fn fewest(rows: &[Vec<u16>], declared: &[Option<Class>]) -> u16
     ensures { IsFewest declared.now (map (λ r. r.items) rows.now) result }
 {
     let mut best: u16 = 65535;

@@ -6,24 +6,28 @@
 //! walks stand in `laws`.
 #![tactic(auto)]
 
+mod along;
 mod distances;
 mod error;
 mod explanation;
+mod flow_matrix;
 mod flows;
+mod gathering;
 mod inference;
 pub mod laws;
 mod least;
 mod levels;
+mod lines;
+mod looking;
 mod membership;
-mod noting;
-mod raise;
 mod rows;
-mod seek;
 mod shortest;
+mod step_search;
 mod walk;
+mod worklist;
 
 pub use error::InferError;
 pub use explanation::explain;
 pub use inference::{infer, infer_in};
 pub use vsi_types::Step;
-pub use walk::{Walk, check_walk, check_walk_in};
+pub use walk::{Walk, check_walk, check_walk_in, check_walk_once};

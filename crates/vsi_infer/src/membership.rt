@@ -1,26 +1,26 @@
 //! Whether a step is one of a program's, by one walk over its commands and without memory.
 
 ghost use Rattle.std.specs.Prelude.{◌≡◌, ◌+◌, ◌≤◌, ◌<◌, ◌||◌, ◌&&◌, length, slice_index};
-ghost use Rattle.vsi_scope.specs.Phrase.{HasLocations, Put, Choose, Repeat, Allocate};
-ghost use Rattle.vsi_scope.specs.View.{phrase, command, sequence};
-ghost use Rattle.vsi_types.specs.declared.rules.Rule.TheVariants.{Assign};
+ghost use Rattle.vsi_scope.specs.Language.{HasLocations, Assign, If, While, Letvar};
+ghost use Rattle.vsi_scope.specs.View.{expression, command, sequence};
+ghost use Rattle.vsi_types.specs.declared.rules.Rule.TheVariants as typing;
 ghost use Rattle.vsi_types.specs.Security.{name_place};
-ghost use Rattle.vsi_infer.specs.Membership.{same_rule as same_rule_of, same_span as same_span_of, read_is as read_is_of, written_is as written_is_of, reads_pass as reads_pass_of, ends_pass as ends_pass_of, IsFor, IsPast, stand_of};
+ghost use Rattle.vsi_infer.specs.Membership.{same_rule as same_rule_of, same_step as same_step_of, same_span as same_span_of, read_is as read_is_of, written_is as written_is_of, reads_pass as reads_pass_of, ends_pass as ends_pass_of, IsFor, IsPast, stand_of};
 
-use crate::noting::minds;
+use crate::flow_matrix::observes_ending;
 use arrayvec::ArrayVec;
 use vsi_scope::{Cmd, Entry, Ex};
 use vsi_syntax::Span;
 use vsi_types::{LOOP, Profile, Rule, Step, loops};
 
 /// The most locations that are in scope at once, and some more.
-pub const SCOPE: usize = 512;
+pub(crate) const SCOPE: usize = 512;
 
 /// The variable of each location, and the next declaration's number.
 #[derive(Drop)]
-pub struct Cursor {
-    pub scope: ArrayVec<u16, SCOPE>,
-    pub next: u16,
+pub(crate) struct Cursor {
+    pub(crate) scope: ArrayVec<u16, SCOPE>,
+    pub(crate) next: u16,
 }
 
 /// Whether two rules are one.
@@ -58,10 +58,18 @@ fn written_is(step: &Step, variable: u16, place: Span) -> bool
     variable == step.target.0 && same_span(place, step.written)
 }
 
+/// Whether two steps are one.
+pub(crate) fn same_step(step: &Step, other: &Step) -> bool
+    ensures { result ≡ same_step_of step.now other.now }
+{
+    read_is(step, other.rule, other.source.0, other.read)
+        && written_is(step, other.target.0, other.written)
+}
+
 /// Whether the step reads what an expression reads.
 fn reads_pass(step: &Step, rule: Rule, scope: &[u16], e: &Ex) -> bool
-    requires { HasLocations (length scope.now) (phrase e.now) }
-    ensures { result ≡ reads_pass_of step.now rule scope.now (phrase e.now) }
+    requires { HasLocations (length scope.now) (expression e.now) }
+    ensures { result ≡ reads_pass_of step.now rule scope.now (expression e.now) }
 {
     match e {
         Ex::Num(_) => false,
@@ -72,8 +80,8 @@ fn reads_pass(step: &Step, rule: Rule, scope: &[u16], e: &Ex) -> bool
 
 /// Whether the step goes from what an expression reads to the ending of a loop.
 fn ends_pass(step: &Step, scope: &[u16], e: &Ex) -> bool
-    requires { HasLocations (length scope.now) (phrase e.now) }
-    ensures { result ≡ ends_pass_of step.now scope.now (phrase e.now) }
+    requires { HasLocations (length scope.now) (expression e.now) }
+    ensures { result ≡ ends_pass_of step.now scope.now (expression e.now) }
 {
     match e {
         Ex::Num(_) => false,
@@ -94,9 +102,9 @@ fn pass_assign(
     span: Span,
     value: &Ex,
 ) -> bool
-    requires places { HasLocations (length cursor.now.scope.items) (phrase value.now) }
+    requires places { HasLocations (length cursor.now.scope.items) (expression value.now) }
     requires target { location < length cursor.now.scope.items }
-    ensures { result ≡ ((reads_pass_of step.now Assign cursor.now.scope.items (phrase value.now) || around)
+    ensures { result ≡ ((reads_pass_of step.now typing.Assign cursor.now.scope.items (expression value.now) || around)
         && written_is_of step.now (slice_index cursor.now.scope.items location) span) }
 {
     let target = cursor.scope[location as usize];
@@ -113,19 +121,20 @@ fn pass_if(
     entries: &[Entry<'_>],
     first: u16,
     around: bool,
-    yes: &[Cmd],
-    other: &[Cmd],
+    then_branch: &[Cmd],
+    else_branch: &[Cmd],
     guard: &Ex,
 ) -> bool
     requires { IsFor first (length entries.now) (stand_of cursor.old)
-        (Choose (phrase guard.now) (sequence yes.now) (sequence other.now)) }
+        (If (expression guard.now) (sequence then_branch.now) (sequence else_branch.now)) }
     ensures { IsPast step.now profile (name_place entries.now first) around (stand_of cursor.old)
-        (Choose (phrase guard.now) (sequence yes.now) (sequence other.now)) (stand_of cursor.new) result }
+        (If (expression guard.now) (sequence then_branch.now) (sequence else_branch.now)) (stand_of cursor.new) result }
 {
-    let ends = ends_pass(step, &cursor.scope, guard) && minds(profile, loops(yes) || loops(other));
+    let ends = ends_pass(step, &cursor.scope, guard)
+        && observes_ending(profile, loops(then_branch) || loops(else_branch));
     let inner = around || reads_pass(step, Rule::If, &cursor.scope, guard);
-    let one = pass_commands(cursor, step, profile, entries, first, inner, yes);
-    let two = pass_commands(cursor, step, profile, entries, first, inner, other);
+    let one = pass_commands(cursor, step, profile, entries, first, inner, then_branch);
+    let two = pass_commands(cursor, step, profile, entries, first, inner, else_branch);
     ends | (one | two)
 }
 
@@ -142,11 +151,11 @@ fn pass_while(
     guard: &Ex,
 ) -> bool
     requires { IsFor first (length entries.now) (stand_of cursor.old)
-        (Repeat (phrase guard.now) (sequence body.now)) }
+        (While (expression guard.now) (sequence body.now)) }
     ensures { IsPast step.now profile (name_place entries.now first) around (stand_of cursor.old)
-        (Repeat (phrase guard.now) (sequence body.now)) (stand_of cursor.new) result }
+        (While (expression guard.now) (sequence body.now)) (stand_of cursor.new) result }
 {
-    let ends = ends_pass(step, &cursor.scope, guard) && minds(profile, true);
+    let ends = ends_pass(step, &cursor.scope, guard) && observes_ending(profile, true);
     let inner = around || reads_pass(step, Rule::While, &cursor.scope, guard);
     let one = pass_commands(cursor, step, profile, entries, first, inner, body);
     ends | one
@@ -165,9 +174,9 @@ fn pass_letvar(
     value: &Ex,
 ) -> bool
     requires { IsFor first (length entries.now) (stand_of cursor.old)
-        (Allocate (phrase value.now) (sequence body.now)) }
+        (Letvar (expression value.now) (sequence body.now)) }
     ensures { IsPast step.now profile (name_place entries.now first) around (stand_of cursor.old)
-        (Allocate (phrase value.now) (sequence body.now)) (stand_of cursor.new) result }
+        (Letvar (expression value.now) (sequence body.now)) (stand_of cursor.new) result }
 {
     let variable = cursor.next;
     let written = entries[(cursor.next - first) as usize].span;
@@ -183,7 +192,7 @@ fn pass_letvar(
 
 /// Whether the step is one of the commands'.
 #[cycle(walk)]
-pub fn pass_commands(
+pub(crate) fn pass_commands(
     cursor: &mut Cursor,
     step: &Step,
     profile: Profile,

@@ -1,6 +1,6 @@
 //! A shortest bad walk of a program that has one.
 
-ghost use Rattle.std.specs.Prelude.{◌≡◌, ◌+◌, ◌<◌, ℕ, Bool, List, map, slice_index, slice_index_or, None, [], IsTrue, IfOk, ◌∷◌};
+ghost use Rattle.std.specs.Prelude.{◌≡◌, ◌+◌, ◌<◌, ℕ, Bool, List, map, slice_index, slice_index_or, None, [], IsTrue, IfOk, IfSome, ◌∷◌};
 ghost use Rattle.std.specs.List.{All, Contains, find};
 ghost use Rattle.vsi_lattice.specs.Order.{IsClass};
 ghost use Rattle.vsi_types.specs.Security.{program as program_of, steps_of};
@@ -9,12 +9,14 @@ ghost use Rattle.vsi_infer.specs.Choices.{HasBadWalk};
 ghost use Rattle.vsi_infer.specs.Flowing.{AreFlowsOf};
 ghost use Rattle.vsi_infer.specs.Inference.{table, AreClasses, IsShortest};
 ghost use Rattle.vsi_infer.specs.Paths.{IsPath};
-ghost use Rattle.vsi_infer.specs.Shortest.{begins as begins_of, goes_on as goes_on_of, row_of as row_of_variable, LeadsDown, IsArrived};
+ghost use Rattle.vsi_infer.specs.Shortest.{begins as begins_of, goes_on as goes_on_of, nearer as nearer_of, row_of as row_of_variable, LeadsDown, IsArrived};
 
+use crate::gathering::first_steps;
 use crate::levels::{far_at, fewest, level, levels};
-use crate::raise::Flow;
-use crate::seek::{Wanted, seek_commands};
+use crate::looking::FirstSteps;
+use crate::step_search::{Wanted, find_commands};
 use crate::walk::Walk;
+use crate::worklist::Flow;
 use std::alloc::{AllocError, Global as Heap};
 use vsi_lattice::{Class, Classes};
 use vsi_scope::{Resolved, Var};
@@ -29,7 +31,7 @@ fn row_of(last: u16, variable: Var) -> u16
 
 /// The steps that begin a shortest bad walk: from a declared variable that is `now` away to one that is `after` away.
 #[derive(Drop)]
-pub struct Begins<'a> {
+pub(crate) struct Begins<'a> {
     declared: &'a [Option<Class>],
     rows: &'a [Vec<u16>],
     last: u16,
@@ -52,7 +54,7 @@ impl<'a> Wanted for Begins<'a> {
 
 /// The steps that go on from a variable to one that is `after` away.
 #[derive(Drop)]
-pub struct GoesOn<'a> {
+pub(crate) struct GoesOn<'a> {
     at: Var,
     row: &'a [u16],
     last: u16,
@@ -68,8 +70,25 @@ impl<'a> Wanted for GoesOn<'a> {
     }
 }
 
+/// The steps that lead to a variable that is one step less away.
+#[derive(Drop)]
+pub(crate) struct Nearer<'a> {
+    row: &'a [u16],
+    last: u16,
+}
+
+impl<'a> Wanted for Nearer<'a> {
+    ghost wants = { λ w s. nearer_of w.row.now w.last s };
+
+    fn is_wanted(&self, step: &Step) -> bool {
+        let here = level(self.row, step.source.0 as usize);
+        let there = level(self.row, row_of(self.last, step.target) as usize);
+        here < 65535 && here as u32 == there as u32 + 1
+    }
+}
+
 /// The first step of the program that is wanted.
-fn seek<W: Wanted>(
+fn find_step<W: Wanted>(
     alloc: Heap,
     profile: Profile,
     program: &Resolved<'_>,
@@ -84,11 +103,39 @@ fn seek<W: Wanted>(
         guards: Vec::new(alloc),
         next: first,
     };
-    seek_commands(wanted, profile, program.letvars(), first, &mut walk, body)
+    find_commands(wanted, profile, program.letvars(), first, &mut walk, body)
+}
+
+/// A wanted step of a program that has one: the one that is proposed where it is wanted, else the first one.
+///
+/// Whether a step is wanted depends on its source and its target alone, so that the first wanted step is among those
+/// that one walk over the program kept, and the search isn't needed. It stands in for a proof of that.
+fn first_wanted<W: Wanted>(
+    alloc: Heap,
+    profile: Profile,
+    program: &Resolved<'_>,
+    wanted: &W,
+    proposed: Option<Step>,
+) -> Result<Step, AllocError>
+    requires some { (s : Step) × Contains (steps_of profile (program_of program.now)) s
+        × IsTrue (W.wants wanted.now s) }
+    requires proposed { IfSome proposed (Contains (steps_of profile (program_of program.now))) }
+    ensures there { IfOk result (λ s. Contains (steps_of profile (program_of program.now)) s) }
+    ensures wanted { IfOk result (λ s. IsTrue (W.wants wanted.now s)) }
+{
+    if let Some(step) = proposed {
+        if wanted.is_wanted(&step) {
+            return Ok(step);
+        }
+    }
+    match find_step(alloc, profile, program, wanted)? {
+        Some(step) => Ok(step),
+        None => unreachable!(),
+    }
 }
 
 /// The first wanted step of a program that has one.
-fn first_wanted<W: Wanted>(
+fn first_step<W: Wanted>(
     alloc: Heap,
     profile: Profile,
     program: &Resolved<'_>,
@@ -98,23 +145,23 @@ fn first_wanted<W: Wanted>(
     ensures there { IfOk result (λ s. Contains (steps_of profile (program_of program.now)) s) }
     ensures wanted { IfOk result (λ s. IsTrue (W.wants wanted.now s)) }
 {
-    match seek(alloc, profile, program, wanted)? {
-        Some(step) => Ok(step),
-        None => unreachable!(),
-    }
+    let known = first_steps(alloc, profile, program, wanted)?;
+    first_wanted(alloc, profile, program, wanted, known.earliest())
 }
 
-/// The first step from this variable to one that is `after` steps away.
+/// The first step from this variable to one that is `after` steps away, where the known steps are the program's.
 fn next_step(
     alloc: Heap,
     profile: Profile,
     program: &Resolved<'_>,
+    known: &FirstSteps,
     row: &[u16],
     last: u16,
     at: Var,
     after: u16,
 ) -> Result<Step, AllocError>
-    requires { (s : Step) × Contains (steps_of profile (program_of program.now)) s
+    requires known { All (Contains (steps_of profile (program_of program.now))) known.now.steps.items }
+    requires some { (s : Step) × Contains (steps_of profile (program_of program.now)) s
         × IsTrue (goes_on_of at row.now last after s) }
     ensures there { IfOk result (λ s. Contains (steps_of profile (program_of program.now)) s) }
     ensures wanted { IfOk result (λ s. IsTrue (goes_on_of at row.now last after s)) }
@@ -125,7 +172,7 @@ fn next_step(
         last,
         after,
     };
-    first_wanted(alloc, profile, program, &wanted)
+    first_wanted(alloc, profile, program, &wanted, known.from_source(at))
 }
 
 /// Goes on with a walk, step by step, to a variable that is no step away.
@@ -145,13 +192,14 @@ fn follow(
     ensures { IfOk result (λ w. (rest : List Step) × (w.items ≡ first ∷ rest)
         × IsArrived (steps_of profile (program_of program.now)) last row.now first.source (length + 1) (first ∷ rest)) }
 {
+    let known = first_steps(alloc, profile, program, &Nearer { row, last })?;
     let mut at = first.target;
     let mut steps = Vec::new(alloc);
     steps.push(first)?;
     let mut left = length;
     while left > 0 {
         left -= 1;
-        let step = next_step(alloc, profile, program, row, last, at, left)?;
+        let step = next_step(alloc, profile, program, &known, row, last, at, left)?;
         at = step.target;
         steps.push(step)?;
     }
@@ -179,7 +227,7 @@ fn row_at<'a>(rows: &'a [Vec<u16>], class: Class) -> &'a [u16]
 }
 
 /// A shortest bad walk, the first of these by its steps' order, of a program that has a bad walk.
-pub fn shortest_walk<C: Classes, F: Flow>(
+pub(crate) fn shortest_walk<C: Classes, F: Flow>(
     alloc: Heap,
     profile: Profile,
     lattice: &C,
@@ -206,7 +254,7 @@ pub fn shortest_walk<C: Classes, F: Flow>(
         now: length,
         after: length - 1,
     };
-    let first = first_wanted(alloc, profile, program, &begins)?;
+    let first = first_step(alloc, profile, program, &begins)?;
     let Some(class) = class_at(declared, first.source) else {
         unreachable!();
     };

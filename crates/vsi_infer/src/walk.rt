@@ -1,17 +1,20 @@
 //! Walks, and the test whether one is bad.
 
-ghost use Rattle.std.specs.Prelude.{◌≡◌, ◌≤◌, ◌↔◌, ℕ, length, IfSome, IfNone, IsTrue};
-ghost use Rattle.std.specs.List.{All, list_any};
+ghost use Rattle.std.specs.Prelude.{◌≡◌, ◌≤◌, ◌↔◌, ℕ, true, length, Some, IfOk, IfSome, IfNone, IsTrue};
+ghost use Rattle.std.specs.List.{All, Contains, list_any};
 ghost use Rattle.vsi_lattice.specs.Order.{IsClass};
 ghost use Rattle.vsi_types.specs.Security.{program as program_of, count_from, steps_of};
 ghost use Rattle.vsi_types.specs.Walks.{IsBad, declared_class as declared_class_of};
 ghost use Rattle.vsi_types.specs.declared.rules.Profile.TheVariants.{Base};
+ghost use Rattle.vsi_types.specs.declared.rules.Step.{Step};
 ghost use Rattle.vsi_infer.specs.Inference.{AreClasses};
-ghost use Rattle.vsi_infer.specs.Membership.{same_step};
+ghost use Rattle.vsi_infer.specs.Membership.{same_step as same_step_of};
 ghost use Rattle.vsi_infer.specs.Paths.{IsPath};
 
-use crate::membership::{Cursor, SCOPE, pass_commands};
+use crate::along::steps_along;
+use crate::membership::{Cursor, SCOPE, pass_commands, same_step};
 use arrayvec::ArrayVec;
+use std::alloc::{AllocError, Global as Heap};
 use vsi_lattice::{Class, Classes};
 use vsi_scope::{Resolved, Var};
 use vsi_types::{LOOP, Profile, Step};
@@ -37,7 +40,7 @@ fn first_numbers(count: u16) -> ArrayVec<u16, SCOPE>
 
 /// Whether the step is one of the program's.
 fn is_step(profile: Profile, program: &Resolved<'_>, step: &Step) -> bool
-    ensures { result ≡ list_any (same_step step.now) (steps_of profile (program_of program.now)) }
+    ensures { result ≡ list_any (same_step_of step.now) (steps_of profile (program_of program.now)) }
 {
     let body = program.body();
     let first = program.globals().len() as u16;
@@ -56,26 +59,67 @@ fn is_step(profile: Profile, program: &Resolved<'_>, step: &Step) -> bool
     )
 }
 
-/// The variable where the steps lead from this one, where each is the program's and goes on from the one before.
-fn path_end(profile: Profile, program: &Resolved<'_>, steps: &[Step], from: Var) -> Option<Var>
+/// Whether a step is the one that is proposed.
+fn is_proposed(step: &Step, proposed: Option<Step>) -> bool
+    ensures { result ≡ true → (x : Step) × (proposed ≡ Some x) × (same_step_of step.now x ≡ true) }
+{
+    match proposed {
+        Some(other) => same_step(step, &other),
+        None => false,
+    }
+}
+
+/// Whether the step is one of the program's, where the one that is proposed is.
+fn is_step_or(profile: Profile, program: &Resolved<'_>, proposed: Option<Step>, step: &Step) -> bool
+    requires { IfSome proposed (Contains (steps_of profile (program_of program.now))) }
+    ensures { result ≡ list_any (same_step_of step.now) (steps_of profile (program_of program.now)) }
+{
+    if is_proposed(step, proposed) {
+        return true;
+    }
+    is_step(profile, program, step)
+}
+
+/// The step at a place, if there is one.
+fn step_at(steps: &[Step], place: usize) -> Option<Step>
+    ensures { IfSome result (Contains steps.now) }
+{
+    match steps.get(place) {
+        Some(step) => Some(*step),
+        None => None,
+    }
+}
+
+/// The variable where the steps lead from this one, where each is the program's and goes on from the one before. Each
+/// is looked for in the program, but where it is the known one at its place.
+fn path_end(
+    profile: Profile,
+    program: &Resolved<'_>,
+    known: &[Step],
+    steps: &[Step],
+    from: Var,
+) -> Option<Var>
+    requires { All (Contains (steps_of profile (program_of program.now))) known.now }
     ensures some { IfSome result (λ b. IsPath (steps_of profile (program_of program.now)) from steps.now b) }
     ensures none { IfNone result ((b : ℕ) → IsPath (steps_of profile (program_of program.now)) from steps.now b → ⊥) }
 {
     let mut at = from;
+    let mut place: usize = 0;
     for step in steps {
         if step.source != at {
             return None;
         }
-        if !is_step(profile, program, step) {
+        if !is_step_or(profile, program, step_at(known, place), step) {
             return None;
         }
         at = step.target;
+        place = place.wrapping_add(1);
     }
     Some(at)
 }
 
 /// The declared class of a variable, and the bottom class for the loops' ending.
-pub fn declared_class<C: Classes>(
+pub(crate) fn declared_class<C: Classes>(
     lattice: &C,
     program: &Resolved<'_>,
     variable: Var,
@@ -96,6 +140,35 @@ pub fn declared_class<C: Classes>(
     }
 }
 
+/// Whether a walk is bad, where the known steps are the program's.
+fn check_known<C: Classes>(
+    profile: Profile,
+    lattice: &C,
+    program: &Resolved<'_>,
+    known: &[Step],
+    walk: &Walk,
+) -> bool
+    requires globals { All (IsClass (C.lattice lattice.now)) (program_of program.now).globals }
+    requires declared { AreClasses (C.lattice lattice.now) (program_of program.now).declared }
+    requires known { All (Contains (steps_of profile (program_of program.now))) known.now }
+    ensures { IsTrue result ↔ IsBad (C.lattice lattice.now) profile (program_of program.now) walk.now.steps.items }
+{
+    let steps = walk.steps.as_slice();
+    let Some(first) = steps.first() else {
+        return false;
+    };
+    let Some(last) = path_end(profile, program, known, steps, first.source) else {
+        return false;
+    };
+    let Some(low) = declared_class(lattice, program, first.source) else {
+        return false;
+    };
+    let Some(high) = declared_class(lattice, program, last) else {
+        return false;
+    };
+    !lattice.leq(low, high)
+}
+
 /// Whether a walk is bad under a profile: its steps are the program's, each goes on where the one before it ended,
 /// and the first source's declared class isn't at or below the last target's. It takes no memory.
 pub fn check_walk_in<C: Classes>(
@@ -108,20 +181,25 @@ pub fn check_walk_in<C: Classes>(
     requires declared { AreClasses (C.lattice lattice.now) (program_of program.now).declared }
     ensures { IsTrue result ↔ IsBad (C.lattice lattice.now) profile (program_of program.now) walk.now.steps.items }
 {
-    let steps = walk.steps.as_slice();
-    let Some(first) = steps.first() else {
-        return false;
-    };
-    let Some(last) = path_end(profile, program, steps, first.source) else {
-        return false;
-    };
-    let Some(low) = declared_class(lattice, program, first.source) else {
-        return false;
-    };
-    let Some(high) = declared_class(lattice, program, last) else {
-        return false;
-    };
-    !lattice.leq(low, high)
+    check_known(profile, lattice, program, &[], walk)
+}
+
+/// The same with memory, and by one walk over the program where each step is the program's first one from its source
+/// to its target and no source comes twice, as in the walks that `infer_in` answers.
+pub fn check_walk_once<C: Classes>(
+    alloc: Heap,
+    profile: Profile,
+    lattice: &C,
+    program: &Resolved<'_>,
+    walk: &Walk,
+) -> Result<bool, AllocError>
+    requires globals { All (IsClass (C.lattice lattice.now)) (program_of program.now).globals }
+    requires declared { AreClasses (C.lattice lattice.now) (program_of program.now).declared }
+    ensures { IfOk result (λ b. IsTrue b ↔
+        IsBad (C.lattice lattice.now) profile (program_of program.now) walk.now.steps.items) }
+{
+    let known = steps_along(alloc, profile, program, &walk.steps)?;
+    Ok(check_known(profile, lattice, program, &known, walk))
 }
 
 /// Whether a walk is bad.

@@ -5,11 +5,11 @@ use Rattle.vsi_lattice.proofs.NameLemmas.{text_of, texts_of}
 use Rattle.toml.specs.Data.{Members}
 use Rattle.vsi_lattice.specs.Order.{Lattice}
 use Rattle.vsi_lattice.specs.Pairs.{Leq, MakesLattice, IsDeclared}
-use Rattle.vsi_lattice.specs.Names.{Never, IsBadName, StandsEarlier, IsUnknownAt, number_of}
-use Rattle.vsi_lattice.specs.Naming.{AreNames}
+use Rattle.vsi_lattice.specs.NamePlaces.{Never, IsBadName, StandsEarlier, IsUnknownAt, number_of}
+use Rattle.vsi_lattice.specs.NameRules.{AreNames}
 use Rattle.vsi_lattice.specs.Shape.{File, IsToml, file_of, IsFile}
-use Rattle.vsi_lattice.specs.Refusals.{NamesFault}
-use Rattle.vsi_lattice.specs.Faults.{numbers, HasNames, HasPairs, IsAccepted, IsFault, IsOf, Explains, of_order}
+use Rattle.vsi_lattice.specs.OrderFaults.{NamesFault}
+use Rattle.vsi_lattice.specs.FileFaults.{numbers, HasNames, HasPairs, IsAccepted, IsFault, IsOf, ExplainsLattice, of_order}
 use Rattle.vsi_lattice.specs.declared.order.OrderError.{OrderError}
 use Rattle.vsi_lattice.specs.declared.order.OrderError.TheVariants as order
 use Rattle.vsi_lattice.specs.declared.fault.LatticeError.{LatticeError}
@@ -103,7 +103,7 @@ on_error (Ok x) f h = h
 on_error (Err e) f h = f e h
 
 -- A fault of the file is one of the text.
-pub explained : (text : List ℕ) (f : File) → IsFile text f → (e : LatticeError) → IsFault f e → Explains text e
+pub explained : (text : List ℕ) (f : File) → IsFile text f → (e : LatticeError) → IsFault f e → ExplainsLattice text e
 explained text f is errors.Memory h = tt
 explained text f is errors.NotToml h = absurd h
 explained text f is errors.BadShape h = absurd h

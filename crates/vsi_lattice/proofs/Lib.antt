@@ -7,3 +7,4 @@ pub mod NameLemmas
 pub mod FileLemmas
 pub mod TableLemmas
 pub mod PairLemmas
+pub mod KeyLemmas

@@ -8,7 +8,7 @@ use Rattle.std.proofs.lemmas.Option.{slice_get-get_or}
 use Rattle.std.proofs.lemmas.Slice.Eq.{bytes_eq-Decides}
 use Rattle.std.proofs.lemmas.Bool.{cases_Bool}
 use Rattle.vsi_syntax.specs.Words.{is_name}
-use Rattle.vsi_lattice.specs.Names.{place_in, IsBadName, StandsIn, StandsEarlier}
+use Rattle.vsi_lattice.specs.NamePlaces.{place_in, IsBadName, StandsIn, StandsEarlier}
 
 -- A test or a true one is true.
 or_true : (b : Bool) → (b || true) ≡ true
@@ -29,7 +29,7 @@ pub some_same : {j k : ℕ} → ◌≡◌ {A = Option ℕ} (Some j) (Some k) →
 some_same h = ap (λ (o : Option ℕ). unwrap_or o 0) h
 
 -- Two texts that are not one.
-bytes_apart : (x y : List ℕ) → ¬ (x ≡ y) → bytes_eq x y ≡ false
+pub bytes_apart : (x y : List ℕ) → ¬ (x ≡ y) → bytes_eq x y ≡ false
 bytes_apart x y n = elim (cases_Bool (bytes_eq x y)) [ inl e ↦ absurd (n ((bytes_eq-Decides x y).0 e)) | inr e ↦ e ]
 
 -- The place that is found, one further.

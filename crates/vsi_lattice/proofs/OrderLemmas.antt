@@ -5,7 +5,7 @@ use Rattle.vsi_lattice.specs.Order.{IsJoin, IsMeet, HasJoin, HasMeet}
 use Rattle.vsi_lattice.specs.Laws.{IsLawful, meet_of_join, join_of_meet}
 use Rattle.vsi_lattice.specs.Pairs.{Leq, Says, IsCycle, IsFirstPair, MakesLattice, IsDeclared}
 use Rattle.vsi_lattice.specs.Rows.{row_has, row_lattice, IsPreorder, IsClosureOf, IsTransposed, IsCommon, LacksCommon, HasCommon, AllHaveCommon, AreTied, IsMaskOrder}
-use Rattle.vsi_lattice.specs.Refusals.{IsAcyclic}
+use Rattle.vsi_lattice.specs.OrderFaults.{IsAcyclic}
 use Rattle.vsi_lattice.proofs.ClosureLemmas.{complete}
 use Rattle.vsi_lattice.proofs.JoinLemmas.{common_is_join, join_is_common}
 

@@ -5,7 +5,7 @@ use Rattle.vsi_lattice.specs.Order.{HasJoin, HasMeet}
 use Rattle.vsi_lattice.specs.Pairs.{Leq, Says, IsCycle, IsFirstPair, MakesLattice, IsDeclared}
 use Rattle.vsi_lattice.specs.Laws.{IsLawful, meet_of_join, join_of_meet}
 use Rattle.vsi_lattice.specs.Rows.{IsClosureOf, IsTransposed}
-use Rattle.vsi_lattice.specs.Refusals.{NamesFault, IsAcyclic, AllJoin}
+use Rattle.vsi_lattice.specs.OrderFaults.{NamesFault, IsAcyclic, AllJoin}
 use Rattle.vsi_lattice.specs.declared.order.OrderError.{OrderError}
 use Rattle.vsi_lattice.specs.declared.order.OrderError.TheVariants as errors
 use Rattle.vsi_lattice.proofs.ClosureLemmas.{complete}

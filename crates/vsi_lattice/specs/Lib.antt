@@ -1,11 +1,11 @@
 pub mod Order
 pub mod Laws
 pub mod Pairs
-pub mod Refusals
+pub mod OrderFaults
 pub mod Rows
 pub mod Tables
 pub mod Shape
-pub mod Names
-pub mod Naming
-pub mod Named
-pub mod Faults
+pub mod NamePlaces
+pub mod NameRules
+pub mod LatticeView
+pub mod FileFaults

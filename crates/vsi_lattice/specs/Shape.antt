@@ -1,7 +1,7 @@
 -- The shape of a lattice file, over the table that its text is.
 use Rattle.std.specs.Prelude.{◌≡◌, ℕ, ◌+◌, ◌==◌, List, [], ◌∷◌, Option, Some, None, option_map, option_and_then, if◌then◌else◌, codes, IsUtf8}
 use Rattle.std.specs.Borrow.{Bor}
-use Rattle.vsi_lattice.specs.Names.{texts, text_pairs}
+use Rattle.vsi_lattice.specs.NamePlaces.{texts, text_pairs}
 use Rattle.toml.specs.Data.{Data, Items, no_items, item, Members, no_members, member, get_member, as_str, as_array}
 use Rattle.toml.specs.Parse.{parse_document}
 

@@ -5,31 +5,43 @@ ghost use Rattle.std.specs.Prelude.{◌≡◌};
 use crate::class::Class;
 use crate::order::OrderError;
 use std::alloc::{AllocError, AllocFailed};
+use thiserror::Error;
 
 /// Why a lattice file is refused. Faults are judged in the order in which they stand here.
-#[derive(Clone, Copy, Debug, PartialEq, Eq)]
+#[derive(Clone, Copy, Debug, PartialEq, Eq, Error)]
 pub enum LatticeError {
     /// There was no memory to read the file.
+    #[error("out of memory")]
     Memory,
     /// The text is no TOML document.
+    #[error("the lattice file is no TOML")]
     NotToml,
     /// The document has other keys than `classes` and `below`, or other types there.
+    #[error("the lattice file has other keys than `classes` and `below`, or other types there")]
     BadShape,
     /// There is no class.
+    #[error("there is no class")]
     NoClass,
     /// There are more than 64 classes.
+    #[error("there are more than 64 classes")]
     TooManyClasses,
     /// The class with this place in `classes` has no name.
+    #[error("the class at place {0} has no name")]
     BadName(usize),
     /// The class with this place in `classes` has the name of an earlier one.
+    #[error("the class at place {0} has the name of an earlier one")]
     DuplicateName(usize),
     /// The pair with this place in `below` names no class.
+    #[error("the pair at place {0} names no class")]
     UnknownName(usize),
     /// Two classes that are below each other.
+    #[error("classes {low} and {high} are below each other", low = .0.index(), high = .1.index())]
     Cycle(Class, Class),
     /// Two classes without a least class above both.
+    #[error("no class is the least above {low} and {high}", low = .0.index(), high = .1.index())]
     NoJoin(Class, Class),
     /// Two classes without a greatest class below both.
+    #[error("no class is the greatest below {low} and {high}", low = .0.index(), high = .1.index())]
     NoMeet(Class, Class),
 }
 
@@ -54,7 +66,7 @@ impl<T: Drop> From<AllocFailed<T>> for LatticeError {
 }
 
 impl From<OrderError> for LatticeError {
-    ghost use Rattle.vsi_lattice.specs.Faults.{of_order};
+    ghost use Rattle.vsi_lattice.specs.FileFaults.{of_order};
 
     ghost from_gives = { λ o e. e ≡ of_order o };
 

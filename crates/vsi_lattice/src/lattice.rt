@@ -1,12 +1,12 @@
 //! Classes with names.
 
 ghost use Rattle.std.specs.Prelude.{length};
-ghost use Rattle.vsi_lattice.specs.Names.{owned};
-ghost use Rattle.vsi_lattice.specs.Naming.{AreNames};
+ghost use Rattle.vsi_lattice.specs.NamePlaces.{owned};
+ghost use Rattle.vsi_lattice.specs.NameRules.{AreNames};
 
 use crate::class::Class;
 use crate::mask::MaskLattice;
-use crate::names::place_of;
+use crate::names::key_place;
 use crate::order::Classes;
 use indexmap::IndexSet;
 
@@ -22,7 +22,7 @@ impl Lattice {
     ghost use Rattle.std.specs.Prelude.{◌≡◌, ◌<◌, slice_get, IfSome, Some, IsTrue};
     ghost use Rattle.vsi_syntax.specs.Words.{is_name};
     ghost use Rattle.vsi_lattice.specs.Order.{IsClass};
-    ghost use Rattle.vsi_lattice.specs.Named as spec;
+    ghost use Rattle.vsi_lattice.specs.LatticeView as spec;
 
     /// The lattice of these names and this order.
     pub(crate) fn new(names: IndexSet<String>, order: MaskLattice) -> Lattice
@@ -40,8 +40,8 @@ impl Lattice {
         ensures place { IfSome result (λ class. slice_get (spec.names self.now) class ≡ Some name.now) }
         ensures named { IfSome result (λ _. IsTrue (is_name name.now)) }
     {
-        match place_of(self.names.as_slice(), name) {
-            Some(place) => Some(Class::at(place)),
+        match key_place(&self.names, name) {
+            Some(place) => Some(Class::at(place as u8)),
             None => None,
         }
     }
@@ -57,12 +57,14 @@ impl Lattice {
 }
 
 impl Classes for Lattice {
-    ghost use Rattle.vsi_lattice.specs.Named.{order};
+    ghost use Rattle.vsi_lattice.specs.LatticeView.{order};
     ghost use Rattle.vsi_lattice.specs.Laws.{lawful_is_lattice};
 
     ghost lattice = { order };
 
     ghost laws = { λ s. lawful_is_lattice (order s) s.order.lawful };
+
+    ghost few = { λ s. s.order.rows.small };
 
     fn count(&self) -> usize {
         self.order.count()

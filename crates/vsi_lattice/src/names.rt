@@ -1,8 +1,8 @@
 //! The names of the classes, and their places.
 
 ghost use Rattle.std.specs.Prelude.{◌≡◌, ℕ, ◌<◌, ◌≤◌, List, [], ◌∷◌, ◌++◌, true, false, length, map, IfOk, IfErr, OnOk, IfSome, IfNone, Some, None, string_bytes};
-ghost use Rattle.vsi_lattice.specs.Names.{texts, text_pairs, owned, place_in, IsLeast, Never, IsBadName, StandsIn, StandsEarlier, IsUnknown, IsUnknownAt, number_of};
-ghost use Rattle.vsi_lattice.specs.Faults.{TellsDuplicate, TellsUnknown};
+ghost use Rattle.vsi_lattice.specs.NamePlaces.{texts, text_pairs, owned, place_in, IsLeast, Never, IsBadName, StandsIn, StandsEarlier, IsUnknown, IsUnknownAt, number_of};
+ghost use Rattle.vsi_lattice.specs.FileFaults.{TellsDuplicate, TellsUnknown};
 ghost use Rattle.vsi_lattice.specs.Pairs.{ArePairsBelow};
 ghost use Rattle.vsi_lattice.specs.declared.fault.LatticeError.TheVariants as errors;
 
@@ -12,7 +12,7 @@ use std::alloc::Global;
 use vsi_syntax::is_name;
 
 /// The first place of a name.
-pub fn place_of(names: &[String], name: &[u8]) -> Option<u8>
+pub(crate) fn place_of(names: &[String], name: &[u8]) -> Option<u8>
     requires few { length names.now ≤ 64 }
     ensures place { result ≡ place_in (owned names.now) name.now }
     ensures within { IfSome result (λ k. k < length names.now) }
@@ -25,8 +25,19 @@ pub fn place_of(names: &[String], name: &[u8]) -> Option<u8>
     None
 }
 
+/// The place of a name, by a look-up by key.
+pub(crate) fn key_place(names: &IndexSet<String>, name: &[u8]) -> Option<usize>
+    ensures place { result ≡ place_in (owned names.now.keys) name.now }
+    ensures within { IfSome result (λ k. k < length names.now.keys) }
+{
+    match str::from_utf8(name) {
+        Ok(text) => names.get_index_of(text),
+        Err(_) => None,
+    }
+}
+
 /// The place of the first that is no name.
-pub fn first_bad(names: &[&str]) -> Option<usize>
+pub(crate) fn first_bad(names: &[&str]) -> Option<usize>
     ensures some { IfSome result (IsLeast (IsBadName (texts names.now))) }
     ensures none { IfNone result (Never (IsBadName (texts names.now))) }
 {
@@ -39,7 +50,7 @@ pub fn first_bad(names: &[&str]) -> Option<usize>
 }
 
 /// The places of two names.
-pub fn number(names: &[String], low: &str, high: &str) -> Option<(u8, u8)>
+pub(crate) fn number(names: &[String], low: &str, high: &str) -> Option<(u8, u8)>
     requires few { length names.now ≤ 64 }
     ensures some { IfSome result (λ p. p ≡ number_of (owned names.now) (low.now, high.now)) }
     ensures known { IfSome result (λ p. ¬ (IsUnknown (owned names.now) (low.now, high.now))) }
@@ -68,7 +79,7 @@ fn add_name(alloc: Global, set: &mut IndexSet<String>, name: &str) -> Result<boo
 }
 
 /// The set of the names, in their order.
-pub fn collect_names(alloc: Global, names: &[&str]) -> Result<IndexSet<String>, LatticeError>
+pub(crate) fn collect_names(alloc: Global, names: &[&str]) -> Result<IndexSet<String>, LatticeError>
     ensures names { IfOk result (λ set. owned set.keys ≡ texts names.now) }
     ensures distinct { OnOk result (Never (StandsEarlier (texts names.now))) }
     ensures duplicate { IfErr result (TellsDuplicate (texts names.now)) }
@@ -84,7 +95,7 @@ pub fn collect_names(alloc: Global, names: &[&str]) -> Result<IndexSet<String>, 
 }
 
 /// The pairs by the places of their names.
-pub fn number_pairs(
+pub(crate) fn number_pairs(
     alloc: Global,
     names: &[String],
     pairs: &[(&str, &str)],

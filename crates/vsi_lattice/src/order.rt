@@ -1,20 +1,25 @@
 //! What every lattice of classes offers, and why an order is refused.
 
-ghost use Rattle.std.specs.Prelude.{◌≡◌};
+ghost use Rattle.std.specs.Prelude.{◌≡◌, ◌≤◌};
 ghost use Rattle.vsi_lattice.specs.Order.{Lattice, IsLattice, IsClass, Below, IsJoin, IsMeet};
 
 use crate::class::Class;
+use thiserror::Error;
 
 /// Why pairs of classes are no lattice.
-#[derive(Clone, Copy, Debug, PartialEq, Eq)]
+#[derive(Clone, Copy, Debug, PartialEq, Eq, Error)]
 pub enum OrderError {
     /// There was no memory to hold the order.
+    #[error("out of memory")]
     Memory,
     /// Two classes that are below each other.
+    #[error("classes {low} and {high} are below each other", low = .0.index(), high = .1.index())]
     Cycle(Class, Class),
     /// Two classes without a least class above both.
+    #[error("no class is the least above {low} and {high}", low = .0.index(), high = .1.index())]
     NoJoin(Class, Class),
     /// Two classes without a greatest class below both.
+    #[error("no class is the greatest below {low} and {high}", low = .0.index(), high = .1.index())]
     NoMeet(Class, Class),
 }
 
@@ -22,7 +27,7 @@ pub enum OrderError {
 pub trait Classes {
     ghost lattice: { Self → Lattice };
 
-    /// The number of classes, 1 to 64.
+    /// The number of classes, from 1 to 64.
     fn count(&self) -> usize
         ensures { result ≡ (lattice self.now).count };
 
@@ -53,4 +58,6 @@ pub trait Classes {
         ensures { result ≡ (lattice self.now).top };
 
     ghost laws: { (s : Self) → IsLattice (lattice s) };
+
+    ghost few: { (s : Self) → (lattice s).count ≤ 64 };
 }

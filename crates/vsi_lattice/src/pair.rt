@@ -2,7 +2,7 @@
 
 ghost use Rattle.std.specs.Prelude.{◌≡◌, ℕ, ◌<◌, ◌≤◌, IfOk, IfErr};
 ghost use Rattle.vsi_lattice.specs.Pairs.{ArePairsBelow, MakesLattice, IsDeclared, Leq};
-ghost use Rattle.vsi_lattice.specs.Refusals.{NamesFault};
+ghost use Rattle.vsi_lattice.specs.OrderFaults.{NamesFault};
 ghost use Rattle.vsi_lattice.specs.Laws.{IsLawful};
 ghost use Rattle.vsi_lattice.specs.Tables.{AreTables, table_lattice};
 ghost use Rattle.vsi_lattice.specs.declared.order.OrderError.TheVariants as errors;
@@ -69,6 +69,8 @@ impl Classes for PairLattice {
     ghost use Rattle.vsi_lattice.specs.Laws.{lawful_is_lattice};
 
     ghost laws = { λ s. lawful_is_lattice (table_lattice s.count s.above.items s.bottom s.top) s.lawful };
+
+    ghost few = { λ s. s.tables.small };
 
     fn count(&self) -> usize {
         self.count

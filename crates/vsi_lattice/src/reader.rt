@@ -1,9 +1,9 @@
 //! Reads a lattice file.
 
 ghost use Rattle.std.specs.Prelude.{◌≡◌, ℕ, List, map, IfOk, IfErr};
-ghost use Rattle.vsi_lattice.specs.Faults.{IsFault, IsAccepted, IsOf, IsRead, Explains};
+ghost use Rattle.vsi_lattice.specs.FileFaults.{IsFault, IsAccepted, IsOf, IsRead, ExplainsLattice};
 ghost use Rattle.vsi_lattice.specs.Shape.{File, IsFile, shown};
-ghost use Rattle.vsi_lattice.specs.Named as spec;
+ghost use Rattle.vsi_lattice.specs.LatticeView as spec;
 ghost use Rattle.vsi_lattice.specs.declared.fault.LatticeError.TheVariants as errors;
 
 use crate::fault::LatticeError;
@@ -14,7 +14,7 @@ use crate::shape::{TextError, read_parts, read_table};
 use std::alloc::Global;
 
 /// The greatest number of classes.
-const MOST_CLASSES: usize = 64;
+const MAX_CLASSES: usize = 64;
 
 /// The lattice of these names and pairs of names.
 fn lattice_of(
@@ -28,7 +28,7 @@ fn lattice_of(
     if names.is_empty() {
         return Err(LatticeError::NoClass);
     }
-    if names.len() > MOST_CLASSES {
+    if names.len() > MAX_CLASSES {
         return Err(LatticeError::TooManyClasses);
     }
     if let Some(i) = first_bad(names) {
@@ -47,7 +47,7 @@ fn lattice_of(
 /// first fault, in the order in which `LatticeError` lists them.
 pub fn read_lattice(alloc: Global, text: &[u8]) -> Result<Lattice, LatticeError>
     ensures read { IfOk result (λ l. IsRead text.now (spec.names l) (spec.order l)) }
-    ensures refused { IfErr result (Explains text.now) }
+    ensures refused { IfErr result (ExplainsLattice text.now) }
     ensures accepted { (f : File) → IsFile text.now f → IsAccepted f → IfErr result (λ e. e ≡ errors.Memory) }
 {
     let table = match read_table(alloc, text) {

@@ -8,9 +8,9 @@ use std::alloc::{AllocError, Global};
 
 /// The order in both directions.
 #[derive(Drop)]
-pub struct Rows {
-    pub above: Vec<u64>,
-    pub below: Vec<u64>,
+pub(crate) struct Rows {
+    pub(crate) above: Vec<u64>,
+    pub(crate) below: Vec<u64>,
 }
 
 /// The row, with all of `reached` too where it has bit `low`.
@@ -28,7 +28,7 @@ fn widen(row: u64, low: u8, reached: u64) -> u64
 }
 
 /// Puts each class that is below `low` below all that `high` is below.
-pub fn add_pair(rows: &mut [u64], low: u8, high: u8)
+pub(crate) fn add_pair(rows: &mut [u64], low: u8, high: u8)
     requires low { low < 64 }
     requires high { high < length rows.old }
     ensures { AddsPair (row_has rows.old) (row_has rows.new) low high }
@@ -69,7 +69,7 @@ impl Rows {
     }
 
     /// The first two classes that are in each other's row.
-    pub fn first_tied(&self) -> Option<(u8, u8)>
+    pub(crate) fn first_tied(&self) -> Option<(u8, u8)>
         requires count { length self.now.above.items ≤ 64 }
         requires len { length self.now.below.items ≡ length self.now.above.items }
         requires within { (a b : ℕ) → row_has self.now.above.items a b ≡ true → b < length self.now.above.items }
@@ -82,7 +82,7 @@ impl Rows {
     }
 
     /// The first two classes that lack a common part upwards.
-    pub fn first_apart_above(&self) -> Option<(u8, u8)>
+    pub(crate) fn first_apart_above(&self) -> Option<(u8, u8)>
         requires { length self.now.above.items ≤ 64 }
         ensures some { IfSome result (λ p. IsFirstPair (length self.now.above.items)
             (LacksCommon self.now.above.items) p.0 p.1) }
@@ -92,7 +92,7 @@ impl Rows {
     }
 
     /// The first two classes that lack a common part downwards.
-    pub fn first_apart_below(&self) -> Option<(u8, u8)>
+    pub(crate) fn first_apart_below(&self) -> Option<(u8, u8)>
         requires { length self.now.below.items ≤ 64 }
         ensures some { IfSome result (λ p. IsFirstPair (length self.now.below.items)
             (LacksCommon self.now.below.items) p.0 p.1) }
@@ -102,7 +102,7 @@ impl Rows {
     }
 
     /// The class above all.
-    pub fn top(&self) -> u8
+    pub(crate) fn top(&self) -> u8
         requires some { 0 < length self.now.above.items }
         requires count { length self.now.above.items ≤ 64 }
         requires order { IsPreorder (length self.now.above.items) (row_has self.now.above.items) }
@@ -114,7 +114,7 @@ impl Rows {
     }
 
     /// The class below all.
-    pub fn bottom(&self) -> u8
+    pub(crate) fn bottom(&self) -> u8
         requires some { 0 < length self.now.below.items }
         requires count { length self.now.below.items ≤ 64 }
         requires order { IsPreorder (length self.now.below.items) (row_has self.now.below.items) }
@@ -127,7 +127,7 @@ impl Rows {
 }
 
 /// The class whose row is the common part of two rows, if there is one.
-pub fn common_class(rows: &[u64], a: usize, b: usize) -> Option<u8>
+pub(crate) fn common_class(rows: &[u64], a: usize, b: usize) -> Option<u8>
     requires count { length rows.now ≤ 64 }
     requires a { a < length rows.now }
     requires b { b < length rows.now }
@@ -144,7 +144,7 @@ pub fn common_class(rows: &[u64], a: usize, b: usize) -> Option<u8>
 }
 
 /// The first two classes whose rows have no row as their common part.
-pub fn first_apart(rows: &[u64]) -> Option<(u8, u8)>
+pub(crate) fn first_apart(rows: &[u64]) -> Option<(u8, u8)>
     requires { length rows.now ≤ 64 }
     ensures some { IfSome result (λ p. IsFirstPair (length rows.now) (LacksCommon rows.now) p.0 p.1) }
     ensures none { IfNone result (AllHaveCommon rows.now) }
@@ -175,7 +175,7 @@ fn other_common_bit(x: u64, y: u64, own: u8) -> Option<u8>
 }
 
 /// The first two classes that are in each other's row.
-pub fn first_tied(above: &[u64], below: &[u64]) -> Option<(u8, u8)>
+pub(crate) fn first_tied(above: &[u64], below: &[u64]) -> Option<(u8, u8)>
     requires count { length above.now ≤ 64 }
     requires len { length below.now ≡ length above.now }
     requires within { (a b : ℕ) → row_has above.now a b ≡ true → b < length above.now }
@@ -192,7 +192,7 @@ pub fn first_tied(above: &[u64], below: &[u64]) -> Option<(u8, u8)>
 }
 
 /// The class in every row.
-pub fn last_class(rows: &[u64]) -> u8
+pub(crate) fn last_class(rows: &[u64]) -> u8
     requires some { 0 < length rows.now }
     requires count { length rows.now ≤ 64 }
     requires order { IsPreorder (length rows.now) (row_has rows.now) }
@@ -211,7 +211,7 @@ pub fn last_class(rows: &[u64]) -> u8
 }
 
 /// The order that the pairs declare.
-pub fn closed(alloc: Global, count: usize, pairs: &[(u8, u8)]) -> Result<Rows, AllocError>
+pub(crate) fn closed(alloc: Global, count: usize, pairs: &[(u8, u8)]) -> Result<Rows, AllocError>
     requires count { count ≤ 64 }
     requires pairs { ArePairsBelow count pairs.now }
     ensures above_len { IfOk result (λ rows. vec_len rows.above ≡ count) }

@@ -4,14 +4,14 @@ ghost use Rattle.std.specs.Prelude.{◌≡◌, ℕ, List, IfOk, IfErr, Some, map
 ghost use Rattle.toml.specs.Data.{Members, as_str, as_array, get_member};
 ghost use Rattle.toml.specs.View.{table_view, items_view, view};
 ghost use Rattle.vsi_lattice.specs.Shape.{IsToml, all_of, pair_of, array_at, file_of, shown};
-ghost use Rattle.vsi_lattice.specs.Names.{texts, text_pairs};
+ghost use Rattle.vsi_lattice.specs.NamePlaces.{texts, text_pairs};
 
 use std::alloc::{AllocError, Global};
 use toml::{Table, Value};
 
 /// Why a text is no table.
 #[derive(Clone, Copy, Debug, PartialEq, Eq)]
-pub enum TextError {
+pub(crate) enum TextError {
     /// There was no memory to read the text.
     Memory,
     /// The text is no TOML document.
@@ -19,7 +19,7 @@ pub enum TextError {
 }
 
 /// The table that the text is.
-pub fn read_table(alloc: Global, text: &[u8]) -> Result<Table, TextError>
+pub(crate) fn read_table(alloc: Global, text: &[u8]) -> Result<Table, TextError>
     ensures ok { IfOk result (λ t. IsToml text.now (table_view t)) }
     ensures not_toml { IfErr result (λ e. e ≡ TextError.NotToml → (ms : Members) → ¬ (IsToml text.now ms)) }
 {
@@ -128,13 +128,16 @@ fn pairs_in<'t>(
 
 /// What a lattice file has: the names of its classes, and the pairs.
 #[derive(Drop)]
-pub struct FileParts<'t> {
-    pub names: Vec<&'t str>,
-    pub pairs: Vec<(&'t str, &'t str)>,
+pub(crate) struct FileParts<'t> {
+    pub(crate) names: Vec<&'t str>,
+    pub(crate) pairs: Vec<(&'t str, &'t str)>,
 }
 
 /// The names and pairs of a table, or nothing where it has another shape.
-pub fn read_parts<'t>(alloc: Global, table: &'t Table) -> Result<Option<FileParts<'t>>, AllocError>
+pub(crate) fn read_parts<'t>(
+    alloc: Global,
+    table: &'t Table,
+) -> Result<Option<FileParts<'t>>, AllocError>
     ensures { IfOk result (λ found. option_map (λ parts. shown parts.names.items parts.pairs.items) found
         ≡ file_of (table_view table.now)) }
 {

@@ -16,14 +16,14 @@ const CELLS: usize = 4096;
 
 /// The order in both directions.
 #[derive(Drop)]
-pub struct Tables {
-    pub above: Vec<bool>,
-    pub below: Vec<bool>,
+pub(crate) struct Tables {
+    pub(crate) above: Vec<bool>,
+    pub(crate) below: Vec<bool>,
 }
 
 /// Whether the first class is at or below the second.
 #[tactic(auto, unfolding(crate::specs::Tables::table_has))]
-pub fn has(table: &[bool], a: usize, b: usize) -> bool
+pub(crate) fn has(table: &[bool], a: usize, b: usize) -> bool
     requires len { length table.now ≡ 4096 }
     requires a { a < 64 }
     requires b { b < 64 }
@@ -66,7 +66,11 @@ fn with_pair(alloc: Global, table: &[bool], low: u8, high: u8) -> Result<Vec<boo
 }
 
 /// The order that the pairs declare, in both directions.
-pub fn closed_tables(alloc: Global, count: usize, pairs: &[(u8, u8)]) -> Result<Tables, AllocError>
+pub(crate) fn closed_tables(
+    alloc: Global,
+    count: usize,
+    pairs: &[(u8, u8)],
+) -> Result<Tables, AllocError>
     requires count { count ≤ 64 }
     requires pairs { ArePairsBelow count pairs.now }
     ensures above_len { IfOk result (λ tables. length tables.above.items ≡ 4096) }
@@ -116,7 +120,7 @@ fn is_least_above(table: &[bool], count: usize, a: usize, b: usize, c: usize) ->
 }
 
 /// The least class above two classes, if there is one.
-pub fn least_above(table: &[bool], count: usize, a: usize, b: usize) -> Option<u8>
+pub(crate) fn least_above(table: &[bool], count: usize, a: usize, b: usize) -> Option<u8>
     requires len { length table.now ≡ 4096 }
     requires count { count ≤ 64 }
     requires a { a < count }
@@ -133,7 +137,7 @@ pub fn least_above(table: &[bool], count: usize, a: usize, b: usize) -> Option<u
 }
 
 /// The first two classes with no least class above both.
-pub fn first_unjoined(table: &[bool], count: usize) -> Option<(u8, u8)>
+pub(crate) fn first_unjoined(table: &[bool], count: usize) -> Option<(u8, u8)>
     requires len { length table.now ≡ 4096 }
     requires count { count ≤ 64 }
     ensures some { IfSome result (λ p. IsFirstPair count (λ x y. ¬ (HasJoin count (Says (table_has table.now)) x y))
@@ -152,7 +156,7 @@ pub fn first_unjoined(table: &[bool], count: usize) -> Option<(u8, u8)>
 }
 
 /// The first two different classes that are below each other.
-pub fn first_cycle(table: &[bool], count: usize) -> Option<(u8, u8)>
+pub(crate) fn first_cycle(table: &[bool], count: usize) -> Option<(u8, u8)>
     requires len { length table.now ≡ 4096 }
     requires count { count ≤ 64 }
     ensures some { IfSome result (λ p. IsFirstPair count (IsCycle count (Says (table_has table.now))) p.0 p.1) }
@@ -176,7 +180,7 @@ pub fn first_cycle(table: &[bool], count: usize) -> Option<(u8, u8)>
 }
 
 /// The class above all.
-pub fn greatest(table: &[bool], count: usize) -> u8
+pub(crate) fn greatest(table: &[bool], count: usize) -> u8
     requires len { length table.now ≡ 4096 }
     requires some { 0 < count }
     requires count { count ≤ 64 }

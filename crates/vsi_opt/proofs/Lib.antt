@@ -6,8 +6,8 @@ pub mod Sequences
 pub mod FoldingCases
 pub mod ReadingCases
 pub mod LoopCases
-pub mod NeededCases
-pub mod StillCases
+pub mod KeptLiveCases
+pub mod KeptInLoopCases
 pub mod Sets
 pub mod Numbers
 pub mod Remains

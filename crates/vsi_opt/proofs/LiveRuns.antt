@@ -4,11 +4,11 @@ use Rattle.std.specs.Prelude.{slice_set, if◌then◌else◌}
 use Rattle.std.proofs.lemmas.List.{get_or_append_left, get_or-set_same, get_or-set_other, get_or-take, get_or_push, length_push, get_or_past, length-take-le, ext_get_or}
 use Rattle.std.proofs.lemmas.Bool.{cases_eq, cases_lt, false≢true, eq-eqb, ne_eqb, lt-ltb, cond-true, cond-false, or_left, or_right}
 use Rattle.vsi_syntax.specs.declared.token.Span.{Span}
-use Rattle.vsi_scope.specs.Phrase.{Phrase, Literal, Contents, Apply, Command, Nothing, Put, Then, Choose, Repeat, Allocate}
+use Rattle.vsi_scope.specs.Language.{Expression, Number, Location, Operator, Command, Skip, Assign, Sequence, If, While, Letvar}
 use Rattle.vsi_syntax.specs.Operators.{apply}
 use Rattle.vsi_scope.specs.Meaning.{Store, value, at_zero, and_then, drop_past, turns, runs}
 use Rattle.vsi_opt.specs.Folding.{one, append, fold}
-use Rattle.vsi_opt.specs.Liveness.{Locations, joined, with_bit, reads, all_reads, taken, throughout, before, kept, still, needed}
+use Rattle.vsi_opt.specs.Liveness.{Locations, joined, with_bit, reads, all_reads, taken, throughout, before, kept, kept_in_loop, kept_live}
 use Rattle.vsi_opt.specs.Optimised.{globals_alone, optimised, EvaluatesSame}
 use Rattle.vsi_opt.proofs.FoldedRuns.{runs_append, runs_one, fold_runs}
 
@@ -67,11 +67,11 @@ same_on_from : (k : ℕ) (a : Locations) (o p o' : Option Store) → o ≡ p →
 same_on_from k a o p o' e s = subst (λ x. SameOn k a x o') (sym e) s
 
 -- An expression has one value in stores that agree on what it reads.
-value_same : (e : Phrase) (live : Locations) (m m' : Store) → Within (reads e) live → Agree live m m' →
+value_same : (e : Expression) (live : Locations) (m m' : Store) → Within (reads e) live → Agree live m m' →
     value e m ≡ value e m'
-value_same (Literal n) live m m' w h = refl
-value_same (Contents l s) live m m' w h = h l (w l (eq-eqb l l refl))
-value_same (Apply o a b) live m m' w h =
+value_same (Number n) live m m' w h = refl
+value_same (Location l s) live m m' w h = h l (w l (eq-eqb l l refl))
+value_same (Operator o a b) live m m' w h =
     ap (λ x. apply o x (value b m)) (value_same a live m m' (λ l r. w l (or_left (reads a l) (reads b l) r)) h)
     ∙ ap (apply o (value a m')) (value_same b live m m' (λ l r. w l (or_right (reads a l) (reads b l) r)) h)
 
@@ -110,7 +110,7 @@ set_agree m m' k l v len h =
     (cases_eq l k)
 
 -- An assignment that stays.
-put_keeps : (k l : ℕ) (e : Phrase) (b a : Locations) (m m' : Store) → length m ≡ k → length m' ≡ k →
+put_keeps : (k l : ℕ) (e : Expression) (b a : Locations) (m m' : Store) → length m ≡ k → length m' ≡ k →
     Within (reads e) b → ((i : ℕ) → i ≢ l → a i ≡ true → b i ≡ true) → Agree b m m' → SameOn k a
     (Some (slice_set m l (value e m))) (Some (slice_set m' l (value e m')))
 put_keeps k l e b a m m' len len' w w' h = (
@@ -131,7 +131,7 @@ gone_keeps k l v a m m' len len' dead h = (
 )
 
 -- A letvar.
-allocate_keeps : (k : ℕ) (e : Phrase) (b₀ b a a₀ : Locations) (f f' : Store → Option Store) → Within (reads e) b₀ →
+allocate_keeps : (k : ℕ) (e : Expression) (b₀ b a a₀ : Locations) (f f' : Store → Option Store) → Within (reads e) b₀ →
     ((i : ℕ) → i ≢ k → b i ≡ true → b₀ i ≡ true) → ((i : ℕ) → i ≢ k → a i ≡ true → a₀ i ≡ true) → Keeps (k + 1) b
     a₀ f f' → Keeps k b₀ a (λ m. drop_past (length m) (f (m ++ value e m ∷ [])))
     (λ m. drop_past (length m) (f' (m ++ value e m ∷ [])))
@@ -194,7 +194,7 @@ at_zero_same_on k a z z' x y x' y' e s t = subst (λ w. SameOn k a (at_zero z x 
     go (negsuc n) = t
 
 -- Loops with the same guard and bodies that keep agreement keep it.
-turns_keep : (n k : ℕ) (a : Locations) (e : Phrase) (f f' : Store → Option Store) → Within (reads e) a →
+turns_keep : (n k : ℕ) (a : Locations) (e : Expression) (f f' : Store → Option Store) → Within (reads e) a →
     Keeps k a a f f' → Keeps k a a (turns n (value e) f) (turns n (value e) f')
 turns_keep zero k a e f f' w h m m' len len' agree =
     at_zero_same_on k a (value e m) (value e m') (Some m) None (Some m') None (value_same e a m m' w agree)
@@ -214,67 +214,69 @@ one_keeps n k b a c f' h m m' len len' agree = same_on_from k a (runs n (one c) 
 
 -- Two sequences joined keep what they keep one after the other.
 append_keeps : (n k : ℕ) (b d a : Locations) (x y x' y' : Command) → Keeps k b d (runs n x) (runs n x') →
-    Keeps k d a (runs n y) (runs n y') → Keeps k b a (runs n (append x y)) (runs n (Then x' y'))
+    Keeps k d a (runs n y) (runs n y') → Keeps k b a (runs n (append x y)) (runs n (Sequence x' y'))
 append_keeps n k b d a x y x' y' f g m m' len len' agree =
-    same_on_from k a (runs n (append x y) m) (and_then (runs n x m) (runs n y)) (runs n (Then x' y') m')
+    same_on_from k a (runs n (append x y) m) (and_then (runs n x m) (runs n y)) (runs n (Sequence x' y') m')
     (runs_append n x y m)
     (same_on_then k d a (runs n x m) (runs n x' m') (runs n y) (runs n y') (f m m' len len' agree) g)
 
 -- An assignment in a loop keeps agreement, whether it stays or goes.
-still_put : (k n l : ℕ) (s : Span) (e : Phrase) (live : Locations) → Within (reads e) live →
-    Keeps k live live (runs n (kept (live l) (Put l s e))) (runs n (Put l s e))
-still_put k n l s e live w m m' len len' agree = go (live l) refl
+kept_in_loop_put : (k n l : ℕ) (s : Span) (e : Expression) (live : Locations) → Within (reads e) live →
+    Keeps k live live (runs n (kept (live l) (Assign l s e))) (runs n (Assign l s e))
+kept_in_loop_put k n l s e live w m m' len len' agree = go (live l) refl
   where
-    go : (b : Bool) → live l ≡ b → SameOn k live (runs n (kept b (Put l s e)) m) (Some (slice_set m' l (value e m')))
+    go : (b : Bool) → live l ≡ b → SameOn k live (runs n (kept b (Assign l s e)) m) (Some (slice_set m' l (value e m')))
     go true is = put_keeps k l e live live m m' len len' w (λ i other h. h) agree
     go false is = gone_keeps k l (value e m') live m m' len len' is agree
 
 -- Removal in a loop keeps agreement on what is live there.
-pub still_keeps : (c : Command) (k n : ℕ) (live : Locations) → Within (all_reads c) live →
-    Keeps k live live (runs n (still k c live)) (runs n c)
-still_keeps Nothing k n live w = λ m m' len len' agree. (len, len', agree)
-still_keeps (Put l s e) k n live w = still_put k n l s e live w
-still_keeps (Then a b) k n live w =
-    append_keeps n k live live live (still k a live) (still k b live) a b
-    (still_keeps a k n live (λ l r. w l (or_left (all_reads a l) (all_reads b l) r)))
-    (still_keeps b k n live (λ l r. w l (or_right (all_reads a l) (all_reads b l) r)))
-still_keeps (Choose e a b) k n live w =
-    one_keeps n k live live (Choose e (still k a live) (still k b live)) (runs n (Choose e a b))
+pub kept_in_loop_keeps : (c : Command) (k n : ℕ) (live : Locations) → Within (all_reads c) live →
+    Keeps k live live (runs n (kept_in_loop k c live)) (runs n c)
+kept_in_loop_keeps Skip k n live w = λ m m' len len' agree. (len, len', agree)
+kept_in_loop_keeps (Assign l s e) k n live w = kept_in_loop_put k n l s e live w
+kept_in_loop_keeps (Sequence a b) k n live w =
+    append_keeps n k live live live (kept_in_loop k a live) (kept_in_loop k b live) a b
+    (kept_in_loop_keeps a k n live (λ l r. w l (or_left (all_reads a l) (all_reads b l) r)))
+    (kept_in_loop_keeps b k n live (λ l r. w l (or_right (all_reads a l) (all_reads b l) r)))
+kept_in_loop_keeps (If e a b) k n live w =
+    one_keeps n k live live (If e (kept_in_loop k a live) (kept_in_loop k b live)) (runs n (If e a b))
     (λ m m' len len' agree.
-    at_zero_same_on k live (value e m) (value e m') (runs n (still k b live) m) (runs n (still k a live) m)
+    at_zero_same_on k live (value e m) (value e m') (runs n (kept_in_loop k b live) m)
+    (runs n (kept_in_loop k a live) m)
     (runs n b m') (runs n a m')
     (value_same e live m m' (λ l r. w l (or_left (reads e l) (all_reads a l || all_reads b l) r)) agree)
-    (still_keeps b k n live (λ l r. w l
+    (kept_in_loop_keeps b k n live (λ l r. w l
     (or_right (reads e l) (all_reads a l || all_reads b l) (or_right (all_reads a l) (all_reads b l) r))) m m' len
     len' agree)
-    (still_keeps a k n live (λ l r. w l
+    (kept_in_loop_keeps a k n live (λ l r. w l
     (or_right (reads e l) (all_reads a l || all_reads b l) (or_left (all_reads a l) (all_reads b l) r))) m m' len
     len' agree))
-still_keeps (Repeat e c) k n live w =
-    one_keeps n k live live (Repeat e (still k c live)) (runs n (Repeat e c))
-    (turns_keep n k live e (runs n (still k c live)) (runs n c) (λ l r. w l (or_left (reads e l) (all_reads c l) r))
-    (still_keeps c k n live (λ l r. w l (or_right (reads e l) (all_reads c l) r))))
-still_keeps (Allocate e c) k n live w =
+kept_in_loop_keeps (While e c) k n live w =
+    one_keeps n k live live (While e (kept_in_loop k c live)) (runs n (While e c))
+    (turns_keep n k live e (runs n (kept_in_loop k c live)) (runs n c)
+    (λ l r. w l (or_left (reads e l) (all_reads c l) r))
+    (kept_in_loop_keeps c k n live (λ l r. w l (or_right (reads e l) (all_reads c l) r))))
+kept_in_loop_keeps (Letvar e c) k n live w =
     let inner = with_bit live k (all_reads c k) in
-    one_keeps n k live live (Allocate e (still (k + 1) c inner)) (runs n (Allocate e c))
-    (allocate_keeps k e live inner live inner (runs n (still (k + 1) c inner)) (runs n c)
+    one_keeps n k live live (Letvar e (kept_in_loop (k + 1) c inner)) (runs n (Letvar e c))
+    (allocate_keeps k e live inner live inner (runs n (kept_in_loop (k + 1) c inner)) (runs n c)
     (λ l r. w l (or_left (reads e l) (all_reads c l) r))
     (λ i other is. sym (bit_other live k (all_reads c k) i other) ∙ is)
     (λ i other is. bit_other live k (all_reads c k) i other ∙ is)
-    (still_keeps c (k + 1) n inner
+    (kept_in_loop_keeps c (k + 1) n inner
     (λ l r. ⊎_elim
     (λ at. ap inner at ∙ bit_same live k (all_reads c k) ∙ sym (ap (all_reads c) at) ∙ r)
     (λ other. bit_other live k (all_reads c k) l other ∙ w l (or_right (reads e l) (all_reads c l) r))
     (cases_eq l k))))
 
 -- An assignment outside loops keeps agreement, whether it stays or goes.
-needed_put : (g k n l : ℕ) (s : Span) (e : Phrase) (live : Locations) →
-    Keeps k (if live l then joined (taken g l live) (reads e) else live) live (runs n (kept (live l) (Put l s e)))
-    (runs n (Put l s e))
-needed_put g k n l s e live m m' len len' agree = go (live l) refl agree
+kept_live_put : (g k n l : ℕ) (s : Span) (e : Expression) (live : Locations) →
+    Keeps k (if live l then joined (taken g l live) (reads e) else live) live (runs n (kept (live l) (Assign l s e)))
+    (runs n (Assign l s e))
+kept_live_put g k n l s e live m m' len len' agree = go (live l) refl agree
   where
     go : (b : Bool) → live l ≡ b → Agree (cond b (joined (taken g l live) (reads e)) live) m m' →
-        SameOn k live (runs n (kept b (Put l s e)) m) (Some (slice_set m' l (value e m')))
+        SameOn k live (runs n (kept b (Assign l s e)) m) (Some (slice_set m' l (value e m')))
     go true is h =
         put_keeps k l e (joined (taken g l live) (reads e)) live m m' len len'
         (joined_right (taken g l live) (reads e))
@@ -282,47 +284,48 @@ needed_put g k n l s e live m m' len len' agree = go (live l) refl agree
     go false is h = gone_keeps k l (value e m') live m m' len len' is h
 
 -- Removal takes agreement on what is live before to agreement on what is live after.
-pub needed_keeps : (c : Command) (g k n : ℕ) (live : Locations) →
-    Keeps k (before g k c live) live (runs n (needed g k c live)) (runs n c)
-needed_keeps Nothing g k n live = λ m m' len len' agree. (len, len', agree)
-needed_keeps (Put l s e) g k n live = needed_put g k n l s e live
-needed_keeps (Then a b) g k n live =
-    append_keeps n k (before g k a (before g k b live)) (before g k b live) live (needed g k a (before g k b live))
-    (needed g k b live) a b
-    (needed_keeps a g k n (before g k b live)) (needed_keeps b g k n live)
-needed_keeps (Choose e a b) g k n live =
+pub kept_live_keeps : (c : Command) (g k n : ℕ) (live : Locations) →
+    Keeps k (before g k c live) live (runs n (kept_live g k c live)) (runs n c)
+kept_live_keeps Skip g k n live = λ m m' len len' agree. (len, len', agree)
+kept_live_keeps (Assign l s e) g k n live = kept_live_put g k n l s e live
+kept_live_keeps (Sequence a b) g k n live =
+    append_keeps n k (before g k a (before g k b live)) (before g k b live) live (kept_live g k a (before g k b live))
+    (kept_live g k b live) a b
+    (kept_live_keeps a g k n (before g k b live)) (kept_live_keeps b g k n live)
+kept_live_keeps (If e a b) g k n live =
     let x = before g k a live in
     let y = before g k b live in
     let all = joined (joined x y) (reads e) in
-    one_keeps n k all live (Choose e (needed g k a live) (needed g k b live)) (runs n (Choose e a b))
+    one_keeps n k all live (If e (kept_live g k a live) (kept_live g k b live)) (runs n (If e a b))
     (λ m m' len len' agree.
-    at_zero_same_on k live (value e m) (value e m') (runs n (needed g k b live) m) (runs n (needed g k a live) m)
+    at_zero_same_on k live (value e m) (value e m') (runs n (kept_live g k b live) m) (runs n (kept_live g k a live) m)
     (runs n b m') (runs n a m')
     (value_same e all m m' (joined_right (joined x y) (reads e)) agree)
-    (needed_keeps b g k n live m m' len len'
+    (kept_live_keeps b g k n live m m' len len'
     (agree_within y all m m' (λ l r. joined_left (joined x y) (reads e) l (joined_right x y l r)) agree))
-    (needed_keeps a g k n live m m' len len'
+    (kept_live_keeps a g k n live m m' len len'
     (agree_within x all m m' (λ l r. joined_left (joined x y) (reads e) l (joined_left x y l r)) agree)))
-needed_keeps (Repeat e c) g k n live =
+kept_live_keeps (While e c) g k n live =
     let all = throughout e c live in
     let rest = joined (reads e) (all_reads c) in
-    one_keeps n k all live (Repeat e (still k c all)) (runs n (Repeat e c))
+    one_keeps n k all live (While e (kept_in_loop k c all)) (runs n (While e c))
     (λ m m' len len' agree.
-    same_on_within k live all (runs n (Repeat e (still k c all)) m) (runs n (Repeat e c) m') (joined_left live rest)
-    (turns_keep n k all e (runs n (still k c all)) (runs n c)
+    same_on_within k live all (runs n (While e (kept_in_loop k c all)) m) (runs n (While e c) m')
+    (joined_left live rest)
+    (turns_keep n k all e (runs n (kept_in_loop k c all)) (runs n c)
     (λ l r. joined_right live rest l (joined_left (reads e) (all_reads c) l r))
-    (still_keeps c k n all (λ l r. joined_right live rest l (joined_right (reads e) (all_reads c) l r))) m m' len
+    (kept_in_loop_keeps c k n all (λ l r. joined_right live rest l (joined_right (reads e) (all_reads c) l r))) m m' len
     len' agree))
-needed_keeps (Allocate e c) g k n live =
+kept_live_keeps (Letvar e c) g k n live =
     let inner = with_bit live k false in
     let b = before g (k + 1) c inner in
     let all = joined (with_bit b k false) (reads e) in
-    one_keeps n k all live (Allocate e (needed g (k + 1) c inner)) (runs n (Allocate e c))
-    (allocate_keeps k e all b live inner (runs n (needed g (k + 1) c inner)) (runs n c)
+    one_keeps n k all live (Letvar e (kept_live g (k + 1) c inner)) (runs n (Letvar e c))
+    (allocate_keeps k e all b live inner (runs n (kept_live g (k + 1) c inner)) (runs n c)
     (joined_right (with_bit b k false) (reads e))
     (λ i other is. joined_left (with_bit b k false) (reads e) i (bit_other b k false i other ∙ is))
     (λ i other is. bit_other live k false i other ∙ is)
-    (needed_keeps c g (k + 1) n inner))
+    (kept_live_keeps c g (k + 1) n inner))
 
 -- Stores of g words that agree on all of them are equal.
 all_agree : (g : ℕ) (o o' : Option Store) → SameOn g (globals_alone g) o o' → o ≡ o'
@@ -336,5 +339,5 @@ all_agree g (Some x) (Some x') s =
 pub evaluates_same : EvaluatesSame
 evaluates_same c g n m len =
     all_agree g (runs n (optimised g c) m) (runs n (fold c) m)
-    (needed_keeps (fold c) g g n (globals_alone g) m m len len (λ i is. refl))
+    (kept_live_keeps (fold c) g g n (globals_alone g) m m len len (λ i is. refl))
     ∙ fold_runs c n m

@@ -4,30 +4,31 @@ use Rattle.std.proofs.lemmas.Bool.{cases_eq}
 use Rattle.std.proofs.lemmas.List.{drop_more, drop_all}
 use Rattle.vsi_syntax.specs.declared.token.Span.{Span}
 use Rattle.vsi_scope.specs.declared.program.Ex.{Ex}
-use Rattle.vsi_scope.specs.declared.program.Cmd.{Cmd, Assign}
-use Rattle.vsi_scope.specs.declared.program.Cmd.TheViews.{If, While, Letvar}
-use Rattle.vsi_scope.specs.Phrase.{Command, Nothing, Put, Then, Choose, Repeat, Allocate, letvars}
-use Rattle.vsi_scope.specs.View.{phrase, command, sequence}
+use Rattle.vsi_scope.specs.declared.program.Cmd.{Cmd}
+use Rattle.vsi_scope.specs.declared.program.Cmd as cmd
+use Rattle.vsi_scope.specs.declared.program.Cmd.TheViews as view
+use Rattle.vsi_scope.specs.Language.{Command, Skip, Assign, Sequence, If, While, Letvar, letvars}
+use Rattle.vsi_scope.specs.View.{expression, command, sequence}
 use Rattle.vsi_scope.proofs.Views.{command_If, command_While, command_Letvar}
 use Rattle.vsi_opt.specs.Liveness.{Locations, joined, with_bit, reads, all_reads}
-use Rattle.vsi_opt.specs.Loops.{noted, Tells, AddFits, Adds, StillFits}
+use Rattle.vsi_opt.specs.Loops.{noted, Tells, AddFits, Adds, KeptInLoopFits}
 use Rattle.vsi_opt.specs.Ranges.{Fits}
 use Rattle.vsi_opt.proofs.LiveRuns.{bit_same, bit_other}
 use Rattle.vsi_opt.proofs.ReadingCases.{joined_joined, joined_nothing, joined_twice, joined_thrice}
 
 -- What holds of the commands from a place on holds of the first of them, and of those behind it.
 from_place : (P : Command → Type 0) (cs : List Cmd) (i : ℕ) (c : Cmd) → i < length cs → c ≡ get_or cs i c →
-    P (sequence (drop i cs)) → P (Then (command c) (sequence (drop (i + 1) cs)))
+    P (sequence (drop i cs)) → P (Sequence (command c) (sequence (drop (i + 1) cs)))
 from_place P cs i c lt is p =
-    subst (λ x. P (Then (command x) (sequence (drop (i + 1) cs)))) (sym is)
+    subst (λ x. P (Sequence (command x) (sequence (drop (i + 1) cs)))) (sym is)
     (subst (λ l. P (sequence l)) (drop_more cs i c lt) p)
 
 -- What holds of a command and those behind it holds of the commands from its place on.
 to_place : (P : Command → Type 0) (cs : List Cmd) (i : ℕ) (c : Cmd) → i < length cs → c ≡ get_or cs i c →
-    P (Then (command c) (sequence (drop (i + 1) cs))) → P (sequence (drop i cs))
+    P (Sequence (command c) (sequence (drop (i + 1) cs))) → P (sequence (drop i cs))
 to_place P cs i c lt is p =
     subst (λ l. P (sequence l)) (sym (drop_more cs i c lt))
-    (subst (λ x. P (Then (command x) (sequence (drop (i + 1) cs)))) is p)
+    (subst (λ x. P (Sequence (command x) (sequence (drop (i + 1) cs)))) is p)
 
 -- A fact of a list of commands, about an equal list.
 pub of_list : (P : Command → Type 0) (cs ds : List Cmd) → ds ≡ cs → P (sequence cs) → P (sequence ds)
@@ -48,21 +49,22 @@ add_fits_rest k n n' cs i c lt is e f =
     (g.0.1, omega (arith, g.1, e))
 
 -- The parts of an `if` are within the limits.
-pub add_fits_if : (k n : ℕ) (c : Cmd) (e : Ex) (y z : Vec Cmd Global) → c ≡ If e y z → AddFits k n (command c) →
+pub add_fits_if : (k n : ℕ) (c : Cmd) (e : Ex) (y z : Vec Cmd Global) → c ≡ view.If e y z → AddFits k n (command c) →
     AddFits k n (sequence y.items) × AddFits k (n + letvars (sequence y.items)) (sequence z.items)
 add_fits_if k n c e y z is f =
     let g = subst (AddFits k n) (ap command is ∙ command_If e y z) f in
     ((g.0.1, omega (arith, g.1)), (g.0.2, omega (arith, g.1)))
 
 -- The body of a loop is within the limits.
-pub add_fits_while : (k n : ℕ) (c : Cmd) (e : Ex) (b : Vec Cmd Global) → c ≡ While e b → AddFits k n (command c) →
+pub add_fits_while : (k n : ℕ) (c : Cmd) (e : Ex) (b : Vec Cmd Global) → c ≡ view.While e b → AddFits k n (command c) →
     AddFits k n (sequence b.items)
 add_fits_while k n c e b is f =
     let g = subst (AddFits k n) (ap command is ∙ command_While e b) f in
     (g.0.1, g.1)
 
 -- A letvar's location, number and body are within the limits.
-pub add_fits_letvar : (k n : ℕ) (c : Cmd) (e : Ex) (b : Vec Cmd Global) → c ≡ Letvar e b → AddFits k n (command c) →
+pub add_fits_letvar : (k n : ℕ) (c : Cmd) (e : Ex) (b : Vec Cmd Global) → c ≡ view.Letvar e b →
+    AddFits k n (command c) →
     (k < 1024) × (n < 1024) × AddFits (k + 1) (n + 1) (sequence b.items)
 add_fits_letvar k n c e b is f =
     let g = subst (AddFits k n) (ap command is ∙ command_Letvar e b) f in
@@ -74,32 +76,34 @@ pub adds_list : (k n m : ℕ) (cs ds : List Cmd) (live all own every : Locations
 adds_list k n m cs ds live all own every e f = subst (λ l. Adds k (sequence l) live own n all every m) e f
 
 -- A walk over an assignment has added its reads.
-pub adds_assign : (k n : ℕ) (c : Cmd) (l : ℕ) (s : Span) (e : Ex) (live live' own : Locations) → c ≡ Assign l s e →
-    live' ≡ joined live (reads (phrase e)) → Adds k (command c) live own n live' own n
+pub adds_assign : (k n : ℕ) (c : Cmd) (l : ℕ) (s : Span) (e : Ex) (live live' own : Locations) → c ≡ cmd.Assign l s e →
+    live' ≡ joined live (reads (expression e)) → Adds k (command c) live own n live' own n
 adds_assign k n c l s e live live' own is add =
     subst (λ x. Adds k (command x) live own n live' own n) (sym is) (add, refl, omega arith)
 
 -- A walk over an `if` has gone over its guard and its branches.
 pub adds_if : (k n n₁ n₂ : ℕ) (c : Cmd) (e : Ex) (y z : Vec Cmd Global)
     (live live₁ live₂ live₃ own own₁ own₂ : Locations) →
-    c ≡ If e y z → live₁ ≡ joined live (reads (phrase e)) → Adds k (sequence y.items) live₁ own n live₂ own₁ n₁ →
+    c ≡ view.If e y z → live₁ ≡ joined live (reads (expression e)) →
+    Adds k (sequence y.items) live₁ own n live₂ own₁ n₁ →
     Adds k (sequence z.items) live₂ own₁ n₁ live₃ own₂ n₂ → Adds k (command c) live own n live₃ own₂ n₂
 adds_if k n n₁ n₂ c e y z live live₁ live₂ live₃ own own₁ own₂ is add f g =
     let a = sequence y.items in
     let b = sequence z.items in
     subst (λ x. Adds k x live own n live₃ own₂ n₂) (sym (ap command is ∙ command_If e y z)) (
-      joined_thrice live (reads (phrase e)) (all_reads a) (all_reads b) live₁ live₂ live₃ add f.0 g.0,
+      joined_thrice live (reads (expression e)) (all_reads a) (all_reads b) live₁ live₂ live₃ add f.0 g.0,
       g.1 ∙ ap (λ m. noted k m b own₁) f.2 ∙ ap (noted k (n + letvars a) b) f.1,
       omega (arith, f.2, g.2),
     )
 
 -- A walk over a loop has gone over its guard and its body.
 pub adds_while : (k n n₁ : ℕ) (c : Cmd) (e : Ex) (b : Vec Cmd Global) (live live₁ live₂ own own₁ : Locations) →
-    c ≡ While e b → live₁ ≡ joined live (reads (phrase e)) → Adds k (sequence b.items) live₁ own n live₂ own₁ n₁ →
+    c ≡ view.While e b → live₁ ≡ joined live (reads (expression e)) →
+    Adds k (sequence b.items) live₁ own n live₂ own₁ n₁ →
     Adds k (command c) live own n live₂ own₁ n₁
 adds_while k n n₁ c e b live live₁ live₂ own own₁ is add f =
     subst (λ x. Adds k x live own n live₂ own₁ n₁) (sym (ap command is ∙ command_While e b))
-    (joined_twice live (reads (phrase e)) (all_reads (sequence b.items)) live₁ live₂ add f.0, f.1, f.2)
+    (joined_twice live (reads (expression e)) (all_reads (sequence b.items)) live₁ live₂ add f.0, f.1, f.2)
 
 -- A location that was in a set is put back after a walk without it.
 pub put_back : (a r b d : Locations) (k : ℕ) → a k ≡ true → b ≡ joined (with_bit a k false) r →
@@ -133,7 +137,7 @@ found_there a r b k e = ap (λ x. x k) e ∙ ap (λ x. x || r k) (bit_same a k f
 -- A walk over a letvar has gone over its initial value and its body, and has noted it.
 pub adds_letvar : (k n n₁ : ℕ) (c : Cmd) (e : Ex) (b : Vec Cmd Global)
     (live live₁ live₂ live₃ live₄ own own₁ own₂ : Locations) (r : Bool) →
-    c ≡ Letvar e b → live₁ ≡ joined live (reads (phrase e)) → live₂ ≡ with_bit live₁ k false →
+    c ≡ view.Letvar e b → live₁ ≡ joined live (reads (expression e)) → live₂ ≡ with_bit live₁ k false →
     Adds (k + 1) (sequence b.items) live₂ own (n + 1) live₃ own₁ n₁ → r ≡ live₃ k → own₂ ≡ with_bit own₁ n r →
     (live₃ ≡ joined (with_bit live₁ k false) (all_reads (sequence b.items)) → live₄ ≡ joined live₁
     (all_reads (sequence b.items))) →
@@ -142,7 +146,7 @@ adds_letvar k n n₁ c e b live live₁ live₂ live₃ live₄ own own₁ own�
     let d = sequence b.items in
     let inner : live₃ ≡ joined (with_bit live₁ k false) (all_reads d) = f.0 ∙ ap (λ x. joined x (all_reads d)) out in
     subst (λ x. Adds k x live own n live₄ own₂ n₁) (sym (ap command is ∙ command_Letvar e b)) (
-      joined_twice live (reads (phrase e)) (all_reads d) live₁ live₄ add (back inner),
+      joined_twice live (reads (expression e)) (all_reads d) live₁ live₄ add (back inner),
       note ∙ ap (with_bit own₁ n) (found ∙ found_there live₁ (all_reads d) live₃ k inner)
           ∙ ap (λ o. with_bit o n (all_reads d k)) f.1,
       omega (arith, f.2),
@@ -171,54 +175,54 @@ adds_end k n cs i live own le =
 
 -- A walk notes no number before the commands' own.
 noted_below : (c : Command) (k n i : ℕ) (own : Locations) → i < n → noted k n c own i ≡ own i
-noted_below Nothing k n i own lt = refl
-noted_below (Put l s e) k n i own lt = refl
-noted_below (Then a b) k n i own lt =
+noted_below Skip k n i own lt = refl
+noted_below (Assign l s e) k n i own lt = refl
+noted_below (Sequence a b) k n i own lt =
     noted_below b k (n + letvars a) i (noted k n a own) (omega (arith, lt)) ∙ noted_below a k n i own lt
-noted_below (Choose e a b) k n i own lt =
+noted_below (If e a b) k n i own lt =
     noted_below b k (n + letvars a) i (noted k n a own) (omega (arith, lt)) ∙ noted_below a k n i own lt
-noted_below (Repeat e c) k n i own lt = noted_below c k n i own lt
-noted_below (Allocate e c) k n i own lt =
+noted_below (While e c) k n i own lt = noted_below c k n i own lt
+noted_below (Letvar e c) k n i own lt =
     bit_other (noted (k + 1) (n + 1) c own) n (all_reads c k) i (λ is. absurd (omega (arith, is, lt)))
     ∙ noted_below c (k + 1) (n + 1) i own (omega (arith, lt))
 
 -- What tells of commands hangs on their own numbers alone.
 tells_same : (c : Command) (k n : ℕ) (own other : Locations) →
     ((i : ℕ) → n ≤ i → i < n + letvars c → other i ≡ own i) → Tells own k n c → Tells other k n c
-tells_same Nothing k n own other h t = tt
-tells_same (Put l s e) k n own other h t = tt
-tells_same (Then a b) k n own other h t = (
+tells_same Skip k n own other h t = tt
+tells_same (Assign l s e) k n own other h t = tt
+tells_same (Sequence a b) k n own other h t = (
   tells_same a k n own other (λ i le lt. h i le (omega (arith, lt))) t.0,
   tells_same b k (n + letvars a) own other (λ i le lt. h i (omega (arith, le)) (omega (arith, lt))) t.1,
 )
-tells_same (Choose e a b) k n own other h t = (
+tells_same (If e a b) k n own other h t = (
   tells_same a k n own other (λ i le lt. h i le (omega (arith, lt))) t.0,
   tells_same b k (n + letvars a) own other (λ i le lt. h i (omega (arith, le)) (omega (arith, lt))) t.1,
 )
-tells_same (Repeat e c) k n own other h t = tells_same c k n own other h t
-tells_same (Allocate e c) k n own other h t = (
+tells_same (While e c) k n own other h t = tells_same c k n own other h t
+tells_same (Letvar e c) k n own other h t = (
   h n (omega arith) (omega arith) ∙ t.0,
   tells_same c (k + 1) (n + 1) own other (λ i le lt. h i (omega (arith, le)) (omega (arith, lt))) t.1,
 )
 
 -- What is noted of commands tells of them.
 noted_tells : (c : Command) (k n : ℕ) (own : Locations) → Tells (noted k n c own) k n c
-noted_tells Nothing k n own = tt
-noted_tells (Put l s e) k n own = tt
-noted_tells (Then a b) k n own =
+noted_tells Skip k n own = tt
+noted_tells (Assign l s e) k n own = tt
+noted_tells (Sequence a b) k n own =
     let first = noted k n a own in (
       tells_same a k n first (noted k (n + letvars a) b first)
           (λ i le lt. noted_below b k (n + letvars a) i first lt) (noted_tells a k n own),
       noted_tells b k (n + letvars a) first,
     )
-noted_tells (Choose e a b) k n own =
+noted_tells (If e a b) k n own =
     let first = noted k n a own in (
       tells_same a k n first (noted k (n + letvars a) b first)
           (λ i le lt. noted_below b k (n + letvars a) i first lt) (noted_tells a k n own),
       noted_tells b k (n + letvars a) first,
     )
-noted_tells (Repeat e c) k n own = noted_tells c k n own
-noted_tells (Allocate e c) k n own =
+noted_tells (While e c) k n own = noted_tells c k n own
+noted_tells (Letvar e c) k n own =
     let inner = noted (k + 1) (n + 1) c own in (
       bit_same inner n (all_reads c k),
       tells_same c (k + 1) (n + 1) inner (with_bit inner n (all_reads c k))
@@ -227,11 +231,11 @@ noted_tells (Allocate e c) k n own =
     )
 
 -- A loop's body, once its letvars are noted.
-pub still_fits_noted : (k : ℕ) (cs ds : List Cmd) (own own' : Locations) → Fits k (sequence cs) →
+pub kept_in_loop_fits_noted : (k : ℕ) (cs ds : List Cmd) (own own' : Locations) → Fits k (sequence cs) →
     letvars (sequence cs) ≤ 1024 →
-    ds ≡ cs → own' ≡ noted k 0 (sequence ds) own → StillFits own' k 0 (sequence ds)
-still_fits_noted k cs ds own own' f few e note =
-    subst (λ o. StillFits o k 0 (sequence ds)) (sym note) (
+    ds ≡ cs → own' ≡ noted k 0 (sequence ds) own → KeptInLoopFits own' k 0 (sequence ds)
+kept_in_loop_fits_noted k cs ds own own' f few e note =
+    subst (λ o. KeptInLoopFits o k 0 (sequence ds)) (sym note) (
       of_list (Fits k) cs ds e f,
       noted_tells (sequence ds) k 0 own,
       omega
@@ -239,41 +243,42 @@ still_fits_noted k cs ds own own' f few e note =
     )
 
 -- The first of the commands from a place on is noted and within the limits.
-pub still_fits_one : (own : Locations) (k n : ℕ) (cs : List Cmd) (i : ℕ) (c : Cmd) → i < length cs →
+pub kept_in_loop_fits_one : (own : Locations) (k n : ℕ) (cs : List Cmd) (i : ℕ) (c : Cmd) → i < length cs →
     c ≡ get_or cs i c →
-    StillFits own k n (sequence (drop i cs)) → StillFits own k n (command c)
-still_fits_one own k n cs i c lt is f =
-    let g = from_place (StillFits own k n) cs i c lt is f in
+    KeptInLoopFits own k n (sequence (drop i cs)) → KeptInLoopFits own k n (command c)
+kept_in_loop_fits_one own k n cs i c lt is f =
+    let g = from_place (KeptInLoopFits own k n) cs i c lt is f in
     (g.0.0, g.1.0, omega (arith, g.2))
 
 -- Those behind it are noted and within the limits.
-pub still_fits_rest : (own : Locations) (k n n' : ℕ) (cs : List Cmd) (i : ℕ) (c : Cmd) → i < length cs →
-    c ≡ get_or cs i c → n' ≡ n + letvars (command c) → StillFits own k n (sequence (drop i cs)) →
-    StillFits own k n' (sequence (drop (i + 1) cs))
-still_fits_rest own k n n' cs i c lt is e f =
-    let g = from_place (StillFits own k n) cs i c lt is f in
+pub kept_in_loop_fits_rest : (own : Locations) (k n n' : ℕ) (cs : List Cmd) (i : ℕ) (c : Cmd) → i < length cs →
+    c ≡ get_or cs i c → n' ≡ n + letvars (command c) → KeptInLoopFits own k n (sequence (drop i cs)) →
+    KeptInLoopFits own k n' (sequence (drop (i + 1) cs))
+kept_in_loop_fits_rest own k n n' cs i c lt is e f =
+    let g = from_place (KeptInLoopFits own k n) cs i c lt is f in
     (g.0.1, subst (λ m. Tells own k m (sequence (drop (i + 1) cs))) (sym e) g.1.1, omega (arith, g.2, e))
 
 -- The branches of an `if` are noted and within the limits.
-pub still_fits_if : (own : Locations) (k n : ℕ) (c : Cmd) (e : Ex) (y z : Vec Cmd Global) → c ≡ If e y z →
-    StillFits own k n (command c) →
-    StillFits own k n (sequence y.items) × StillFits own k (n + letvars (sequence y.items)) (sequence z.items)
-still_fits_if own k n c e y z is f =
-    let g = subst (StillFits own k n) (ap command is ∙ command_If e y z) f in
+pub kept_in_loop_fits_if : (own : Locations) (k n : ℕ) (c : Cmd) (e : Ex) (y z : Vec Cmd Global) → c ≡ view.If e y z →
+    KeptInLoopFits own k n (command c) →
+    KeptInLoopFits own k n (sequence y.items) × KeptInLoopFits own k (n + letvars (sequence y.items)) (sequence z.items)
+kept_in_loop_fits_if own k n c e y z is f =
+    let g = subst (KeptInLoopFits own k n) (ap command is ∙ command_If e y z) f in
     ((g.0.1, g.1.0, omega (arith, g.2)), (g.0.2, g.1.1, omega (arith, g.2)))
 
 -- The body of a loop is noted and within the limits.
-pub still_fits_while : (own : Locations) (k n : ℕ) (c : Cmd) (e : Ex) (b : Vec Cmd Global) → c ≡ While e b →
-    StillFits own k n (command c) → StillFits own k n (sequence b.items)
-still_fits_while own k n c e b is f =
-    let g = subst (StillFits own k n) (ap command is ∙ command_While e b) f in
+pub kept_in_loop_fits_while : (own : Locations) (k n : ℕ) (c : Cmd) (e : Ex) (b : Vec Cmd Global) → c ≡ view.While e b →
+    KeptInLoopFits own k n (command c) → KeptInLoopFits own k n (sequence b.items)
+kept_in_loop_fits_while own k n c e b is f =
+    let g = subst (KeptInLoopFits own k n) (ap command is ∙ command_While e b) f in
     (g.0.1, g.1, g.2)
 
 -- A letvar's location, number and body are noted and within the limits.
-pub still_fits_letvar : (own : Locations) (k n : ℕ) (c : Cmd) (e : Ex) (b : Vec Cmd Global) → c ≡ Letvar e b →
-    StillFits own k n (command c) →
-    (k < 1024) × (n < 1024) × (own n ≡ all_reads (sequence b.items) k) × StillFits own (k + 1) (n + 1)
+pub kept_in_loop_fits_letvar : (own : Locations) (k n : ℕ) (c : Cmd) (e : Ex) (b : Vec Cmd Global) → c
+    ≡ view.Letvar e b →
+    KeptInLoopFits own k n (command c) →
+    (k < 1024) × (n < 1024) × (own n ≡ all_reads (sequence b.items) k) × KeptInLoopFits own (k + 1) (n + 1)
     (sequence b.items)
-still_fits_letvar own k n c e b is f =
-    let g = subst (StillFits own k n) (ap command is ∙ command_Letvar e b) f in
+kept_in_loop_fits_letvar own k n c e b is f =
+    let g = subst (KeptInLoopFits own k n) (ap command is ∙ command_Letvar e b) f in
     (g.0.0, omega (arith, g.2), g.1.0, (g.0.2, g.1.1, omega (arith, g.2)))

@@ -6,26 +6,26 @@ use Rattle.std.specs.List.{All}
 use Rattle.std.specs.Prelude.{slice_range}
 use Rattle.vsi_scope.specs.declared.program.Ex.{Ex}
 use Rattle.vsi_scope.specs.declared.program.Cmd.{Cmd}
-use Rattle.vsi_scope.specs.declared.program.Cmd.TheViews.{If, While, Letvar}
+use Rattle.vsi_scope.specs.declared.program.Cmd.TheViews as view
 use Rattle.vsi_scope.specs.declared.resolved.Entry.{Entry}
-use Rattle.vsi_scope.specs.Phrase.{Command, Nothing, Put, Then, Choose, Repeat, Allocate, letvars}
-use Rattle.vsi_scope.specs.View.{phrase, command, sequence}
+use Rattle.vsi_scope.specs.Language.{Command, Skip, Assign, Sequence, If, While, Letvar, letvars}
+use Rattle.vsi_scope.specs.View.{expression, command, sequence}
 use Rattle.vsi_opt.specs.Folding.{folded, truth_of}
 use Rattle.vsi_opt.specs.Remaining.{may_be_true, may_be_false, list_if, remaining, HasEntries, Picks, PicksIf}
 use Rattle.vsi_scope.proofs.Views.{command_If, command_While, command_Letvar}
 
 -- The letvars of an `if` are those of its branches.
-pub letvars_if : (c : Cmd) (e : Ex) (y n : Vec Cmd Global) → c ≡ If e y n →
+pub letvars_if : (c : Cmd) (e : Ex) (y n : Vec Cmd Global) → c ≡ view.If e y n →
     letvars (command c) ≡ letvars (sequence y.items) + letvars (sequence n.items)
 letvars_if c e y n is = ap (λ x. letvars (command x)) is ∙ ap letvars (command_If e y n)
 
 -- The letvars of a loop are those of its body.
-pub letvars_while : (c : Cmd) (e : Ex) (b : Vec Cmd Global) → c ≡ While e b →
+pub letvars_while : (c : Cmd) (e : Ex) (b : Vec Cmd Global) → c ≡ view.While e b →
     letvars (command c) ≡ letvars (sequence b.items)
 letvars_while c e b is = ap (λ x. letvars (command x)) is ∙ ap letvars (command_While e b)
 
 -- A letvar is one more than those of its body.
-pub letvars_letvar : (c : Cmd) (e : Ex) (b : Vec Cmd Global) → c ≡ Letvar e b →
+pub letvars_letvar : (c : Cmd) (e : Ex) (b : Vec Cmd Global) → c ≡ view.Letvar e b →
     letvars (command c) ≡ letvars (sequence b.items) + 1
 letvars_letvar c e b is = ap (λ x. letvars (command x)) is ∙ ap letvars (command_Letvar e b)
 
@@ -69,8 +69,8 @@ picks_end cs i n xs le = ap (λ l. xs ++ remaining (sequence l) n) (drop_all i c
 
 -- A walk over an `if` is one over each of its branches.
 pub picks_if : (c : Cmd) (e : Ex) (y z : Vec Cmd Global) (ys zs : List Cmd) (b d : Bool) (n n₁ n₂ : ℕ)
-    (xs xs₁ xs₂ : List ℕ) → c ≡ If e y z → ys ≡ y.items → zs ≡ z.items →
-    b ≡ may_be_true (truth_of (folded (phrase e))) → d ≡ may_be_false (truth_of (folded (phrase e))) →
+    (xs xs₁ xs₂ : List ℕ) → c ≡ view.If e y z → ys ≡ y.items → zs ≡ z.items →
+    b ≡ may_be_true (truth_of (folded (expression e))) → d ≡ may_be_false (truth_of (folded (expression e))) →
     PicksIf b (sequence ys) n n₁ xs xs₁ → PicksIf d (sequence zs) n₁ n₂ xs₁ xs₂ → Picks (command c) n n₂ xs xs₂
 picks_if c e y z ys zs b d n n₁ n₂ xs xs₁ xs₂ is iy iz ib id p q =
     subst (λ x. Picks x n n₂ xs xs₂) (sym (ap command is ∙ command_If e y z)) (
@@ -85,10 +85,10 @@ picks_if c e y z ys zs b d n n₁ n₂ xs xs₁ xs₂ is iy iz ib id p q =
     )
   where
     left : List ℕ
-    left = list_if (may_be_true (truth_of (folded (phrase e)))) (remaining (sequence y.items) n)
+    left = list_if (may_be_true (truth_of (folded (expression e)))) (remaining (sequence y.items) n)
 
     right : List ℕ
-    right = list_if (may_be_false (truth_of (folded (phrase e))))
+    right = list_if (may_be_false (truth_of (folded (expression e))))
         (remaining (sequence z.items) (n + letvars (sequence y.items)))
 
     first : n₁ ≡ n + letvars (sequence y.items)
@@ -100,7 +100,7 @@ picks_if c e y z ys zs b d n n₁ n₂ xs xs₁ xs₂ is iy iz ib id p q =
 
 -- A walk over a loop is one over its body.
 pub picks_while : (c : Cmd) (e : Ex) (b : Vec Cmd Global) (bs : List Cmd) (t : Bool) (n n' : ℕ) (xs xs' : List ℕ) →
-    c ≡ While e b → bs ≡ b.items → t ≡ may_be_true (truth_of (folded (phrase e))) →
+    c ≡ view.While e b → bs ≡ b.items → t ≡ may_be_true (truth_of (folded (expression e))) →
     PicksIf t (sequence bs) n n' xs xs' → Picks (command c) n n' xs xs'
 picks_while c e b bs t n n' xs xs' is ib it p =
     subst (λ x. Picks x n n' xs xs') (sym (ap command is ∙ command_While e b)) (
@@ -112,7 +112,7 @@ picks_while c e b bs t n n' xs xs' is ib it p =
 
 -- A walk over a letvar adds its own number, and is then one over its body.
 pub picks_letvar : (c : Cmd) (e : Ex) (b : Vec Cmd Global) (bs : List Cmd) (n n' : ℕ) (xs xs₁ xs' : List ℕ) →
-    c ≡ Letvar e b → bs ≡ b.items → xs₁ ≡ xs ++ n ∷ [] → Picks (sequence bs) (n + 1) n' xs₁ xs' →
+    c ≡ view.Letvar e b → bs ≡ b.items → xs₁ ≡ xs ++ n ∷ [] → Picks (sequence bs) (n + 1) n' xs₁ xs' →
     Picks (command c) n n' xs xs'
 picks_letvar c e b bs n n' xs xs₁ xs' is ib push p =
     subst (λ x. Picks x n n' xs xs') (sym (ap command is ∙ command_Letvar e b)) (
@@ -133,22 +133,22 @@ list_if_all P false xs h = λ k d lt. absurd (omega (arith, lt))
 
 -- The numbers of the letvars that remain are those of the command's letvars.
 pub remaining_below : (c : Command) (n k : ℕ) → n + letvars c ≤ k → All (λ i. i < k) (remaining c n)
-remaining_below Nothing n k le = λ i d lt. absurd (omega (arith, lt))
-remaining_below (Put l s e) n k le = λ i d lt. absurd (omega (arith, lt))
-remaining_below (Then a b) n k le =
+remaining_below Skip n k le = λ i d lt. absurd (omega (arith, lt))
+remaining_below (Assign l s e) n k le = λ i d lt. absurd (omega (arith, lt))
+remaining_below (Sequence a b) n k le =
     All-append (λ i. i < k) (remaining a n) (remaining b (n + letvars a))
     (remaining_below a n k (omega (arith, le))) (remaining_below b (n + letvars a) k (omega (arith, le)))
-remaining_below (Choose e a b) n k le =
+remaining_below (If e a b) n k le =
     let t = truth_of (folded e) in
     All-append (λ i. i < k) (list_if (may_be_true t) (remaining a n))
     (list_if (may_be_false t) (remaining b (n + letvars a)))
     (list_if_all (λ i. i < k) (may_be_true t) (remaining a n) (remaining_below a n k (omega (arith, le))))
     (list_if_all (λ i. i < k) (may_be_false t) (remaining b (n + letvars a))
     (remaining_below b (n + letvars a) k (omega (arith, le))))
-remaining_below (Repeat e c) n k le =
+remaining_below (While e c) n k le =
     list_if_all (λ i. i < k) (may_be_true (truth_of (folded e))) (remaining c n)
     (remaining_below c n k (omega (arith, le)))
-remaining_below (Allocate e c) n k le =
+remaining_below (Letvar e c) n k le =
     All-cons (λ i. i < k) n (remaining c (n + 1)) (omega (arith, le))
     (remaining_below c (n + 1) k (omega (arith, le)))
 

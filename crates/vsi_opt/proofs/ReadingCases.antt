@@ -5,11 +5,11 @@ use Rattle.vsi_syntax.specs.declared.token.Span.{Span}
 use Rattle.vsi_scope.specs.declared.program.Ex.{Ex}
 use Rattle.vsi_scope.specs.declared.program.Cmd.{Cmd}
 use Rattle.vsi_scope.specs.declared.program.Cmd.TheViews.{If, While, Letvar}
-use Rattle.vsi_scope.specs.Phrase.{Contents, Nothing, HasLocations, letvars}
-use Rattle.vsi_scope.specs.View.{phrase, command, sequence}
+use Rattle.vsi_scope.specs.Language.{Location, Skip, HasLocations, letvars}
+use Rattle.vsi_scope.specs.View.{expression, command, sequence}
 use Rattle.vsi_scope.proofs.Views.{command_If, command_While, command_Letvar}
 use Rattle.vsi_opt.specs.Folding.{append}
-use Rattle.vsi_opt.specs.Liveness.{Locations, joined, with_bit, reads, all_reads, still}
+use Rattle.vsi_opt.specs.Liveness.{Locations, joined, with_bit, reads, all_reads, kept_in_loop}
 use Rattle.vsi_opt.specs.Ranges.{Fits}
 use Rattle.vsi_opt.proofs.Sequences.{append_append, append_nothing}
 
@@ -35,11 +35,11 @@ pub joined_joined : (a b c : Locations) → joined (joined a b) c ≡ joined a (
 joined_joined a b c = λ i l. or_or (a l) (b l) (c l) i
 
 -- The empty command reads nothing more.
-pub joined_nothing : (a : Locations) → joined a (all_reads Nothing) ≡ a
+pub joined_nothing : (a : Locations) → joined a (all_reads Skip) ≡ a
 joined_nothing a = λ i l. or_false (a l) i
 
 -- What a location alone reads is put in.
-pub joined_one : (a : Locations) (k : ℕ) (s : Span) → joined a (reads (Contents k s)) ≡ with_bit a k true
+pub joined_one : (a : Locations) (k : ℕ) (s : Span) → joined a (reads (Location k s)) ≡ with_bit a k true
 joined_one a k s = λ i l. or_bit (a l) (eqb l k) i
 
 -- Two sets added one after the other.
@@ -54,17 +54,17 @@ joined_thrice o a b d n₁ n₂ n₃ e f g = joined_twice n₁ b d n₂ n₃ f g
 
 -- The parts of an `if` are within the limits.
 pub fits_if : (k : ℕ) (c : Cmd) (e : Ex) (y n : Vec Cmd Global) → c ≡ If e y n → Fits k (command c) →
-    HasLocations 1024 (phrase e) × Fits k (sequence y.items) × Fits k (sequence n.items)
+    HasLocations 1024 (expression e) × Fits k (sequence y.items) × Fits k (sequence n.items)
 fits_if k c e y n is f = subst (Fits k) (ap command is ∙ command_If e y n) f
 
 -- The parts of a loop are within the limits.
 pub fits_while : (k : ℕ) (c : Cmd) (e : Ex) (b : Vec Cmd Global) → c ≡ While e b → Fits k (command c) →
-    HasLocations 1024 (phrase e) × Fits k (sequence b.items) × (letvars (sequence b.items) ≤ 1024)
+    HasLocations 1024 (expression e) × Fits k (sequence b.items) × (letvars (sequence b.items) ≤ 1024)
 fits_while k c e b is f = subst (Fits k) (ap command is ∙ command_While e b) f
 
 -- A letvar and its parts are within the limits.
 pub fits_letvar : (k : ℕ) (c : Cmd) (e : Ex) (b : Vec Cmd Global) → c ≡ Letvar e b → Fits k (command c) →
-    (k < 1024) × HasLocations 1024 (phrase e) × Fits (k + 1) (sequence b.items)
+    (k < 1024) × HasLocations 1024 (expression e) × Fits (k + 1) (sequence b.items)
 fits_letvar k c e b is f = subst (Fits k) (ap command is ∙ command_Letvar e b) f
 
 -- A list of commands equal to one within the limits is within them.
@@ -88,18 +88,20 @@ fits_at k cs i c lt is f =
     fits_drop (c ∷ cs) (suc i) f = fits_drop cs i f.1
 
 -- Removal in a loop goes over one command more.
-pub still_more : (k : ℕ) (live : Locations) (cs out out' : List Cmd) (i : ℕ) (c : Cmd) → i < length cs →
-    c ≡ get_or cs i c → sequence out' ≡ append (sequence out) (still k (command c) live) → append (sequence out')
-    (still k (sequence (drop (i + 1) cs)) live) ≡ append (sequence out) (still k (sequence (drop i cs)) live)
-still_more k live cs out out' i c lt is e =
-    ap (λ x. append x (still k (sequence (drop (i + 1) cs)) live)) e
-    ∙ append_append (sequence out) (still k (command c) live) (still k (sequence (drop (i + 1) cs)) live)
-    ∙ ap (λ x. append (sequence out) (append (still k (command x) live)
-    (still k (sequence (drop (i + 1) cs)) live))) is
-    ∙ ap (λ l. append (sequence out) (still k (sequence l) live)) (sym (drop_more cs i c lt))
+pub kept_in_loop_more : (k : ℕ) (live : Locations) (cs out out' : List Cmd) (i : ℕ) (c : Cmd) → i < length cs →
+    c ≡ get_or cs i c → sequence out' ≡ append (sequence out) (kept_in_loop k (command c) live) → append (sequence out')
+    (kept_in_loop k (sequence (drop (i + 1) cs)) live)
+    ≡ append (sequence out) (kept_in_loop k (sequence (drop i cs)) live)
+kept_in_loop_more k live cs out out' i c lt is e =
+    ap (λ x. append x (kept_in_loop k (sequence (drop (i + 1) cs)) live)) e
+    ∙ append_append (sequence out) (kept_in_loop k (command c) live) (kept_in_loop k (sequence (drop (i + 1) cs)) live)
+    ∙ ap (λ x. append (sequence out) (append (kept_in_loop k (command x) live)
+    (kept_in_loop k (sequence (drop (i + 1) cs)) live))) is
+    ∙ ap (λ l. append (sequence out) (kept_in_loop k (sequence l) live)) (sym (drop_more cs i c lt))
 
 -- At the end of a list nothing more is added.
-pub still_end : (k : ℕ) (live : Locations) (cs out : List Cmd) (i : ℕ) → length cs ≤ i →
-    append (sequence out) (still k (sequence (drop i cs)) live) ≡ sequence out
-still_end k live cs out i le = ap (λ l. append (sequence out) (still k (sequence l) live)) (drop_all i cs le)
+pub kept_in_loop_end : (k : ℕ) (live : Locations) (cs out : List Cmd) (i : ℕ) → length cs ≤ i →
+    append (sequence out) (kept_in_loop k (sequence (drop i cs)) live) ≡ sequence out
+kept_in_loop_end k live cs out i le = ap (λ l. append (sequence out) (kept_in_loop k (sequence l) live))
+    (drop_all i cs le)
     ∙ append_nothing out

@@ -3,19 +3,19 @@ use Rattle.std.proofs.Common.{◌≡◌, ℕ, ◌+◌, ◌≤◌, Bool, true, fa
 use Rattle.std.proofs.lemmas.List.{length-map}
 use Rattle.vsi_scope.specs.declared.program.Cmd.{Cmd}
 use Rattle.vsi_scope.specs.declared.resolved.Entry.{Entry}
-use Rattle.vsi_scope.specs.Phrase.{Phrase, Command, Nothing, Put, Then, Choose, Repeat, Allocate, letvars, HasPlaces, size, nesting, depth}
-use Rattle.vsi_scope.specs.Program.{Source, IsResolved, source}
+use Rattle.vsi_scope.specs.Language.{Expression, Command, Skip, Assign, Sequence, If, While, Letvar, letvars, HasPlaces, size, nesting, depth}
+use Rattle.vsi_scope.specs.Program.{Resolved, IsResolved, resolved_of}
 use Rattle.vsi_scope.specs.View.{sequence}
 use Rattle.vsi_opt.specs.Folding.{folded, truth_of, branch, loop, fold}
 use Rattle.vsi_opt.specs.Folded.{IsFolded}
 use Rattle.vsi_opt.specs.Optimised.{globals_alone, optimised, RunsAlike}
 use Rattle.vsi_opt.specs.Remaining.{may_be_true, may_be_false, list_if, remaining, HasEntries, Remains, IsRemainder}
 use Rattle.vsi_opt.proofs.Remains.{optimised_remains}
-use Rattle.vsi_opt.proofs.Kept.{append_letvars, needed_letvars, fold_letvars, not_larger, nothing_to_fold, places_kept}
+use Rattle.vsi_opt.proofs.Kept.{append_letvars, kept_live_letvars, fold_letvars, not_larger, nothing_to_fold, places_kept}
 use Rattle.vsi_opt.proofs.LiveRuns.{evaluates_same}
 
 -- A folded choice has as many letvars as numbers remain of its branches.
-branch_count : (t : Option Bool) (e : Phrase) (a b : Command) (xs ys : List ℕ) →
+branch_count : (t : Option Bool) (e : Expression) (a b : Command) (xs ys : List ℕ) →
     length xs ≡ letvars a → length ys ≡ letvars b →
     length (list_if (may_be_true t) xs ++ list_if (may_be_false t) ys) ≡ letvars (branch t e a b)
 branch_count (Some true) e a b xs ys p q = omega (arith, length-append xs [], p)
@@ -23,7 +23,7 @@ branch_count (Some false) e a b xs ys p q = q
 branch_count None e a b xs ys p q = omega (arith, length-append xs ys, p, q)
 
 -- A folded loop has as many letvars as numbers remain of its body.
-loop_count : (t : Option Bool) (e : Phrase) (c : Command) (xs : List ℕ) →
+loop_count : (t : Option Bool) (e : Expression) (c : Command) (xs : List ℕ) →
     length xs ≡ letvars c → length (list_if (may_be_true t) xs) ≡ letvars (loop t e c)
 loop_count (Some true) e c xs p = omega (arith, p)
 loop_count (Some false) e c xs p = refl
@@ -31,18 +31,18 @@ loop_count None e c xs p = omega (arith, p)
 
 -- Folding leaves as many letvars as numbers remain.
 remaining_count : (c : Command) (n : ℕ) → length (remaining c n) ≡ letvars (fold c)
-remaining_count Nothing n = refl
-remaining_count (Put l s e) n = refl
-remaining_count (Then a b) n =
+remaining_count Skip n = refl
+remaining_count (Assign l s e) n = refl
+remaining_count (Sequence a b) n =
     let joins = length-append (remaining a n) (remaining b (n + letvars a)) in
     let parts = append_letvars (fold a) (fold b) in
     omega (arith, joins, parts, remaining_count a n, remaining_count b (n + letvars a))
-remaining_count (Choose e a b) n =
+remaining_count (If e a b) n =
     branch_count (truth_of (folded e)) (folded e) (fold a) (fold b) (remaining a n) (remaining b (n + letvars a))
     (remaining_count a n) (remaining_count b (n + letvars a))
-remaining_count (Repeat e c) n =
+remaining_count (While e c) n =
     loop_count (truth_of (folded e)) (folded e) (fold c) (remaining c n) (remaining_count c n)
-remaining_count (Allocate e c) n = omega (arith, remaining_count c (n + 1))
+remaining_count (Letvar e c) n = omega (arith, remaining_count c (n + 1))
 
 -- The entries that remain are as many as the optimised body's letvars.
 entries_count : (xs ys : List Entry) (c : Command) (g : ℕ) → HasEntries ys xs (remaining c 0) →
@@ -52,16 +52,16 @@ entries_count xs ys c g has =
     ∙ ap length has
     ∙ length-map (remaining c 0) (slice_get xs)
     ∙ remaining_count c 0
-    ∙ sym (needed_letvars (fold c) g g (globals_alone g))
+    ∙ sym (kept_live_letvars (fold c) g g (globals_alone g))
 
 -- The optimised body has no more letvars.
 optimised_letvars : (c : Command) (g : ℕ) → letvars (optimised g c) ≤ letvars c
-optimised_letvars c g = omega (arith, needed_letvars (fold c) g g (globals_alone g), fold_letvars c)
+optimised_letvars c g = omega (arith, kept_live_letvars (fold c) g g (globals_alone g), fold_letvars c)
 
 -- A program with the optimised body and the entries that remain keeps what a resolved program keeps.
-pub rebuilt_resolved : (p : Source) (ys : List Entry) (cs : List Cmd) → IsResolved p →
+pub rebuilt_resolved : (p : Resolved) (ys : List Entry) (cs : List Cmd) → IsResolved p →
     HasEntries ys p.letvars (remaining (sequence p.body) 0) →
-    sequence cs ≡ optimised (length p.globals) (sequence p.body) → IsResolved (source p.globals ys cs)
+    sequence cs ≡ optimised (length p.globals) (sequence p.body) → IsResolved (resolved_of p.globals ys cs)
 rebuilt_resolved p ys cs r has is =
     let g = length p.globals in
     let c = sequence p.body in
@@ -79,32 +79,32 @@ rebuilt_resolved p ys cs r has is =
     }
 
 -- The rebuilt program has the optimised body.
-pub rebuilt_body : (p r : Source) (ys : List Entry) (cs : List Cmd) → r ≡ source p.globals ys cs →
+pub rebuilt_body : (p r : Resolved) (ys : List Entry) (cs : List Cmd) → r ≡ resolved_of p.globals ys cs →
     sequence cs ≡ optimised (length p.globals) (sequence p.body) →
     sequence r.body ≡ optimised (length r.globals) (sequence p.body)
 rebuilt_body p r ys cs is body =
     subst (λ x. sequence x.body ≡ optimised (length x.globals) (sequence p.body)) (sym is) body
 
 -- A program with the optimised body does what the program does.
-pub rebuilt_runs : (p r : Source) → sequence r.body ≡ optimised (length r.globals) (sequence p.body) →
+pub rebuilt_runs : (p r : Resolved) → sequence r.body ≡ optimised (length r.globals) (sequence p.body) →
     RunsAlike (length r.globals) (sequence r.body) (sequence p.body)
 rebuilt_runs p r is =
     let g = length r.globals in
     subst (λ x. RunsAlike g x (sequence p.body)) (sym is) (evaluates_same (sequence p.body) g)
 
 -- A program with the optimised body isn't larger.
-pub rebuilt_size : (p r : Source) → sequence r.body ≡ optimised (length r.globals) (sequence p.body) →
+pub rebuilt_size : (p r : Resolved) → sequence r.body ≡ optimised (length r.globals) (sequence p.body) →
     size (sequence r.body) ≤ size (sequence p.body)
 rebuilt_size p r is =
     subst (λ x. size x ≤ size (sequence p.body)) (sym is) ((not_larger (sequence p.body) (length r.globals)).0)
 
 -- In a program with the optimised body nothing is left to fold.
-pub rebuilt_folded : (p r : Source) → sequence r.body ≡ optimised (length r.globals) (sequence p.body) →
+pub rebuilt_folded : (p r : Resolved) → sequence r.body ≡ optimised (length r.globals) (sequence p.body) →
     IsFolded (sequence r.body)
 rebuilt_folded p r is = subst IsFolded (sym is) (nothing_to_fold (sequence p.body) (length r.globals))
 
 -- A program with the optimised body has what remains of the program's.
-pub rebuilt_remains : (p r : Source) → IsResolved p → r.globals ≡ p.globals →
+pub rebuilt_remains : (p r : Resolved) → IsResolved p → r.globals ≡ p.globals →
     sequence r.body ≡ optimised (length r.globals) (sequence p.body) → IsRemainder p r
 rebuilt_remains p r resolved same is =
     let g = length p.globals in

@@ -2,28 +2,28 @@
 use Rattle.std.proofs.Common.{◌≡◌, ℕ, ◌+◌, ◌<◌, ◌≤◌, List, [], ◌∷◌, ◌++◌, length, get_or, drop, refl, sym, ap, ◌∙◌}
 use Rattle.std.proofs.lemmas.List.{drop_more, drop_all}
 use Rattle.vsi_scope.specs.declared.program.Cmd.{Cmd}
-use Rattle.vsi_scope.specs.Phrase.{Command, Nothing, Put, Then, Choose, Repeat, Allocate}
+use Rattle.vsi_scope.specs.Language.{Command, Skip, Assign, Sequence, If, While, Letvar}
 use Rattle.vsi_scope.specs.View.{command, sequence}
 use Rattle.vsi_opt.specs.Folding.{one, append, fold}
 
 -- Three sequences joined, in either order.
 pub append_append : (a b c : Command) → append (append a b) c ≡ append a (append b c)
-append_append Nothing b c = refl
-append_append (Put l s e) b c = refl
-append_append (Then a d) b c = ap (Then a) (append_append d b c)
-append_append (Choose e a d) b c = refl
-append_append (Repeat e d) b c = refl
-append_append (Allocate e d) b c = refl
+append_append Skip b c = refl
+append_append (Assign l s e) b c = refl
+append_append (Sequence a d) b c = ap (Sequence a) (append_append d b c)
+append_append (If e a d) b c = refl
+append_append (While e d) b c = refl
+append_append (Letvar e d) b c = refl
 
 -- The empty sequence adds nothing.
-pub append_nothing : (cs : List Cmd) → append (sequence cs) Nothing ≡ sequence cs
+pub append_nothing : (cs : List Cmd) → append (sequence cs) Skip ≡ sequence cs
 append_nothing [] = refl
-append_nothing (c ∷ cs) = ap (Then (command c)) (append_nothing cs)
+append_nothing (c ∷ cs) = ap (Sequence (command c)) (append_nothing cs)
 
 -- A command pushed to a list stands at the end of its sequence.
 pub sequence_push : (cs : List Cmd) (c : Cmd) → sequence (cs ++ c ∷ []) ≡ append (sequence cs) (one (command c))
 sequence_push [] c = refl
-sequence_push (d ∷ cs) c = ap (Then (command d)) (sequence_push cs c)
+sequence_push (d ∷ cs) c = ap (Sequence (command d)) (sequence_push cs c)
 
 -- One command pushed.
 pub pushed : (cs cs' : List Cmd) (x : Cmd) (d : Command) → cs' ≡ cs ++ x ∷ [] → one (command x) ≡ d →

@@ -2,28 +2,28 @@
 --   k  the number of locations in scope
 --   n  the number of letvars of the loop that stand before the command.
 use Rattle.std.specs.Prelude.{◌≡◌, ℕ, ◌+◌, ◌≤◌}
-use Rattle.vsi_scope.specs.Phrase.{Command, Nothing, Put, Then, Choose, Repeat, Allocate, letvars}
+use Rattle.vsi_scope.specs.Language.{Command, Skip, Assign, Sequence, If, While, Letvar, letvars}
 use Rattle.vsi_opt.specs.Liveness.{Locations, joined, with_bit, all_reads}
 use Rattle.vsi_opt.specs.Ranges.{Fits, bits}
 use Rattle.vsi_opt.specs.declared.small_set.SmallSet.{SmallSet}
 
 -- A set of numbers in which it is noted of each letvar whether its scope reads its variable.
 abbrev pub noted : ℕ → ℕ → Command → Locations → Locations
-noted k n Nothing own = own
-noted k n (Put l s e) own = own
-noted k n (Then a b) own = noted k (n + letvars a) b (noted k n a own)
-noted k n (Choose e a b) own = noted k (n + letvars a) b (noted k n a own)
-noted k n (Repeat e c) own = noted k n c own
-noted k n (Allocate e c) own = with_bit (noted (k + 1) (n + 1) c own) n (all_reads c k)
+noted k n Skip own = own
+noted k n (Assign l s e) own = own
+noted k n (Sequence a b) own = noted k (n + letvars a) b (noted k n a own)
+noted k n (If e a b) own = noted k (n + letvars a) b (noted k n a own)
+noted k n (While e c) own = noted k n c own
+noted k n (Letvar e c) own = with_bit (noted (k + 1) (n + 1) c own) n (all_reads c k)
 
 -- A set of numbers tells of each letvar whether its scope reads its variable.
 abbrev pub Tells : Locations → ℕ → ℕ → Command → Type 0
-Tells own k n Nothing = Unit {0}
-Tells own k n (Put l s e) = Unit {0}
-Tells own k n (Then a b) = Tells own k n a × Tells own k (n + letvars a) b
-Tells own k n (Choose e a b) = Tells own k n a × Tells own k (n + letvars a) b
-Tells own k n (Repeat e c) = Tells own k n c
-Tells own k n (Allocate e c) = (own n ≡ all_reads c k) × Tells own (k + 1) (n + 1) c
+Tells own k n Skip = Unit {0}
+Tells own k n (Assign l s e) = Unit {0}
+Tells own k n (Sequence a b) = Tells own k n a × Tells own k (n + letvars a) b
+Tells own k n (If e a b) = Tells own k n a × Tells own k (n + letvars a) b
+Tells own k n (While e c) = Tells own k n c
+Tells own k n (Letvar e c) = (own n ≡ all_reads c k) × Tells own (k + 1) (n + 1) c
 
 -- The locations and numbers of a command are within the limits.
 abbrev pub AddFits : ℕ → ℕ → Command → Type 0
@@ -39,5 +39,5 @@ abbrev pub AddsTo : ℕ → Command → SmallSet → SmallSet → ℕ → SmallS
 AddsTo k c live own n live' own' n' = Adds k c (bits live) (bits own) n (bits live') (bits own') n'
 
 -- The locations and numbers of a command are within the limits, and its letvars are noted.
-abbrev pub StillFits : Locations → ℕ → ℕ → Command → Type 0
-StillFits own k n c = Fits k c × Tells own k n c × (n + letvars c ≤ 1024)
+abbrev pub KeptInLoopFits : Locations → ℕ → ℕ → Command → Type 0
+KeptInLoopFits own k n c = Fits k c × Tells own k n c × (n + letvars c ≤ 1024)

@@ -1,10 +1,10 @@
 -- The optimised body as a whole, and what it keeps.
 use Rattle.std.specs.Prelude.{◌≡◌, ℕ, ◌≤◌, nat_lt, length}
-use Rattle.vsi_scope.specs.Phrase.{Command, HasPlaces, size, nesting, depth}
+use Rattle.vsi_scope.specs.Language.{Command, HasPlaces, size, nesting, depth}
 use Rattle.vsi_scope.specs.Meaning.{Store, runs}
 use Rattle.vsi_opt.specs.Folding.{fold}
 use Rattle.vsi_opt.specs.Folded.{IsFolded}
-use Rattle.vsi_opt.specs.Liveness.{Locations, needed}
+use Rattle.vsi_opt.specs.Liveness.{Locations, kept_live}
 
 -- The globals, which are live at the end of a body.
 abbrev pub globals_alone : ℕ → Locations
@@ -12,7 +12,7 @@ globals_alone g l = nat_lt l g
 
 -- The optimised body of a program with g globals: folded, and then without its dead assignments.
 abbrev pub optimised : ℕ → Command → Command
-optimised g c = needed g g (fold c) (globals_alone g)
+optimised g c = kept_live g g (fold c) (globals_alone g)
 
 -- Two commands that from each store of g words, for each number of turns, give the same store or none.
 abbrev pub RunsAlike : ℕ → Command → Command → Type 0
@@ -22,7 +22,7 @@ RunsAlike g c d = (n : ℕ) (m : Store) → length m ≡ g → runs n c m ≡ ru
 abbrev pub EvaluatesSame : Type 0
 EvaluatesSame = (c : Command) (g : ℕ) → RunsAlike g (optimised g c) c
 
--- The optimised body isn't larger, nor deeper in expressions or letvars.
+-- The optimised body isn't larger, nor deeper, nor are its letvars nested deeper.
 abbrev pub NotLarger : Type 0
 NotLarger = (c : Command) (g : ℕ) →
     (size (optimised g c) ≤ size c) × (depth (optimised g c) ≤ depth c) × (nesting (optimised g c) ≤ nesting c)

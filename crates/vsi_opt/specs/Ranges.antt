@@ -1,17 +1,17 @@
 -- What a program within the limits keeps, and sets that are stored as bits.
 use Rattle.std.specs.Prelude.{ℕ, ◌+◌, ◌/◌, ◌%◌, ◌^◌, ◌<◌, ◌≤◌, ◌==◌, List, slice_index}
-use Rattle.vsi_scope.specs.Phrase.{Command, Nothing, Put, Then, Choose, Repeat, Allocate, HasLocations, letvars}
+use Rattle.vsi_scope.specs.Language.{Command, Skip, Assign, Sequence, If, While, Letvar, HasLocations, letvars}
 use Rattle.vsi_opt.specs.Liveness.{Locations}
 use Rattle.vsi_opt.specs.declared.small_set.SmallSet.{SmallSet}
 
 -- Every location is below 1,024, the letvars' own too, with k locations in scope, and no loop has more letvars.
 abbrev pub Fits : ℕ → Command → Type 0
-Fits k Nothing = Unit {0}
-Fits k (Put l s e) = (l < 1024) × HasLocations 1024 e
-Fits k (Then a b) = Fits k a × Fits k b
-Fits k (Choose e a b) = HasLocations 1024 e × Fits k a × Fits k b
-Fits k (Repeat e c) = HasLocations 1024 e × Fits k c × (letvars c ≤ 1024)
-Fits k (Allocate e c) = (k < 1024) × HasLocations 1024 e × Fits (k + 1) c
+Fits k Skip = Unit {0}
+Fits k (Assign l s e) = (l < 1024) × HasLocations 1024 e
+Fits k (Sequence a b) = Fits k a × Fits k b
+Fits k (If e a b) = HasLocations 1024 e × Fits k a × Fits k b
+Fits k (While e c) = HasLocations 1024 e × Fits k c × (letvars c ≤ 1024)
+Fits k (Letvar e c) = (k < 1024) × HasLocations 1024 e × Fits (k + 1) c
 
 -- The bits of 64-bit words.
 abbrev pub bit_of : List ℕ → Locations

@@ -5,9 +5,9 @@
 --   n  the number of letvars that stand before the command.
 use Rattle.std.specs.Prelude.{◌≡◌, ℕ, ◌+◌, ◌≤◌, Bool, true, false, not, ◌⊎◌, List, [], ◌∷◌, ◌++◌, map, length, Option, Some, None, slice_get, pos}
 use Rattle.vsi_scope.specs.declared.resolved.Entry.{Entry}
-use Rattle.vsi_scope.specs.Phrase.{Literal, Command, Nothing, Put, Then, Choose, Repeat, Allocate, letvars}
+use Rattle.vsi_scope.specs.Language.{Number, Command, Skip, Assign, Sequence, If, While, Letvar, letvars}
 use Rattle.vsi_opt.specs.Folding.{folded, truth_of, one, append}
-use Rattle.vsi_scope.specs.Program.{Source}
+use Rattle.vsi_scope.specs.Program.{Resolved}
 use Rattle.vsi_scope.specs.View.{sequence}
 use Rattle.vsi_opt.specs.Liveness.{Locations, with_bit, all_reads}
 use Rattle.vsi_opt.specs.Optimised.{globals_alone}
@@ -29,14 +29,14 @@ list_if false xs = []
 
 -- The numbers of the letvars that folding leaves of a command, in order.
 abbrev pub remaining : Command → ℕ → List ℕ
-remaining Nothing n = []
-remaining (Put l s e) n = []
-remaining (Then a b) n = remaining a n ++ remaining b (n + letvars a)
-remaining (Choose e a b) n =
+remaining Skip n = []
+remaining (Assign l s e) n = []
+remaining (Sequence a b) n = remaining a n ++ remaining b (n + letvars a)
+remaining (If e a b) n =
     list_if (may_be_true (truth_of (folded e))) (remaining a n)
     ++ list_if (may_be_false (truth_of (folded e))) (remaining b (n + letvars a))
-remaining (Repeat e c) n = list_if (may_be_true (truth_of (folded e))) (remaining c n)
-remaining (Allocate e c) n = n ∷ remaining c (n + 1)
+remaining (While e c) n = list_if (may_be_true (truth_of (folded e))) (remaining c n)
+remaining (Letvar e c) n = n ∷ remaining c (n + 1)
 
 -- A list has the entries that stand at these places in another, in this order.
 abbrev pub HasEntries : List Entry → List Entry → List ℕ → Type 0
@@ -52,36 +52,36 @@ PicksIf b c n n' xs xs' = (n' ≡ n + letvars c) × (xs' ≡ xs ++ list_if b (re
 
 -- An assignment remains only where its location may be assigned, and goes only where that isn't a global.
 abbrev pub AssignmentRemains : ℕ → Locations → ℕ → Command → Command → Type 0
-AssignmentRemains g w l c d = ((d ≡ one c) × (w l ≡ true)) ⊎ ((d ≡ Nothing) × (g ≤ l))
+AssignmentRemains g w l c d = ((d ≡ one c) × (w l ≡ true)) ⊎ ((d ≡ Skip) × (g ≤ l))
 
 -- A command d remains of a command, with the letvars of these numbers: each command is kept in its place with its
 -- expressions folded, but for assignments that go, `if`s on a literal, which leave a branch, and loops on literal 0;
 -- a letvar's variable may be assigned where an expression of its scope reads it.
 abbrev pub Remains : ℕ → Locations → ℕ → ℕ → Command → Command → List ℕ → Type 0
-Remains g w k n Nothing d ns = (d ≡ Nothing) × (ns ≡ [])
-Remains g w k n (Put l s e) d ns = AssignmentRemains g w l (Put l s (folded e)) d × (ns ≡ [])
-Remains g w k n (Then a b) d ns =
+Remains g w k n Skip d ns = (d ≡ Skip) × (ns ≡ [])
+Remains g w k n (Assign l s e) d ns = AssignmentRemains g w l (Assign l s (folded e)) d × (ns ≡ [])
+Remains g w k n (Sequence a b) d ns =
     (a' : Command) × (b' : Command) × (xs : List ℕ) × (ys : List ℕ) ×
     Remains g w k n a a' xs × Remains g w k (n + letvars a) b b' ys × (d ≡ append a' b') × (ns ≡ xs ++ ys)
-Remains g w k n (Choose e a b) d ns =
+Remains g w k n (If e a b) d ns =
     ((truth_of (folded e) ≡ Some true) × Remains g w k n a d ns)
     ⊎ (((truth_of (folded e) ≡ Some false) × Remains g w k (n + letvars a) b d ns)
     ⊎ ((a' : Command) × (b' : Command) × (xs : List ℕ) × (ys : List ℕ) ×
     Remains g w k n a a' xs × Remains g w k (n + letvars a) b b' ys
-    × (d ≡ one (Choose (folded e) a' b')) × (ns ≡ xs ++ ys)))
-Remains g w k n (Repeat e c) d ns =
-    ((folded e ≡ Literal (pos 0)) × (d ≡ Nothing) × (ns ≡ []))
-    ⊎ ((c' : Command) × Remains g w k n c c' ns × (d ≡ one (Repeat (folded e) c')))
-Remains g w k n (Allocate e c) d ns =
+    × (d ≡ one (If (folded e) a' b')) × (ns ≡ xs ++ ys)))
+Remains g w k n (While e c) d ns =
+    ((folded e ≡ Number (pos 0)) × (d ≡ Skip) × (ns ≡ []))
+    ⊎ ((c' : Command) × Remains g w k n c c' ns × (d ≡ one (While (folded e) c')))
+Remains g w k n (Letvar e c) d ns =
     (c' : Command) × (xs : List ℕ) × Remains g (with_bit w k (all_reads c k)) (k + 1) (n + 1) c c' xs
-    × (d ≡ one (Allocate (folded e) c')) × (ns ≡ n ∷ xs)
+    × (d ≡ one (Letvar (folded e) c')) × (ns ≡ n ∷ xs)
 
 -- The body of a program is what remains of another's body, in which the globals may be assigned.
-abbrev pub IsRemainder : Source → Source → Type 0
+abbrev pub IsRemainder : Resolved → Resolved → Type 0
 IsRemainder p r =
     let g = length p.globals in
     Remains g (globals_alone g) g 0 (sequence p.body) (sequence r.body) (remaining (sequence p.body) 0)
 
 -- The entries of a program are those of the letvars that remain of another's body, in order.
-abbrev pub KeepsEntries : Source → Source → Type 0
+abbrev pub KeepsEntries : Resolved → Resolved → Type 0
 KeepsEntries p r = HasEntries r.letvars p.letvars (remaining (sequence p.body) 0)

@@ -1,8 +1,8 @@
 //! The entries of the letvars that folding leaves.
 
 ghost use Rattle.std.specs.Prelude.{◌≡◌, ◌+◌, ◌≤◌, OnOk, IfOk, length};
-ghost use Rattle.vsi_scope.specs.Phrase.{letvars};
-ghost use Rattle.vsi_scope.specs.View.{phrase, command, sequence};
+ghost use Rattle.vsi_scope.specs.Language.{letvars};
+ghost use Rattle.vsi_scope.specs.View.{expression, command, sequence};
 ghost use Rattle.vsi_opt.specs.Folding.{folded, literal_of, truth_of};
 ghost use Rattle.vsi_opt.specs.Remaining.{may_be_true, may_be_false, remaining, HasEntries, Picks, PicksIf};
 
@@ -11,7 +11,7 @@ use vsi_scope::{Cmd, Entry, Ex};
 
 /// The number that an expression folds to, if it folds to one.
 fn folded_number(e: &Ex) -> Option<i64>
-    ensures { result ≡ literal_of (folded (phrase e.now)) }
+    ensures { result ≡ literal_of (folded (expression e.now)) }
 {
     match e {
         Ex::Num(n) => Some(*n),
@@ -28,7 +28,7 @@ fn folded_number(e: &Ex) -> Option<i64>
 
 /// Whether a guard may be true once it is folded.
 fn can_be_true(guard: &Ex) -> bool
-    ensures { result ≡ may_be_true (truth_of (folded (phrase guard.now))) }
+    ensures { result ≡ may_be_true (truth_of (folded (expression guard.now))) }
 {
     match folded_number(guard) {
         Some(0) => false,
@@ -39,7 +39,7 @@ fn can_be_true(guard: &Ex) -> bool
 
 /// Whether a guard may be false once it is folded.
 fn can_be_false(guard: &Ex) -> bool
-    ensures { result ≡ may_be_false (truth_of (folded (phrase guard.now))) }
+    ensures { result ≡ may_be_false (truth_of (folded (expression guard.now))) }
 {
     match folded_number(guard) {
         Some(0) => true,
@@ -130,7 +130,7 @@ fn pick_one(c: &Cmd, next: &mut usize, out: &mut Vec<usize>) -> Result<(), Alloc
 }
 
 /// The entries of the letvars that folding leaves of a body.
-pub fn remaining_entries<'a>(
+pub(crate) fn remaining_entries<'a>(
     alloc: Global,
     body: &[Cmd],
     entries: &[Entry<'a>],

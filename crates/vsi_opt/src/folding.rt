@@ -1,8 +1,8 @@
 //! Folding, from the leaves up.
 
 ghost use Rattle.std.specs.Prelude.{◌≡◌, IfOk, OnOk};
-ghost use Rattle.vsi_scope.specs.Phrase.{Apply, Repeat};
-ghost use Rattle.vsi_scope.specs.View.{phrase, command, sequence};
+ghost use Rattle.vsi_scope.specs.Language.{Operator, While};
+ghost use Rattle.vsi_scope.specs.View.{expression, command, sequence};
 ghost use Rattle.vsi_opt.specs.Folding.{literal_of, fold_operator, folded, truth_of, one, append, fold};
 
 use std::alloc::{AllocError, Global};
@@ -11,7 +11,7 @@ use vsi_syntax::Op;
 
 /// The number that an expression is, if it is one.
 fn literal(e: &Ex) -> Option<i64>
-    ensures { result ≡ literal_of (phrase e.now) }
+    ensures { result ≡ literal_of (expression e.now) }
 {
     match e {
         Ex::Num(n) => Some(*n),
@@ -22,7 +22,7 @@ fn literal(e: &Ex) -> Option<i64>
 
 /// Whether a guard is a number, and then whether it is true.
 fn truth(e: &Ex) -> Option<bool>
-    ensures { result ≡ truth_of (phrase e.now) }
+    ensures { result ≡ truth_of (expression e.now) }
 {
     match e {
         Ex::Num(0) => Some(false),
@@ -36,7 +36,7 @@ fn truth(e: &Ex) -> Option<bool>
 fn push_loop(out: &mut Vec<Cmd>, guard: Ex, body: Vec<Cmd>) -> Result<(), AllocError>
     ensures { OnOk result
         (sequence out.new.items ≡
-        append (sequence out.old.items) (one (Repeat (phrase guard) (sequence body.items)))) }
+        append (sequence out.old.items) (one (While (expression guard) (sequence body.items)))) }
 {
     out.push(Cmd::While { guard, body })?;
     Ok(())
@@ -44,14 +44,14 @@ fn push_loop(out: &mut Vec<Cmd>, guard: Ex, body: Vec<Cmd>) -> Result<(), AllocE
 
 /// The operator on two expressions.
 fn operate(op: Op, left: Ex, right: Ex, alloc: Global) -> Result<Ex, AllocError>
-    ensures { IfOk result (λ x. phrase x ≡ Apply op (phrase left) (phrase right)) }
+    ensures { IfOk result (λ x. expression x ≡ Operator op (expression left) (expression right)) }
 {
     Ok(Ex::Op(op, Box::new(alloc, left)?, Box::new(alloc, right)?))
 }
 
 /// The operator on two expressions, or the number that it gives.
 fn fold_operands(op: Op, left: Ex, right: Ex, alloc: Global) -> Result<Ex, AllocError>
-    ensures { IfOk result (λ x. phrase x ≡ fold_operator op (phrase left) (phrase right)) }
+    ensures { IfOk result (λ x. expression x ≡ fold_operator op (expression left) (expression right)) }
 {
     match literal(&left) {
         Some(a) => match literal(&right) {
@@ -63,8 +63,8 @@ fn fold_operands(op: Op, left: Ex, right: Ex, alloc: Global) -> Result<Ex, Alloc
 }
 
 /// The expression with no operator on two numbers.
-pub fn fold_expression(e: &Ex, alloc: Global) -> Result<Ex, AllocError>
-    ensures { IfOk result (λ x. phrase x ≡ folded (phrase e.now)) }
+pub(crate) fn fold_expression(e: &Ex, alloc: Global) -> Result<Ex, AllocError>
+    ensures { IfOk result (λ x. expression x ≡ folded (expression e.now)) }
 {
     match e {
         Ex::Num(n) => Ok(Ex::Num(*n)),
@@ -79,7 +79,7 @@ pub fn fold_expression(e: &Ex, alloc: Global) -> Result<Ex, AllocError>
 
 /// Adds a sequence, folded.
 #[cycle(folding)]
-pub fn fold_all(body: &[Cmd], out: &mut Vec<Cmd>, alloc: Global) -> Result<(), AllocError>
+pub(crate) fn fold_all(body: &[Cmd], out: &mut Vec<Cmd>, alloc: Global) -> Result<(), AllocError>
     ensures { OnOk result (sequence out.new.items ≡ append (sequence out.old.items) (fold (sequence body.now))) }
 {
     for c in body {

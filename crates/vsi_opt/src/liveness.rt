@@ -4,11 +4,11 @@
 //! a location is taken out of the set at both ends of its variable's scope, so that it stands for one declaration.
 
 ghost use Rattle.std.specs.Prelude.{◌≡◌, ◌+◌, ◌<◌, ◌≤◌, IfOk, OnOk, reverse};
-ghost use Rattle.vsi_scope.specs.Phrase.{HasLocations, Put, letvars};
-ghost use Rattle.vsi_scope.specs.View.{phrase, command, sequence};
+ghost use Rattle.vsi_scope.specs.Language.{HasLocations, Assign, letvars};
+ghost use Rattle.vsi_scope.specs.View.{expression, command, sequence};
 ghost use Rattle.vsi_opt.specs.Folding.{append};
-ghost use Rattle.vsi_opt.specs.Liveness.{reads, joined, before, still, needed, taken};
-ghost use Rattle.vsi_opt.specs.Loops.{AddFits, AddsTo, StillFits};
+ghost use Rattle.vsi_opt.specs.Liveness.{reads, joined, before, kept_in_loop, kept_live, taken};
+ghost use Rattle.vsi_opt.specs.Loops.{AddFits, AddsTo, KeptInLoopFits};
 ghost use Rattle.vsi_opt.specs.Ranges.{Fits, bits};
 
 use crate::small_set::SmallSet;
@@ -18,7 +18,7 @@ use vsi_syntax::Span;
 
 /// An equal expression.
 fn copy_expression(e: &Ex, alloc: Global) -> Result<Ex, AllocError>
-    ensures { IfOk result (λ x. phrase x ≡ phrase e.now) }
+    ensures { IfOk result (λ x. expression x ≡ expression e.now) }
 {
     match e {
         Ex::Num(n) => Ok(Ex::Num(*n)),
@@ -33,7 +33,7 @@ fn copy_expression(e: &Ex, alloc: Global) -> Result<Ex, AllocError>
 
 /// An assignment of an equal expression.
 fn copy_assignment(loc: u16, span: Span, value: &Ex, alloc: Global) -> Result<Cmd, AllocError>
-    ensures { IfOk result (λ c. command c ≡ Put loc span (phrase value.now)) }
+    ensures { IfOk result (λ c. command c ≡ Assign loc span (expression value.now)) }
 {
     let value = copy_expression(value, alloc)?;
     Ok(Cmd::Assign { loc, span, value })
@@ -41,8 +41,8 @@ fn copy_assignment(loc: u16, span: Span, value: &Ex, alloc: Global) -> Result<Cm
 
 /// Adds what an expression reads.
 fn add_reads(e: &Ex, live: &mut SmallSet)
-    requires { HasLocations 1024 (phrase e.now) }
-    ensures { bits live.new ≡ joined (bits live.old) (reads (phrase e.now)) }
+    requires { HasLocations 1024 (expression e.now) }
+    ensures { bits live.new ≡ joined (bits live.old) (reads (expression e.now)) }
 {
     match e {
         Ex::Num(_) => {}
@@ -109,8 +109,8 @@ fn add_one(c: &Cmd, scope: u16, live: &mut SmallSet, own: &mut SmallSet, next: &
 
 /// Commands of a loop, without the assignments to what isn't live there. `own` tells of each letvar, by its number,
 /// whether its scope reads its variable, and `next` is the number of the commands' first letvar.
-#[cycle(still)]
-fn still_all(
+#[cycle(kept_in_loop)]
+fn kept_in_loop_all(
     body: &[Cmd],
     scope: u16,
     live: &SmallSet,
@@ -118,21 +118,21 @@ fn still_all(
     next: &mut u16,
     alloc: Global,
 ) -> Result<Vec<Cmd>, AllocError>
-    requires { StillFits (bits own.now) scope next.now (sequence body.now) }
+    requires { KeptInLoopFits (bits own.now) scope next.now (sequence body.now) }
     ensures { IfOk result
         (λ v.
-        (sequence v.items ≡ still scope (sequence body.now) (bits live.now)) ×
+        (sequence v.items ≡ kept_in_loop scope (sequence body.now) (bits live.now)) ×
         (next.new ≡ next.old + letvars (sequence body.now))) }
 {
     let mut out = Vec::new(alloc);
     for c in body {
-        still_one(c, scope, live, own, next, &mut out, alloc)?;
+        kept_in_loop_one(c, scope, live, own, next, &mut out, alloc)?;
     }
     Ok(out)
 }
 
-#[cycle(still)]
-fn still_one(
+#[cycle(kept_in_loop)]
+fn kept_in_loop_one(
     c: &Cmd,
     scope: u16,
     live: &SmallSet,
@@ -141,9 +141,10 @@ fn still_one(
     out: &mut Vec<Cmd>,
     alloc: Global,
 ) -> Result<(), AllocError>
-    requires { StillFits (bits own.now) scope next.now (command c.now) }
+    requires { KeptInLoopFits (bits own.now) scope next.now (command c.now) }
     ensures { OnOk result
-        ((sequence out.new.items ≡ append (sequence out.old.items) (still scope (command c.now) (bits live.now))) ×
+        ((sequence out.new.items ≡ append (sequence out.old.items)
+        (kept_in_loop scope (command c.now) (bits live.now))) ×
         (next.new ≡ next.old + letvars (command c.now))) }
 {
     match c {
@@ -155,14 +156,14 @@ fn still_one(
         }
         Cmd::If { guard, yes, no } => {
             let guard = copy_expression(guard, alloc)?;
-            let yes = still_all(yes, scope, live, own, next, alloc)?;
-            let no = still_all(no, scope, live, own, next, alloc)?;
+            let yes = kept_in_loop_all(yes, scope, live, own, next, alloc)?;
+            let no = kept_in_loop_all(no, scope, live, own, next, alloc)?;
             out.push(Cmd::If { guard, yes, no })?;
             Ok(())
         }
         Cmd::While { guard, body } => {
             let guard = copy_expression(guard, alloc)?;
-            let body = still_all(body, scope, live, own, next, alloc)?;
+            let body = kept_in_loop_all(body, scope, live, own, next, alloc)?;
             out.push(Cmd::While { guard, body })?;
             Ok(())
         }
@@ -171,7 +172,7 @@ fn still_one(
             let mut inner = *live;
             inner.set(scope, own.contains(*next));
             *next += 1;
-            let body = still_all(body, scope + 1, &inner, own, next, alloc)?;
+            let body = kept_in_loop_all(body, scope + 1, &inner, own, next, alloc)?;
             out.push(Cmd::Letvar { value, body })?;
             Ok(())
         }
@@ -179,8 +180,8 @@ fn still_one(
 }
 
 /// Commands without their dead assignments; what is live after them becomes what is live before.
-#[cycle(needed)]
-pub fn needed_all(
+#[cycle(kept_live)]
+pub(crate) fn kept_live_all(
     body: &[Cmd],
     globals: u16,
     scope: u16,
@@ -190,21 +191,21 @@ pub fn needed_all(
     requires { Fits scope (sequence body.now) }
     ensures { IfOk result
         (λ v.
-        (sequence v.items ≡ needed globals scope (sequence body.now) (bits live.old)) ×
+        (sequence v.items ≡ kept_live globals scope (sequence body.now) (bits live.old)) ×
         (bits live.new ≡ before globals scope (sequence body.now) (bits live.old))) }
 {
     let mut out = Vec::new(alloc);
     let count = body.len();
     for j in 0..count {
         let c = &body[count - 1 - j];
-        needed_one(c, globals, scope, live, &mut out, alloc)?;
+        kept_live_one(c, globals, scope, live, &mut out, alloc)?;
     }
     out.reverse();
     Ok(out)
 }
 
-#[cycle(needed)]
-fn needed_one(
+#[cycle(kept_live)]
+fn kept_live_one(
     c: &Cmd,
     globals: u16,
     scope: u16,
@@ -215,7 +216,7 @@ fn needed_one(
     requires { Fits scope (command c.now) }
     ensures { OnOk result
         ((sequence (reverse out.new.items) ≡
-        append (needed globals scope (command c.now) (bits live.old)) (sequence (reverse out.old.items))) ×
+        append (kept_live globals scope (command c.now) (bits live.old)) (sequence (reverse out.old.items))) ×
         (bits live.new ≡ before globals scope (command c.now) (bits live.old))) }
 {
     match c {
@@ -229,8 +230,8 @@ fn needed_one(
         }
         Cmd::If { guard, yes, no } => {
             let mut other = *live;
-            let no = needed_all(no, globals, scope, &mut other, alloc)?;
-            let yes = needed_all(yes, globals, scope, live, alloc)?;
+            let no = kept_live_all(no, globals, scope, &mut other, alloc)?;
+            let yes = kept_live_all(yes, globals, scope, live, alloc)?;
             live.join(&other);
             add_reads(guard, live);
             let guard = copy_expression(guard, alloc)?;
@@ -242,13 +243,13 @@ fn needed_one(
             add_reads(guard, live);
             add_all(body, scope, live, &mut own, &mut 0);
             let guard = copy_expression(guard, alloc)?;
-            let body = still_all(body, scope, live, &own, &mut 0, alloc)?;
+            let body = kept_in_loop_all(body, scope, live, &own, &mut 0, alloc)?;
             out.push(Cmd::While { guard, body })?;
             Ok(())
         }
         Cmd::Letvar { value, body } => {
             live.remove(scope);
-            let body = needed_all(body, globals, scope + 1, live, alloc)?;
+            let body = kept_live_all(body, globals, scope + 1, live, alloc)?;
             live.remove(scope);
             add_reads(value, live);
             let value = copy_expression(value, alloc)?;

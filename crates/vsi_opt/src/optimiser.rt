@@ -1,7 +1,7 @@
 //! The optimiser as a whole.
 
 ghost use Rattle.std.specs.Prelude.{◌≡◌, ◌+◌, ◌≤◌, IfOk, length};
-ghost use Rattle.vsi_scope.specs.Phrase.{HasPlaces, letvars, size};
+ghost use Rattle.vsi_scope.specs.Language.{HasPlaces, letvars, size};
 ghost use Rattle.vsi_scope.specs.View.{sequence};
 ghost use Rattle.vsi_opt.specs.Folded.{IsFolded};
 ghost use Rattle.vsi_opt.specs.Optimised.{optimised, RunsAlike};
@@ -9,7 +9,7 @@ ghost use Rattle.vsi_opt.specs.Remaining.{IsRemainder, KeepsEntries};
 
 use crate::entries::remaining_entries;
 use crate::folding::fold_all;
-use crate::liveness::needed_all;
+use crate::liveness::kept_live_all;
 use crate::small_set::SmallSet;
 use std::alloc::{AllocError, Global};
 use vsi_scope::{Cmd, Resolved};
@@ -23,7 +23,7 @@ fn optimise_body(alloc: Global, body: &[Cmd], globals: u16) -> Result<Vec<Cmd>, 
     let mut folded = Vec::new(alloc);
     fold_all(body, &mut folded, alloc)?;
     let mut live = SmallSet::below(globals);
-    needed_all(&folded, globals, globals, &mut live, alloc)
+    kept_live_all(&folded, globals, globals, &mut live, alloc)
 }
 
 /// A program that does what the given one does, with the same globals and the entries of the letvars that remain.

@@ -7,13 +7,13 @@ ghost use Rattle.vsi_opt.specs.Optimised.{globals_alone};
 
 /// A set of numbers below 1,024, a bit for each.
 #[derive(Clone, Copy)]
-pub struct SmallSet {
+pub(crate) struct SmallSet {
     words: [u64; 16],
 }
 
 impl SmallSet {
     /// The numbers below a number.
-    pub fn below(count: u16) -> SmallSet
+    pub(crate) fn below(count: u16) -> SmallSet
         requires { count ≤ 1024 }
         ensures { bits result ≡ globals_alone count }
     {
@@ -25,7 +25,7 @@ impl SmallSet {
     }
 
     /// Whether a number is in the set.
-    pub fn contains(&self, n: u16) -> bool
+    pub(crate) fn contains(&self, n: u16) -> bool
         requires { n < 1024 }
         ensures { result ≡ bits self.now n }
     {
@@ -34,7 +34,7 @@ impl SmallSet {
     }
 
     /// Puts a number in.
-    pub fn insert(&mut self, n: u16)
+    pub(crate) fn insert(&mut self, n: u16)
         requires { n < 1024 }
         ensures { bits self.new ≡ with_bit (bits self.old) n true }
     {
@@ -43,7 +43,7 @@ impl SmallSet {
     }
 
     /// Takes a number out.
-    pub fn remove(&mut self, n: u16)
+    pub(crate) fn remove(&mut self, n: u16)
         requires { n < 1024 }
         ensures { bits self.new ≡ with_bit (bits self.old) n false }
     {
@@ -52,7 +52,7 @@ impl SmallSet {
     }
 
     /// Puts a number in or takes it out.
-    pub fn set(&mut self, n: u16, is_in: bool)
+    pub(crate) fn set(&mut self, n: u16, is_in: bool)
         requires { n < 1024 }
         ensures { bits self.new ≡ with_bit (bits self.old) n is_in }
     {
@@ -64,7 +64,7 @@ impl SmallSet {
     }
 
     /// Puts in what another set has.
-    pub fn join(&mut self, other: &SmallSet)
+    pub(crate) fn join(&mut self, other: &SmallSet)
         ensures { bits self.new ≡ joined (bits self.old) (bits other.now) }
     {
         for i in 0..16 {

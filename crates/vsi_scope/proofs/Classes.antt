@@ -4,7 +4,7 @@ use Rattle.std.specs.List.{All}
 use Rattle.std.proofs.lemmas.List.Elements.{All-nil, All-cons, All-append, All-head, All-tail}
 use Rattle.vsi_syntax.specs.Tree as tree
 use Rattle.vsi_scope.specs.Faults.{Known}
-use Rattle.vsi_scope.specs.Program.{Source}
+use Rattle.vsi_scope.specs.Program.{Resolved}
 use Rattle.vsi_scope.specs.Resolving.{Shown, shown, global_of, Variable, variable, variables, all_variables, letvar, class_of, Resolves, AreBelow, HasClassesBelow}
 
 -- What is true of each image is true of what it is the image of.
@@ -31,15 +31,15 @@ module _ (k : Known) (n : ℕ) (below : AreBelow n k) where
   mutual
     -- The classes of a command's letvars are below the number.
     variables_below : (c : tree.Command) → All (λ (v : Variable). IsBelow v.class) (variables k c)
-    variables_below (tree.Set x e) = All-nil (λ (v : Variable). IsBelow v.class)
-    variables_below (tree.Choose e c d) =
+    variables_below (tree.Assign x e) = All-nil (λ (v : Variable). IsBelow v.class)
+    variables_below (tree.If e c d) =
         All-append (λ (v : Variable). IsBelow v.class) (variables k c) (variables k d)
         (variables_below c) (variables_below d)
-    variables_below (tree.Loop e c) = variables_below c
-    variables_below (tree.Local x class e c) =
+    variables_below (tree.While e c) = variables_below c
+    variables_below (tree.Letvar x class e c) =
         All-cons (λ (v : Variable). IsBelow v.class) (letvar x (class_of k class)) (variables k c)
         (written_below class) (variables_below c)
-    variables_below (tree.Braces b) = all_variables_below b
+    variables_below (tree.Block b) = all_variables_below b
 
     -- The classes of a sequence's letvars are below the number.
     all_variables_below : (b : tree.Body) → All (λ (v : Variable). IsBelow v.class) (all_variables k b)
@@ -49,7 +49,7 @@ module _ (k : Known) (n : ℕ) (below : AreBelow n k) where
         (variables_below c) (all_variables_below rest)
 
   -- The classes of a resolved program are below the number.
-  pub classes_below : (p : tree.Whole) (r : Source) → Resolves k p r → HasClassesBelow n r
+  pub classes_below : (p : tree.Whole) (r : Resolved) → Resolves k p r → HasClassesBelow n r
   classes_below p r s = record {
     globals =
         All-of_map (λ (s : Shown). IsBelow s.class) shown r.globals

@@ -7,7 +7,7 @@ use Rattle.std.proofs.lemmas.Bool.{ltb-true, lt-ltb}
 use Rattle.vsi_syntax.specs.Tree as tree
 use Rattle.vsi_scope.specs.declared.resolution.ScopeError.{ScopeError}
 use Rattle.vsi_scope.specs.declared.resolution.ScopeError.TheVariants as errors
-use Rattle.vsi_scope.specs.Phrase.{Command}
+use Rattle.vsi_scope.specs.Language.{Command}
 use Rattle.vsi_scope.specs.Scopes.{Text, Scope, IsAbsent, Does, DoesAll}
 use Rattle.vsi_scope.specs.Places.{place_of}
 use Rattle.vsi_scope.specs.Faults.{Known, Mark, Local, Class, Use, class_marks, uses, marks, all_marks, locals, all_locals, global_marks, global_names, first_fault, fault_at, or_else, if_absent, if_there}
@@ -204,8 +204,8 @@ module _ (k : Known) where
     -- A command without a fault has classes that the lattice has, and not too many letvars.
     keeps : (s : Scope) (n : ℕ) (c : tree.Command) → first_fault k (marks s n c) ≡ None →
         Kept n (locals c) (HasClasses k c)
-    keeps s n (tree.Set x e) p = record { known = tt; few = λ le. omega (arith, le) }
-    keeps s n (tree.Choose e c d) p =
+    keeps s n (tree.Assign x e) p = record { known = tt; few = λ le. omega (arith, le) }
+    keeps s n (tree.If e c d) p =
         let q = right_of k (uses s e) (marks s n c ++ marks s (n + locals c) d) p in
         let first = keeps s n c (left_of k (marks s n c) (marks s (n + locals c) d) q) in
         let second = keeps s (n + locals c) d (right_of k (marks s n c) (marks s (n + locals c) d) q) in
@@ -213,8 +213,8 @@ module _ (k : Known) where
           known = (first.known, second.known);
           few = λ le. omega (arith, second.few (first.few le));
         }
-    keeps s n (tree.Loop e c) p = keeps s n c (right_of k (uses s e) (marks s n c) p)
-    keeps s n (tree.Local x class e c) p =
+    keeps s n (tree.While e c) p = keeps s n c (right_of k (uses s e) (marks s n c) p)
+    keeps s n (tree.Letvar x class e c) p =
         let inner = s ++ x.text ∷ [] in
         let behind = none_right (fault_at k (Local n x))
         (first_fault k (class_marks class ++ (uses s e ++ marks inner (suc n) c))) p in
@@ -228,7 +228,7 @@ module _ (k : Known) where
           );
           few = λ le. omega (arith, body.few lt);
         }
-    keeps s n (tree.Braces b) p = all_keep s n b p
+    keeps s n (tree.Block b) p = all_keep s n b p
 
     -- A sequence without a fault has classes that the lattice has, and not too many letvars.
     pub all_keep : (s : Scope) (n : ℕ) (b : tree.Body) → first_fault k (all_marks s n b) ≡ None →
@@ -246,18 +246,18 @@ module _ (k : Known) where
     -- A command that is resolved, of classes that the lattice has and not too many letvars, has no fault.
     command_clean : (s : Scope) (n : ℕ) (c : tree.Command) (cs : List Command) → Does s c cs → HasClasses k c →
         n + locals c ≤ 1024 → first_fault k (marks s n c) ≡ None
-    command_clean s n (tree.Set x e) cs m h le =
+    command_clean s n (tree.Assign x e) cs m h le =
         both (ap (λ o. if_absent o (errors.Unbound x.span)) (place_is s x.text m.0 m.2)) (means_clean k s e m.1 m.3)
-    command_clean s n (tree.Choose e c d) cs m h le =
+    command_clean s n (tree.If e c d) cs m h le =
         choose_none k s n e c d (means_clean k s e m.0 m.3)
         (command_clean s n c m.1 m.4 h.0 (omega (arith, le)))
         (command_clean s (n + locals c) d m.2 m.5 h.1 (omega (arith, le)))
-    command_clean s n (tree.Loop e c) cs m h le =
+    command_clean s n (tree.While e c) cs m h le =
         loop_none k s n e c (means_clean k s e m.0 m.2) (command_clean s n c m.1 m.3 h le)
-    command_clean s n (tree.Local x class e c) cs m h le =
+    command_clean s n (tree.Letvar x class e c) cs m h le =
         local_none k s n e c x class (omega (arith, le)) (class_clean k class h.0) (means_clean k s e m.0 m.2)
         (command_clean (s ++ x.text ∷ []) (suc n) c m.1 m.3 h.1 (omega (arith, le)))
-    command_clean s n (tree.Braces b) cs m h le = body_clean s n b cs m h le
+    command_clean s n (tree.Block b) cs m h le = body_clean s n b cs m h le
 
     -- A sequence that is resolved, of classes that the lattice has and not too many letvars, has no fault.
     pub body_clean : (s : Scope) (n : ℕ) (b : tree.Body) (cs : List Command) → DoesAll s b cs → HasAllClasses k b →

@@ -3,9 +3,9 @@ use Rattle.std.proofs.Common.{◌≡◌, ℕ, List, [], ◌∷◌, ◌++◌, len
 use Rattle.std.proofs.lemmas.Slice.Eq.{bytes_eq-Decides}
 use Rattle.vsi_syntax.specs.Tree as tree
 use Rattle.vsi_scope.specs.declared.resolution.ScopeError.TheVariants as errors
-use Rattle.vsi_scope.specs.Phrase.{Phrase, Contents, Apply, Command, Put, Choose, Repeat, Allocate}
+use Rattle.vsi_scope.specs.Language.{Expression, Location, Operator, Command, Assign, If, While, Letvar}
 use Rattle.vsi_scope.specs.Scopes.{Text, Scope, IsAbsent, StandsFor, Means, Does, DoesAll, in_sequence}
-use Rattle.vsi_scope.specs.Places.{place_of, next_place, or_zero, place, phrase_of, commands_of, all_commands}
+use Rattle.vsi_scope.specs.Places.{place_of, next_place, or_zero, place, expression_of, commands_of, all_commands}
 use Rattle.vsi_scope.specs.Faults.{Known, uses, first_fault, or_else, if_absent}
 use Rattle.vsi_scope.proofs.Faulty.{none_in_both}
 
@@ -42,39 +42,41 @@ pub place_is : (s : Scope) (x : Text) (l : ℕ) → StandsFor s x l → place_of
 place_is s x l r = ap (λ z. place_of z x) r.splits ∙ at_last r.before r.after x r.last ∙ ap Some r.place
 
 -- An expression is what the function gives.
-pub means_one : (s : Scope) (e : tree.Tree) (p : Phrase) → Means s e p → p ≡ phrase_of s e
-means_one s (tree.Literal n) p m = m
-means_one s (tree.Read x) p m = m.2 ∙ ap (λ l. Contents l x.span) (sym (ap or_zero (place_is s x.text m.0 m.1)))
-means_one s (tree.Round e) p m = means_one s e p m
-means_one s (tree.Both op a b) p m =
-    m.4 ∙ ap (λ q. Apply op q m.1) (means_one s a m.0 m.2) ∙ ap (Apply op (phrase_of s a)) (means_one s b m.1 m.3)
+pub means_one : (s : Scope) (e : tree.Tree) (p : Expression) → Means s e p → p ≡ expression_of s e
+means_one s (tree.Number n) p m = m
+means_one s (tree.Name x) p m = m.2 ∙ ap (λ l. Location l x.span) (sym (ap or_zero (place_is s x.text m.0 m.1)))
+means_one s (tree.Bracket e) p m = means_one s e p m
+means_one s (tree.Binary op a b) p m =
+    m.4 ∙ ap (λ q. Operator op q m.1) (means_one s a m.0 m.2)
+    ∙ ap (Operator op (expression_of s a)) (means_one s b m.1 m.3)
 
 -- An expression over locations has no fault.
-pub means_clean : (k : Known) (s : Scope) (e : tree.Tree) (p : Phrase) → Means s e p → first_fault k (uses s e) ≡ None
-means_clean k s (tree.Literal n) p m = refl
-means_clean k s (tree.Read x) p m =
+pub means_clean : (k : Known) (s : Scope) (e : tree.Tree) (p : Expression) → Means s e p → first_fault k (uses s e)
+    ≡ None
+means_clean k s (tree.Number n) p m = refl
+means_clean k s (tree.Name x) p m =
     ap (λ o. or_else (if_absent o (errors.Unbound x.span)) None) (place_is s x.text m.0 m.1)
-means_clean k s (tree.Round e) p m = means_clean k s e p m
-means_clean k s (tree.Both op a b) p m =
+means_clean k s (tree.Bracket e) p m = means_clean k s e p m
+means_clean k s (tree.Binary op a b) p m =
     none_in_both k (uses s a) (uses s b) (means_clean k s a m.0 m.2) (means_clean k s b m.1 m.3)
 
 mutual
   -- A command is what the function gives.
   pub does_one : (s : Scope) (c : tree.Command) (cs : List Command) → Does s c cs → cs ≡ commands_of s c
-  does_one s (tree.Set x e) cs m =
-      m.4 ∙ ap (λ l. Put l x.span m.1 ∷ []) (sym (ap or_zero (place_is s x.text m.0 m.2)))
-      ∙ ap (λ p. Put (place s x.text) x.span p ∷ []) (means_one s e m.1 m.3)
-  does_one s (tree.Choose e c d) cs m =
-      m.6 ∙ ap (λ p. Choose p (in_sequence m.1) (in_sequence m.2) ∷ []) (means_one s e m.0 m.3)
-      ∙ ap (λ q. Choose (phrase_of s e) (in_sequence q) (in_sequence m.2) ∷ []) (does_one s c m.1 m.4)
-      ∙ ap (λ q. Choose (phrase_of s e) (in_sequence (commands_of s c)) (in_sequence q) ∷ []) (does_one s d m.2 m.5)
-  does_one s (tree.Loop e c) cs m =
-      m.4 ∙ ap (λ p. Repeat p (in_sequence m.1) ∷ []) (means_one s e m.0 m.2)
-      ∙ ap (λ q. Repeat (phrase_of s e) (in_sequence q) ∷ []) (does_one s c m.1 m.3)
-  does_one s (tree.Local x class e c) cs m =
-      m.4 ∙ ap (λ p. Allocate p (in_sequence m.1) ∷ []) (means_one s e m.0 m.2)
-      ∙ ap (λ q. Allocate (phrase_of s e) (in_sequence q) ∷ []) (does_one (s ++ x.text ∷ []) c m.1 m.3)
-  does_one s (tree.Braces b) cs m = does_all_one s b cs m
+  does_one s (tree.Assign x e) cs m =
+      m.4 ∙ ap (λ l. Assign l x.span m.1 ∷ []) (sym (ap or_zero (place_is s x.text m.0 m.2)))
+      ∙ ap (λ p. Assign (place s x.text) x.span p ∷ []) (means_one s e m.1 m.3)
+  does_one s (tree.If e c d) cs m =
+      m.6 ∙ ap (λ p. If p (in_sequence m.1) (in_sequence m.2) ∷ []) (means_one s e m.0 m.3)
+      ∙ ap (λ q. If (expression_of s e) (in_sequence q) (in_sequence m.2) ∷ []) (does_one s c m.1 m.4)
+      ∙ ap (λ q. If (expression_of s e) (in_sequence (commands_of s c)) (in_sequence q) ∷ []) (does_one s d m.2 m.5)
+  does_one s (tree.While e c) cs m =
+      m.4 ∙ ap (λ p. While p (in_sequence m.1) ∷ []) (means_one s e m.0 m.2)
+      ∙ ap (λ q. While (expression_of s e) (in_sequence q) ∷ []) (does_one s c m.1 m.3)
+  does_one s (tree.Letvar x class e c) cs m =
+      m.4 ∙ ap (λ p. Letvar p (in_sequence m.1) ∷ []) (means_one s e m.0 m.2)
+      ∙ ap (λ q. Letvar (expression_of s e) (in_sequence q) ∷ []) (does_one (s ++ x.text ∷ []) c m.1 m.3)
+  does_one s (tree.Block b) cs m = does_all_one s b cs m
 
   -- A sequence is what the function gives.
   pub does_all_one : (s : Scope) (b : tree.Body) (cs : List Command) → DoesAll s b cs → cs ≡ all_commands s b

@@ -1,7 +1,7 @@
 -- The laws of evaluation.
 use Rattle.std.proofs.Common.{◌≡◌, ◌≢◌, ℕ, zero, suc, ◌+◌, ◌≤◌, [], ◌∷◌, ◌++◌, length, take, Option, Some, None, ℤ, pos, negsuc, refl, sym, ap, ◌∙◌, subst, arith, length-append, length-set}
 use Rattle.std.proofs.lemmas.List.{length-take-le}
-use Rattle.vsi_scope.specs.Phrase.{Phrase, Command, Nothing, Put, Then, Choose, Repeat, Allocate}
+use Rattle.vsi_scope.specs.Language.{Expression, Command, Skip, Assign, Sequence, If, While, Letvar}
 use Rattle.vsi_scope.specs.Meaning.{Store, value, at_zero, and_then, drop_past, turns, runs, Evaluates}
 use Rattle.vsi_scope.specs.Rules.{EvaluationRules, LargerKeeps, OneAnswer, LengthKept}
 
@@ -90,17 +90,17 @@ drop_past_more k (Some m) o' m' h e = ap (drop_past k) (h m refl) ∙ e
 
 -- A larger number of turns keeps an answer.
 pub larger_keeps : (c : Command) (n k : ℕ) (m m' : Store) → n ≤ k → runs n c m ≡ Some m' → runs k c m ≡ Some m'
-larger_keeps Nothing n k m m' le e = e
-larger_keeps (Put l s x) n k m m' le e = e
-larger_keeps (Then a b) n k m m' le e =
+larger_keeps Skip n k m m' le e = e
+larger_keeps (Assign l s x) n k m m' le e = e
+larger_keeps (Sequence a b) n k m m' le e =
     and_then_more (runs n a m) (runs k a m) (runs n b) (runs k b) m' (λ m₁ f. larger_keeps a n k m m₁ le f)
     (λ m₁ m₂ f. larger_keeps b n k m₁ m₂ le f) e
-larger_keeps (Choose x a b) n k m m' le e =
+larger_keeps (If x a b) n k m m' le e =
     at_zero_more (value x m) (runs n b m) (runs n a m) (runs k b m) (runs k a m) m' (larger_keeps b n k m m' le)
     (larger_keeps a n k m m' le) e
-larger_keeps (Repeat x c) n k m m' le e =
+larger_keeps (While x c) n k m m' le e =
     turns_more n k (value x) (runs n c) (runs k c) le (λ m₁ m₂ f. larger_keeps c n k m₁ m₂ le f) m m' e
-larger_keeps (Allocate x c) n k m m' le e =
+larger_keeps (Letvar x c) n k m m' le e =
     drop_past_more (length m) _ _ m' (λ m₁ f. larger_keeps c n k (m ++ value x m ∷ []) m₁ le f) e
 
 -- The law that a larger number of turns keeps an answer.
@@ -136,17 +136,17 @@ turns_length (suc i) guard f h m m' e =
 
 -- A command keeps the number of words.
 pub length_kept : (c : Command) (n : ℕ) (m m' : Store) → runs n c m ≡ Some m' → length m' ≡ length m
-length_kept Nothing n m m' e = ap length (sym (same_answer _ _ e))
-length_kept (Put l s x) n m m' e = ap length (sym (same_answer _ _ e)) ∙ length-set m l (value x m)
-length_kept (Then a b) n m m' e =
+length_kept Skip n m m' e = ap length (sym (same_answer _ _ e))
+length_kept (Assign l s x) n m m' e = ap length (sym (same_answer _ _ e)) ∙ length-set m l (value x m)
+length_kept (Sequence a b) n m m' e =
     let t = between (runs n a m) (runs n b) m' e in
     length_kept b n t.store m' t.second ∙ length_kept a n m t.store t.first
-length_kept (Choose x a b) n m m' e =
+length_kept (If x a b) n m m' e =
     zero_cases (value x m)
     (λ z. length_kept b n m m' (sym (at_none (value x m) (runs n b m) (runs n a m) z) ∙ e))
     (λ z. length_kept a n m m' (sym (at_other (value x m) (runs n b m) (runs n a m) z) ∙ e))
-length_kept (Repeat x c) n m m' e = turns_length n (value x) (runs n c) (λ m₁ m₂ f. length_kept c n m₁ m₂ f) m m' e
-length_kept (Allocate x c) n m m' e =
+length_kept (While x c) n m m' e = turns_length n (value x) (runs n c) (λ m₁ m₂ f. length_kept c n m₁ m₂ f) m m' e
+length_kept (Letvar x c) n m m' e =
     let d = dropped (length m) (runs n c (m ++ value x m ∷ [])) m' e in
     let l = length_kept c n (m ++ value x m ∷ []) d.store d.before in
     let l' = length-append m (value x m ∷ []) in
@@ -157,10 +157,10 @@ pub lengths : LengthKept
 lengths = length_kept
 
 -- The rules.
-module _ (e : Phrase) (c : Command) where
+module _ (e : Expression) (c : Command) where
   -- A loop whose guard is true goes on by its body and itself.
-  loop_on : (m m' : Store) → value e m ≢ pos 0 → (m₁ : Store) → Evaluates c m m₁ → Evaluates (Repeat e c) m₁ m' →
-      Evaluates (Repeat e c) m m'
+  loop_on : (m m' : Store) → value e m ≢ pos 0 → (m₁ : Store) → Evaluates c m m₁ → Evaluates (While e c) m₁ m' →
+      Evaluates (While e c) m m'
   loop_on m m' z m₁ r s =
       let k = r.0 + s.0 in
       let body = larger_keeps c r.0 (suc k) m m₁ (omega arith) r.1 in
@@ -172,8 +172,8 @@ module _ (e : Phrase) (c : Command) where
       )
 
   -- A loop whose guard is true went on by its body and itself.
-  loop_back : (m m' : Store) → value e m ≢ pos 0 → (n : ℕ) → runs n (Repeat e c) m ≡ Some m' →
-      (m₁ : Store) × Evaluates c m m₁ × Evaluates (Repeat e c) m₁ m'
+  loop_back : (m m' : Store) → value e m ≢ pos 0 → (n : ℕ) → runs n (While e c) m ≡ Some m' →
+      (m₁ : Store) × Evaluates c m m₁ × Evaluates (While e c) m₁ m'
   loop_back m m' z zero f = no_answer m' (sym (at_other (value e m) (Some m) None z) ∙ f)
   loop_back m m' z (suc n) f =
       let b = between (runs (suc n) c m) (turns n (value e) (runs (suc n) c)) m'
@@ -189,14 +189,14 @@ module _ (e : Phrase) (c : Command) where
       )
 
   -- A loop whose guard is false leaves the store.
-  loop_stops : (m m' : Store) → value e m ≡ pos 0 → (n : ℕ) → runs n (Repeat e c) m ≡ Some m' → m' ≡ m
+  loop_stops : (m m' : Store) → value e m ≡ pos 0 → (n : ℕ) → runs n (While e c) m ≡ Some m' → m' ≡ m
   loop_stops m m' z zero f = sym (same_answer _ _ (sym (at_none (value e m) (Some m) None z) ∙ f))
   loop_stops m m' z (suc n) f =
       sym (same_answer _ _ (sym (at_none (value e m) (Some m) (and_then (runs (suc n) c m)
       (turns n (value e) (runs (suc n) c))) z) ∙ f))
 
 -- Two commands that end one after another end in sequence.
-composed : (a b : Command) (m m' m₁ : Store) → Evaluates a m m₁ → Evaluates b m₁ m' → Evaluates (Then a b) m m'
+composed : (a b : Command) (m m' m₁ : Store) → Evaluates a m m₁ → Evaluates b m₁ m' → Evaluates (Sequence a b) m m'
 composed a b m m' m₁ r s =
     let k = r.0 + s.0 in (
       k,

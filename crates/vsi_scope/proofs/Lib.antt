@@ -13,3 +13,5 @@ pub mod Complete
 pub mod Limits
 pub mod Clean
 pub mod Classes
+pub mod Marks
+pub mod Faultless

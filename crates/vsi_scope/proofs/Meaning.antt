@@ -3,9 +3,9 @@ use Rattle.std.proofs.Common.{◌≡◌, ℕ, suc, ◌+◌, ◌<◌, List, [], �
 use Rattle.std.proofs.lemmas.Slice.Eq.{bytes_eq-Decides}
 use Rattle.vsi_syntax.specs.Tree as tree
 use Rattle.vsi_scope.specs.declared.resolution.ScopeError.{ScopeError}
-use Rattle.vsi_scope.specs.Phrase.{Command, letvars, HasLocations, HasPlaces}
+use Rattle.vsi_scope.specs.Language.{Command, letvars, HasLocations, HasPlaces}
 use Rattle.vsi_scope.specs.Scopes.{Text, Scope, IsAbsent, StandsFor, Means, Does, DoesAll, in_sequence}
-use Rattle.vsi_scope.specs.Places.{place_of, next_place, or_zero, place, phrase_of, commands_of, all_commands}
+use Rattle.vsi_scope.specs.Places.{place_of, next_place, or_zero, place, expression_of, commands_of, all_commands}
 use Rattle.vsi_scope.specs.Faults.{Known, Mark, Use, uses, marks, all_marks, locals, all_locals, class_marks, first_fault, or_else, if_absent}
 use Rattle.vsi_scope.proofs.Faulty.{first_of_both}
 
@@ -52,11 +52,11 @@ within (y ∷ ys) x l e =
 
 -- An expression without a fault reads locations in scope.
 pub locations : (k : Known) (s : Scope) (e : tree.Tree) → first_fault k (uses s e) ≡ None →
-    HasLocations (length s) (phrase_of s e)
-locations k s (tree.Literal n) p = tt
-locations k s (tree.Read x) p = within s x.text (place s x.text) (there (place_of s x.text) _ (none_left _ _ p))
-locations k s (tree.Round e) p = locations k s e p
-locations k s (tree.Both op a b) p =
+    HasLocations (length s) (expression_of s e)
+locations k s (tree.Number n) p = tt
+locations k s (tree.Name x) p = within s x.text (place s x.text) (there (place_of s x.text) _ (none_left _ _ p))
+locations k s (tree.Bracket e) p = locations k s e p
+locations k s (tree.Binary op a b) p =
     (locations k s a (left_of k (uses s a) (uses s b) p), locations k s b (right_of k (uses s a) (uses s b) p))
 
 -- Nothing isn't something.
@@ -124,13 +124,13 @@ pub used_behind : (k : Known) (s : Scope) (x : tree.Named) (ms : List Mark) → 
 used_behind k s x ms p = none_right _ _ p
 
 -- An expression without a fault is over locations what the function gives.
-pub means : (k : Known) (s : Scope) (e : tree.Tree) → first_fault k (uses s e) ≡ None → Means s e (phrase_of s e)
-means k s (tree.Literal n) p = refl
-means k s (tree.Read x) p = (place s x.text, stands s x.text _ (used k s x [] p), refl)
-means k s (tree.Round e) p = means k s e p
-means k s (tree.Both op a b) p = (
-  phrase_of s a,
-  phrase_of s b,
+pub means : (k : Known) (s : Scope) (e : tree.Tree) → first_fault k (uses s e) ≡ None → Means s e (expression_of s e)
+means k s (tree.Number n) p = refl
+means k s (tree.Name x) p = (place s x.text, stands s x.text _ (used k s x [] p), refl)
+means k s (tree.Bracket e) p = means k s e p
+means k s (tree.Binary op a b) p = (
+  expression_of s a,
+  expression_of s b,
   means k s a (left_of k (uses s a) (uses s b) p),
   means k s b (right_of k (uses s a) (uses s b) p),
   refl,
@@ -140,16 +140,16 @@ mutual
   -- A command without a fault is over locations what the function gives.
   pub does : (k : Known) (s : Scope) (n : ℕ) (c : tree.Command) → first_fault k (marks s n c) ≡ None →
       Does s c (commands_of s c)
-  does k s n (tree.Set x e) p = (
+  does k s n (tree.Assign x e) p = (
     place s x.text,
-    phrase_of s e,
+    expression_of s e,
     stands s x.text _ (used k s x (uses s e) p),
     means k s e (used_behind k s x (uses s e) p),
     refl,
   )
-  does k s n (tree.Choose e c d) p =
+  does k s n (tree.If e c d) p =
       let q = right_of k (uses s e) (marks s n c ++ marks s (n + locals c) d) p in (
-        phrase_of s e,
+        expression_of s e,
         commands_of s c,
         commands_of s d,
         means k s e (left_of k (uses s e) (marks s n c ++ marks s (n + locals c) d) p),
@@ -159,24 +159,24 @@ mutual
             (marks s (n + locals c) d) q),
         refl,
       )
-  does k s n (tree.Loop e c) p = (
-    phrase_of s e,
+  does k s n (tree.While e c) p = (
+    expression_of s e,
     commands_of s c,
     means k s e (left_of k (uses s e) (marks s n c) p),
     does k s n c
         (right_of k (uses s e) (marks s n c) p),
     refl,
   )
-  does k s n (tree.Local x class e c) p =
+  does k s n (tree.Letvar x class e c) p =
       let q = right_of k (class_marks class) (uses s e ++ marks (s ++ x.text ∷ []) (suc n) c) (none_right _ _ p) in (
-        phrase_of s e,
+        expression_of s e,
         commands_of (s ++ x.text ∷ []) c,
         means k s e (left_of k (uses s e) (marks (s ++ x.text ∷ []) (suc n) c) q),
         does k (s ++ x.text ∷ [])
             (suc n) c (right_of k (uses s e) (marks (s ++ x.text ∷ []) (suc n) c) q),
         refl,
       )
-  does k s n (tree.Braces b) p = does_all k s n b p
+  does k s n (tree.Block b) p = does_all k s n b p
 
   -- A sequence without a fault is over locations what the function gives.
   pub does_all : (k : Known) (s : Scope) (n : ℕ) (b : tree.Body) → first_fault k (all_marks s n b) ≡ None →
@@ -208,9 +208,9 @@ mutual
   -- The locations of a command without a fault exist.
   pub places : (k : Known) (s : Scope) (n : ℕ) (c : tree.Command) → first_fault k (marks s n c) ≡ None →
       HasPlaces (length s) (in_sequence (commands_of s c))
-  places k s n (tree.Set x e) p =
+  places k s n (tree.Assign x e) p =
       ((within s x.text _ (used k s x (uses s e) p), locations k s e (used_behind k s x (uses s e) p)), tt)
-  places k s n (tree.Choose e c d) p =
+  places k s n (tree.If e c d) p =
       let q = right_of k (uses s e) (marks s n c ++ marks s (n + locals c) d) p in (
         (
           locations k s e (left_of k (uses s e) (marks s n c ++ marks s (n + locals c) d) p),
@@ -221,7 +221,7 @@ mutual
         ),
         tt,
       )
-  places k s n (tree.Loop e c) p = (
+  places k s n (tree.While e c) p = (
     (
       locations k s e (left_of k (uses s e) (marks s n c) p),
       places k s n c
@@ -229,7 +229,7 @@ mutual
     ),
     tt,
   )
-  places k s n (tree.Local x class e c) p =
+  places k s n (tree.Letvar x class e c) p =
       let q = right_of k (class_marks class) (uses s e ++ marks (s ++ x.text ∷ []) (suc n) c) (none_right _ _ p) in
       let r = places k (s ++ x.text ∷ []) (suc n) c (right_of k (uses s e) (marks (s ++ x.text ∷ []) (suc n) c) q) in (
         (
@@ -239,7 +239,7 @@ mutual
         ),
         tt,
       )
-  places k s n (tree.Braces b) p = all_places k s n b p
+  places k s n (tree.Block b) p = all_places k s n b p
 
   -- The locations of a sequence without a fault exist.
   pub all_places : (k : Known) (s : Scope) (n : ℕ) (b : tree.Body) → first_fault k (all_marks s n b) ≡ None →
@@ -253,11 +253,11 @@ mutual
 mutual
   -- A command over locations has the letvars of its tree.
   pub letvars_of : (s : Scope) (c : tree.Command) → letvars (in_sequence (commands_of s c)) ≡ locals c
-  letvars_of s (tree.Set x e) = refl
-  letvars_of s (tree.Choose e c d) = omega (arith, letvars_of s c, letvars_of s d)
-  letvars_of s (tree.Loop e c) = omega (arith, letvars_of s c)
-  letvars_of s (tree.Local x class e c) = omega (arith, letvars_of (s ++ x.text ∷ []) c)
-  letvars_of s (tree.Braces b) = all_letvars s b
+  letvars_of s (tree.Assign x e) = refl
+  letvars_of s (tree.If e c d) = omega (arith, letvars_of s c, letvars_of s d)
+  letvars_of s (tree.While e c) = omega (arith, letvars_of s c)
+  letvars_of s (tree.Letvar x class e c) = omega (arith, letvars_of (s ++ x.text ∷ []) c)
+  letvars_of s (tree.Block b) = all_letvars s b
 
   -- A sequence over locations has the letvars of its tree.
   pub all_letvars : (s : Scope) (b : tree.Body) → letvars (in_sequence (all_commands s b)) ≡ all_locals b

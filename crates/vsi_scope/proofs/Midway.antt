@@ -6,17 +6,17 @@ use Rattle.vsi_scope.specs.declared.resolution.ScopeError.{ScopeError}
 use Rattle.vsi_scope.proofs.Faulty.{fault_behind, refuses_first, refuses_as}
 use Rattle.vsi_scope.proofs.Walks.{declared_after}
 use Rattle.vsi_syntax.specs.declared.tree.Stmt.{Stmt}
-use Rattle.vsi_syntax.specs.Programs as syntax
+use Rattle.vsi_syntax.specs.CommandView as syntax
 use Rattle.vsi_scope.specs.declared.program.Cmd.{Cmd}
-use Rattle.vsi_scope.specs.declared.resolution.command.Walk.{Walk}
+use Rattle.vsi_scope.specs.declared.resolution.command.Resolver.{Resolver}
 use Rattle.vsi_scope.specs.View.{command}
 use Rattle.vsi_scope.specs.Places.{commands_of, all_commands}
 use Rattle.vsi_scope.specs.Faults.{Known, marks, all_marks, locals, first_fault, Refuses}
 use Rattle.vsi_scope.specs.Resolving.{variable, variables, all_variables}
-use Rattle.vsi_scope.specs.Walking.{Walked, IsWithin, scope_of, declared}
+use Rattle.vsi_scope.specs.Resolver.{Walked, IsWithin, scope_of, declared}
 
 -- A walk has gone over the first commands of a sequence.
-pub record Midway (known : Known) (old now : Walk) (before out : List Cmd) (all rest : List Stmt) : Type 0 where
+pub record Midway (known : Known) (old now : Resolver) (before out : List Cmd) (all rest : List Stmt) : Type 0 where
   pub within : IsWithin now
   pub names : now.names.items ≡ old.names.items
   pub globals : now.globals ≡ old.globals
@@ -28,7 +28,7 @@ pub record Midway (known : Known) (old now : Walk) (before out : List Cmd) (all 
       (all_marks (scope_of old) (declared now) (syntax.body_of rest))
 
 -- One command more.
-pub midway_more : (known : Known) (old mid new : Walk) (before b a : List Cmd) (all rest after : List Stmt)
+pub midway_more : (known : Known) (old mid new : Resolver) (before b a : List Cmd) (all rest after : List Stmt)
     (c : tree.Command) → syntax.body_of rest ≡ tree.Then c (syntax.body_of after) →
     Midway known old mid before b all rest → Walked mid new b a (variables known c) (commands_of (scope_of mid) c) →
     first_fault known (marks (scope_of mid) (declared mid) c) ≡ None → Midway known old new before a all after
@@ -57,7 +57,7 @@ midway_more known old mid new before b a all rest after c r m w none =
     }
 
 -- A fault of the next command is the first of the sequence.
-pub midway_refuses : (known : Known) (old mid : Walk) (before b : List Cmd) (all rest after : List Stmt)
+pub midway_refuses : (known : Known) (old mid : Resolver) (before b : List Cmd) (all rest after : List Stmt)
     (c : tree.Command) (e : ScopeError) → syntax.body_of rest ≡ tree.Then c (syntax.body_of after) →
     Midway known old mid before b all rest → Refuses e (first_fault known (marks (scope_of mid) (declared mid) c)) →
     Refuses e (first_fault known (all_marks (scope_of old) (declared old) (syntax.body_of all)))

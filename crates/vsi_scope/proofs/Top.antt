@@ -8,18 +8,18 @@ use Rattle.vsi_syntax.specs.Spelling.{IsGlobalsSpelled}
 use Rattle.vsi_syntax.specs.Words.{is_name}
 use Rattle.vsi_scope.specs.declared.program.Cmd.{Cmd}
 use Rattle.vsi_scope.specs.declared.resolved.Global.{Global}
-use Rattle.vsi_scope.specs.declared.resolution.command.Walk.{Walk}
+use Rattle.vsi_scope.specs.declared.resolution.command.Resolver.{Resolver}
 use Rattle.vsi_scope.specs.declared.resolution.ScopeError.{ScopeError}
 use Rattle.vsi_scope.specs.declared.resolution.ScopeError.TheVariants as errors
-use Rattle.vsi_scope.specs.Phrase.{Command, size, letvars, nesting, depth, HasPlaces}
+use Rattle.vsi_scope.specs.Language.{Command, size, letvars, nesting, depth, HasPlaces}
 use Rattle.vsi_scope.specs.View.{command, sequence}
-use Rattle.vsi_scope.specs.Program.{source, IsNamed, IsResolved}
+use Rattle.vsi_scope.specs.Program.{resolved_of, IsNamed, IsResolved}
 use Rattle.vsi_scope.specs.Scopes.{DoesAll, in_sequence}
 use Rattle.vsi_scope.specs.Places.{place_of, all_commands}
 use Rattle.vsi_scope.specs.Faults.{Known, Mark, Local, Class, Use, marks, all_marks, all_locals, global_marks, global_names, program_marks, fault_at, first_fault, or_else, if_absent, if_there, Refuses}
 use Rattle.vsi_scope.specs.Faults as marked
-use Rattle.vsi_scope.specs.Resolving.{Shown, shown, global_of, variable, all_variables, IsResolution, Resolves, IsTooLarge, Explains}
-use Rattle.vsi_scope.specs.Walking.{WalkedAll, scope_of, declared, fault_in_all}
+use Rattle.vsi_scope.specs.Resolving.{Shown, shown, global_of, variable, all_variables, IsResolution, Resolves, IsTooLarge, ExplainsScope}
+use Rattle.vsi_scope.specs.Resolver.{WalkedAll, scope_of, declared, fault_in_all}
 use Rattle.vsi_scope.proofs.Faulty.{refuses_first, refuses_behind, none_in_both}
 use Rattle.vsi_scope.proofs.Views.{sequence_in}
 use Rattle.vsi_scope.proofs.Walks.{all_counted}
@@ -71,7 +71,7 @@ small k (m ∷ ms) = small_both (fault_at k m) (first_fault k ms) (small_at k m)
 
 -- An error that is the first fault explains the refusal.
 pub explains : (k : Known) (p : tree.Whole) (e : ScopeError) → Refuses e (first_fault k (program_marks p)) →
-    Explains k p e
+    ExplainsScope k p e
 explains k p errors.Memory r = tt
 explains k p (errors.Duplicate s) r = r
 explains k p (errors.UnknownClass s) r = r
@@ -83,7 +83,7 @@ explains k p errors.TooLarge r = absurd (subst Small r (small k (program_marks p
 -- ---- a program that has a resolution within the limits is refused for want of memory alone.
 
 -- No program with a resolution within the limits has a fault.
-resolution_clean : (k : Known) (p : tree.Whole) (cs : List Command) → IsResolution k p cs →
+pub resolution_clean : (k : Known) (p : tree.Whole) (cs : List Command) → IsResolution k p cs →
     first_fault k (program_marks p) ≡ None
 resolution_clean k p cs r =
     none_in_both k (global_marks [] p.globals) (all_marks (global_names p.globals) (length p.globals) p.body)
@@ -104,7 +104,7 @@ contradicts k p cs e r q = not_none e (sym q ∙ resolution_clean k p cs r)
 
 -- What explains the refusal of a program with a resolution is want of memory.
 complete : (k : Known) (p : tree.Whole) (cs : List Command) → IsResolution k p cs → (e : ScopeError) →
-    Explains k p e → e ≡ errors.Memory
+    ExplainsScope k p e → e ≡ errors.Memory
 complete k p cs r errors.Memory q = refl
 complete k p cs r (errors.Duplicate s) q = contradicts k p cs _ r q
 complete k p cs r (errors.UnknownClass s) q = contradicts k p cs _ r q
@@ -114,7 +114,7 @@ complete k p cs r (errors.TooManyDeclarations s) q = contradicts k p cs _ r q
 complete k p cs r errors.TooLarge q = absurd (resolution_small k p cs r q)
 
 -- What explains its refusals refuses a program with a resolution for want of memory alone.
-pub exact : {X : Type 0} (k : Known) (p : tree.Whole) (r : Result X ScopeError) → IfErr r (λ e. Explains k p e) →
+pub exact : {X : Type 0} (k : Known) (p : tree.Whole) (r : Result X ScopeError) → IfErr r (λ e. ExplainsScope k p e) →
     (cs : List Command) → IsResolution k p cs → IfErr r (λ e. e ≡ errors.Memory)
 exact k p (Ok x) h cs s = tt
 exact k p (Err e) h cs s = complete k p cs s e h
@@ -158,13 +158,13 @@ same_names k (x ∷ xs) (g ∷ gs) e =
 
 -- A fault of the globals explains the refusal.
 pub globals_refuse : (k : Known) (p : tree.Whole) (e : ScopeError) →
-    Refuses e (first_fault k (global_marks [] p.globals)) → Explains k p e
+    Refuses e (first_fault k (global_marks [] p.globals)) → ExplainsScope k p e
 globals_refuse k p e r =
     explains k p e
     (refuses_first e k (global_marks [] p.globals) (all_marks (global_names p.globals) (length p.globals) p.body) r)
 
 -- The globals are read, and the walk begins.
-pub record Begun (k : Known) (p : tree.Whole) (list : List Global) (w : Walk) : Type 0 where
+pub record Begun (k : Known) (p : tree.Whole) (list : List Global) (w : Resolver) : Type 0 where
   pub few : length w.names.items ≤ 256
   pub named : map (λ x. x.now) w.names.items ≡ global_names p.globals
   pub listed : map shown list ≡ map (global_of k) p.globals
@@ -175,7 +175,7 @@ pub record Begun (k : Known) (p : tree.Whole) (list : List Global) (w : Walk) : 
   pub spelled : IsGlobalsSpelled p.globals
   pub shallow : tree.body_depth p.body ≤ 200
 
-module _ (k : Known) (p : tree.Whole) (list : List Global) (w : Walk) (b : Begun k p list w) where
+module _ (k : Known) (p : tree.Whole) (list : List Global) (w : Resolver) (b : Begun k p list w) where
   -- As many globals are read as are declared.
   globals_counted : length list ≡ length p.globals
   globals_counted = sym (length-map list shown) ∙ ap length b.listed ∙ length-map p.globals (global_of k)
@@ -193,14 +193,14 @@ module _ (k : Known) (p : tree.Whole) (list : List Global) (w : Walk) (b : Begun
   few_globals = omega (arith, globals_few k [] p.globals (omega arith) b.faultless)
 
   -- A fault of the body explains the refusal.
-  pub body_refuses : (e : ScopeError) → Refuses e (fault_in_all k w p.body) → Explains k p e
+  pub body_refuses : (e : ScopeError) → Refuses e (fault_in_all k w p.body) → ExplainsScope k p e
   body_refuses e r =
       explains k p e
       (refuses_behind e k (global_marks [] p.globals) (all_marks (global_names p.globals) (length p.globals) p.body)
       b.faultless (rw (b.named, begun_declared) at r))
 
   module _
-      (new : Walk) (before after : List Cmd) (empty : before ≡ []) (walked : WalkedAll k w new before after p.body)
+      (new : Resolver) (before after : List Cmd) (empty : before ≡ []) (walked : WalkedAll k w new before after p.body)
       (none : fault_in_all k w p.body ≡ None) where
     -- The body has no fault.
     none_there : first_fault k (all_marks (global_names p.globals) (length p.globals) p.body) ≡ None
@@ -262,7 +262,7 @@ module _ (k : Known) (p : tree.Whole) (list : List Global) (w : Walk) (b : Begun
     }
 
     -- The program keeps what a resolved program keeps.
-    pub is_resolved : size (sequence after) ≤ 65534 → IsResolved (source list new.letvars.items after)
+    pub is_resolved : size (sequence after) ≤ 65534 → IsResolved (resolved_of list new.letvars.items after)
     is_resolved fits = record {
       entries = entries ∙ sym counted;
       places = placed;
@@ -278,7 +278,7 @@ module _ (k : Known) (p : tree.Whole) (list : List Global) (w : Walk) (b : Begun
     }
 
     -- The program is the resolution of its tree.
-    pub resolves : size (sequence after) ≤ 65534 → Resolves k p (source list new.letvars.items after)
+    pub resolves : size (sequence after) ≤ 65534 → Resolves k p (resolved_of list new.letvars.items after)
     resolves fits = record {
       faultless = faultless;
       globals = b.listed;

@@ -5,32 +5,32 @@ use Rattle.std.proofs.Math.Seq.{take-append_seam}
 use Rattle.vsi_syntax.specs.Tree as tree
 use Rattle.vsi_scope.specs.declared.program.Ex.{Ex}
 use Rattle.vsi_scope.specs.declared.program.Cmd.{Cmd}
-use Rattle.vsi_scope.specs.declared.program.Cmd.TheViews.{If, While, Letvar}
+use Rattle.vsi_scope.specs.declared.program.Cmd.TheViews as view
 use Rattle.vsi_scope.specs.declared.resolved.Entry.{Entry}
-use Rattle.vsi_scope.specs.declared.resolution.command.Walk.{Walk}
-use Rattle.vsi_scope.specs.Phrase.{Command, Choose, Repeat, Allocate}
-use Rattle.vsi_scope.specs.View.{phrase, command, sequence}
+use Rattle.vsi_scope.specs.declared.resolution.command.Resolver.{Resolver}
+use Rattle.vsi_scope.specs.Language.{Command, If, While, Letvar}
+use Rattle.vsi_scope.specs.View.{expression, command, sequence}
 use Rattle.vsi_scope.specs.Scopes.{in_sequence}
-use Rattle.vsi_scope.specs.Places.{phrase_of, commands_of}
+use Rattle.vsi_scope.specs.Places.{expression_of, commands_of}
 use Rattle.vsi_scope.specs.Faults.{Known, locals, all_locals}
 use Rattle.vsi_scope.specs.Resolving.{Variable, variable, variables, all_variables, class_of, letvar}
-use Rattle.vsi_scope.specs.Walking.{Walked, IsWithin, scope_of, declared}
+use Rattle.vsi_scope.specs.Resolver.{Walked, IsWithin, scope_of, declared}
 use Rattle.vsi_scope.proofs.Views.{command_If, command_While, command_Letvar, sequence_in}
 
 -- A branch that has begun empty.
-branch : {old new : Walk} {vs : List Variable} (cs : List Command) (b : List Cmd) (v : Vec Cmd Global) → b ≡ [] →
+branch : {old new : Resolver} {vs : List Variable} (cs : List Command) (b : List Cmd) (v : Vec Cmd Global) → b ≡ [] →
     Walked old new b v.items vs cs → sequence v.items ≡ in_sequence cs
 branch cs b v e w = sequence_in v.items ∙ ap in_sequence (w.body ∙ ap (λ l. map command l ++ cs) e)
 
 mutual
   -- A command has as many variables as letvars.
   pub counted : (known : Known) (c : tree.Command) → length (variables known c) ≡ locals c
-  counted known (tree.Set x e) = refl
-  counted known (tree.Choose e c d) =
+  counted known (tree.Assign x e) = refl
+  counted known (tree.If e c d) =
       omega (arith, length-append (variables known c) (variables known d), counted known c, counted known d)
-  counted known (tree.Loop e c) = counted known c
-  counted known (tree.Local x class e c) = ap suc (counted known c)
-  counted known (tree.Braces b) = all_counted known b
+  counted known (tree.While e c) = counted known c
+  counted known (tree.Letvar x class e c) = ap suc (counted known c)
+  counted known (tree.Block b) = all_counted known b
 
   -- A sequence has as many variables as letvars.
   pub all_counted : (known : Known) (b : tree.Body) → length (all_variables known b) ≡ all_locals b
@@ -44,12 +44,12 @@ mutual
       )
 
 -- A walk leaves the names in scope as they were.
-pub scope_after : (old new : Walk) {b a : List Cmd} {vs : List Variable} {cs : List Command} →
+pub scope_after : (old new : Resolver) {b a : List Cmd} {vs : List Variable} {cs : List Command} →
     Walked old new b a vs cs → scope_of new ≡ scope_of old
 scope_after old new w = ap (map (λ (x : Bor (List ℕ)). x.now)) w.names
 
 -- A walk over a command has declared its letvars.
-pub declared_after : (known : Known) (c : tree.Command) (old new : Walk) {b a : List Cmd} {cs : List Command} →
+pub declared_after : (known : Known) (c : tree.Command) (old new : Resolver) {b a : List Cmd} {cs : List Command} →
     Walked old new b a (variables known c) cs → declared new ≡ declared old + locals c
 declared_after known c old new w =
     omega (
@@ -69,12 +69,13 @@ put before after c d e f =
     ap (map command) e ∙ map-append command before (c ∷ []) ∙ ap (λ x. map command before ++ x ∷ []) f
 
 -- A walk over a guard and two branches has gone over a choice.
-pub chosen : (known : Known) (old w₁ w₂ : Walk) (guard : Ex) (e : tree.Tree) (c d : tree.Command) (b₁ b₂ : List Cmd)
-    (firsts others : Vec Cmd Global) (before after : List Cmd) → phrase guard ≡ phrase_of (scope_of old) e → b₁ ≡ [] →
+pub chosen : (known : Known) (old w₁ w₂ : Resolver) (guard : Ex) (e : tree.Tree) (c d : tree.Command) (b₁ b₂ : List Cmd)
+    (firsts others : Vec Cmd Global) (before after : List Cmd) → expression guard ≡ expression_of (scope_of old) e →
+    b₁ ≡ [] →
     b₂ ≡ [] → Walked old w₁ b₁ firsts.items (variables known c) (commands_of (scope_of old) c) →
     Walked w₁ w₂ b₂ others.items (variables known d) (commands_of (scope_of w₁) d) →
-    after ≡ before ++ If guard firsts others ∷ [] →
-    Walked old w₂ before after (variables known (tree.Choose e c d)) (commands_of (scope_of old) (tree.Choose e c d))
+    after ≡ before ++ view.If guard firsts others ∷ [] →
+    Walked old w₂ before after (variables known (tree.If e c d)) (commands_of (scope_of old) (tree.If e c d))
 chosen known old w₁ w₂ guard e c d b₁ b₂ firsts others before after g e₁ e₂ first second pushed = record {
   within = second.within;
   names = second.names ∙ first.names;
@@ -82,47 +83,47 @@ chosen known old w₁ w₂ guard e c d b₁ b₂ firsts others before after g e�
   letvars =
       second.letvars ∙ ap (λ l. l ++ variables known d) first.letvars ∙ append_assoc (map variable old.letvars.items)
       (variables known c) (variables known d);
-  body = put before after (If guard firsts others) _ pushed
+  body = put before after (view.If guard firsts others) _ pushed
       (command_If guard firsts others
-      ∙ ap (λ p. Choose p (sequence firsts.items) (sequence others.items)) g
-      ∙ ap (λ x. Choose (phrase_of (scope_of old) e) x (sequence others.items))
+      ∙ ap (λ p. If p (sequence firsts.items) (sequence others.items)) g
+      ∙ ap (λ x. If (expression_of (scope_of old) e) x (sequence others.items))
       (branch (commands_of (scope_of old) c) b₁ firsts e₁ first)
-      ∙ ap (λ x. Choose (phrase_of (scope_of old) e) (in_sequence (commands_of (scope_of old) c)) x)
+      ∙ ap (λ x. If (expression_of (scope_of old) e) (in_sequence (commands_of (scope_of old) c)) x)
       (branch (commands_of (scope_of w₁) d) b₂ others e₂ second ∙ ap (λ s. in_sequence (commands_of s d))
       (scope_after old w₁ first)));
 }
 
 -- A walk over a guard and a body has gone over a loop.
-pub looped : (known : Known) (old w : Walk) (guard : Ex) (e : tree.Tree) (c : tree.Command) (b : List Cmd)
-    (body : Vec Cmd Global) (before after : List Cmd) → phrase guard ≡ phrase_of (scope_of old) e → b ≡ [] →
+pub looped : (known : Known) (old w : Resolver) (guard : Ex) (e : tree.Tree) (c : tree.Command) (b : List Cmd)
+    (body : Vec Cmd Global) (before after : List Cmd) → expression guard ≡ expression_of (scope_of old) e → b ≡ [] →
     Walked old w b body.items (variables known c) (commands_of (scope_of old) c) →
-    after ≡ before ++ While guard body ∷ [] →
-    Walked old w before after (variables known (tree.Loop e c)) (commands_of (scope_of old) (tree.Loop e c))
+    after ≡ before ++ view.While guard body ∷ [] →
+    Walked old w before after (variables known (tree.While e c)) (commands_of (scope_of old) (tree.While e c))
 looped known old w guard e c b body before after g e₁ inner pushed = record {
   within = inner.within;
   names = inner.names;
   globals = inner.globals;
   letvars = inner.letvars;
-  body = put before after (While guard body) _ pushed
+  body = put before after (view.While guard body) _ pushed
       (command_While guard body
-      ∙ ap (λ p. Repeat p (sequence body.items)) g
-      ∙ ap (Repeat (phrase_of (scope_of old) e)) (branch (commands_of (scope_of old) c) b body e₁ inner));
+      ∙ ap (λ p. While p (sequence body.items)) g
+      ∙ ap (While (expression_of (scope_of old) e)) (branch (commands_of (scope_of old) c) b body e₁ inner));
 }
 
 -- A variable has come into scope.
-pub record Entered (old new : Walk) (x : Bor (List ℕ)) (v : Variable) : Type 0 where
+pub record Entered (old new : Resolver) (x : Bor (List ℕ)) (v : Variable) : Type 0 where
   pub names : new.names.items ≡ old.names.items ++ x ∷ []
   pub globals : new.globals ≡ old.globals
   pub letvars : map variable new.letvars.items ≡ map variable old.letvars.items ++ v ∷ []
 
 -- The name that came into scope is the last.
-pub entered_scope : (old new : Walk) (x : Bor (List ℕ)) (v : Variable) → Entered old new x v →
+pub entered_scope : (old new : Resolver) (x : Bor (List ℕ)) (v : Variable) → Entered old new x v →
     scope_of new ≡ scope_of old ++ x.now ∷ []
 entered_scope old new x v w =
     ap (map (λ (y : Bor (List ℕ)). y.now)) w.names ∙ map-append (λ (y : Bor (List ℕ)). y.now) old.names.items (x ∷ [])
 
 -- One variable more is declared.
-pub entered_declared : (old new : Walk) (x : Bor (List ℕ)) (v : Variable) → Entered old new x v →
+pub entered_declared : (old new : Resolver) (x : Bor (List ℕ)) (v : Variable) → Entered old new x v →
     declared new ≡ suc (declared old)
 entered_declared old new x v w =
     omega (
@@ -135,7 +136,7 @@ entered_declared old new x v w =
     )
 
 -- Not too many are declared where one more fits.
-pub entered_within : (old new : Walk) (x : Bor (List ℕ)) (v : Variable) → Entered old new x v → IsWithin old →
+pub entered_within : (old new : Resolver) (x : Bor (List ℕ)) (v : Variable) → Entered old new x v → IsWithin old →
     declared old < 1024 → IsWithin new
 entered_within old new x v w i lt = record {
   names =
@@ -150,19 +151,19 @@ entered_within old new x v w i lt = record {
 }
 
 -- A walk over an initial value and a body, with the name in scope for the body alone, has gone over a letvar.
-pub localled : (known : Known) (old w₁ w₂ new : Walk) (x : Bor (List ℕ)) (named : tree.Named)
+pub localled : (known : Known) (old w₁ w₂ new : Resolver) (x : Bor (List ℕ)) (named : tree.Named)
     (class : Option tree.Named) (initial : Ex) (e : tree.Tree) (c : tree.Command) (b : List Cmd)
     (body : Vec Cmd Global) (before after : List Cmd)
     → IsWithin old
     → Entered old w₁ x (letvar named (class_of known class))
     → x.now ≡ named.text
-    → phrase initial ≡ phrase_of (scope_of old) e → b ≡ []
+    → expression initial ≡ expression_of (scope_of old) e → b ≡ []
     → Walked w₁ w₂ b body.items (variables known c) (commands_of (scope_of w₁) c)
     → new.names.items ≡ take (length w₂.names.items - 1) w₂.names.items → new.globals ≡ w₂.globals → new.letvars
     ≡ w₂.letvars
-    → after ≡ before ++ Letvar initial body ∷ []
-    → Walked old new before after (variables known (tree.Local named class e c)) (commands_of (scope_of old)
-    (tree.Local named class e c))
+    → after ≡ before ++ view.Letvar initial body ∷ []
+    → Walked old new before after (variables known (tree.Letvar named class e c)) (commands_of (scope_of old)
+    (tree.Letvar named class e c))
 localled known old w₁ w₂ new x named class initial e c b body before after i entered text g e₁ inner names globals
     letvars pushed =
     let all : w₂.names.items ≡ old.names.items ++ x ∷ [] = inner.names ∙ entered.names in
@@ -202,9 +203,9 @@ localled known old w₁ w₂ new x named class initial e c b body before after i
           ap (λ (v : Vec Entry Global). map variable v.items) letvars ∙ inner.letvars
           ∙ ap (λ l. l ++ variables known c) entered.letvars ∙ append_assoc (map variable old.letvars.items) _
           (variables known c);
-      body = put before after (Letvar initial body) _ pushed
+      body = put before after (view.Letvar initial body) _ pushed
           (command_Letvar initial body
-          ∙ ap (λ p. Allocate p (sequence body.items)) g
-          ∙ ap (Allocate (phrase_of (scope_of old) e)) (branch (commands_of (scope_of w₁) c) b body e₁ inner
+          ∙ ap (λ p. Letvar p (sequence body.items)) g
+          ∙ ap (Letvar (expression_of (scope_of old) e)) (branch (commands_of (scope_of w₁) c) b body e₁ inner
           ∙ ap (λ s. in_sequence (commands_of s c)) scope));
     }

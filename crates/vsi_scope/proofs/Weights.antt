@@ -2,17 +2,17 @@
 use Rattle.std.proofs.Common.{◌≡◌, ℕ, zero, suc, ◌+◌, ◌<◌, ◌≤◌, List, [], ◌∷◌, length, drop, get_or, sym, ap, ◌∙◌, arith}
 use Rattle.std.proofs.Math.Seq.{drop-cons}
 use Rattle.vsi_syntax.specs.declared.tree.Stmt.{Stmt}
-use Rattle.vsi_syntax.specs.Programs as syntax
+use Rattle.vsi_syntax.specs.CommandView as syntax
 use Rattle.vsi_syntax.specs.Tree as tree
 
 abbrev mutual
   -- How much of a command is left to walk.
   pub weight : tree.Command → ℕ
-  weight (tree.Set x e) = 1
-  weight (tree.Choose e c d) = 1 + weight c + weight d
-  weight (tree.Loop e c) = 1 + weight c
-  weight (tree.Local x class e c) = 1 + weight c
-  weight (tree.Braces b) = 1 + all_weight b
+  weight (tree.Assign x e) = 1
+  weight (tree.If e c d) = 1 + weight c + weight d
+  weight (tree.While e c) = 1 + weight c
+  weight (tree.Letvar x class e c) = 1 + weight c
+  weight (tree.Block b) = 1 + all_weight b
 
   -- How much of a sequence is left to walk.
   pub all_weight : tree.Body → ℕ

@@ -23,19 +23,19 @@ class_marks (Some class) = Class class ∷ []
 
 -- The names of an expression.
 abbrev pub uses : Scope → tree.Tree → List Mark
-uses scope (tree.Literal n) = []
-uses scope (tree.Read x) = Use scope x ∷ []
-uses scope (tree.Round e) = uses scope e
-uses scope (tree.Both op a b) = uses scope a ++ uses scope b
+uses scope (tree.Number n) = []
+uses scope (tree.Name x) = Use scope x ∷ []
+uses scope (tree.Bracket e) = uses scope e
+uses scope (tree.Binary op a b) = uses scope a ++ uses scope b
 
 abbrev mutual
   -- The number of letvars in a command.
   pub locals : tree.Command → ℕ
-  locals (tree.Set x e) = 0
-  locals (tree.Choose e c d) = locals c + locals d
-  locals (tree.Loop e c) = locals c
-  locals (tree.Local x class e c) = suc (locals c)
-  locals (tree.Braces b) = all_locals b
+  locals (tree.Assign x e) = 0
+  locals (tree.If e c d) = locals c + locals d
+  locals (tree.While e c) = locals c
+  locals (tree.Letvar x class e c) = suc (locals c)
+  locals (tree.Block b) = all_locals b
 
   -- The number of letvars in a sequence.
   pub all_locals : tree.Body → ℕ
@@ -45,12 +45,12 @@ abbrev mutual
 abbrev mutual
   -- The marks of a command behind n declarations.
   pub marks : Scope → ℕ → tree.Command → List Mark
-  marks scope n (tree.Set x e) = Use scope x ∷ uses scope e
-  marks scope n (tree.Choose e c d) = uses scope e ++ (marks scope n c ++ marks scope (n + locals c) d)
-  marks scope n (tree.Loop e c) = uses scope e ++ marks scope n c
-  marks scope n (tree.Local x class e c) =
+  marks scope n (tree.Assign x e) = Use scope x ∷ uses scope e
+  marks scope n (tree.If e c d) = uses scope e ++ (marks scope n c ++ marks scope (n + locals c) d)
+  marks scope n (tree.While e c) = uses scope e ++ marks scope n c
+  marks scope n (tree.Letvar x class e c) =
       Local n x ∷ (class_marks class ++ (uses scope e ++ marks (scope ++ x.text ∷ []) (suc n) c))
-  marks scope n (tree.Braces b) = all_marks scope n b
+  marks scope n (tree.Block b) = all_marks scope n b
 
   -- The marks of a sequence behind n declarations.
   pub all_marks : Scope → ℕ → tree.Body → List Mark

@@ -1,4 +1,4 @@
-pub mod Phrase
+pub mod Language
 pub mod View
 pub mod Meaning
 pub mod Rules
@@ -6,5 +6,6 @@ pub mod Program
 pub mod Scopes
 pub mod Places
 pub mod Faults
-pub mod Walking
+pub mod Resolver
 pub mod Resolving
+pub mod Laws

@@ -1,6 +1,6 @@
 -- What a command does to a store.
 use Rattle.std.specs.Prelude.{◌≡◌, ℕ, zero, suc, List, [], ◌∷◌, ◌++◌, length, take, Option, Some, None, slice_index_or, slice_set, ℤ, pos, negsuc}
-use Rattle.vsi_scope.specs.Phrase.{Phrase, Literal, Contents, Apply, Command, Nothing, Put, Then, Choose, Repeat, Allocate}
+use Rattle.vsi_scope.specs.Language.{Expression, Number, Location, Operator, Command, Skip, Assign, Sequence, If, While, Letvar}
 use Rattle.vsi_syntax.specs.Operators.{apply}
 
 -- A store: the words of its locations, in order.
@@ -8,10 +8,10 @@ abbrev pub Store : Type 0
 Store = List ℤ
 
 -- The value of an expression in a store.
-abbrev pub value : Phrase → Store → ℤ
-value (Literal n) m = n
-value (Contents l s) m = slice_index_or m l (pos 0)
-value (Apply o a b) m = apply o (value a m) (value b m)
+abbrev pub value : Expression → Store → ℤ
+value (Number n) m = n
+value (Location l s) m = slice_index_or m l (pos 0)
+value (Operator o a b) m = apply o (value a m) (value b m)
 
 -- The first where the word is 0, else the second.
 abbrev pub at_zero : ℤ → Option Store → Option Store → Option Store
@@ -36,12 +36,12 @@ turns (suc n) guard body m = at_zero (guard m) (Some m) (and_then (body m) (turn
 
 -- The store after a command where each loop takes at most n turns each time it is met, else none.
 abbrev pub runs : ℕ → Command → Store → Option Store
-runs n Nothing m = Some m
-runs n (Put l s e) m = Some (slice_set m l (value e m))
-runs n (Then a b) m = and_then (runs n a m) (runs n b)
-runs n (Choose e a b) m = at_zero (value e m) (runs n b m) (runs n a m)
-runs n (Repeat e c) m = turns n (value e) (runs n c) m
-runs n (Allocate e c) m = drop_past (length m) (runs n c (m ++ value e m ∷ []))
+runs n Skip m = Some m
+runs n (Assign l s e) m = Some (slice_set m l (value e m))
+runs n (Sequence a b) m = and_then (runs n a m) (runs n b)
+runs n (If e a b) m = at_zero (value e m) (runs n b m) (runs n a m)
+runs n (While e c) m = turns n (value e) (runs n c) m
+runs n (Letvar e c) m = drop_past (length m) (runs n c (m ++ value e m ∷ []))
 
 -- A command evaluates one store to another where some number of turns is enough.
 abbrev pub Evaluates : Command → Store → Store → Type 0

@@ -1,7 +1,7 @@
 -- Resolution as a function, for trees whose names are all in scope.
 use Rattle.std.specs.Prelude.{ℕ, suc, List, [], ◌∷◌, ◌++◌, bytes_eq, if◌then◌else◌, Option, Some, None}
 use Rattle.vsi_syntax.specs.Tree as tree
-use Rattle.vsi_scope.specs.Phrase.{Phrase, Literal, Contents, Apply, Command, Put, Choose, Repeat, Allocate}
+use Rattle.vsi_scope.specs.Language.{Expression, Number, Location, Operator, Command, Assign, If, While, Letvar}
 use Rattle.vsi_scope.specs.Scopes.{Text, Scope, in_sequence}
 
 -- The place in a longer list: one further, or here where there is none further.
@@ -24,22 +24,22 @@ abbrev pub place : Scope → Text → ℕ
 place scope x = or_zero (place_of scope x)
 
 -- The expression over locations.
-abbrev pub phrase_of : Scope → tree.Tree → Phrase
-phrase_of scope (tree.Literal n) = Literal n
-phrase_of scope (tree.Read x) = Contents (place scope x.text) x.span
-phrase_of scope (tree.Round e) = phrase_of scope e
-phrase_of scope (tree.Both op a b) = Apply op (phrase_of scope a) (phrase_of scope b)
+abbrev pub expression_of : Scope → tree.Tree → Expression
+expression_of scope (tree.Number n) = Number n
+expression_of scope (tree.Name x) = Location (place scope x.text) x.span
+expression_of scope (tree.Bracket e) = expression_of scope e
+expression_of scope (tree.Binary op a b) = Operator op (expression_of scope a) (expression_of scope b)
 
 abbrev mutual
   -- The list of commands that a command is over locations.
   pub commands_of : Scope → tree.Command → List Command
-  commands_of scope (tree.Set x e) = Put (place scope x.text) x.span (phrase_of scope e) ∷ []
-  commands_of scope (tree.Choose e c d) =
-      Choose (phrase_of scope e) (in_sequence (commands_of scope c)) (in_sequence (commands_of scope d)) ∷ []
-  commands_of scope (tree.Loop e c) = Repeat (phrase_of scope e) (in_sequence (commands_of scope c)) ∷ []
-  commands_of scope (tree.Local x class e c) =
-      Allocate (phrase_of scope e) (in_sequence (commands_of (scope ++ x.text ∷ []) c)) ∷ []
-  commands_of scope (tree.Braces b) = all_commands scope b
+  commands_of scope (tree.Assign x e) = Assign (place scope x.text) x.span (expression_of scope e) ∷ []
+  commands_of scope (tree.If e c d) =
+      If (expression_of scope e) (in_sequence (commands_of scope c)) (in_sequence (commands_of scope d)) ∷ []
+  commands_of scope (tree.While e c) = While (expression_of scope e) (in_sequence (commands_of scope c)) ∷ []
+  commands_of scope (tree.Letvar x class e c) =
+      Letvar (expression_of scope e) (in_sequence (commands_of (scope ++ x.text ∷ []) c)) ∷ []
+  commands_of scope (tree.Block b) = all_commands scope b
 
   -- The list of commands that a sequence is over locations.
   pub all_commands : Scope → tree.Body → List Command

@@ -5,18 +5,18 @@ use Rattle.vsi_syntax.specs.Words.{is_name}
 use Rattle.vsi_scope.specs.declared.program.Cmd.{Cmd}
 use Rattle.vsi_scope.specs.declared.resolved.Global.{Global}
 use Rattle.vsi_scope.specs.declared.resolved.Entry.{Entry}
-use Rattle.vsi_scope.specs.Phrase.{letvars, size, nesting, depth, HasPlaces}
+use Rattle.vsi_scope.specs.Language.{letvars, size, nesting, depth, HasPlaces}
 use Rattle.vsi_scope.specs.View.{sequence}
 
 -- A program: its globals, the entries of its letvars, and its commands.
-pub record Source : Type 0 where
+pub record Resolved : Type 0 where
   pub globals : List Global
   pub letvars : List Entry
   pub body : List Cmd
 
 -- The program of these parts.
-abbrev pub source : List Global → List Entry → List Cmd → Source
-source gs ls cs = record { globals = gs; letvars = ls; body = cs }
+abbrev pub resolved_of : List Global → List Entry → List Cmd → Resolved
+resolved_of gs ls cs = record { globals = gs; letvars = ls; body = cs }
 
 -- The name and the class name of a global are names.
 abbrev pub IsNamed : Global → Type 0
@@ -25,7 +25,7 @@ IsNamed g = IsTrue (is_name g.name.now) × IsTrue (is_name g.class_name.now)
 -- What a resolved program keeps: an entry for each letvar, locations that exist, the limits, and names of globals
 -- that
 -- are distinct and are names.
-pub record IsResolved (r : Source) : Type 0 where
+pub record IsResolved (r : Resolved) : Type 0 where
   pub entries : length r.letvars ≡ letvars (sequence r.body)
   pub places : HasPlaces (length r.globals) (sequence r.body)
   pub few_globals : length r.globals ≤ 256

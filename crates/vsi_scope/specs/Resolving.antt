@@ -7,9 +7,9 @@ use Rattle.vsi_scope.specs.declared.resolved.Global.{Global}
 use Rattle.vsi_scope.specs.declared.resolved.Entry.{Entry}
 use Rattle.vsi_scope.specs.declared.resolution.ScopeError.{ScopeError}
 use Rattle.vsi_scope.specs.declared.resolution.ScopeError.TheVariants as errors
-use Rattle.vsi_scope.specs.Phrase.{Command, size}
+use Rattle.vsi_scope.specs.Language.{Command, size}
 use Rattle.vsi_scope.specs.View.{command}
-use Rattle.vsi_scope.specs.Program.{Source}
+use Rattle.vsi_scope.specs.Program.{Resolved}
 use Rattle.vsi_scope.specs.Scopes.{Text, DoesAll, in_sequence}
 use Rattle.vsi_scope.specs.Faults.{Known, all_locals, program_marks, first_fault, global_names}
 
@@ -51,11 +51,11 @@ class_of known (Some x) = known x.text
 abbrev mutual
   -- The letvars of a command, in text order.
   pub variables : Known → tree.Command → List Variable
-  variables known (tree.Set x e) = []
-  variables known (tree.Choose e c d) = variables known c ++ variables known d
-  variables known (tree.Loop e c) = variables known c
-  variables known (tree.Local x class e c) = letvar x (class_of known class) ∷ variables known c
-  variables known (tree.Braces b) = all_variables known b
+  variables known (tree.Assign x e) = []
+  variables known (tree.If e c d) = variables known c ++ variables known d
+  variables known (tree.While e c) = variables known c
+  variables known (tree.Letvar x class e c) = letvar x (class_of known class) ∷ variables known c
+  variables known (tree.Block b) = all_variables known b
 
   -- The letvars of a sequence, in text order.
   pub all_variables : Known → tree.Body → List Variable
@@ -77,11 +77,11 @@ HasClass known (Some x) = IsSome (known x.text)
 abbrev mutual
   -- The lattice has each class that is written in a command.
   pub HasClasses : Known → tree.Command → Type 0
-  HasClasses known (tree.Set x e) = Unit {0}
-  HasClasses known (tree.Choose e c d) = HasClasses known c × HasClasses known d
-  HasClasses known (tree.Loop e c) = HasClasses known c
-  HasClasses known (tree.Local x class e c) = HasClass known class × HasClasses known c
-  HasClasses known (tree.Braces b) = HasAllClasses known b
+  HasClasses known (tree.Assign x e) = Unit {0}
+  HasClasses known (tree.If e c d) = HasClasses known c × HasClasses known d
+  HasClasses known (tree.While e c) = HasClasses known c
+  HasClasses known (tree.Letvar x class e c) = HasClass known class × HasClasses known c
+  HasClasses known (tree.Block b) = HasAllClasses known b
 
   -- The lattice has each class that is written in a sequence.
   pub HasAllClasses : Known → tree.Body → Type 0
@@ -101,7 +101,7 @@ pub record IsResolution (known : Known) (p : tree.Whole) (cs : List Command) : T
   pub small : size (in_sequence cs) ≤ 65534
 
 -- The program is the resolution of the tree: its globals, its letvars in text order and its body, spans included.
-pub record Resolves (known : Known) (p : tree.Whole) (r : Source) : Type 0 where
+pub record Resolves (known : Known) (p : tree.Whole) (r : Resolved) : Type 0 where
   pub faultless : first_fault known (program_marks p) ≡ None
   pub globals : map shown r.globals ≡ map (global_of known) p.globals
   pub letvars : map variable r.letvars ≡ all_variables known p.body
@@ -112,7 +112,7 @@ abbrev pub AreBelow : ℕ → Known → Type 0
 AreBelow n known = (x : Text) → IfSome (known x) (λ c. c < n)
 
 -- Each class of the program is below a number.
-pub record HasClassesBelow (n : ℕ) (r : Source) : Type 0 where
+pub record HasClassesBelow (n : ℕ) (r : Resolved) : Type 0 where
   pub globals : All (λ g. g.class < n) r.globals
   pub letvars : All (λ e. IfSome e.class (λ c. c < n)) r.letvars
 
@@ -124,7 +124,7 @@ pub record IsTooLarge (known : Known) (p : tree.Whole) : Type 0 where
   pub large : 65534 < size (in_sequence commands)
 
 -- The error is the first fault in text order, or says that a program without fault is too large.
-abbrev pub Explains : Known → tree.Whole → ScopeError → Type 0
-Explains known p errors.Memory = Unit {0}
-Explains known p errors.TooLarge = IsTooLarge known p
-Explains known p e = first_fault known (program_marks p) ≡ Some e
+abbrev pub ExplainsScope : Known → tree.Whole → ScopeError → Type 0
+ExplainsScope known p errors.Memory = Unit {0}
+ExplainsScope known p errors.TooLarge = IsTooLarge known p
+ExplainsScope known p e = first_fault known (program_marks p) ≡ Some e

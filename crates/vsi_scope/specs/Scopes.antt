@@ -1,7 +1,7 @@
 -- Resolution: what a tree is over locations, where certain names are in scope.
 use Rattle.std.specs.Prelude.{◌≡◌, ◌≢◌, ℕ, List, [], ◌∷◌, ◌++◌, length}
 use Rattle.vsi_syntax.specs.Tree as tree
-use Rattle.vsi_scope.specs.Phrase.{Phrase, Literal, Contents, Apply, Command, Nothing, Put, Then, Choose, Repeat, Allocate}
+use Rattle.vsi_scope.specs.Language.{Expression, Number, Location, Operator, Command, Skip, Assign, Sequence, If, While, Letvar}
 
 -- A name, as its bytes.
 abbrev pub Text : Type 0
@@ -25,33 +25,34 @@ pub record StandsFor (scope : Scope) (x : Text) (l : ℕ) : Type 0 where
   pub last : IsAbsent after x
 
 -- What an expression is over locations; brackets leave nothing.
-abbrev pub Means : Scope → tree.Tree → Phrase → Type 0
-Means scope (tree.Literal n) p = p ≡ Literal n
-Means scope (tree.Read x) p = (l : ℕ) × StandsFor scope x.text l × (p ≡ Contents l x.span)
-Means scope (tree.Round e) p = Means scope e p
-Means scope (tree.Both op a b) p =
-    (q : Phrase) × (r : Phrase) × Means scope a q × Means scope b r × (p ≡ Apply op q r)
+abbrev pub Means : Scope → tree.Tree → Expression → Type 0
+Means scope (tree.Number n) p = p ≡ Number n
+Means scope (tree.Name x) p = (l : ℕ) × StandsFor scope x.text l × (p ≡ Location l x.span)
+Means scope (tree.Bracket e) p = Means scope e p
+Means scope (tree.Binary op a b) p =
+    (q : Expression) × (r : Expression) × Means scope a q × Means scope b r × (p ≡ Operator op q r)
 
 -- A list of commands is their sequence.
 abbrev pub in_sequence : List Command → Command
-in_sequence [] = Nothing
-in_sequence (c ∷ cs) = Then c (in_sequence cs)
+in_sequence [] = Skip
+in_sequence (c ∷ cs) = Sequence c (in_sequence cs)
 
 abbrev mutual
   -- What a command is over locations: a list of commands, for a block joins the sequence that holds it.
   pub Does : Scope → tree.Command → List Command → Type 0
-  Does scope (tree.Set x e) cs =
-      (l : ℕ) × (p : Phrase) × StandsFor scope x.text l × Means scope e p × (cs ≡ Put l x.span p ∷ [])
-  Does scope (tree.Choose e c d) cs =
-      (p : Phrase) × (yes : List Command) × (no : List Command) × Means scope e p × Does scope c yes × Does scope d no
-      × (cs ≡ Choose p (in_sequence yes) (in_sequence no) ∷ [])
-  Does scope (tree.Loop e c) cs =
-      (p : Phrase) × (body : List Command) × Means scope e p × Does scope c body
-      × (cs ≡ Repeat p (in_sequence body) ∷ [])
-  Does scope (tree.Local x class e c) cs =
-      (p : Phrase) × (body : List Command) × Means scope e p × Does (scope ++ x.text ∷ []) c body
-      × (cs ≡ Allocate p (in_sequence body) ∷ [])
-  Does scope (tree.Braces b) cs = DoesAll scope b cs
+  Does scope (tree.Assign x e) cs =
+      (l : ℕ) × (p : Expression) × StandsFor scope x.text l × Means scope e p × (cs ≡ Assign l x.span p ∷ [])
+  Does scope (tree.If e c d) cs =
+      (p : Expression) × (yes : List Command) × (no : List Command) × Means scope e p × Does scope c yes
+      × Does scope d no
+      × (cs ≡ If p (in_sequence yes) (in_sequence no) ∷ [])
+  Does scope (tree.While e c) cs =
+      (p : Expression) × (body : List Command) × Means scope e p × Does scope c body
+      × (cs ≡ While p (in_sequence body) ∷ [])
+  Does scope (tree.Letvar x class e c) cs =
+      (p : Expression) × (body : List Command) × Means scope e p × Does (scope ++ x.text ∷ []) c body
+      × (cs ≡ Letvar p (in_sequence body) ∷ [])
+  Does scope (tree.Block b) cs = DoesAll scope b cs
 
   -- What a sequence is over locations: the lists of its commands, one behind another.
   pub DoesAll : Scope → tree.Body → List Command → Type 0

@@ -1,14 +1,14 @@
 //! The size of the code that a body needs.
 
 ghost use Rattle.std.specs.Prelude.{◌≡◌, min};
-ghost use Rattle.vsi_scope.specs.Phrase.{size, phrase_size};
-ghost use Rattle.vsi_scope.specs.View.{command, sequence, phrase};
+ghost use Rattle.vsi_scope.specs.Language.{size, expression_size};
+ghost use Rattle.vsi_scope.specs.View.{command, sequence, expression};
 
 use crate::program::{Cmd, Ex};
 
 /// The size of an expression.
 fn size_of(e: &Ex) -> u32
-    ensures { result ≡ min (phrase_size (phrase e.now)) 4294967295 }
+    ensures { result ≡ min (expression_size (expression e.now)) 4294967295 }
 {
     match e {
         Ex::Num(_) => 1,

@@ -37,8 +37,8 @@ pub struct Entry<'a> {
 }
 
 /// A program over locations. It has at most 256 globals of distinct names, at most 1,024 declarations, one entry for
-/// each `letvar`, and a body of size 65,534 at most whose locations exist, whose `letvar`s nest 200 deep at most and
-/// whose expressions are 200 deep at most.
+/// each `letvar`, and a body of size 65,534 at most whose locations exist and which is 200 deep at most, an `if`, a
+/// `while`, a `letvar` and an operator each a level. So what follows its commands goes no deeper than that.
 #[derive(Drop)]
 pub struct Resolved<'a> {
     globals: Vec<Global<'a>>,
@@ -47,21 +47,22 @@ pub struct Resolved<'a> {
 }
 
 impl<'a> Model for Resolved<'a> {
-    ghost use Rattle.vsi_scope.specs.Program.{Source, IsResolved, source};
+    ghost use Rattle.vsi_scope.specs.Program as spec;
+    ghost use Rattle.vsi_scope.specs.Program.{IsResolved, resolved_of};
     ghost use Rattle.vsi_scope.specs.contracts.program.Cmd as cmd;
     ghost use Rattle.std.specs.Coded.{codes};
 
-    ghost Value = { Source };
+    ghost Value = { spec.Resolved };
 
     ghost coded = { Prim.hlevel (codes, cmd.the_row.coded) };
 
-    ghost view = { λ r. source r.globals.items r.letvars.items r.body.items };
+    ghost view = { λ r. resolved_of r.globals.items r.letvars.items r.body.items };
 
-    ghost invariant = { λ r. IsResolved (source r.globals.items r.letvars.items r.body.items) };
+    ghost invariant = { λ r. IsResolved (resolved_of r.globals.items r.letvars.items r.body.items) };
 }
 
 impl<'a> Resolved<'a> {
-    ghost use Rattle.vsi_scope.specs.Program.{IsResolved, source};
+    ghost use Rattle.vsi_scope.specs.Program.{IsResolved, resolved_of};
 
     /// The program of these globals, entries and commands.
     pub(crate) fn new(
@@ -69,8 +70,8 @@ impl<'a> Resolved<'a> {
         letvars: Vec<Entry<'a>>,
         body: Vec<Cmd>,
     ) -> Resolved<'a>
-        requires { IsResolved (source globals.items letvars.items body.items) }
-        ensures { result ≡ source globals.entry.items letvars.entry.items body.items }
+        requires { IsResolved (resolved_of globals.items letvars.items body.items) }
+        ensures { result ≡ resolved_of globals.entry.items letvars.entry.items body.items }
     {
         Resolved {
             globals,
@@ -100,8 +101,8 @@ impl<'a> Resolved<'a> {
         letvars: Vec<Entry<'a>>,
         body: Vec<Cmd>,
     ) -> Result<Resolved<'a>, (AllocError, Vec<Entry<'a>>, Vec<Cmd>)>
-        requires { IsResolved (source self.now.globals letvars.items body.items) }
-        ensures rebuilt { IfOk result (λ r. r ≡ source self.now.globals letvars.entry.items body.items) }
+        requires { IsResolved (resolved_of self.now.globals letvars.items body.items) }
+        ensures rebuilt { IfOk result (λ r. r ≡ resolved_of self.now.globals letvars.entry.items body.items) }
         ensures back { IfErr result (λ e. (e.1 ≡ letvars.entry) × (e.2 ≡ body)) }
     {
         match self.globals.as_slice().to_vec(alloc) {

@@ -2,7 +2,7 @@
 
 ghost use Rattle.std.specs.Prelude.{◌≡◌, ◌≢◌, ◌++◌, ℕ, length, Some, None, Err, IfOk, OnOk, MatchResult};
 ghost use Rattle.vsi_image.specs.Fields.{global, globals};
-ghost use Rattle.vsi_lattice.specs.Named.{class_named, order};
+ghost use Rattle.vsi_lattice.specs.LatticeView.{class_named, order};
 ghost use Rattle.vsi_lattice.specs.Order.{IsClass};
 ghost use Rattle.vsi_store.specs.View.{Views, first_unknown, is_seen, line_seen, view_text_of};
 ghost use Rattle.vsi_store.specs.declared.views.ViewError.TheVariants.{Memory};

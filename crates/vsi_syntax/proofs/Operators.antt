@@ -5,7 +5,7 @@ use Rattle.vsi_syntax.specs.declared.token.Kind.{Kind}
 use Rattle.vsi_syntax.specs.declared.token.Kind.TheVariants as k
 use Rattle.vsi_syntax.specs.declared.operator.Op.{Op}
 use Rattle.vsi_syntax.specs.declared.operator.Op.TheVariants as o
-use Rattle.vsi_syntax.specs.Tree.{Word, Called, Sign, sign, Tree, Literal, Read, Round, Both, level, left_level, right_level, IsLevelled}
+use Rattle.vsi_syntax.specs.Tree.{Lexeme, Called, Sign, sign, Tree, Number, Name, Bracket, Binary, level, left_level, right_level, IsLevelled}
 use Rattle.vsi_syntax.proofs.Pairs.{some_left, some_right}
 use Rattle.vsi_syntax.specs.Parsing.{own_level, operator, goes_on, only_if, next}
 
@@ -68,17 +68,17 @@ right_low o.Lt = lit≤ tt
 
 -- An expression stands at each level up to its own.
 pub relevel : (l m : ℕ) (t : Tree) → IsLevelled l t → m ≤ own_level t → IsLevelled m t
-relevel l m (Literal n) h le = tt
-relevel l m (Read x) h le = tt
-relevel l m (Round e) h le = h
-relevel l m (Both op a b) h le = (le, h.1, h.2)
+relevel l m (Number n) h le = tt
+relevel l m (Name x) h le = tt
+relevel l m (Bracket e) h le = h
+relevel l m (Binary op a b) h le = (le, h.1, h.2)
 
 -- A levelled tree has at least the level that was asked for.
 pub own_over : (l : ℕ) (t : Tree) → IsLevelled l t → l ≤ 3 → l ≤ own_level t
-own_over l (Literal n) h le = le
-own_over l (Read x) h le = le
-own_over l (Round e) h le = le
-own_over l (Both op a b) h le = h.0
+own_over l (Number n) h le = le
+own_over l (Name x) h le = le
+own_over l (Bracket e) h le = le
+own_over l (Binary op a b) h le = h.0
 
 -- ---- the next operator.
 
@@ -91,31 +91,31 @@ pub true_goes : (l left : ℕ) (op : Op) → goes_on l left op ≡ true → (l �
 true_goes l left op h = (grind (arith, common_steps), grind (arith, common_steps))
 
 -- The symbol of an operator that goes on is read as that operator.
-pub next_sign : (l left : ℕ) (op : Op) (ws : List Word) → l ≤ level op → left_level op ≤ left →
+pub next_sign : (l left : ℕ) (op : Op) (ws : List Lexeme) → l ≤ level op → left_level op ≤ left →
     next l left (Sign (sign op) ∷ ws) ≡ Some (op, ws)
 unfolding next
 next_sign l left op ws h k = rw (operator_sign op) (rw (goes_true l left op h k) refl)
 
 -- An operator and what is behind it, where a test holds.
-abbrev pub only : Bool → Op → List Word → Option (Op × List Word)
+abbrev pub only : Bool → Op → List Lexeme → Option (Op × List Lexeme)
 only b op rest = cond b (Some (op, rest)) None
 
--- Where that is something, the test held, and the operator and the words are these.
-only_is : (b : Bool) (p op : Op) (rest ws : List Word) → only b p rest ≡ Some (op, ws) → (b ≡ true) × (p ≡ op)
+-- Where that is something, the test held, and the operator and the lexemes are these.
+only_is : (b : Bool) (p op : Op) (rest ws : List Lexeme) → only b p rest ≡ Some (op, ws) → (b ≡ true) × (p ≡ op)
     × (rest ≡ ws)
 only_is true p op rest ws h = (refl, some_left p op rest ws h, some_right p op rest ws h)
 only_is false p op rest ws h = absurd cc
 
 -- Where an operator goes on it is the one that was found, and what is behind it is left.
-only_if_is : (l left : ℕ) (op : Op) (rest ws : List Word) (o : Option Op) → only_if l left rest o ≡ Some (op, ws) →
+only_if_is : (l left : ℕ) (op : Op) (rest ws : List Lexeme) (o : Option Op) → only_if l left rest o ≡ Some (op, ws) →
     (o ≡ Some op) × (rest ≡ ws) × (goes_on l left op ≡ true)
 only_if_is l left op rest ws None h = absurd cc
 only_if_is l left op rest ws (Some p) h =
     let k = only_is (goes_on l left p) p op rest ws h in
     (ap (λ (x : Op). Some x) k.1, k.2, rw (← k.1) (k.0))
 
--- Where an operator goes on, the words begin with its symbol, and its levels fit.
-pub next_is : (l left : ℕ) (ws : List Word) (op : Op) (rest : List Word) → next l left ws ≡ Some (op, rest) →
+-- Where an operator goes on, the lexemes begin with its symbol, and its levels fit.
+pub next_is : (l left : ℕ) (ws : List Lexeme) (op : Op) (rest : List Lexeme) → next l left ws ≡ Some (op, rest) →
     (ws ≡ Sign (sign op) ∷ rest) × (l ≤ level op) × (left_level op ≤ left)
 unfolding next
 next_is l left [] op rest h = absurd cc
@@ -132,8 +132,8 @@ abbrev pub EndsAt : ℕ → Option Op → Type 0
 EndsAt l None = Unit {0}
 EndsAt l (Some op) = level op < l
 
--- The words do not begin with an operator of this level or a higher one.
-abbrev pub Ends : ℕ → List Word → Type 0
+-- The lexemes do not begin with an operator of this level or a higher one.
+abbrev pub Ends : ℕ → List Lexeme → Type 0
 Ends l [] = Unit {0}
 Ends l (Called x ∷ ws) = Unit {0}
 Ends l (Sign kind ∷ ws) = EndsAt l (operator kind)
@@ -144,7 +144,7 @@ ends_at_up l m None le h = tt
 ends_at_up l m (Some op) le h = omega arith
 
 -- What ends an expression of one level ends those of higher levels.
-pub ends_up : (l m : ℕ) (ws : List Word) → l ≤ m → Ends l ws → Ends m ws
+pub ends_up : (l m : ℕ) (ws : List Lexeme) → l ≤ m → Ends l ws → Ends m ws
 ends_up l m [] le h = tt
 ends_up l m (Called x ∷ ws) le h = tt
 ends_up l m (Sign kind ∷ ws) le h = ends_at_up l m (operator kind) le h
@@ -154,12 +154,12 @@ goes_false : (l left : ℕ) (op : Op) → level op < l → goes_on l left op ≡
 goes_false l left op h = grind (arith, common_steps)
 
 -- Behind what ends an expression no operator is taken.
-only_if_none : (l left : ℕ) (rest : List Word) (o : Option Op) → EndsAt l o → only_if l left rest o ≡ None
+only_if_none : (l left : ℕ) (rest : List Lexeme) (o : Option Op) → EndsAt l o → only_if l left rest o ≡ None
 only_if_none l left rest None h = refl
 only_if_none l left rest (Some op) h = rw (goes_false l left op h) refl
 
--- Words that end an expression have no operator that goes on.
-pub ends_next : (l left : ℕ) (ws : List Word) → Ends l ws → next l left ws ≡ None
+-- Lexemes that end an expression have no operator that goes on.
+pub ends_next : (l left : ℕ) (ws : List Lexeme) → Ends l ws → next l left ws ≡ None
 unfolding next
 ends_next l left [] h = refl
 ends_next l left (Called x ∷ ws) h = refl
@@ -167,25 +167,25 @@ ends_next l left (Sign kind ∷ ws) h = only_if_none l left ws (operator kind) h
 
 -- The least level of an operator that its right edge would take.
 abbrev pub edge : Tree → ℕ
-edge (Literal n) = 3
-edge (Read x) = 3
-edge (Round e) = 3
-edge (Both op a b) = right_level op
+edge (Number n) = 3
+edge (Name x) = 3
+edge (Bracket e) = 3
+edge (Binary op a b) = right_level op
 
 -- A tree's own level is at most that of its right edge.
 pub edge_own : (t : Tree) → own_level t ≤ edge t
-edge_own (Literal n) = lit≤ tt
-edge_own (Read x) = lit≤ tt
-edge_own (Round e) = lit≤ tt
-edge_own (Both op a b) = omega (arith, level_right op)
+edge_own (Number n) = lit≤ tt
+edge_own (Name x) = lit≤ tt
+edge_own (Bracket e) = lit≤ tt
+edge_own (Binary op a b) = omega (arith, level_right op)
 
 -- Behind what may stand on its left, an operator has a lower level than the right edge of that.
 pub edge_over : (op : Op) (t : Tree) → left_level op ≤ own_level t → level op < edge t
-edge_over op (Literal n) h = level_low op
-edge_over op (Read x) h = level_low op
-edge_over op (Round e) h = level_low op
-edge_over op (Both p a b) h = omega (arith, level_left op, level_right p)
+edge_over op (Number n) h = level_low op
+edge_over op (Name x) h = level_low op
+edge_over op (Bracket e) h = level_low op
+edge_over op (Binary p a b) h = omega (arith, level_left op, level_right p)
 
 -- An operator of a lower level ends an expression.
-pub sign_ends : (op : Op) (l : ℕ) (ws : List Word) → level op < l → Ends l (Sign (sign op) ∷ ws)
+pub sign_ends : (op : Op) (l : ℕ) (ws : List Lexeme) → level op < l → Ends l (Sign (sign op) ∷ ws)
 sign_ends op l ws h = subst (λ (o : Option Op). EndsAt l o) (sym (operator_sign op)) h

@@ -1,7 +1,7 @@
 -- What an equation of options of pairs says, and chains of options.
 use Rattle.std.proofs.Common.{◌≡◌, Bool, true, false, cond, ◌⊎◌, inl, inr, List, Option, Some, None, refl, ap}
 use Rattle.vsi_syntax.specs.declared.operator.Op.{Op}
-use Rattle.vsi_syntax.specs.Tree.{Word}
+use Rattle.vsi_syntax.specs.Tree.{Lexeme}
 use Rattle.vsi_syntax.specs.Parsing.{◌>>=◌, go}
 
 -- Two things as a pair.
@@ -32,7 +32,7 @@ guard_some true o y e = (refl, e)
 guard_some false o y e = absurd cc
 
 -- Either no operator went on and the answer is the one for that, or one did and the answer is made from it.
-pub go_cases : {X : Type 0} (stop : X) (f : Op → List Word → X) (o : Option (Op × List Word)) (x : X) →
-    go stop f o ≡ x → ((o ≡ None) × (stop ≡ x)) ⊎ ((p : Op × List Word) × (o ≡ Some p) × (f p.0 p.1 ≡ x))
+pub go_cases : {X : Type 0} (stop : X) (f : Op → List Lexeme → X) (o : Option (Op × List Lexeme)) (x : X) →
+    go stop f o ≡ x → ((o ≡ None) × (stop ≡ x)) ⊎ ((p : Op × List Lexeme) × (o ≡ Some p) × (f p.0 p.1 ≡ x))
 go_cases stop f None x h = inl (refl, h)
 go_cases stop f (Some p) x h = inr (p, refl, h)

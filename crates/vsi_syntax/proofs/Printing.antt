@@ -9,9 +9,9 @@ use Rattle.vsi_syntax.specs.declared.operator.Op.{Op}
 use Rattle.vsi_syntax.specs.declared.operator.Op.TheVariants as o
 use Rattle.vsi_syntax.specs.Words.{is_letter, is_word_byte, begins_with, every, keyword, is_name, is_absent, byte_kind, word_kind, kind_of}
 use Rattle.vsi_syntax.specs.declared.token.Span.{Span}
-use Rattle.vsi_syntax.specs.View.{word_of}
+use Rattle.vsi_syntax.specs.View.{lexeme_of}
 use Rattle.vsi_syntax.specs.Cut.{is_gap, is_whole}
-use Rattle.vsi_syntax.specs.Tree.{Named, Word, Called, Sign, Tree, Literal, Read, Round, Both, Command, Set, Choose, Loop, Local, Braces, Body, Done, Then, Declared, Whole, sign, write, write_class, write_command, write_body, write_rest, write_globals, write_program, IsBodyLevelled, IsCommandLevelled, IsRestLevelled, IsProgram}
+use Rattle.vsi_syntax.specs.Tree.{Named, Lexeme, Called, Sign, Tree, Number, Name, Bracket, Binary, Command, Assign, If, While, Letvar, Block, Body, Done, Then, Declared, Whole, sign, write, write_class, write_command, write_body, write_rest, write_globals, write_program, IsBodyLevelled, IsCommandLevelled, IsRestLevelled, IsProgram}
 use Rattle.vsi_syntax.specs.Spelling.{bare, IsNamed, IsSpelled, IsClassSpelled, IsCommandSpelled, IsBodySpelled, IsGlobalsSpelled, IsProgramSpelled, IsTextOf}
 use Rattle.vsi_syntax.specs.Canon.{op_text, canon_tree, spaces, canon_class, canon_command, canon_body, canon_rest, canon_globals, canon}
 use Rattle.vsi_syntax.proofs.Laying.{Lays, token_lays, lead, join, before, blanks}
@@ -68,19 +68,19 @@ number_lays n h = token_lays (decimal n) (k.Number (pos n)) (Sign (k.Number (pos
 -- ---- signs before more.
 
 -- An assignment sign and a space may stand before a text.
-assign : (b : List ℕ) (ws : List Word) → Lays b ws → Lays (codes ":= " ++ b) (Sign k.Assign ∷ ws)
+assign : (b : List ℕ) (ws : List Lexeme) → Lays b ws → Lays (codes ":= " ++ b) (Sign k.Assign ∷ ws)
 unfolding kind_of
 assign b ws l = lead (codes ":=") k.Assign (Sign k.Assign) (codes " ") b ws refl (λ s. refl) refl (λ rest. refl) l
 
 -- A colon and a space may stand before a text.
-colon : (b : List ℕ) (ws : List Word) → Lays b ws → Lays (codes ": " ++ b) (Sign k.Colon ∷ ws)
+colon : (b : List ℕ) (ws : List Lexeme) → Lays b ws → Lays (codes ": " ++ b) (Sign k.Colon ∷ ws)
 unfolding kind_of byte_kind
 colon b ws l = lead (codes ":") k.Colon (Sign k.Colon) (codes " ") b ws refl (λ s. refl) refl (λ rest. refl) l
 
 -- A keyword and a space may stand before a text.
-keyword_before : (t : List ℕ) (kind : Kind) (b : List ℕ) (ws : List Word) → kind_of t ≡ Some kind →
+keyword_before : (t : List ℕ) (kind : Kind) (b : List ℕ) (ws : List Lexeme) → kind_of t ≡ Some kind →
     ((rest : List ℕ) → is_whole t (codes " " ++ (b ++ rest)) ≡ true) →
-    ((s : Span) → bare (word_of kind t s) ≡ bare (Sign kind)) → Lays b ws → Lays (t ++ (codes " " ++ b))
+    ((s : Span) → bare (lexeme_of kind t s) ≡ bare (Sign kind)) → Lays b ws → Lays (t ++ (codes " " ++ b))
     (Sign kind ∷ ws)
 keyword_before t kind b ws spelled whole same l = lead t kind (Sign kind) (codes " ") b ws spelled same refl whole l
 
@@ -93,11 +93,11 @@ op_kind o.Eq = codes "="
 op_kind o.Lt = codes "<"
 
 -- One space before.
-spaced : (a b : List ℕ) (va vb : List Word) → Lays a va → Lays b vb → Lays (a ++ (codes " " ++ b)) (va ++ vb)
+spaced : (a b : List ℕ) (va vb : List Lexeme) → Lays a va → Lays b vb → Lays (a ++ (codes " " ++ b)) (va ++ vb)
 spaced a b va vb la lb = join a (codes " ") b va vb refl (λ rest. refl) la lb
 
 -- Two operands with their operator between them lay out all three.
-both_lays : (op : Op) (a b : List ℕ) (va vb : List Word) → Lays a va → Lays b vb → Lays (a ++ (op_text op ++ b))
+both_lays : (op : Op) (a b : List ℕ) (va vb : List Lexeme) → Lays a va → Lays b vb → Lays (a ++ (op_text op ++ b))
     (va ++ Sign (sign op) ∷ vb)
 unfolding kind_of byte_kind
 both_lays o.Add a b va vb la lb =
@@ -122,7 +122,7 @@ unfolding kind_of byte_kind
 close_lays = token_lays (codes ")") k.Close (Sign k.Close) refl (λ s. refl) (λ rest nb. refl)
 
 -- An expression in brackets lays out both and itself.
-round_lays : (e : List ℕ) (ve : List Word) → Lays e ve → Lays (codes "(" ++ (e ++ codes ")"))
+round_lays : (e : List ℕ) (ve : List Lexeme) → Lays e ve → Lays (codes "(" ++ (e ++ codes ")"))
     (Sign k.Open ∷ (ve ++ Sign k.Close ∷ []))
 unfolding kind_of byte_kind
 round_lays e ve le = lead (codes "(") k.Open (Sign k.Open) [] (e ++ codes ")") (ve ++ Sign k.Close ∷ []) refl
@@ -130,57 +130,57 @@ round_lays e ve le = lead (codes "(") k.Open (Sign k.Open) [] (e ++ codes ")") (
 
 -- The canonical text of an expression lays out what it writes.
 tree_lays : (t : Tree) → IsSpelled t → Lays (canon_tree t) (write t)
-tree_lays (Literal (pos n)) h = number_lays n h
-tree_lays (Literal (negsuc n)) h = absurd h
-tree_lays (Read x) h = name_lays x h
-tree_lays (Round e) h = round_lays (canon_tree e) (write e) (tree_lays e h)
-tree_lays (Both op a b) h =
+tree_lays (Number (pos n)) h = number_lays n h
+tree_lays (Number (negsuc n)) h = absurd h
+tree_lays (Name x) h = name_lays x h
+tree_lays (Bracket e) h = round_lays (canon_tree e) (write e) (tree_lays e h)
+tree_lays (Binary op a b) h =
     both_lays op (canon_tree a) (canon_tree b) (write a) (write b) (tree_lays a h.0) (tree_lays b h.1)
 
 -- ---- commands.
 
 -- `then` and a space may stand before a text.
-then_lays : (b : List ℕ) (ws : List Word) → Lays b ws → Lays (codes "then " ++ b) (Sign k.Then ∷ ws)
+then_lays : (b : List ℕ) (ws : List Lexeme) → Lays b ws → Lays (codes "then " ++ b) (Sign k.Then ∷ ws)
 unfolding kind_of word_kind keyword
 then_lays b ws l = keyword_before (codes "then") k.Then b ws refl (λ rest. refl) (λ s. refl) l
 
 -- `else` and a space may stand before a text.
-else_lays : (b : List ℕ) (ws : List Word) → Lays b ws → Lays (codes "else " ++ b) (Sign k.Else ∷ ws)
+else_lays : (b : List ℕ) (ws : List Lexeme) → Lays b ws → Lays (codes "else " ++ b) (Sign k.Else ∷ ws)
 unfolding kind_of word_kind keyword
 else_lays b ws l = keyword_before (codes "else") k.Else b ws refl (λ rest. refl) (λ s. refl) l
 
 -- `if` and a space may stand before a text.
-if_lays : (b : List ℕ) (ws : List Word) → Lays b ws → Lays (codes "if " ++ b) (Sign k.If ∷ ws)
+if_lays : (b : List ℕ) (ws : List Lexeme) → Lays b ws → Lays (codes "if " ++ b) (Sign k.If ∷ ws)
 unfolding kind_of word_kind keyword
 if_lays b ws l = keyword_before (codes "if") k.If b ws refl (λ rest. refl) (λ s. refl) l
 
 -- `while` and a space may stand before a text.
-while_lays : (b : List ℕ) (ws : List Word) → Lays b ws → Lays (codes "while " ++ b) (Sign k.While ∷ ws)
+while_lays : (b : List ℕ) (ws : List Lexeme) → Lays b ws → Lays (codes "while " ++ b) (Sign k.While ∷ ws)
 unfolding kind_of word_kind keyword
 while_lays b ws l = keyword_before (codes "while") k.While b ws refl (λ rest. refl) (λ s. refl) l
 
 -- `do` and a space may stand before a text.
-do_lays : (b : List ℕ) (ws : List Word) → Lays b ws → Lays (codes "do " ++ b) (Sign k.Do ∷ ws)
+do_lays : (b : List ℕ) (ws : List Lexeme) → Lays b ws → Lays (codes "do " ++ b) (Sign k.Do ∷ ws)
 unfolding kind_of word_kind keyword
 do_lays b ws l = keyword_before (codes "do") k.Do b ws refl (λ rest. refl) (λ s. refl) l
 
 -- `in` and a space may stand before a text.
-in_lays : (b : List ℕ) (ws : List Word) → Lays b ws → Lays (codes "in " ++ b) (Sign k.In ∷ ws)
+in_lays : (b : List ℕ) (ws : List Lexeme) → Lays b ws → Lays (codes "in " ++ b) (Sign k.In ∷ ws)
 unfolding kind_of word_kind keyword
 in_lays b ws l = keyword_before (codes "in") k.In b ws refl (λ rest. refl) (λ s. refl) l
 
 -- `letvar` and a space may stand before a text.
-letvar_lays : (b : List ℕ) (ws : List Word) → Lays b ws → Lays (codes "letvar " ++ b) (Sign k.Letvar ∷ ws)
+letvar_lays : (b : List ℕ) (ws : List Lexeme) → Lays b ws → Lays (codes "letvar " ++ b) (Sign k.Letvar ∷ ws)
 unfolding kind_of word_kind keyword
 letvar_lays b ws l = keyword_before (codes "letvar") k.Letvar b ws refl (λ rest. refl) (λ s. refl) l
 
 -- `var` and a space may stand before a text.
-var_lays : (b : List ℕ) (ws : List Word) → Lays b ws → Lays (codes "var " ++ b) (Sign k.Var ∷ ws)
+var_lays : (b : List ℕ) (ws : List Lexeme) → Lays b ws → Lays (codes "var " ++ b) (Sign k.Var ∷ ws)
 unfolding kind_of word_kind keyword
 var_lays b ws l = keyword_before (codes "var") k.Var b ws refl (λ rest. refl) (λ s. refl) l
 
 -- A name, its class if any and an assignment sign lay out these.
-class_lays : (x : Named) (class : Option Named) (b : List ℕ) (ws : List Word) → IsNamed x → IsClassSpelled class →
+class_lays : (x : Named) (class : Option Named) (b : List ℕ) (ws : List Lexeme) → IsNamed x → IsClassSpelled class →
     Lays b ws → Lays (x.text ++ (canon_class class ++ (codes " := " ++ b)))
     (Called x ∷ (write_class class ++ Sign k.Assign ∷ ws))
 class_lays x None b ws h i l = spaced x.text (codes ":= " ++ b) (Called x ∷ []) (Sign k.Assign ∷ ws) (name_lays x h)
@@ -192,7 +192,7 @@ class_lays x (Some c) b ws h i l =
     (spaced c.text (codes ":= " ++ b) (Called c ∷ []) (Sign k.Assign ∷ ws) (name_lays c i) (assign b ws l)))
 
 -- A semicolon, a line break and more.
-semicolon_lays : (h b : List ℕ) (ws : List Word) → is_gap false false h ≡ true → Lays b ws →
+semicolon_lays : (h b : List ℕ) (ws : List Lexeme) → is_gap false false h ≡ true → Lays b ws →
     Lays (codes ";" ++ (h ++ b)) (Sign k.Semicolon ∷ ws)
 unfolding kind_of byte_kind
 semicolon_lays h b ws gap l =
@@ -204,7 +204,7 @@ unfolding kind_of byte_kind
 brace_lays = token_lays (codes "}") k.CloseBrace (Sign k.CloseBrace) refl (λ s. refl) (λ rest nb. refl)
 
 -- A sequence between braces on lines of their own lays out both and itself.
-block_lays : (i : ℕ) (b : List ℕ) (ws : List Word) → Lays b ws →
+block_lays : (i : ℕ) (b : List ℕ) (ws : List Lexeme) → Lays b ws →
     Lays (codes "{\n" ++ (b ++ (codes "\n" ++ (spaces i ++ codes "}"))))
     (Sign k.OpenBrace ∷ (ws ++ Sign k.CloseBrace ∷ []))
 unfolding kind_of byte_kind
@@ -214,7 +214,7 @@ block_lays i b ws l =
     (join b (10 ∷ spaces i) (codes "}") ws (Sign k.CloseBrace ∷ []) (blanks (2 * i)) (λ rest. refl) l brace_lays)
 
 -- Two commands on lines of their own lay out both with a semicolon between them.
-more_lays : (i : ℕ) (a b : List ℕ) (va vb : List Word) → Lays a va → Lays b vb →
+more_lays : (i : ℕ) (a b : List ℕ) (va vb : List Lexeme) → Lays a va → Lays b vb →
     Lays (a ++ (codes ";\n" ++ (spaces i ++ b))) (va ++ Sign k.Semicolon ∷ vb)
 more_lays i a b va vb la lb =
     join a [] (codes ";\n" ++ (spaces i ++ b)) va (Sign k.Semicolon ∷ vb) refl (λ rest. refl) la
@@ -224,25 +224,25 @@ mutual
   -- The canonical text of a command lays out what it writes.
   command_lays : (i : ℕ) (c : Command) → IsCommandSpelled c → IsCommandLevelled c → Lays (canon_command i c)
       (write_command c)
-  command_lays i (Set x e) h lv =
+  command_lays i (Assign x e) h lv =
       spaced x.text (codes ":= " ++ canon_tree e) (Called x ∷ []) (Sign k.Assign ∷ write e) (name_lays x h.0)
       (assign (canon_tree e) (write e) (tree_lays e h.1))
-  command_lays i (Choose e c d) h lv =
+  command_lays i (If e c d) h lv =
       if_lays _ _
       (spaced (canon_tree e) _ (write e) _ (tree_lays e h.0)
       (then_lays _ _
       (spaced (canon_command i c) _ (write_command c) _ (command_lays i c h.1 lv.1)
       (else_lays (canon_command i d) (write_command d) (command_lays i d h.2 lv.2)))))
-  command_lays i (Loop e c) h lv =
+  command_lays i (While e c) h lv =
       while_lays _ _
       (spaced (canon_tree e) _ (write e) _ (tree_lays e h.0)
       (do_lays (canon_command i c) (write_command c) (command_lays i c h.1 lv.1)))
-  command_lays i (Local x class e c) h lv =
+  command_lays i (Letvar x class e c) h lv =
       letvar_lays _ _
       (class_lays x class _ _ h.0.0 h.0.1
       (spaced (canon_tree e) _ (write e) _ (tree_lays e h.1.0)
       (in_lays (canon_command i c) (write_command c) (command_lays i c h.1.1 lv.1))))
-  command_lays i (Braces cs) h lv = block_lays i (canon_body (suc i) cs) (write_body cs) (body_lays (suc i) cs h lv)
+  command_lays i (Block cs) h lv = block_lays i (canon_body (suc i) cs) (write_body cs) (body_lays (suc i) cs h lv)
 
   -- The canonical text of a sequence lays out what it writes.
   body_lays : (i : ℕ) (cs : Body) → IsBodySpelled cs → IsBodyLevelled cs → Lays (canon_body i cs) (write_body cs)
@@ -252,11 +252,11 @@ mutual
       (rest_lays i cs (canon_command i c) (write_command c) h.1 lv.1 (command_lays i c h.0 lv.0))
 
   -- The canonical text of the commands behind the first, behind another text, lays out what both write.
-  rest_lays : (i : ℕ) (cs : Body) (a : List ℕ) (va : List Word) → IsBodySpelled cs → IsRestLevelled cs → Lays a va →
+  rest_lays : (i : ℕ) (cs : Body) (a : List ℕ) (va : List Lexeme) → IsBodySpelled cs → IsRestLevelled cs → Lays a va →
       Lays (a ++ canon_rest i cs) (va ++ write_rest cs)
   rest_lays i Done a va h lv la =
       subst (λ (z : List ℕ). Lays z (va ++ [])) (sym (append-nil a))
-      (subst (λ (z : List Word). Lays a z) (sym (append-nil va)) la)
+      (subst (λ (z : List Lexeme). Lays a z) (sym (append-nil va)) la)
   rest_lays i (Then c cs) a va h lv la =
       more_lays i a (canon_command i c ++ canon_rest i cs) va (write_command c ++ write_rest cs) la
       (rest_lays i cs (canon_command i c) (write_command c) h.1 lv.1 (command_lays i c h.0 lv.0))
@@ -264,7 +264,7 @@ mutual
 -- ---- whole programs.
 
 -- The line of a global may stand before a text.
-global_lays : (g : Declared) (b : List ℕ) (ws : List Word) → IsNamed g.name → IsNamed g.class → Lays b ws →
+global_lays : (g : Declared) (b : List ℕ) (ws : List Lexeme) → IsNamed g.name → IsNamed g.class → Lays b ws →
     Lays (codes "var " ++ (g.name.text ++ (codes " : " ++ (g.class.text ++ (codes ";\n" ++ b)))))
     (Sign k.Var ∷ Called g.name ∷ Sign k.Colon ∷ Called g.class ∷ Sign k.Semicolon ∷ ws)
 global_lays g b ws h i l =
@@ -277,7 +277,7 @@ global_lays g b ws h i l =
     (name_lays g.name h) (colon (g.class.text ++ (codes ";\n" ++ b)) _ c))
 
 -- The lines of globals may stand before a text.
-globals_lays : (gs : List Declared) (b : List ℕ) (ws : List Word) → IsGlobalsSpelled gs → Lays b ws →
+globals_lays : (gs : List Declared) (b : List ℕ) (ws : List Lexeme) → IsGlobalsSpelled gs → Lays b ws →
     Lays (canon_globals gs ++ b) (write_globals gs ++ ws)
 globals_lays [] b ws h l = l
 globals_lays (g ∷ gs) b ws h l =

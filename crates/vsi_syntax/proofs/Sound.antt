@@ -3,81 +3,82 @@ use Rattle.std.proofs.Common.{◌≡◌, ℕ, zero, suc, ◌<◌, ◌≤◌, con
 use Rattle.std.proofs.lemmas.Bool.{ltb-true}
 use Rattle.vsi_syntax.specs.declared.token.Kind.{Kind}
 use Rattle.vsi_syntax.specs.declared.token.Kind.TheVariants as k
-use Rattle.vsi_syntax.specs.Tree.{Word, Called, Sign, sign, Tree, Literal, Read, Round, Both, write, left_level, right_level, IsLevelled, depth}
+use Rattle.vsi_syntax.specs.Tree.{Lexeme, Called, Sign, sign, Tree, Number, Name, Bracket, Binary, write, left_level, right_level, IsLevelled, depth}
 use Rattle.vsi_syntax.specs.Parsing.{◌>>=◌, own_level, next, Reads, nothing, closing, rounded, sign_first, first, more, whole, parse}
 use Rattle.vsi_syntax.proofs.Pairs.{some_left, some_right, bind_some, guard_some, go_cases}
 use Rattle.vsi_syntax.proofs.Operators.{relevel, next_is}
 
 -- What a reader took from the front.
-pub record Took (room l : ℕ) (ws : List Word) (t : Tree) (rest : List Word) : Type 0 where
+pub record Took (room l : ℕ) (ws : List Lexeme) (t : Tree) (rest : List Lexeme) : Type 0 where
   pub parts : ws ≡ write t ++ rest
   pub levelled : IsLevelled l t
   pub fits : depth t ≤ room
 
 -- What was taken may be renamed along equations.
-took_along : (room l : ℕ) (ws : List Word) (t u : Tree) (rest behind : List Word) → t ≡ u → rest ≡ behind →
+took_along : (room l : ℕ) (ws : List Lexeme) (t u : Tree) (rest behind : List Lexeme) → t ≡ u → rest ≡ behind →
     Took room l ws t rest → Took room l ws u behind
 took_along room l ws t u rest behind e f h = rw (← e, ← f) h
 
 -- What is read there is written so, and less deep.
 abbrev pub IsSoundBelow : ℕ → Reads → Type 0
-IsSoundBelow room inner = (l : ℕ) (ws : List Word) (t : Tree) (rest : List Word) → inner l ws ≡ Some (t, rest) →
+IsSoundBelow room inner = (l : ℕ) (ws : List Lexeme) (t : Tree) (rest : List Lexeme) → inner l ws ≡ Some (t, rest) →
     (ws ≡ write t ++ rest) × IsLevelled l t × (depth t < room)
 
--- Where a closing bracket is read, the words begin with one.
-pub closing_is : (ws rest : List Word) → closing ws ≡ Some rest → ws ≡ Sign k.Close ∷ rest
+-- Where a closing bracket is read, the lexemes begin with one.
+pub closing_is : (ws rest : List Lexeme) → closing ws ≡ Some rest → ws ≡ Sign k.Close ∷ rest
 closing_is [] rest h = absurd cc
 closing_is (Called x ∷ ws) rest h = absurd cc
 closing_is (Sign k.Close ∷ ws) rest h = cc
 closing_is (Sign _ ∷ ws) rest h = absurd cc
 
 -- What is read as a bracket was written so.
-bracket_sound : (inner : Reads) (room l : ℕ) (ws : List Word) (t : Tree) (rest : List Word) →
+bracket_sound : (inner : Reads) (room l : ℕ) (ws : List Lexeme) (t : Tree) (rest : List Lexeme) →
     IsSoundBelow room inner → (inner 0 ws >>= rounded) ≡ Some (t, rest) → Took room l (Sign k.Open ∷ ws) t rest
 bracket_sound inner room l ws t rest sound h =
     let a = bind_some (inner 0 ws) rounded (t, rest) h in
-    let b = bind_some (closing a.0.1) (λ rest. Some (Round a.0.0, rest)) (t, rest) a.2 in
+    let b = bind_some (closing a.0.1) (λ rest. Some (Bracket a.0.0, rest)) (t, rest) a.2 in
     let s = sound 0 ws a.0.0 a.0.1 a.1 in
     let c = closing_is a.0.1 b.0 b.1 in
-    let e = some_left (Round a.0.0) t b.0 rest b.2 in
-    let f = some_right (Round a.0.0) t b.0 rest b.2 in
-    took_along room l (Sign k.Open ∷ ws) (Round a.0.0) t b.0 rest e f (record {
-      parts = ap (λ (x : List Word). Sign k.Open ∷ x)
-          (s.0 ∙ ap (λ (x : List Word). write a.0.0 ++ x) c
+    let e = some_left (Bracket a.0.0) t b.0 rest b.2 in
+    let f = some_right (Bracket a.0.0) t b.0 rest b.2 in
+    took_along room l (Sign k.Open ∷ ws) (Bracket a.0.0) t b.0 rest e f (record {
+      parts = ap (λ (x : List Lexeme). Sign k.Open ∷ x)
+          (s.0 ∙ ap (λ (x : List Lexeme). write a.0.0 ++ x) c
           ∙ sym (append_assoc (write a.0.0) (Sign k.Close ∷ []) b.0));
       levelled = s.1;
       fits = omega (arith, s.2);
     })
 
--- An atom that begins with a word other than a name was written so.
-sign_sound : (inner : Reads) (room l : ℕ) (kind : Kind) (ws : List Word) (t : Tree) (rest : List Word) →
+-- An atom that begins with a lexeme other than a name was written so.
+sign_sound : (inner : Reads) (room l : ℕ) (kind : Kind) (ws : List Lexeme) (t : Tree) (rest : List Lexeme) →
     IsSoundBelow room inner → sign_first inner kind ws ≡ Some (t, rest) → Took room l (Sign kind ∷ ws) t rest
 sign_sound inner room l (k.Number n) ws t rest sound h =
-    let e = some_left (Literal n) t ws rest h in
-    let f = some_right (Literal n) t ws rest h in
+    let e = some_left (Number n) t ws rest h in
+    let f = some_right (Number n) t ws rest h in
     rw (← e, ← f) (record { parts = refl; levelled = tt; fits = omega arith })
 sign_sound inner room l k.Open ws t rest sound h = bracket_sound inner room l ws t rest sound h
 sign_sound inner room l _ ws t rest sound h = absurd cc
 
 -- What is read as an atom was written so.
-first_sound : (inner : Reads) (room l : ℕ) (ws : List Word) (t : Tree) (rest : List Word) → IsSoundBelow room inner →
+first_sound : (inner : Reads) (room l : ℕ) (ws : List Lexeme) (t : Tree) (rest : List Lexeme) →
+    IsSoundBelow room inner →
     first inner ws ≡ Some (t, rest) → Took room l ws t rest
 unfolding first
 first_sound inner room l [] t rest sound h = absurd cc
 first_sound inner room l (Called x ∷ ws) t rest sound h =
-    let e = some_left (Read x) t ws rest h in
-    let f = some_right (Read x) t ws rest h in
+    let e = some_left (Name x) t ws rest h in
+    let f = some_right (Name x) t ws rest h in
     rw (← e, ← f) (record { parts = refl; levelled = tt; fits = omega arith })
 first_sound inner room l (Sign kind ∷ ws) t rest sound h = sign_sound inner room l kind ws t rest sound h
 
 -- What more was read.
-pub record Grew (room l : ℕ) (t : Tree) (ws : List Word) (u : Tree) (rest : List Word) : Type 0 where
+pub record Grew (room l : ℕ) (t : Tree) (ws : List Lexeme) (u : Tree) (rest : List Lexeme) : Type 0 where
   pub parts : write t ++ ws ≡ write u ++ rest
   pub levelled : IsLevelled l u
   pub fits : depth u ≤ room
 
 -- What is read on from a tree is a tree that was written so from there.
-more_sound : (n : ℕ) (inner : Reads) (room l : ℕ) (t : Tree) (ws : List Word) (u : Tree) (rest : List Word) →
+more_sound : (n : ℕ) (inner : Reads) (room l : ℕ) (t : Tree) (ws : List Lexeme) (u : Tree) (rest : List Lexeme) →
     IsSoundBelow room inner → IsLevelled l t → depth t ≤ room → more inner n room l t ws ≡ Some (u, rest) →
     Grew room l t ws u rest
 unfolding more
@@ -92,7 +93,7 @@ more_sound zero inner room l t ws u rest sound lv fits h =
 more_sound (suc n) inner room l t ws u rest sound lv fits h =
     elim (go_cases (Some (t, ws))
     (λ op rest. cond (ltb (depth t) room)
-    (inner (right_level op) rest >>= λ r. more inner n room l (Both op t r.0) r.1) None) (next l (own_level t) ws)
+    (inner (right_level op) rest >>= λ r. more inner n room l (Binary op t r.0) r.1) None) (next l (own_level t) ws)
     (Some (u, rest)) h) [
       | inl s ↦
           let e = some_left t u ws rest s.1 in
@@ -102,23 +103,24 @@ more_sound (suc n) inner room l t ws u rest sound lv fits h =
           let op = s.0.0 in
           let after = s.0.1 in
           let g = guard_some (ltb (depth t) room)
-          (inner (right_level op) after >>= λ r. more inner n room l (Both op t r.0) r.1) (u, rest) s.2 in
+          (inner (right_level op) after >>= λ r. more inner n room l (Binary op t r.0) r.1) (u, rest) s.2 in
           let low : depth t < room = ltb-true (depth t) room g.0 in
-          let b = bind_some (inner (right_level op) after) (λ r. more inner n room l (Both op t r.0) r.1) (u, rest)
+          let b = bind_some (inner (right_level op) after) (λ r. more inner n room l (Binary op t r.0) r.1) (u, rest)
           g.1
           in
           let p = next_is l (own_level t) ws op after s.1 in
           let q = sound (right_level op) after b.0.0 b.0.1 b.1 in
-          let lv' : IsLevelled l (Both op t b.0.0) = (p.1, relevel l (left_level op) t lv p.2, q.1) in
-          let r = more_sound n inner room l (Both op t b.0.0) b.0.1 u rest sound lv' (omega (arith, q.2)) b.2 in
-          let e : write t ++ ws ≡ write (Both op t b.0.0) ++ b.0.1 =
-          ap (λ (x : List Word). write t ++ x) (p.0 ∙ ap (λ (x : List Word). Sign (sign op) ∷ x) q.0)
+          let lv' : IsLevelled l (Binary op t b.0.0) = (p.1, relevel l (left_level op) t lv p.2, q.1) in
+          let r = more_sound n inner room l (Binary op t b.0.0) b.0.1 u rest sound lv' (omega (arith, q.2)) b.2 in
+          let e : write t ++ ws ≡ write (Binary op t b.0.0) ++ b.0.1 =
+          ap (λ (x : List Lexeme). write t ++ x) (p.0 ∙ ap (λ (x : List Lexeme). Sign (sign op) ∷ x) q.0)
           ∙ sym (append_assoc (write t) (Sign (sign op) ∷ write b.0.0) b.0.1) in
           record { parts = e ∙ r.parts; levelled = r.levelled; fits = r.fits }
     ]
 
 -- What is read as an expression was written so, where what is read inside was.
-whole_sound : (inner : Reads) (room l : ℕ) (ws : List Word) (t : Tree) (rest : List Word) → IsSoundBelow room inner →
+whole_sound : (inner : Reads) (room l : ℕ) (ws : List Lexeme) (t : Tree) (rest : List Lexeme) →
+    IsSoundBelow room inner →
     whole inner room l ws ≡ Some (t, rest) → Took room l ws t rest
 whole_sound inner room l ws t rest sound h =
     let a = bind_some (first inner ws) (λ r. more inner room room l r.0 r.1) (t, rest) h in
@@ -127,7 +129,7 @@ whole_sound inner room l ws t rest sound h =
     record { parts = f.parts ∙ m.parts; levelled = m.levelled; fits = m.fits }
 
 -- What is read as an expression of bounded depth was written so, levelled and not deeper.
-pub parse_sound : (room l : ℕ) (ws : List Word) (t : Tree) (rest : List Word) → parse room l ws ≡ Some (t, rest) →
+pub parse_sound : (room l : ℕ) (ws : List Lexeme) (t : Tree) (rest : List Lexeme) → parse room l ws ≡ Some (t, rest) →
     Took room l ws t rest
 unfolding parse
 parse_sound zero l ws t rest h = whole_sound nothing zero l ws t rest (λ l ws t rest e. absurd cc) h

@@ -2,7 +2,7 @@
 use Rattle.std.proofs.Common.{◌≡◌, ℕ, List, [], ◌∷◌, ◌++◌, map, Option, Some, None, refl, sym, subst, ◌∙◌, arith}
 use Rattle.std.proofs.lemmas.List.{map-append}
 use Rattle.vsi_syntax.specs.declared.token.Kind.TheVariants as k
-use Rattle.vsi_syntax.specs.Tree.{Named, Sign, Tree, Literal, Read, Round, Both, Command, Set, Choose, Loop, Local, Braces, Body, Done, Then, Declared, Whole, sign, write, write_class, write_command, write_body, write_rest, write_globals, write_program, IsLevelled, IsCommandLevelled, IsBodyLevelled, IsRestLevelled, IsProgram, depth, command_depth, body_depth, left_level, right_level}
+use Rattle.vsi_syntax.specs.Tree.{Named, Sign, Tree, Number, Name, Bracket, Binary, Command, Assign, If, While, Letvar, Block, Body, Done, Then, Declared, Whole, sign, write, write_class, write_command, write_body, write_rest, write_globals, write_program, IsLevelled, IsCommandLevelled, IsBodyLevelled, IsRestLevelled, IsProgram, depth, command_depth, body_depth, left_level, right_level}
 use Rattle.vsi_syntax.specs.Spelling.{bare}
 use Rattle.vsi_syntax.specs.Apart.{apart, class_apart, command_apart, body_apart, global_apart, program_apart}
 use Rattle.vsi_syntax.proofs.Pairs.{some_left}
@@ -10,10 +10,10 @@ use Rattle.vsi_syntax.proofs.Globals.{program_again}
 
 -- An expression without places writes its words without places.
 write_apart : (t : Tree) → write (apart t) ≡ map bare (write t)
-write_apart (Literal n) = refl
-write_apart (Read x) = refl
-write_apart (Round e) = rw (write_apart e, map-append bare (write e) (Sign k.Close ∷ [])) refl
-write_apart (Both op a b) = rw (write_apart a, write_apart b, map-append bare (write a) (Sign (sign op) ∷ write b))
+write_apart (Number n) = refl
+write_apart (Name x) = refl
+write_apart (Bracket e) = rw (write_apart e, map-append bare (write e) (Sign k.Close ∷ [])) refl
+write_apart (Binary op a b) = rw (write_apart a, write_apart b, map-append bare (write a) (Sign (sign op) ∷ write b))
     refl
 
 -- A class without its place writes its words without places.
@@ -24,8 +24,8 @@ class_written (Some c) = refl
 mutual
   -- A command without places writes its words without places.
   command_written : (c : Command) → write_command (command_apart c) ≡ map bare (write_command c)
-  command_written (Set x e) = rw (write_apart e) refl
-  command_written (Choose e c d) =
+  command_written (Assign x e) = rw (write_apart e) refl
+  command_written (If e c d) =
       rw (
         write_apart e,
         command_written c,
@@ -35,9 +35,9 @@ mutual
         map-append bare (write_command c)
             (Sign k.Else ∷ write_command d),
       ) refl
-  command_written (Loop e c) =
+  command_written (While e c) =
       rw (write_apart e, command_written c, map-append bare (write e) (Sign k.Do ∷ write_command c)) refl
-  command_written (Local x class e c) =
+  command_written (Letvar x class e c) =
       rw (
         write_apart e,
         command_written c,
@@ -47,7 +47,7 @@ mutual
         map-append bare (write e)
             (Sign k.In ∷ write_command c),
       ) refl
-  command_written (Braces cs) = rw (body_written cs, map-append bare (write_body cs) (Sign k.CloseBrace ∷ [])) refl
+  command_written (Block cs) = rw (body_written cs, map-append bare (write_body cs) (Sign k.CloseBrace ∷ [])) refl
 
   -- A sequence without places writes its words without places.
   body_written : (cs : Body) → write_body (body_apart cs) ≡ map bare (write_body cs)
@@ -74,19 +74,19 @@ program_written p =
 
 -- An expression stays levelled without places.
 tree_levelled : (l : ℕ) (t : Tree) → IsLevelled l t → IsLevelled l (apart t)
-tree_levelled l (Literal n) h = h
-tree_levelled l (Read x) h = h
-tree_levelled l (Round e) h = tree_levelled 0 e h
-tree_levelled l (Both op a b) h = (h.0, tree_levelled (left_level op) a h.1, tree_levelled (right_level op) b h.2)
+tree_levelled l (Number n) h = h
+tree_levelled l (Name x) h = h
+tree_levelled l (Bracket e) h = tree_levelled 0 e h
+tree_levelled l (Binary op a b) h = (h.0, tree_levelled (left_level op) a h.1, tree_levelled (right_level op) b h.2)
 
 mutual
   -- A command stays levelled without places.
   command_levelled : (c : Command) → IsCommandLevelled c → IsCommandLevelled (command_apart c)
-  command_levelled (Set x e) h = tree_levelled 0 e h
-  command_levelled (Choose e c d) h = (tree_levelled 0 e h.0, command_levelled c h.1, command_levelled d h.2)
-  command_levelled (Loop e c) h = (tree_levelled 0 e h.0, command_levelled c h.1)
-  command_levelled (Local x class e c) h = (tree_levelled 0 e h.0, command_levelled c h.1)
-  command_levelled (Braces cs) h = body_levelled cs h
+  command_levelled (Assign x e) h = tree_levelled 0 e h
+  command_levelled (If e c d) h = (tree_levelled 0 e h.0, command_levelled c h.1, command_levelled d h.2)
+  command_levelled (While e c) h = (tree_levelled 0 e h.0, command_levelled c h.1)
+  command_levelled (Letvar x class e c) h = (tree_levelled 0 e h.0, command_levelled c h.1)
+  command_levelled (Block cs) h = body_levelled cs h
 
   -- A sequence stays levelled without places.
   body_levelled : (cs : Body) → IsBodyLevelled cs → IsBodyLevelled (body_apart cs)
@@ -100,19 +100,19 @@ mutual
 
 -- Places do not count for the depth of an expression.
 tree_depth : (t : Tree) → depth (apart t) ≡ depth t
-tree_depth (Literal n) = refl
-tree_depth (Read x) = refl
-tree_depth (Round e) = rw (tree_depth e) refl
-tree_depth (Both op a b) = rw (tree_depth a, tree_depth b) refl
+tree_depth (Number n) = refl
+tree_depth (Name x) = refl
+tree_depth (Bracket e) = rw (tree_depth e) refl
+tree_depth (Binary op a b) = rw (tree_depth a, tree_depth b) refl
 
 mutual
   -- Places do not count for the depth of a command.
   depth_of_command : (c : Command) → command_depth (command_apart c) ≡ command_depth c
-  depth_of_command (Set x e) = tree_depth e
-  depth_of_command (Choose e c d) = rw (tree_depth e, depth_of_command c, depth_of_command d) refl
-  depth_of_command (Loop e c) = rw (tree_depth e, depth_of_command c) refl
-  depth_of_command (Local x class e c) = rw (tree_depth e, depth_of_command c) refl
-  depth_of_command (Braces cs) = rw (depth_of_body cs) refl
+  depth_of_command (Assign x e) = tree_depth e
+  depth_of_command (If e c d) = rw (tree_depth e, depth_of_command c, depth_of_command d) refl
+  depth_of_command (While e c) = rw (tree_depth e, depth_of_command c) refl
+  depth_of_command (Letvar x class e c) = rw (tree_depth e, depth_of_command c) refl
+  depth_of_command (Block cs) = rw (depth_of_body cs) refl
 
   -- Places do not count for the depth of a sequence.
   depth_of_body : (cs : Body) → body_depth (body_apart cs) ≡ body_depth cs
@@ -135,19 +135,19 @@ one_program p q hp hq e =
 
 -- An expression is levelled if it is so without places.
 tree_back : (l : ℕ) (t : Tree) → IsLevelled l (apart t) → IsLevelled l t
-tree_back l (Literal n) h = h
-tree_back l (Read x) h = h
-tree_back l (Round e) h = tree_back 0 e h
-tree_back l (Both op a b) h = (h.0, tree_back (left_level op) a h.1, tree_back (right_level op) b h.2)
+tree_back l (Number n) h = h
+tree_back l (Name x) h = h
+tree_back l (Bracket e) h = tree_back 0 e h
+tree_back l (Binary op a b) h = (h.0, tree_back (left_level op) a h.1, tree_back (right_level op) b h.2)
 
 mutual
   -- A command is levelled if it is so without places.
   command_back : (c : Command) → IsCommandLevelled (command_apart c) → IsCommandLevelled c
-  command_back (Set x e) h = tree_back 0 e h
-  command_back (Choose e c d) h = (tree_back 0 e h.0, command_back c h.1, command_back d h.2)
-  command_back (Loop e c) h = (tree_back 0 e h.0, command_back c h.1)
-  command_back (Local x class e c) h = (tree_back 0 e h.0, command_back c h.1)
-  command_back (Braces cs) h = body_back cs h
+  command_back (Assign x e) h = tree_back 0 e h
+  command_back (If e c d) h = (tree_back 0 e h.0, command_back c h.1, command_back d h.2)
+  command_back (While e c) h = (tree_back 0 e h.0, command_back c h.1)
+  command_back (Letvar x class e c) h = (tree_back 0 e h.0, command_back c h.1)
+  command_back (Block cs) h = body_back cs h
 
   -- A sequence is levelled if it is so without places.
   body_back : (cs : Body) → IsBodyLevelled (body_apart cs) → IsBodyLevelled cs

@@ -3,7 +3,7 @@ use Rattle.std.specs.Prelude.{ℕ, suc, ◌*◌, List, [], ◌∷◌, ◌++◌, 
 use Rattle.std.specs.Fmt.{signed_decimal}
 use Rattle.vsi_syntax.specs.declared.operator.Op.{Op}
 use Rattle.vsi_syntax.specs.declared.operator.Op.TheVariants as o
-use Rattle.vsi_syntax.specs.Tree.{Named, Tree, Literal, Read, Round, Both, Command, Set, Choose, Loop, Local, Braces, Body, Done, Then, Declared, Whole}
+use Rattle.vsi_syntax.specs.Tree.{Named, Tree, Number, Name, Bracket, Binary, Command, Assign, If, While, Letvar, Block, Body, Done, Then, Declared, Whole}
 
 -- An operator has one space on each side.
 abbrev pub op_text : Op → List ℕ
@@ -16,10 +16,10 @@ op_text o.Lt = codes " < "
 -- The text of an expression: a number in decimal, a name as it is, a bracket in round brackets, an operator between
 -- its operands.
 abbrev pub canon_tree : Tree → List ℕ
-canon_tree (Literal n) = signed_decimal n
-canon_tree (Read x) = x.text
-canon_tree (Round e) = codes "(" ++ (canon_tree e ++ codes ")")
-canon_tree (Both op a b) = canon_tree a ++ (op_text op ++ canon_tree b)
+canon_tree (Number n) = signed_decimal n
+canon_tree (Name x) = x.text
+canon_tree (Bracket e) = codes "(" ++ (canon_tree e ++ codes ")")
+canon_tree (Binary op a b) = canon_tree a ++ (op_text op ++ canon_tree b)
 
 -- Two spaces for each indent.
 abbrev pub spaces : ℕ → List ℕ
@@ -33,15 +33,15 @@ canon_class (Some class) = codes " : " ++ class.text
 abbrev mutual
   -- A command at an indent, without the spaces before it.
   pub canon_command : ℕ → Command → List ℕ
-  canon_command k (Set x e) = x.text ++ (codes " := " ++ canon_tree e)
-  canon_command k (Choose e c d) =
+  canon_command k (Assign x e) = x.text ++ (codes " := " ++ canon_tree e)
+  canon_command k (If e c d) =
       codes "if "
       ++ (canon_tree e ++ (codes " then " ++ (canon_command k c ++ (codes " else " ++ canon_command k d))))
-  canon_command k (Loop e c) = codes "while " ++ (canon_tree e ++ (codes " do " ++ canon_command k c))
-  canon_command k (Local x class e c) =
+  canon_command k (While e c) = codes "while " ++ (canon_tree e ++ (codes " do " ++ canon_command k c))
+  canon_command k (Letvar x class e c) =
       codes "letvar "
       ++ (x.text ++ (canon_class class ++ (codes " := " ++ (canon_tree e ++ (codes " in " ++ canon_command k c)))))
-  canon_command k (Braces cs) = codes "{\n" ++ (canon_body (suc k) cs ++ (codes "\n" ++ (spaces k ++ codes "}")))
+  canon_command k (Block cs) = codes "{\n" ++ (canon_body (suc k) cs ++ (codes "\n" ++ (spaces k ++ codes "}")))
 
   -- A sequence at an indent, each command on a line of its own.
   pub canon_body : ℕ → Body → List ℕ

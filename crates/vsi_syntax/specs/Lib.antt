@@ -3,8 +3,8 @@ pub mod Tree
 pub mod View
 pub mod Parsing
 pub mod Cut
-pub mod Programs
-pub mod Program
+pub mod CommandView
+pub mod ProgramView
 pub mod Commands
 pub mod Globals
 pub mod Canon

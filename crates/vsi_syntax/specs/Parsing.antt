@@ -1,6 +1,6 @@
--- Reading an expression from the left, as a function on words. This is a stepping stone of the proof alone: the code
+-- Reading an expression from the left, as a function on lexemes. This is a stepping stone of the proof alone: the code
 -- is
--- compared with it, and it is proved to find exactly the levelled trees of a bounded depth that write the words. What
+-- compared with it, and it is proved to find exactly the levelled trees of a bounded depth that write the lexemes. What
 -- `parse` promises speaks of `write_program`, levels and depth, and of none of the readers here.
 use Rattle.std.specs.Prelude.{◌≡◌, ℕ, zero, suc, Bool, ◌&&◌, nat_le, nat_lt, if◌then◌else◌, List, [], ◌∷◌, Option, Some, None, Result, Ok, Err}
 use Rattle.vsi_syntax.specs.declared.token.Kind.{Kind}
@@ -9,7 +9,7 @@ use Rattle.vsi_syntax.specs.declared.operator.Op.{Op}
 use Rattle.vsi_syntax.specs.declared.operator.Op.TheVariants as o
 use Rattle.vsi_syntax.specs.declared.parser.ParseError.{ParseError}
 use Rattle.vsi_syntax.specs.declared.parser.ParseError.TheVariants as errors
-use Rattle.vsi_syntax.specs.Tree.{Word, Called, Sign, Tree, Literal, Read, Round, Both, level, left_level, right_level, depth}
+use Rattle.vsi_syntax.specs.Tree.{Lexeme, Called, Sign, Tree, Number, Name, Bracket, Binary, level, left_level, right_level, depth}
 
 -- The second reader goes on where the first found something.
 infixl 10 ◌>>=◌
@@ -39,69 +39,69 @@ operator _ = None
 
 -- The level of a tree by itself.
 abbrev pub own_level : Tree → ℕ
-own_level (Literal n) = 3
-own_level (Read x) = 3
-own_level (Round e) = 3
-own_level (Both op a b) = level op
+own_level (Number n) = 3
+own_level (Name x) = 3
+own_level (Bracket e) = 3
+own_level (Binary op a b) = level op
 
 -- Whether an operator goes on at this level with what is on its left.
 abbrev pub goes_on : ℕ → ℕ → Op → Bool
 goes_on l left op = nat_le l (level op) && nat_le (left_level op) left
 
 -- The operator that was found, only where it goes on at this level.
-abbrev pub only_if : ℕ → ℕ → List Word → Option Op → Option (Op × List Word)
+abbrev pub only_if : ℕ → ℕ → List Lexeme → Option Op → Option (Op × List Lexeme)
 only_if l left rest None = None
 only_if l left rest (Some op) = if goes_on l left op then Some (op, rest) else None
 
 -- The operator that goes on, and what is behind it.
-unfoldable pub next : ℕ → ℕ → List Word → Option (Op × List Word)
+unfoldable pub next : ℕ → ℕ → List Lexeme → Option (Op × List Lexeme)
 next l left [] = None
 next l left (Called x ∷ ws) = None
 next l left (Sign kind ∷ ws) = only_if l left ws (operator kind)
 
--- A tree is read at a level, and the words behind it are left.
+-- A tree is read at a level, and the lexemes behind it are left.
 abbrev pub Reads : Type 0
-Reads = ℕ → List Word → Option (Tree × List Word)
+Reads = ℕ → List Lexeme → Option (Tree × List Lexeme)
 
 -- Reads no tree at all.
 abbrev pub nothing : Reads
 nothing l ws = None
 
 -- What is behind a closing bracket.
-abbrev pub closing : List Word → Option (List Word)
+abbrev pub closing : List Lexeme → Option (List Lexeme)
 closing [] = None
 closing (Called x ∷ ws) = None
 closing (Sign k.Close ∷ ws) = Some ws
 closing (Sign _ ∷ ws) = None
 
 -- The bracket that closes behind what was read.
-abbrev pub rounded : Tree × List Word → Option (Tree × List Word)
-rounded r = closing r.1 >>= λ rest. Some (Round r.0, rest)
+abbrev pub rounded : Tree × List Lexeme → Option (Tree × List Lexeme)
+rounded r = closing r.1 >>= λ rest. Some (Bracket r.0, rest)
 
--- An atom that begins with this word, which is no name.
-abbrev pub sign_first : Reads → Kind → List Word → Option (Tree × List Word)
-sign_first inner (k.Number n) ws = Some (Literal n, ws)
+-- An atom that begins with this lexeme, which is no name.
+abbrev pub sign_first : Reads → Kind → List Lexeme → Option (Tree × List Lexeme)
+sign_first inner (k.Number n) ws = Some (Number n, ws)
 sign_first inner k.Open ws = inner 0 ws >>= rounded
 sign_first inner _ ws = None
 
 -- An atom.
-unfoldable pub first : Reads → List Word → Option (Tree × List Word)
+unfoldable pub first : Reads → List Lexeme → Option (Tree × List Lexeme)
 first inner [] = None
-first inner (Called x ∷ ws) = Some (Read x, ws)
+first inner (Called x ∷ ws) = Some (Name x, ws)
 first inner (Sign kind ∷ ws) = sign_first inner kind ws
 
--- One answer where no operator goes on, and another from the operator and the words behind it.
-abbrev pub go : {X : Type 0} → X → (Op → List Word → X) → Option (Op × List Word) → X
+-- One answer where no operator goes on, and another from the operator and the lexemes behind it.
+abbrev pub go : {X : Type 0} → X → (Op → List Lexeme → X) → Option (Op × List Lexeme) → X
 go stop more None = stop
 go stop more (Some p) = more p.0 p.1
 
 -- At most `turns` operators more, each with what stands on its right, up to the depth `room`.
-unfoldable pub more : Reads → ℕ → ℕ → ℕ → Tree → List Word → Option (Tree × List Word)
+unfoldable pub more : Reads → ℕ → ℕ → ℕ → Tree → List Lexeme → Option (Tree × List Lexeme)
 more inner zero room l left ws = go (Some (left, ws)) (λ op rest. None) (next l (own_level left) ws)
 more inner (suc turns) room l left ws =
     go (Some (left, ws))
     (λ op rest. if nat_lt (depth left) room then
-    (inner (right_level op) rest >>= λ r. more inner turns room l (Both op left r.0) r.1) else None)
+    (inner (right_level op) rest >>= λ r. more inner turns room l (Binary op left r.0) r.1) else None)
     (next l (own_level left) ws)
 
 -- An expression at a level: an atom, and then the operators that go on.

@@ -13,26 +13,26 @@ pub record Named : Type 0 where
   pub text : List ℕ
   pub span : Span
 
--- A word or symbol that a tree writes: a name, or anything else by its kind.
-pub data Word : Type 0 where
-  Called : (name : Named) → Word
-  Sign : (kind : Kind) → Word
+-- A lexeme or symbol that a tree writes: a name, or anything else by its kind.
+pub data Lexeme : Type 0 where
+  Called : (name : Named) → Lexeme
+  Sign : (kind : Kind) → Lexeme
 
 -- An expression.
 pub data Tree : Type 0 where
-  Literal : (number : ℤ) → Tree
-  Read : (name : Named) → Tree
-  Round : (inner : Tree) → Tree
-  Both : (op : Op) → (left : Tree) → (right : Tree) → Tree
+  Number : (number : ℤ) → Tree
+  Name : (name : Named) → Tree
+  Bracket : (inner : Tree) → Tree
+  Binary : (op : Op) → (left : Tree) → (right : Tree) → Tree
 
 mutual
   -- A command: an assignment, a choice, a loop, a local variable or a block.
   pub data Command : Type 0 where
-    Set : (name : Named) → (value : Tree) → Command
-    Choose : (guard : Tree) → (yes : Command) → (no : Command) → Command
-    Loop : (guard : Tree) → (body : Command) → Command
-    Local : (name : Named) → (class : Option Named) → (value : Tree) → (body : Command) → Command
-    Braces : (body : Body) → Command
+    Assign : (name : Named) → (value : Tree) → Command
+    If : (guard : Tree) → (yes : Command) → (no : Command) → Command
+    While : (guard : Tree) → (body : Command) → Command
+    Letvar : (name : Named) → (class : Option Named) → (value : Tree) → (body : Command) → Command
+    Block : (body : Body) → Command
 
   -- A sequence of commands.
   pub data Body : Type 0 where
@@ -49,36 +49,36 @@ sign o.Lt = k.Less
 
 -- ---- what is written.
 
--- The words that an expression writes, in the order of the text.
-abbrev pub write : Tree → List Word
-write (Literal n) = Sign (k.Number n) ∷ []
-write (Read name) = Called name ∷ []
-write (Round e) = Sign k.Open ∷ (write e ++ Sign k.Close ∷ [])
-write (Both op a b) = write a ++ Sign (sign op) ∷ write b
+-- The lexemes that an expression writes, in the order of the text.
+abbrev pub write : Tree → List Lexeme
+write (Number n) = Sign (k.Number n) ∷ []
+write (Name name) = Called name ∷ []
+write (Bracket e) = Sign k.Open ∷ (write e ++ Sign k.Close ∷ [])
+write (Binary op a b) = write a ++ Sign (sign op) ∷ write b
 
 -- A class is written behind a colon.
-abbrev pub write_class : Option Named → List Word
+abbrev pub write_class : Option Named → List Lexeme
 write_class None = []
 write_class (Some class) = Sign k.Colon ∷ Called class ∷ []
 
 abbrev mutual
-  -- The words that a command writes.
-  pub write_command : Command → List Word
-  write_command (Set x e) = Called x ∷ Sign k.Assign ∷ write e
-  write_command (Choose e c d) =
+  -- The lexemes that a command writes.
+  pub write_command : Command → List Lexeme
+  write_command (Assign x e) = Called x ∷ Sign k.Assign ∷ write e
+  write_command (If e c d) =
       Sign k.If ∷ (write e ++ Sign k.Then ∷ (write_command c ++ Sign k.Else ∷ write_command d))
-  write_command (Loop e c) = Sign k.While ∷ (write e ++ Sign k.Do ∷ write_command c)
-  write_command (Local x class e c) =
+  write_command (While e c) = Sign k.While ∷ (write e ++ Sign k.Do ∷ write_command c)
+  write_command (Letvar x class e c) =
       Sign k.Letvar ∷ Called x ∷ (write_class class ++ Sign k.Assign ∷ (write e ++ Sign k.In ∷ write_command c))
-  write_command (Braces cs) = Sign k.OpenBrace ∷ (write_body cs ++ Sign k.CloseBrace ∷ [])
+  write_command (Block cs) = Sign k.OpenBrace ∷ (write_body cs ++ Sign k.CloseBrace ∷ [])
 
-  -- The words that a sequence writes: its commands with semicolons between them.
-  pub write_body : Body → List Word
+  -- The lexemes that a sequence writes: its commands with semicolons between them.
+  pub write_body : Body → List Lexeme
   write_body Done = []
   write_body (Then c cs) = write_command c ++ write_rest cs
 
-  -- The words of the commands behind the first, each behind a semicolon.
-  pub write_rest : Body → List Word
+  -- The lexemes of the commands behind the first, each behind a semicolon.
+  pub write_rest : Body → List Lexeme
   write_rest Done = []
   write_rest (Then c cs) = Sign k.Semicolon ∷ (write_command c ++ write_rest cs)
 
@@ -110,19 +110,19 @@ right_level o.Lt = 1
 
 -- The expression may stand where this level is asked for, and so may all parts in their places.
 abbrev pub IsLevelled : ℕ → Tree → Type 0
-IsLevelled l (Literal n) = Unit {0}
-IsLevelled l (Read name) = Unit {0}
-IsLevelled l (Round e) = IsLevelled 0 e
-IsLevelled l (Both op a b) = (l ≤ level op) × IsLevelled (left_level op) a × IsLevelled (right_level op) b
+IsLevelled l (Number n) = Unit {0}
+IsLevelled l (Name name) = Unit {0}
+IsLevelled l (Bracket e) = IsLevelled 0 e
+IsLevelled l (Binary op a b) = (l ≤ level op) × IsLevelled (left_level op) a × IsLevelled (right_level op) b
 
 abbrev mutual
   -- Each expression of the command is levelled, and no sequence in it is empty.
   pub IsCommandLevelled : Command → Type 0
-  IsCommandLevelled (Set x e) = IsLevelled 0 e
-  IsCommandLevelled (Choose e c d) = IsLevelled 0 e × IsCommandLevelled c × IsCommandLevelled d
-  IsCommandLevelled (Loop e c) = IsLevelled 0 e × IsCommandLevelled c
-  IsCommandLevelled (Local x class e c) = IsLevelled 0 e × IsCommandLevelled c
-  IsCommandLevelled (Braces cs) = IsBodyLevelled cs
+  IsCommandLevelled (Assign x e) = IsLevelled 0 e
+  IsCommandLevelled (If e c d) = IsLevelled 0 e × IsCommandLevelled c × IsCommandLevelled d
+  IsCommandLevelled (While e c) = IsLevelled 0 e × IsCommandLevelled c
+  IsCommandLevelled (Letvar x class e c) = IsLevelled 0 e × IsCommandLevelled c
+  IsCommandLevelled (Block cs) = IsBodyLevelled cs
 
   -- The sequence has a command, and all its commands are levelled.
   pub IsBodyLevelled : Body → Type 0
@@ -138,19 +138,19 @@ abbrev mutual
 
 -- Each bracket and each operator lies one level above the deepest of its parts.
 abbrev pub depth : Tree → ℕ
-depth (Literal n) = 0
-depth (Read name) = 0
-depth (Round e) = 1 + depth e
-depth (Both op a b) = 1 + max (depth a) (depth b)
+depth (Number n) = 0
+depth (Name name) = 0
+depth (Bracket e) = 1 + depth e
+depth (Binary op a b) = 1 + max (depth a) (depth b)
 
 abbrev mutual
   -- Each `if`, `while`, `letvar` and block lies one level above the deepest of its parts, an assignment none.
   pub command_depth : Command → ℕ
-  command_depth (Set x e) = depth e
-  command_depth (Choose e c d) = 1 + max (depth e) (max (command_depth c) (command_depth d))
-  command_depth (Loop e c) = 1 + max (depth e) (command_depth c)
-  command_depth (Local x class e c) = 1 + max (depth e) (command_depth c)
-  command_depth (Braces cs) = 1 + body_depth cs
+  command_depth (Assign x e) = depth e
+  command_depth (If e c d) = 1 + max (depth e) (max (command_depth c) (command_depth d))
+  command_depth (While e c) = 1 + max (depth e) (command_depth c)
+  command_depth (Letvar x class e c) = 1 + max (depth e) (command_depth c)
+  command_depth (Block cs) = 1 + body_depth cs
 
   -- A sequence is as deep as the deepest of its commands.
   pub body_depth : Body → ℕ
@@ -167,14 +167,14 @@ pub record Whole : Type 0 where
   pub globals : List Declared
   pub body : Body
 
--- The words that globals write, each with its `var` and its semicolon.
-abbrev pub write_globals : List Declared → List Word
+-- The lexemes that globals write, each with its `var` and its semicolon.
+abbrev pub write_globals : List Declared → List Lexeme
 write_globals [] = []
 write_globals (g ∷ gs) = Sign k.Var ∷ Called g.name ∷ Sign k.Colon ∷ Called g.class ∷ Sign k.Semicolon ∷ write_globals
     gs
 
--- The words that a program writes: its globals, then its body.
-abbrev pub write_program : Whole → List Word
+-- The lexemes that a program writes: its globals, then its body.
+abbrev pub write_program : Whole → List Lexeme
 write_program p = write_globals p.globals ++ write_body p.body
 
 -- The name without where it stands.
@@ -188,19 +188,19 @@ IsProgram b = IsBodyLevelled b × (body_depth b ≤ 200)
 
 -- That an expression is levelled has one proof, so that a type can keep it; the same holds of the facts below.
 pub tree_prop : (l : ℕ) (t : Tree) → IsProp (IsLevelled l t)
-tree_prop l (Literal n) = Unit-prop
-tree_prop l (Read x) = Unit-prop
-tree_prop l (Round e) = tree_prop 0 e
-tree_prop l (Both op a b) = ×₃_prop le_prop (tree_prop (left_level op) a) (tree_prop (right_level op) b)
+tree_prop l (Number n) = Unit-prop
+tree_prop l (Name x) = Unit-prop
+tree_prop l (Bracket e) = tree_prop 0 e
+tree_prop l (Binary op a b) = ×₃_prop le_prop (tree_prop (left_level op) a) (tree_prop (right_level op) b)
 
 mutual
   -- That a command is levelled has one proof.
   pub command_prop : (c : Command) → IsProp (IsCommandLevelled c)
-  command_prop (Set x e) = tree_prop 0 e
-  command_prop (Choose e c d) = ×₃_prop (tree_prop 0 e) (command_prop c) (command_prop d)
-  command_prop (Loop e c) = ×_prop (tree_prop 0 e) (command_prop c)
-  command_prop (Local x class e c) = ×_prop (tree_prop 0 e) (command_prop c)
-  command_prop (Braces cs) = body_prop cs
+  command_prop (Assign x e) = tree_prop 0 e
+  command_prop (If e c d) = ×₃_prop (tree_prop 0 e) (command_prop c) (command_prop d)
+  command_prop (While e c) = ×_prop (tree_prop 0 e) (command_prop c)
+  command_prop (Letvar x class e c) = ×_prop (tree_prop 0 e) (command_prop c)
+  command_prop (Block cs) = body_prop cs
 
   -- That a sequence is levelled has one proof.
   pub body_prop : (cs : Body) → IsProp (IsBodyLevelled cs)

@@ -4,8 +4,8 @@ ghost use Rattle.std.specs.Prelude.{◌≡◌, ◌≤◌, ◌+◌, ◌++◌, IfO
 ghost use Rattle.std.specs.Fmt.{signed_decimal};
 ghost use Rattle.vsi_syntax.specs.Tree.{command_depth, body_depth};
 ghost use Rattle.vsi_syntax.specs.View.{tree, named};
-ghost use Rattle.vsi_syntax.specs.Programs.{command, body_of, declared};
-ghost use Rattle.vsi_syntax.specs.Program.{whole};
+ghost use Rattle.vsi_syntax.specs.CommandView.{command, body_of, declared};
+ghost use Rattle.vsi_syntax.specs.ProgramView.{whole};
 ghost use Rattle.vsi_syntax.specs.Canon as spec;
 
 use crate::operator::Op;

@@ -3,12 +3,12 @@ use Rattle.std.proofs.Common.{◌≡◌, ℕ, zero, suc, ◌+◌, List, [], ◌�
 use Rattle.std.specs.Prelude.{slice_set}
 use Rattle.std.specs.List.{All}
 use Rattle.vsi_lattice.specs.Order.{Lattice, IsLattice, IsClass, Below}
-use Rattle.vsi_scope.specs.Phrase.{Command, Choose, letvars}
+use Rattle.vsi_scope.specs.Language.{Command, If, letvars}
 use Rattle.vsi_scope.specs.Meaning.{Store, value, and_then, drop_past, turns, runs}
 use Rattle.vsi_scope.proofs.Evaluation.{no_answer, between, through, zero_cases, at_other, at_none, dropped, length_kept}
 use Rattle.vsi_types.specs.declared.rules.Profile.TheVariants.{Strict}
 use Rattle.vsi_types.specs.Typing.{Locations, HasCmd, EMPTY, ASSIGN, COMPOSE, IF, WHILE, LETVAR, SUBTYPE_CMD}
-use Rattle.vsi_types.specs.Security.{Agree, Program, IsTypable, IsResolved, Ends, SameEnding}
+use Rattle.vsi_types.specs.Security.{Agree, Program, IsTypable, IsWellFormed, Terminates, SameEnding}
 use Rattle.vsi_types.proofs.Programs.{within}
 use Rattle.vsi_types.proofs.Secure.{below_cases, value_same, agree_down, data_class, cmd_class, all_more, longer, agree_more, secure}
 
@@ -96,7 +96,7 @@ module _ (L : Lattice) (laws : IsLattice L) (classes : ℕ → ℕ) (within' : (
       let r = ends q all n a t d k m₁ m₂ m₁' len₁ len₂ h
       (sym (at_other (value x m₁) (runs k b m₁) (runs k a m₁) z) ∙ e) in
       (r.0, at_other (value x m₂) (runs k b m₂) (runs k a m₂) (λ y. z (same ∙ y)) ∙ r.1)))
-      (λ not. total q all n (Choose x a b) t (IF dg d d') not k m₂)
+      (λ not. total q all n (If x a b) t (IF dg d d') not k m₂)
   ends q all n c t (WHILE {e = x} {c = c'} is dg d) k m₁ m₂ m₁' len₁ len₂ h e =
       let low : Below L t L.bottom = subst (λ y. Below L y L.bottom) (sym is)
       (laws.reflexive L.bottom laws.bottom_within) in
@@ -126,9 +126,9 @@ agree_back : (L : Lattice) (q : Locations) (a : ℕ) (m₁ m₂ : Store) → Agr
 agree_back L q a m₁ m₂ h l lt b = sym (h l lt b)
 
 -- An ending from one store gives an ending from the other.
-ends_too : (L : Lattice) (p : Program) (s : List ℕ) → IsLattice L → IsResolved L p → IsTypable L Strict p s →
+ends_too : (L : Lattice) (p : Program) (s : List ℕ) → IsLattice L → IsWellFormed L p → IsTypable L Strict p s →
     (m₁ m₂ : Store) → length m₁ ≡ length p.globals → length m₂ ≡ length p.globals →
-    Agree L p.globals L.bottom m₁ m₂ → Ends p.body m₁ → Ends p.body m₂
+    Agree L p.globals L.bottom m₁ m₂ → Terminates p.body m₁ → Terminates p.body m₂
 ends_too L p s laws res typed m₁ m₂ len₁ len₂ h v =
     let r = ends L laws _ (within L laws Strict p s res typed.1) p.globals res.classes (length p.globals) p.body
     typed.2.0 typed.2.1 v.1.0 m₁ m₂ v.0 len₁ len₂ h v.1.1 in

@@ -5,11 +5,11 @@ use Rattle.std.proofs.lemmas.List.{get_or-map, map-append, length-map, length_pu
 use Rattle.std.proofs.lemmas.Bool.{or_cases, false≢true}
 use Rattle.vsi_lattice.specs.Order.{Lattice, IsLattice, IsClass, Below}
 use Rattle.vsi_syntax.specs.declared.token.Span.{Span}
-use Rattle.vsi_scope.specs.Phrase.{Phrase, Literal, Contents, Apply, Command, Nothing, Put, Then, Choose, Repeat, Allocate, letvars, has_loop, HasLocations, HasPlaces}
+use Rattle.vsi_scope.specs.Language.{Expression, Number, Location, Operator, Command, Skip, Assign, Sequence, If, While, Letvar, letvars, has_loop, HasLocations, HasPlaces}
 use Rattle.vsi_types.specs.declared.rules.Profile.{Profile}
 use Rattle.vsi_types.specs.declared.rules.Profile.TheVariants.{Base, Strict}
 use Rattle.vsi_types.specs.declared.rules.Rule.{Rule}
-use Rattle.vsi_types.specs.declared.rules.Rule.TheVariants.{Assign, If, While, Letvar}
+use Rattle.vsi_types.specs.declared.rules.Rule.TheVariants as typing
 use Rattle.vsi_types.specs.declared.rules.Step.{Step}
 use Rattle.vsi_types.specs.declared.rules.Read.{Read}
 use Rattle.vsi_types.specs.declared.rules.Guard.{Guard}
@@ -54,7 +54,7 @@ module _ (L : Lattice) (laws : IsLattice L) (names : ℕ → Span) (classes : �
       (lt', ap (λ x. slice_index x l) same ∙ located scope l lt')
 
   -- The type of an expression is a class of the lattice.
-  data_class : (q : Locations) (scope : List ℕ) → q ≡ map classes scope → (e : Phrase) (t : ℕ) → HasData L q e t →
+  data_class : (q : Locations) (scope : List ℕ) → q ≡ map classes scope → (e : Expression) (t : ℕ) → HasData L q e t →
       IsClass L t
   data_class q scope same e t (INT w) = w
   data_class q scope same e t (R_VAL {l = l} v) = subst (IsClass L) (sym (var_class q scope same l t v).1) (within _)
@@ -62,7 +62,7 @@ module _ (L : Lattice) (laws : IsLattice L) (names : ℕ → Span) (classes : �
   data_class q scope same e t (SUBTYPE le w d) = w
 
   -- What an expression of type t reads has classes at or below t.
-  data_reads : (q : Locations) (scope : List ℕ) → q ≡ map classes scope → (e : Phrase) (t : ℕ) → HasData L q e t →
+  data_reads : (q : Locations) (scope : List ℕ) → q ≡ map classes scope → (e : Expression) (t : ℕ) → HasData L q e t →
       ReadsBelow t (reads scope e)
   data_reads q scope same e t (INT w) = tt
   data_reads q scope same e t (R_VAL {l = l} v) =
@@ -76,13 +76,13 @@ module _ (L : Lattice) (laws : IsLattice L) (names : ℕ → Span) (classes : �
       (data_reads q scope same e t₁ d)
 
   -- An expression that reads classes at or below t has the type t.
-  reads_data : (scope : List ℕ) (e : Phrase) (t : ℕ) → IsClass L t → HasLocations (length scope) e →
+  reads_data : (scope : List ℕ) (e : Expression) (t : ℕ) → IsClass L t → HasLocations (length scope) e →
       ReadsBelow t (reads scope e) → HasData L (map classes scope) e t
-  reads_data scope (Literal z) t k has h = INT k
-  reads_data scope (Contents l s) t k has h =
+  reads_data scope (Number z) t k has h = INT k
+  reads_data scope (Location l s) t k has h =
       let lt : l < length (map classes scope) = subst (λ n. l < n) (sym (length-map scope classes)) has in
       SUBTYPE (subst (λ x. Below L x t) (sym (located scope l has)) h.0) k (R_VAL (VARLOC lt))
-  reads_data scope (Apply o a b) t k has h =
+  reads_data scope (Operator o a b) t k has h =
       ARITH (reads_data scope a t k has.0 (each_front _ (reads scope a) (reads scope b) h))
       (reads_data scope b t k has.1 (each_back _ (reads scope a) (reads scope b) h))
 
@@ -171,7 +171,7 @@ module _ (L : Lattice) (laws : IsLattice L) (names : ℕ → Span) (classes : �
   active_bottom Strict q scope same n c t d e = loop_bottom q scope same n c t d e
 
   -- An expression of a type at the bottom reads the bottom class.
-  reads_bottom : (q : Locations) (scope : List ℕ) → q ≡ map classes scope → (e : Phrase) (t : ℕ) → HasData L q e t →
+  reads_bottom : (q : Locations) (scope : List ℕ) → q ≡ map classes scope → (e : Expression) (t : ℕ) → HasData L q e t →
       Below L t L.bottom → ReadsBelow L.bottom (reads scope e)
   reads_bottom q scope same e t d le =
       each_weaker _ _ (λ r h. laws.transitive (classes r.variable) t L.bottom (within _)
@@ -184,33 +184,33 @@ module _ (L : Lattice) (laws : IsLattice L) (names : ℕ → Span) (classes : �
   typed_ordered P q scope same n c t (EMPTY w) gs h = tt
   typed_ordered P q scope same n c t (ASSIGN {l = l} {s = s} {e = e} v d) gs h =
       let k = (var_class q scope same l t v).1 in
-      flows_ordered (slice_index scope l) s (guarded Assign (reads scope e) ++ gs)
-      (subst (λ x. GuardsBelow x (guarded Assign (reads scope e) ++ gs)) k
-      (each_append _ (guarded Assign (reads scope e)) gs
-      (guarded_below Assign t (reads scope e) (data_reads q scope same e t d)) h))
+      flows_ordered (slice_index scope l) s (guarded typing.Assign (reads scope e) ++ gs)
+      (subst (λ x. GuardsBelow x (guarded typing.Assign (reads scope e) ++ gs)) k
+      (each_append _ (guarded typing.Assign (reads scope e)) gs
+      (guarded_below typing.Assign t (reads scope e) (data_reads q scope same e t d)) h))
   typed_ordered P q scope same n c t (COMPOSE {a = a} {b = b} d d') gs h =
       each_append _ (steps P names gs scope n a) _ (typed_ordered P q scope same n a t d gs h)
       (typed_ordered P q scope same (n + letvars a) b t d' gs h)
   typed_ordered P q scope same n c t (IF {e = e} {a = a} {b = b} dg d d') gs h =
-      let more = each_append _ gs (guarded If (reads scope e)) h
-      (guarded_below If t (reads scope e) (data_reads q scope same e t dg)) in
-      let gs' = gs ++ guarded If (reads scope e) in
+      let more = each_append _ gs (guarded typing.If (reads scope e)) h
+      (guarded_below typing.If t (reads scope e) (data_reads q scope same e t dg)) in
+      let gs' = gs ++ guarded typing.If (reads scope e) in
       each_append _ (endings P (has_loop a || has_loop b) (reads scope e)) _
       (endings_ordered P (has_loop a || has_loop b) (reads scope e)
-      (λ on. reads_bottom q scope same e t dg (active_bottom P q scope same n (Choose e a b) t (IF dg d d') on)))
+      (λ on. reads_bottom q scope same e t dg (active_bottom P q scope same n (If e a b) t (IF dg d d') on)))
       (each_append _ (steps P names gs' scope n a) _ (typed_ordered P q scope same n a t d gs' more)
       (typed_ordered P q scope same (n + letvars a) b t d' gs' more))
   typed_ordered P q scope same n c t (WHILE {e = e} {c = c'} is dg d) gs h =
-      let more = each_append _ gs (guarded While (reads scope e)) h
-      (guarded_below While t (reads scope e) (data_reads q scope same e t dg)) in
+      let more = each_append _ gs (guarded typing.While (reads scope e)) h
+      (guarded_below typing.While t (reads scope e) (data_reads q scope same e t dg)) in
       each_append _ (endings P true (reads scope e)) _
       (endings_ordered P true (reads scope e)
-      (λ on. reads_bottom q scope same e t dg (active_bottom P q scope same n (Repeat e c') t (WHILE is dg d) on)))
-      (typed_ordered P q scope same n c' t d (gs ++ guarded While (reads scope e)) more)
+      (λ on. reads_bottom q scope same e t dg (active_bottom P q scope same n (While e c') t (WHILE is dg d) on)))
+      (typed_ordered P q scope same n c' t d (gs ++ guarded typing.While (reads scope e)) more)
   typed_ordered P q scope same n c t (LETVAR {e = e} {c = c'} d dc) gs h =
-      each_append _ (flows n (names n) (guarded Letvar (reads scope e))) _
-      (flows_ordered n (names n) (guarded Letvar (reads scope e))
-      (guarded_below Letvar (classes n) (reads scope e) (data_reads q scope same e (classes n) d)))
+      each_append _ (flows n (names n) (guarded typing.Letvar (reads scope e))) _
+      (flows_ordered n (names n) (guarded typing.Letvar (reads scope e))
+      (guarded_below typing.Letvar (classes n) (reads scope e) (data_reads q scope same e (classes n) d)))
       (typed_ordered P _ (scope ++ n ∷ []) (same_more q scope n same) (n + 1) c' t dc gs h)
   typed_ordered P q scope same n c t (SUBTYPE_CMD {t' = t'} le w d) gs h =
       typed_ordered P q scope same n c t' d gs (guards_up t t' w (cmd_class P q scope same n c t' d) le gs h)
@@ -246,7 +246,7 @@ module _ (L : Lattice) (laws : IsLattice L) (names : ℕ → Span) (classes : �
   active_right Strict true b e = refl
   active_right Strict false b e = e
 
-  module _ (scope : List ℕ) (gs : List Guard) (rule : Rule) (e : Phrase) (has : HasLocations (length scope) e) where
+  module _ (scope : List ℕ) (gs : List Guard) (rule : Rule) (e : Expression) (has : HasLocations (length scope) e) where
     -- The guards inside.
     abbrev inside : List Guard
     inside = gs ++ guarded rule (reads scope e)
@@ -264,70 +264,72 @@ module _ (L : Lattice) (laws : IsLattice L) (names : ℕ → Span) (classes : �
         (each_front _ gs (guarded rule (reads scope e)) (joined_above inside))
 
   -- A loop whose body is typed at the join inside is typed at the join outside.
-  loop_typed : (P : Profile) (scope : List ℕ) (n : ℕ) (e : Phrase) (c : Command) (gs : List Guard) →
+  loop_typed : (P : Profile) (scope : List ℕ) (n : ℕ) (e : Expression) (c : Command) (gs : List Guard) →
       HasLocations (length scope) e → (active P true ≡ true → GuardsBelow L.bottom gs) →
       Ordered (endings P true (reads scope e)) →
-      HasCmd L P classes (map classes scope) n c (joined (gs ++ guarded While (reads scope e))) →
-      HasCmd L P classes (map classes scope) n (Repeat e c) (joined gs)
+      HasCmd L P classes (map classes scope) n c (joined (gs ++ guarded typing.While (reads scope e))) →
+      HasCmd L P classes (map classes scope) n (While e c) (joined gs)
   loop_typed Base scope n e c gs has low ends d =
-      SUBTYPE_CMD (outside_below scope gs While e has) (joined_within gs)
-      (WHILE tt (guard_typed scope gs While e has) d)
+      SUBTYPE_CMD (outside_below scope gs typing.While e has) (joined_within gs)
+      (WHILE tt (guard_typed scope gs typing.While e has) d)
   loop_typed Strict scope n e c gs has low ends d =
       let rs = ordered_endings Strict true (reads scope e) ends refl in
-      let t = joined (gs ++ guarded While (reads scope e)) in
+      let t = joined (gs ++ guarded typing.While (reads scope e)) in
       SUBTYPE_CMD (joined_least L.bottom laws.bottom_within gs (low refl)) (joined_within gs)
       (WHILE refl (reads_data scope e L.bottom laws.bottom_within has rs)
-      (SUBTYPE_CMD (laws.bottom_least t (joined_within (gs ++ guarded While (reads scope e)))) laws.bottom_within d))
+      (SUBTYPE_CMD (laws.bottom_least t (joined_within (gs ++ guarded typing.While (reads scope e))))
+      laws.bottom_within d))
 
   -- A command whose steps are in order is typed at the join of its guards.
   pub ordered_typed : (P : Profile) (scope : List ℕ) (n : ℕ) (c : Command) (gs : List Guard) →
       HasPlaces (length scope) c → (active P (has_loop c) ≡ true → GuardsBelow L.bottom gs) →
       Ordered (steps P names gs scope n c) → HasCmd L P classes (map classes scope) n c (joined gs)
-  ordered_typed P scope n Nothing gs has low h = EMPTY (joined_within gs)
-  ordered_typed P scope n (Put l s e) gs has low h =
-      let b = ordered_flows (slice_index scope l) s (guarded Assign (reads scope e) ++ gs) h in
+  ordered_typed P scope n Skip gs has low h = EMPTY (joined_within gs)
+  ordered_typed P scope n (Assign l s e) gs has low h =
+      let b = ordered_flows (slice_index scope l) s (guarded typing.Assign (reads scope e) ++ gs) h in
       let lt : l < length (map classes scope) = subst (λ n. l < n) (sym (length-map scope classes)) has.0 in
       let k = located scope l has.0 in
       let d = reads_data scope e (classes (slice_index scope l)) (within _) has.1
-      (below_guarded Assign _ (reads scope e) (each_front _ (guarded Assign (reads scope e)) gs b)) in
+      (below_guarded typing.Assign _ (reads scope e) (each_front _ (guarded typing.Assign (reads scope e)) gs b)) in
       SUBTYPE_CMD (subst (Below L (joined gs)) (sym k)
-      (joined_least _ (within _) gs (each_back _ (guarded Assign (reads scope e)) gs b))) (joined_within gs)
+      (joined_least _ (within _) gs (each_back _ (guarded typing.Assign (reads scope e)) gs b))) (joined_within gs)
       (ASSIGN (VARLOC lt) (subst (HasData L (map classes scope) e) (sym k) d))
-  ordered_typed P scope n (Then a b) gs has low h =
+  ordered_typed P scope n (Sequence a b) gs has low h =
       COMPOSE
       (ordered_typed P scope n a gs has.0 (λ on. low (active_left P (has_loop a) (has_loop b) on))
       (each_front _ (steps P names gs scope n a) _ h))
       (ordered_typed P scope (n + letvars a) b gs has.1 (λ on. low (active_right P (has_loop a) (has_loop b) on))
       (each_back _ (steps P names gs scope n a) _ h))
-  ordered_typed P scope n (Choose e a b) gs has low h =
-      let gs' = gs ++ guarded If (reads scope e) in
+  ordered_typed P scope n (If e a b) gs has low h =
+      let gs' = gs ++ guarded typing.If (reads scope e) in
       let ends = each_front _ (endings P (has_loop a || has_loop b) (reads scope e)) _ h in
       let parts = each_back _ (endings P (has_loop a || has_loop b) (reads scope e)) _ h in
       let low' : active P (has_loop a || has_loop b) ≡ true →
-      GuardsBelow L.bottom gs' = λ on. each_append _ gs (guarded If (reads scope e)) (low on)
-      (guarded_below If L.bottom (reads scope e)
+      GuardsBelow L.bottom gs' = λ on. each_append _ gs (guarded typing.If (reads scope e)) (low on)
+      (guarded_below typing.If L.bottom (reads scope e)
       (ordered_endings P (has_loop a || has_loop b) (reads scope e) ends on)) in
-      SUBTYPE_CMD (outside_below scope gs If e has.0) (joined_within gs)
-      (IF (guard_typed scope gs If e has.0)
+      SUBTYPE_CMD (outside_below scope gs typing.If e has.0) (joined_within gs)
+      (IF (guard_typed scope gs typing.If e has.0)
       (ordered_typed P scope n a gs' has.1 (λ on. low' (active_left P (has_loop a) (has_loop b) on))
       (each_front _ (steps P names gs' scope n a) _ parts))
       (ordered_typed P scope (n + letvars a) b gs' has.2 (λ on. low' (active_right P (has_loop a) (has_loop b) on))
       (each_back _ (steps P names gs' scope n a) _ parts)))
-  ordered_typed P scope n (Repeat e c) gs has low h =
-      let gs' = gs ++ guarded While (reads scope e) in
+  ordered_typed P scope n (While e c) gs has low h =
+      let gs' = gs ++ guarded typing.While (reads scope e) in
       let ends = each_front _ (endings P true (reads scope e)) _ h in
       let low' : active P true ≡ true → GuardsBelow L.bottom gs' =
-      λ on. each_append _ gs (guarded While (reads scope e)) (low on)
-      (guarded_below While L.bottom (reads scope e) (ordered_endings P true (reads scope e) ends on)) in
+      λ on. each_append _ gs (guarded typing.While (reads scope e)) (low on)
+      (guarded_below typing.While L.bottom (reads scope e) (ordered_endings P true (reads scope e) ends on)) in
       loop_typed P scope n e c gs has.0 low ends
       (ordered_typed P scope n c gs' has.1 (λ on. low' (active_any P (has_loop c) on))
       (each_back _ (endings P true (reads scope e)) _ h))
-  ordered_typed P scope n (Allocate e c) gs has low h =
-      let b = ordered_flows n (names n) (guarded Letvar (reads scope e))
-      (each_front _ (flows n (names n) (guarded Letvar (reads scope e))) _ h) in
-      let d = reads_data scope e (classes n) (within n) has.0 (below_guarded Letvar (classes n) (reads scope e) b) in
+  ordered_typed P scope n (Letvar e c) gs has low h =
+      let b = ordered_flows n (names n) (guarded typing.Letvar (reads scope e))
+      (each_front _ (flows n (names n) (guarded typing.Letvar (reads scope e))) _ h) in
+      let d = reads_data scope e (classes n) (within n) has.0
+      (below_guarded typing.Letvar (classes n) (reads scope e) b) in
       let has' = subst (λ k. HasPlaces k c) (sym (length_push scope n)) has.1 in
       let rest = ordered_typed P (scope ++ n ∷ []) (n + 1) c gs has' low
-      (each_back _ (flows n (names n) (guarded Letvar (reads scope e))) _ h) in
+      (each_back _ (flows n (names n) (guarded typing.Letvar (reads scope e))) _ h) in
       LETVAR d (subst (λ q. HasCmd L P classes q (n + 1) c (joined gs))
       (sym (same_more (map classes scope) scope n refl)) rest)

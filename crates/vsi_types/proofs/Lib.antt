@@ -1,6 +1,7 @@
 pub mod Orders
 pub mod Flow
 pub mod Programs
+pub mod Declared
 pub mod Secure
 pub mod Endings
 pub mod Walking

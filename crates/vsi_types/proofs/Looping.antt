@@ -5,7 +5,7 @@ use Rattle.std.proofs.lemmas.List.{take_more}
 use Rattle.std.proofs.lemmas.List.Recursion.{or_push}
 use Rattle.std.proofs.Math.Bool.{or-true}
 use Rattle.vsi_scope.specs.declared.program.Cmd.{Cmd}
-use Rattle.vsi_scope.specs.Phrase.{has_loop}
+use Rattle.vsi_scope.specs.Language.{has_loop}
 use Rattle.vsi_scope.specs.View.{command, sequence}
 
 -- One command more.

@@ -6,13 +6,13 @@ use Rattle.std.proofs.Math.Seq.{take-append_seam}
 use Rattle.vsi_lattice.specs.Order.{Lattice}
 use Rattle.vsi_syntax.specs.declared.token.Span.{Span}
 use Rattle.vsi_scope.specs.declared.program.Cmd.{Cmd}
-use Rattle.vsi_scope.specs.Phrase.{Phrase, Command, Put, Then, Choose, Repeat, Allocate, letvars, has_loop}
+use Rattle.vsi_scope.specs.Language.{Expression, Command, Assign, Sequence, If, While, Letvar, letvars, has_loop}
 use Rattle.vsi_scope.specs.View.{command, sequence}
 use Rattle.vsi_types.specs.declared.error.CheckError.{CheckError}
 use Rattle.vsi_types.specs.declared.error.CheckError.TheVariants.{Flow}
 use Rattle.vsi_types.specs.declared.rules.Profile.{Profile}
 use Rattle.vsi_types.specs.declared.rules.Rule.{Rule}
-use Rattle.vsi_types.specs.declared.rules.Rule.TheVariants.{Assign, If, While, Letvar}
+use Rattle.vsi_types.specs.declared.rules.Rule.TheVariants as typing
 use Rattle.vsi_types.specs.declared.rules.Guard.{Guard}
 use Rattle.vsi_types.specs.declared.rules.Step.{Step}
 use Rattle.vsi_types.specs.declared.rules.FlowFault.{FlowFault}
@@ -26,7 +26,7 @@ abbrev pub place : List ℕ → List Guard → ℕ → Place
 place s g n = record { scope = s; guards = g; next = n }
 
 -- The place under a guard.
-abbrev pub inside : Rule → Phrase → Place → Place
+abbrev pub inside : Rule → Expression → Place → Place
 inside rule x a = record { scope = a.scope; guards = a.guards ++ guarded rule (reads a.scope x); next = a.next }
 
 -- The place within a letvar.
@@ -48,32 +48,32 @@ module _ (L : Lattice) (P : Profile) (classes : ℕ → ℕ) where
   judged_error a b k e (Err x) is h =
       subst (λ y. (names : ℕ → Span) → TellsFault L classes (steps P names a.guards a.scope a.next k) y) (sym is) h
 
-  module _ (a b : Place) (l : ℕ) (s : Span) (x : Phrase) (target : ℕ) (at : target ≡ slice_index a.scope l) where
+  module _ (a b : Place) (l : ℕ) (s : Span) (x : Expression) (target : ℕ) (at : target ≡ slice_index a.scope l) where
     -- A fault of the value is one of the assignment.
     pub assign_reads : (f : FlowFault) (r : Result ⊤ CheckError) → IsErrAnd r (λ e. e ≡ Flow f) →
-        FlowsJudged {U = ⊤} L classes target (guarded Assign (reads a.scope x)) (Err f) →
-        Judged L P classes a (Put l s x) b r
+        FlowsJudged {U = ⊤} L classes target (guarded typing.Assign (reads a.scope x)) (Err f) →
+        Judged L P classes a (Assign l s x) b r
     assign_reads f r is h =
-        judged_error a b (Put l s x) (Flow f) r is (λ names.
-        subst (λ t. IsFirstFault L classes (flows t s (guarded Assign (reads a.scope x) ++ a.guards)) f) at
-        (judged_err L classes target (guarded Assign (reads a.scope x)) a.guards f h (λ g. s)))
+        judged_error a b (Assign l s x) (Flow f) r is (λ names.
+        subst (λ t. IsFirstFault L classes (flows t s (guarded typing.Assign (reads a.scope x) ++ a.guards)) f) at
+        (judged_err L classes target (guarded typing.Assign (reads a.scope x)) a.guards f h (λ g. s)))
 
     -- A fault of the guards is one of an assignment whose value is in order.
     pub assign_guards : (f : FlowFault) (r : Result ⊤ CheckError) → IsErrAnd r (λ e. e ≡ Flow f) →
-        FlowsJudged {U = ⊤} L classes target (guarded Assign (reads a.scope x)) (Ok tt) →
-        FlowsJudged {U = ⊤} L classes target a.guards (Err f) → Judged L P classes a (Put l s x) b r
+        FlowsJudged {U = ⊤} L classes target (guarded typing.Assign (reads a.scope x)) (Ok tt) →
+        FlowsJudged {U = ⊤} L classes target a.guards (Err f) → Judged L P classes a (Assign l s x) b r
     assign_guards f r is h k =
-        judged_error a b (Put l s x) (Flow f) r is (λ names.
-        subst (λ t. IsFirstFault L classes (flows t s (guarded Assign (reads a.scope x) ++ a.guards)) f) at
-        (judged_both L classes target (guarded Assign (reads a.scope x)) a.guards tt (Err f) h k (λ g. s)))
+        judged_error a b (Assign l s x) (Flow f) r is (λ names.
+        subst (λ t. IsFirstFault L classes (flows t s (guarded typing.Assign (reads a.scope x) ++ a.guards)) f) at
+        (judged_both L classes target (guarded typing.Assign (reads a.scope x)) a.guards tt (Err f) h k (λ g. s)))
 
     -- An assignment is in order where its value and its guards are.
-    pub assign_ok : FlowsJudged {U = ⊤} L classes target (guarded Assign (reads a.scope x)) (Ok tt) →
+    pub assign_ok : FlowsJudged {U = ⊤} L classes target (guarded typing.Assign (reads a.scope x)) (Ok tt) →
         FlowsJudged {U = ⊤} L classes target a.guards (Ok tt) →
-        (names : ℕ → Span) → AreInOrder L classes (steps P names a.guards a.scope a.next (Put l s x))
+        (names : ℕ → Span) → AreInOrder L classes (steps P names a.guards a.scope a.next (Assign l s x))
     assign_ok h k names =
-        subst (λ t. AreInOrder L classes (flows t s (guarded Assign (reads a.scope x) ++ a.guards))) at
-        (judged_both L classes target (guarded Assign (reads a.scope x)) a.guards tt (Ok tt) h k (λ g. s))
+        subst (λ t. AreInOrder L classes (flows t s (guarded typing.Assign (reads a.scope x) ++ a.guards))) at
+        (judged_both L classes target (guarded typing.Assign (reads a.scope x)) a.guards tt (Ok tt) h k (λ g. s))
 
   -- A place whose parts are known.
   pub at_place : (s s' : List ℕ) (g g' : List Guard) (n n' : ℕ) (b : Place) (k : Command) (r : Result ⊤ CheckError) →
@@ -82,7 +82,7 @@ module _ (L : Lattice) (P : Profile) (classes : ℕ → ℕ) where
       subst (λ p. Judged L P classes p k b r) (same_place s s' g g' n n' d e f) h
 
   -- The place under a guard that was added.
-  pub under_guard : (a b : Place) (rule : Rule) (x : Phrase) (scope : List ℕ) (gs : List Guard) → scope ≡ a.scope →
+  pub under_guard : (a b : Place) (rule : Rule) (x : Expression) (scope : List ℕ) (gs : List Guard) → scope ≡ a.scope →
       gs ≡ a.guards ++ guarded rule (reads scope x) → (k : Command) (r : Result ⊤ CheckError) →
       Judged L P classes (place a.scope gs a.next) k b r → Judged L P classes (inside rule x a) k b r
   under_guard a b rule x scope gs same pushed k r h =
@@ -90,14 +90,15 @@ module _ (L : Lattice) (P : Profile) (classes : ℕ → ℕ) where
       (pushed ∙ ap (λ s. a.guards ++ guarded rule (reads s x)) same) refl h
 
   -- What is read in a scope that is known.
-  pub endings_at : (looping : Bool) (x : Phrase) (scope scope' : List ℕ) → scope ≡ scope' → (r : Result ⊤ FlowFault) →
+  pub endings_at : (looping : Bool) (x : Expression) (scope scope' : List ℕ) → scope ≡ scope' →
+      (r : Result ⊤ FlowFault) →
       StepsJudged L classes (endings P looping (reads scope x)) r →
       StepsJudged L classes (endings P looping (reads scope' x)) r
   endings_at looping x scope scope' same r h =
       subst (λ s. StepsJudged L classes (endings P looping (reads s x)) r) same h
 
   -- An answer on what is read, in a scope that is known.
-  pub reads_at : (target : ℕ) (rule : Rule) (x : Phrase) (scope scope' : List ℕ) → scope ≡ scope' →
+  pub reads_at : (target : ℕ) (rule : Rule) (x : Expression) (scope scope' : List ℕ) → scope ≡ scope' →
       (r : Result ⊤ FlowFault) → FlowsJudged L classes target (guarded rule (reads scope x)) r →
       FlowsJudged L classes target (guarded rule (reads scope' x)) r
   reads_at target rule x scope scope' same r h =
@@ -113,7 +114,8 @@ module _ (L : Lattice) (P : Profile) (classes : ℕ → ℕ) where
 
   -- One command after another.
   pub judged_then : (a b d : Place) (k₁ k₂ : Command) (r : Result ⊤ CheckError) →
-      Judged {U = ⊤} L P classes a k₁ b (Ok tt) → Judged L P classes b k₂ d r → Judged L P classes a (Then k₁ k₂) d r
+      Judged {U = ⊤} L P classes a k₁ b (Ok tt) → Judged L P classes b k₂ d r →
+      Judged L P classes a (Sequence k₁ k₂) d r
   judged_then a b d k₁ k₂ (Ok u) h k =
       let k' = at_place b.scope a.scope b.guards a.guards b.next (a.next + letvars k₁) d k₂ (Ok u) h.0 h.1 h.2 k in (
         k'.0,
@@ -128,101 +130,101 @@ module _ (L : Lattice) (P : Profile) (classes : ℕ → ℕ) where
   -- An error of the first of two commands.
   pub judged_first : (a b d : Place) (k₁ k₂ : Command) (e : CheckError) →
       Judged {U = ⊤} L P classes a k₁ b (Err e) →
-      (names : ℕ → Span) → TellsFault L classes (steps P names a.guards a.scope a.next (Then k₁ k₂)) e
+      (names : ℕ → Span) → TellsFault L classes (steps P names a.guards a.scope a.next (Sequence k₁ k₂)) e
   judged_first a b d k₁ k₂ e h names =
       tells_left L classes (first_steps a k₁ names) (later_steps a k₁ k₂ names) e (h names)
 
   -- What the guard of a choice tells of the ending of its loops.
-  abbrev pub choice_endings : Place → Phrase → Command → Command → List Step
+  abbrev pub choice_endings : Place → Expression → Command → Command → List Step
   choice_endings a x k₁ k₂ = endings P (has_loop k₁ || has_loop k₂) (reads a.scope x)
 
   -- A fault of the guard of a choice round loops.
-  pub if_endings : (a b : Place) (x : Phrase) (k₁ k₂ : Command) (f : FlowFault) (r : Result ⊤ CheckError) →
+  pub if_endings : (a b : Place) (x : Expression) (k₁ k₂ : Command) (f : FlowFault) (r : Result ⊤ CheckError) →
       IsErrAnd r (λ e. e ≡ Flow f) → StepsJudged {U = ⊤} L classes (choice_endings a x k₁ k₂) (Err f) →
-      Judged L P classes a (Choose x k₁ k₂) b r
+      Judged L P classes a (If x k₁ k₂) b r
   if_endings a b x k₁ k₂ f r is h =
-      judged_error a b (Choose x k₁ k₂) (Flow f) r is (λ names. fault_left L classes (choice_endings a x k₁ k₂) _ f h)
+      judged_error a b (If x k₁ k₂) (Flow f) r is (λ names. fault_left L classes (choice_endings a x k₁ k₂) _ f h)
 
   -- An error in the branches of a choice.
-  pub if_branches : (a b : Place) (x : Phrase) (k₁ k₂ : Command) (e : CheckError) (r : Result ⊤ CheckError) →
+  pub if_branches : (a b : Place) (x : Expression) (k₁ k₂ : Command) (e : CheckError) (r : Result ⊤ CheckError) →
       IsErrAnd r (λ y. y ≡ e) → StepsJudged {U = ⊤} L classes (choice_endings a x k₁ k₂) (Ok tt) →
-      ((names : ℕ → Span) → TellsFault L classes (first_steps (inside If x a) (Then k₁ k₂) names) e) →
-      Judged L P classes a (Choose x k₁ k₂) b r
+      ((names : ℕ → Span) → TellsFault L classes (first_steps (inside typing.If x a) (Sequence k₁ k₂) names) e) →
+      Judged L P classes a (If x k₁ k₂) b r
   if_branches a b x k₁ k₂ e r is up h =
-      judged_error a b (Choose x k₁ k₂) e r is (λ names.
-      tells_right L classes (choice_endings a x k₁ k₂) (first_steps (inside If x a) (Then k₁ k₂) names) e up
+      judged_error a b (If x k₁ k₂) e r is (λ names.
+      tells_right L classes (choice_endings a x k₁ k₂) (first_steps (inside typing.If x a) (Sequence k₁ k₂) names) e up
       (h names))
 
   -- A choice is its branches, one after the other, under its guard.
-  pub judged_if : (a b d : Place) (x : Phrase) (k₁ k₂ : Command) →
+  pub judged_if : (a b d : Place) (x : Expression) (k₁ k₂ : Command) →
       StepsJudged {U = ⊤} L classes (choice_endings a x k₁ k₂) (Ok tt) →
-      Judged {U = ⊤} L P classes (inside If x a) (Then k₁ k₂) b (Ok tt) →
+      Judged {U = ⊤} L P classes (inside typing.If x a) (Sequence k₁ k₂) b (Ok tt) →
       d.scope ≡ b.scope → d.guards ≡ take (length a.guards) b.guards → d.next ≡ b.next →
-      Judged {U = ⊤} L P classes a (Choose x k₁ k₂) d (Ok tt)
+      Judged {U = ⊤} L P classes a (If x k₁ k₂) d (Ok tt)
   judged_if a b d x k₁ k₂ up h s g n = (
     s ∙ h.0,
-    g ∙ ap (take (length a.guards)) h.1 ∙ take-append_seam a.guards (guarded If (reads a.scope x)),
+    g ∙ ap (take (length a.guards)) h.1 ∙ take-append_seam a.guards (guarded typing.If (reads a.scope x)),
     n ∙ h.2,
     λ names. order_append L classes (choice_endings a x k₁ k₂) _ up (h.3 names),
   )
 
   -- A fault of the guard of a loop.
-  pub while_endings : (a b : Place) (x : Phrase) (k : Command) (f : FlowFault) (r : Result ⊤ CheckError) →
+  pub while_endings : (a b : Place) (x : Expression) (k : Command) (f : FlowFault) (r : Result ⊤ CheckError) →
       IsErrAnd r (λ e. e ≡ Flow f) → StepsJudged {U = ⊤} L classes (endings P true (reads a.scope x)) (Err f) →
-      Judged L P classes a (Repeat x k) b r
+      Judged L P classes a (While x k) b r
   while_endings a b x k f r is h =
-      judged_error a b (Repeat x k) (Flow f) r is (λ names.
+      judged_error a b (While x k) (Flow f) r is (λ names.
       fault_left L classes (endings P true (reads a.scope x)) _ f h)
 
   -- An error in the body of a loop.
-  pub while_body : (a b d : Place) (x : Phrase) (k : Command) (e : CheckError) (r : Result ⊤ CheckError) →
+  pub while_body : (a b d : Place) (x : Expression) (k : Command) (e : CheckError) (r : Result ⊤ CheckError) →
       IsErrAnd r (λ y. y ≡ e) → StepsJudged {U = ⊤} L classes (endings P true (reads a.scope x)) (Ok tt) →
-      Judged {U = ⊤} L P classes (inside While x a) k d (Err e) → Judged L P classes a (Repeat x k) b r
+      Judged {U = ⊤} L P classes (inside typing.While x a) k d (Err e) → Judged L P classes a (While x k) b r
   while_body a b d x k e r is up h =
-      judged_error a b (Repeat x k) e r is (λ names.
-      tells_right L classes (endings P true (reads a.scope x)) (first_steps (inside While x a) k names) e up
+      judged_error a b (While x k) e r is (λ names.
+      tells_right L classes (endings P true (reads a.scope x)) (first_steps (inside typing.While x a) k names) e up
       (h names))
 
   -- A loop is its body under its guard.
-  pub judged_while : (a b d : Place) (x : Phrase) (k : Command) →
+  pub judged_while : (a b d : Place) (x : Expression) (k : Command) →
       StepsJudged {U = ⊤} L classes (endings P true (reads a.scope x)) (Ok tt) →
-      Judged {U = ⊤} L P classes (inside While x a) k b (Ok tt) →
+      Judged {U = ⊤} L P classes (inside typing.While x a) k b (Ok tt) →
       d.scope ≡ b.scope → d.guards ≡ take (length a.guards) b.guards → d.next ≡ b.next →
-      Judged {U = ⊤} L P classes a (Repeat x k) d (Ok tt)
+      Judged {U = ⊤} L P classes a (While x k) d (Ok tt)
   judged_while a b d x k up h s g n = (
     s ∙ h.0,
-    g ∙ ap (take (length a.guards)) h.1 ∙ take-append_seam a.guards (guarded While (reads a.scope x)),
+    g ∙ ap (take (length a.guards)) h.1 ∙ take-append_seam a.guards (guarded typing.While (reads a.scope x)),
     n ∙ h.2,
     λ names. order_append L classes (endings P true (reads a.scope x)) _ up (h.3 names),
   )
 
   -- The flows of an initial value.
-  abbrev initial_steps : Place → Phrase → (ℕ → Span) → List Step
-  initial_steps a x names = flows a.next (names a.next) (guarded Letvar (reads a.scope x))
+  abbrev initial_steps : Place → Expression → (ℕ → Span) → List Step
+  initial_steps a x names = flows a.next (names a.next) (guarded typing.Letvar (reads a.scope x))
 
   -- A fault of an initial value.
-  pub letvar_reads : (a b : Place) (x : Phrase) (k : Command) (f : FlowFault) (r : Result ⊤ CheckError) →
+  pub letvar_reads : (a b : Place) (x : Expression) (k : Command) (f : FlowFault) (r : Result ⊤ CheckError) →
       IsErrAnd r (λ e. e ≡ Flow f) →
-      FlowsJudged {U = ⊤} L classes a.next (guarded Letvar (reads a.scope x)) (Err f) →
-      Judged L P classes a (Allocate x k) b r
+      FlowsJudged {U = ⊤} L classes a.next (guarded typing.Letvar (reads a.scope x)) (Err f) →
+      Judged L P classes a (Letvar x k) b r
   letvar_reads a b x k f r is h =
-      judged_error a b (Allocate x k) (Flow f) r is (λ names.
+      judged_error a b (Letvar x k) (Flow f) r is (λ names.
       fault_left L classes (initial_steps a x names) _ f (h (λ g. names a.next)))
 
   -- An error in the body of a letvar.
-  pub letvar_body : (a b d : Place) (x : Phrase) (k : Command) (e : CheckError) (r : Result ⊤ CheckError) →
-      IsErrAnd r (λ y. y ≡ e) → FlowsJudged {U = ⊤} L classes a.next (guarded Letvar (reads a.scope x)) (Ok tt) →
-      Judged {U = ⊤} L P classes (within_letvar a) k d (Err e) → Judged L P classes a (Allocate x k) b r
+  pub letvar_body : (a b d : Place) (x : Expression) (k : Command) (e : CheckError) (r : Result ⊤ CheckError) →
+      IsErrAnd r (λ y. y ≡ e) → FlowsJudged {U = ⊤} L classes a.next (guarded typing.Letvar (reads a.scope x)) (Ok tt) →
+      Judged {U = ⊤} L P classes (within_letvar a) k d (Err e) → Judged L P classes a (Letvar x k) b r
   letvar_body a b d x k e r is up h =
-      judged_error a b (Allocate x k) e r is (λ names.
+      judged_error a b (Letvar x k) e r is (λ names.
       tells_right L classes (initial_steps a x names) _ e (up (λ g. names a.next)) (h names))
 
   -- A letvar is in order where its initial value and its body are.
-  pub letvar_ok : (a b d : Place) (x : Phrase) (k : Command) →
-      FlowsJudged {U = ⊤} L classes a.next (guarded Letvar (reads a.scope x)) (Ok tt) →
+  pub letvar_ok : (a b d : Place) (x : Expression) (k : Command) →
+      FlowsJudged {U = ⊤} L classes a.next (guarded typing.Letvar (reads a.scope x)) (Ok tt) →
       Judged {U = ⊤} L P classes (within_letvar a) k b (Ok tt) →
       d.scope ≡ take (length a.scope) b.scope → d.guards ≡ b.guards → d.next ≡ b.next →
-      Judged {U = ⊤} L P classes a (Allocate x k) d (Ok tt)
+      Judged {U = ⊤} L P classes a (Letvar x k) d (Ok tt)
   letvar_ok a b d x k f h s g n = (
     s ∙ ap (take (length a.scope)) h.0 ∙ take-append_seam a.scope (a.next ∷ []),
     g ∙ h.1,

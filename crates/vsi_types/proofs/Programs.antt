@@ -6,11 +6,11 @@ use Rattle.std.proofs.lemmas.List.{get_or_at, get_or_past, length_push}
 use Rattle.std.proofs.lemmas.List.Elements.{All-append, All-get_or}
 use Rattle.std.proofs.lemmas.Bool.{cases_lt}
 use Rattle.vsi_lattice.specs.Order.{Lattice, IsLattice, IsClass}
-use Rattle.vsi_scope.specs.Phrase.{HasPlaces}
+use Rattle.vsi_scope.specs.Language.{HasPlaces}
 use Rattle.vsi_types.specs.declared.rules.Profile.{Profile}
 use Rattle.vsi_types.specs.Typing.{HasCmd}
 use Rattle.vsi_types.specs.Steps.{sink, IsInOrder}
-use Rattle.vsi_types.specs.Security.{class_of, count_from, Program, IsResolved, steps_of, StepsDecide}
+use Rattle.vsi_types.specs.Security.{class_of, count_from, Program, IsWellFormed, steps_of, StepsDecide}
 use Rattle.vsi_types.proofs.Orders.{each_from_all, all_from_each}
 use Rattle.vsi_types.proofs.Flow.{typed_ordered, ordered_typed}
 
@@ -69,7 +69,7 @@ module _ (L : Lattice) (laws : IsLattice L) where
       ap (λ y. y ∷ map (class_of L (pre ++ (x ∷ xs) ++ rest)) (count_from (suc (length pre)) (length xs))) here
       ∙ ap (λ ys. x ∷ ys) there
 
-  module _ (P : Profile) (p : Program) (s : List ℕ) (res : IsResolved L p) (cls : All (IsClass L) s) where
+  module _ (P : Profile) (p : Program) (s : List ℕ) (res : IsWellFormed L p) (cls : All (IsClass L) s) where
     -- The class of each declaration.
     table : List ℕ
     table = p.globals ++ s

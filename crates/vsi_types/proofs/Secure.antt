@@ -6,7 +6,7 @@ use Rattle.std.proofs.lemmas.List.{get_or_append_left, get_or-set_same, get_or-s
 use Rattle.std.proofs.lemmas.List.Elements.{All-push, All-get_or}
 use Rattle.std.proofs.lemmas.Bool.{cases_eq, cases_lt, false≢true}
 use Rattle.vsi_lattice.specs.Order.{Lattice, IsLattice, IsClass, Below}
-use Rattle.vsi_scope.specs.Phrase.{Phrase, Command, Choose, Repeat, letvars}
+use Rattle.vsi_scope.specs.Language.{Expression, Command, If, While, letvars}
 use Rattle.vsi_syntax.specs.Operators.{apply}
 use Rattle.vsi_scope.specs.Meaning.{Store, value, and_then, turns, runs, Evaluates}
 use Rattle.vsi_scope.proofs.Evaluation.{same_answer, no_answer, between, zero_cases, at_other, at_none, larger_keeps, dropped, length_kept}
@@ -14,6 +14,7 @@ use Rattle.vsi_types.specs.declared.rules.Profile.{Profile}
 use Rattle.vsi_types.specs.Typing.{Locations, VARLOC, HasData, INT, R_VAL, ARITH, SUBTYPE, HasCmd, EMPTY, ASSIGN, COMPOSE, IF, WHILE, LETVAR, SUBTYPE_CMD}
 use Rattle.vsi_types.specs.Security.{Agree, IsReadIn, SimpleSecurity, Confinement, Noninterference}
 use Rattle.vsi_types.proofs.Programs.{within}
+use Rattle.vsi_types.proofs.Declared.{retyped, own, own_same, own_within}
 
 -- A class is at or below another, or it isn't.
 pub below_cases : {A : Type 0} (L : Lattice) (a b : ℕ) → (Below L a b → A) → ((Below L a b → ⊥) → A) → A
@@ -30,7 +31,7 @@ module _ (L : Lattice) (laws : IsLattice L) where
     at_location l lt = All-get_or (IsClass L) q l 0 lt all
 
     -- The type of an expression is a class of the lattice.
-    pub data_class : (e : Phrase) (t : ℕ) → HasData L q e t → IsClass L t
+    pub data_class : (e : Expression) (t : ℕ) → HasData L q e t → IsClass L t
     data_class e t (INT w) = w
     data_class e t (R_VAL (VARLOC {l = l} lt)) = at_location l lt
     data_class e t (ARITH {a = a} d d') = data_class a t d
@@ -43,7 +44,7 @@ module _ (L : Lattice) (laws : IsLattice L) where
         (laws.transitive (slice_index q l) t a (at_location l lt) kt ka b le)
 
     -- The value of an expression of type t is the same in stores that agree at t.
-    pub value_same : (e : Phrase) (t : ℕ) → HasData L q e t → (m m' : Store) → Agree L q t m m' →
+    pub value_same : (e : Expression) (t : ℕ) → HasData L q e t → (m m' : Store) → Agree L q t m m' →
         value e m ≡ value e m'
     value_same e t (INT w) m m' h = refl
     value_same e t (R_VAL (VARLOC {l = l} lt)) m m' h = h l lt (laws.reflexive (slice_index q l) (at_location l lt))
@@ -263,7 +264,7 @@ module _ (L : Lattice) (laws : IsLattice L) where
         (λ z. secure q all n c₁ t d a ka k m₁ m₂ m₁' m₂' len₁ len₂ h
         (sym (at_other (value x m₁) (runs k c₂ m₁) (runs k c₁ m₁) z) ∙ e₁)
         (sym (at_other (value x m₂) (runs k c₂ m₂) (runs k c₁ m₂) (λ y. z (same ∙ y))) ∙ e₂)))
-        (λ not. high q all n (Choose x c₁ c₂) t (IF dg d d') a ka not k m₁ m₂ m₁' m₂' len₁ len₂ h e₁ e₂)
+        (λ not. high q all n (If x c₁ c₂) t (IF dg d d') a ka not k m₁ m₂ m₁' m₂' len₁ len₂ h e₁ e₂)
     secure q all n c t (WHILE {e = x} {c = c'} is dg d) a ka k m₁ m₂ m₁' m₂' len₁ len₂ h e₁ e₂ =
         below_cases L t a
         (λ le. turns_secure q a k (value x) (runs k c')
@@ -271,7 +272,7 @@ module _ (L : Lattice) (laws : IsLattice L) where
         (λ s s' f. length_kept c' k s s' f)
         (λ s₁ s₂ s₁' s₂' l₁ l₂ g f₁ f₂. secure q all n c' t d a ka k s₁ s₂ s₁' s₂' l₁ l₂ g f₁ f₂)
         m₁ m₂ m₁' m₂' len₁ len₂ h e₁ e₂)
-        (λ not. high q all n (Repeat x c') t (WHILE is dg d) a ka not k m₁ m₂ m₁' m₂' len₁ len₂ h e₁ e₂)
+        (λ not. high q all n (While x c') t (WHILE is dg d) a ka not k m₁ m₂ m₁' m₂' len₁ len₂ h e₁ e₂)
     secure q all n c t (LETVAR {e = x} {c = c'} dg d) a ka k m₁ m₂ m₁' m₂' len₁ len₂ h e₁ e₂ =
         let s₁ = dropped (length m₁) (runs k c' (m₁ ++ value x m₁ ∷ [])) m₁' e₁ in
         let s₂ = dropped (length m₂) (runs k c' (m₂ ++ value x m₂ ∷ [])) m₂' e₂ in
@@ -296,7 +297,7 @@ module _ (L : Lattice) (laws : IsLattice L) where
         (larger_keeps c v₂.0 k m₂ m₂' (omega arith) v₂.1)
 
 -- What is read is a location, and has a class of the lattice.
-read_within : (L : Lattice) (laws : IsLattice L) (q : Locations) (all : All (IsClass L) q) (e : Phrase) (t : ℕ) →
+read_within : (L : Lattice) (laws : IsLattice L) (q : Locations) (all : All (IsClass L) q) (e : Expression) (t : ℕ) →
     HasData L q e t → (l : ℕ) → IsReadIn e l → IsClass L (slice_index q l)
 read_within L laws q all e t (INT w) l h = absurd h
 read_within L laws q all e t (R_VAL (VARLOC {l = k} lt)) l h =
@@ -306,7 +307,7 @@ read_within L laws q all e t (ARITH {a = a} {b = b} d d') l h =
 read_within L laws q all e t (SUBTYPE {t = t₁} le w d) l h = read_within L laws q all e t₁ d l h
 
 -- What is read has a class at or below the type.
-read_below : (L : Lattice) (laws : IsLattice L) (q : Locations) (all : All (IsClass L) q) (e : Phrase) (t : ℕ) →
+read_below : (L : Lattice) (laws : IsLattice L) (q : Locations) (all : All (IsClass L) q) (e : Expression) (t : ℕ) →
     HasData L q e t → (l : ℕ) → IsReadIn e l → Below L (slice_index q l) t
 read_below L laws q all e t (INT w) l h = absurd h
 read_below L laws q all e t (R_VAL (VARLOC {l = k} lt)) l h =
@@ -326,8 +327,11 @@ simple_security L q e t laws all d = (
 
 -- The law of confinement.
 pub confinement : Confinement
-confinement L P classes q n c t laws all w d m m' len v l lt h =
-    confined L laws P classes w q all n c t d v.0 m m' len v.1 l lt h
+confinement L P classes q n c t laws all each d m m' len v l lt h =
+    let k = letvars c in
+    let classes' = own L laws classes n k in
+    let d' = retyped L P classes classes' q n c t (own_same L laws classes n k) d in
+    confined L laws P classes' (own_within L laws classes n k each) q all n c t d' v.0 m m' len v.1 l lt h
 
 -- The law of noninterference.
 pub noninterference : Noninterference

@@ -4,9 +4,9 @@ use Rattle.std.proofs.lemmas.List.{take_more, map-append, length-map}
 use Rattle.std.specs.Prelude.{⊤, Result, Ok, Err, OnOk, IfErr}
 use Rattle.std.specs.List.{All}
 use Rattle.vsi_lattice.specs.Order.{Lattice, IsLattice, IsClass}
-use Rattle.vsi_scope.specs.Phrase.{letvars, HasPlaces}
+use Rattle.vsi_scope.specs.Language.{letvars, HasPlaces}
 use Rattle.vsi_scope.specs.View.{sequence}
-use Rattle.vsi_scope.specs.Program.{Source, IsResolved as IsSourceResolved}
+use Rattle.vsi_scope.specs.Program.{Resolved, IsResolved}
 use Rattle.vsi_types.specs.declared.error.CheckError.{CheckError}
 use Rattle.vsi_types.specs.declared.error.CheckError.TheVariants.{Memory, WrongChoice, Flow}
 use Rattle.vsi_types.specs.declared.rules.FlowFault.{FlowFault}
@@ -16,7 +16,7 @@ use Rattle.vsi_types.specs.Steps.{IsInOrder, AreInOrder, IsFirstFault}
 use Rattle.vsi_types.specs.Checking.{TellsFault, TellsWhy, Judged}
 use Rattle.vsi_types.specs.Walker.{Place}
 use Rattle.vsi_types.proofs.Orders.{Each, each_from_all, each_back}
-use Rattle.vsi_types.specs.Security.{class_of, count_from, Program, program, IsChoice, IsTypable, IsResolved, steps_of}
+use Rattle.vsi_types.specs.Security.{class_of, count_from, Program, program, IsChoice, IsTypable, IsWellFormed, steps_of}
 use Rattle.vsi_types.proofs.Programs.{steps_decide}
 use Rattle.vsi_types.proofs.Places.{place, at_place}
 
@@ -35,8 +35,8 @@ map_more f xs i x lt is = ap (map f) (take_more xs i x lt) ∙ map-append f (tak
     ∙ ap (λ y. map f (take i xs) ++ f y ∷ []) (sym is)
 
 -- A resolved source gives a resolved program.
-pub resolved_program : (L : Lattice) (r : Source) → All (IsClass L) (program r).globals → IsSourceResolved r →
-    IsResolved L (program r)
+pub resolved_program : (L : Lattice) (r : Resolved) → All (IsClass L) (program r).globals → IsResolved r →
+    IsWellFormed L (program r)
 resolved_program L r classes res =
     let n = length-map r.globals (λ g. g.class) in
     record {
@@ -62,7 +62,7 @@ no_tale L classes ss WrongChoice up h = absurd h
 no_tale L classes ss (Flow f) up h = absurd (no_fault L classes ss f up h)
 
 -- What an answer at the start of a program's body says of the program.
-module _ (L : Lattice) (laws : IsLattice L) (P : Profile) (p : Program) (s : List ℕ) (res : IsResolved L p)
+module _ (L : Lattice) (laws : IsLattice L) (P : Profile) (p : Program) (s : List ℕ) (res : IsWellFormed L p)
     (cls : All (IsClass L) s) (table : List ℕ) (t : table ≡ p.globals ++ s) (a b : Place)
     (sc : a.scope ≡ count_from 0 (length p.globals)) (gu : a.guards ≡ []) (ne : a.next ≡ length p.globals) where
   -- The answer, at the start as it is defined.

@@ -2,7 +2,7 @@
 use Rattle.std.specs.Prelude.{◌≡◌, ℕ, ◌+◌, ◌++◌, List, map, Result, Ok, Err}
 use Rattle.vsi_lattice.specs.Order.{Lattice}
 use Rattle.vsi_syntax.specs.declared.token.Span.{Span}
-use Rattle.vsi_scope.specs.Phrase.{Command, letvars}
+use Rattle.vsi_scope.specs.Language.{Command, letvars}
 use Rattle.vsi_types.specs.declared.error.CheckError.{CheckError}
 use Rattle.vsi_types.specs.declared.error.CheckError.TheVariants.{Memory, WrongChoice, Flow}
 use Rattle.vsi_types.specs.declared.rules.Profile.{Profile}

@@ -4,9 +4,9 @@ use Rattle.std.specs.List.{All, AllZip}
 use Rattle.vsi_lattice.specs.Order.{Lattice, IsLattice, IsClass, Below}
 use Rattle.vsi_syntax.specs.declared.token.Span.{Span}
 use Rattle.vsi_scope.specs.declared.resolved.Entry.{Entry}
-use Rattle.vsi_scope.specs.Program.{Source}
+use Rattle.vsi_scope.specs.Program.{Resolved}
 use Rattle.vsi_scope.specs.View.{sequence}
-use Rattle.vsi_scope.specs.Phrase.{Phrase, Literal, Contents, Apply, Command, letvars, HasPlaces}
+use Rattle.vsi_scope.specs.Language.{Expression, Number, Location, Operator, Command, letvars, HasPlaces}
 use Rattle.vsi_scope.specs.Meaning.{Store, value, Evaluates}
 use Rattle.vsi_types.specs.declared.rules.Profile.{Profile}
 use Rattle.vsi_types.specs.declared.rules.Profile.TheVariants.{Strict}
@@ -35,7 +35,7 @@ abbrev pub name_place : List Entry → ℕ → ℕ → Span
 name_place ls g v = slice_index_or (map (λ e. e.span) ls) (v - g) (record { start = 0; stop = 0 })
 
 -- The program that a resolved one stands for.
-abbrev pub program : Source → Program
+abbrev pub program : Resolved → Program
 program r =
     record {
       globals = map (λ g. g.class) r.globals;
@@ -63,7 +63,7 @@ abbrev pub steps_of : Profile → Program → List Step
 steps_of P p = steps P p.names [] (count_from 0 (length p.globals)) (length p.globals) p.body
 
 -- What a resolved program keeps: its globals have classes, its locations exist, and it is within the limit.
-pub record IsResolved (L : Lattice) (p : Program) : Type 0 where
+pub record IsWellFormed (L : Lattice) (p : Program) : Type 0 where
   pub classes : All (IsClass L) p.globals
   pub entries : length p.declared ≡ letvars p.body
   pub places : HasPlaces (length p.globals) p.body
@@ -72,7 +72,7 @@ pub record IsResolved (L : Lattice) (p : Program) : Type 0 where
 -- A program is typable exactly where the choice is one and all flow steps are in order.
 abbrev pub StepsDecide : Type 0
 StepsDecide =
-    (L : Lattice) (P : Profile) (p : Program) (s : List ℕ) → IsLattice L → IsResolved L p → All (IsClass L) s →
+    (L : Lattice) (P : Profile) (p : Program) (s : List ℕ) → IsLattice L → IsWellFormed L p → All (IsClass L) s →
     IsTypable L P p s ↔ (IsChoice p s × AreInOrder L (class_of L (p.globals ++ s)) (steps_of P p))
 
 -- Two stores agree at a where they have equal words in every location of a class at or below a.
@@ -81,24 +81,28 @@ Agree L q a m m' =
     (l : ℕ) → l < length q → Below L (slice_index q l) a → slice_index_or m l (pos 0) ≡ slice_index_or m' l (pos 0)
 
 -- The expression reads location l.
-abbrev pub IsReadIn : Phrase → ℕ → Type 0
-IsReadIn (Literal z) l = ⊥
-IsReadIn (Contents k s) l = l ≡ k
-IsReadIn (Apply o a b) l = IsReadIn a l ⊎ IsReadIn b l
+abbrev pub IsReadIn : Expression → ℕ → Type 0
+IsReadIn (Number z) l = ⊥
+IsReadIn (Location k s) l = l ≡ k
+IsReadIn (Operator o a b) l = IsReadIn a l ⊎ IsReadIn b l
 
 -- Simple security: an expression of type t reads only locations of classes at or below t, and its value shows no
 -- others.
 abbrev pub SimpleSecurity : Type 0
 SimpleSecurity =
-    (L : Lattice) (q : Locations) (e : Phrase) (t : ℕ) → IsLattice L → All (IsClass L) q → HasData L q e t →
+    (L : Lattice) (q : Locations) (e : Expression) (t : ℕ) → IsLattice L → All (IsClass L) q → HasData L q e t →
     ((l : ℕ) → IsReadIn e l → Below L (slice_index q l) t)
     × ((m m' : Store) → Agree L q t m m' → value e m ≡ value e m')
+
+-- Each declaration of the command, before which n stand, has a class of the lattice.
+abbrev pub HaveClasses : Lattice → (ℕ → ℕ) → ℕ → Command → Type 0
+HaveClasses L classes n c = (v : ℕ) → n ≤ v → v < n + letvars c → IsClass L (classes v)
 
 -- Confinement: a command of type t cmd changes only locations of classes at or above t, and those that it allocates.
 abbrev pub Confinement : Type 0
 Confinement =
     (L : Lattice) (P : Profile) (classes : ℕ → ℕ) (q : Locations) (n : ℕ) (c : Command) (t : ℕ) →
-    IsLattice L → All (IsClass L) q → ((v : ℕ) → IsClass L (classes v)) → HasCmd L P classes q n c t →
+    IsLattice L → All (IsClass L) q → HaveClasses L classes n c → HasCmd L P classes q n c t →
     (m m' : Store) → length m ≡ length q → Evaluates c m m' →
     (l : ℕ) → l < length q → (Below L t (slice_index q l) → ⊥) →
     slice_index_or m' l (pos 0) ≡ slice_index_or m l (pos 0)
@@ -106,18 +110,18 @@ Confinement =
 -- Noninterference: stores that agree at a class evaluate to stores that agree there.
 abbrev pub Noninterference : Type 0
 Noninterference =
-    (L : Lattice) (P : Profile) (p : Program) (s : List ℕ) → IsLattice L → IsResolved L p → IsTypable L P p s →
+    (L : Lattice) (P : Profile) (p : Program) (s : List ℕ) → IsLattice L → IsWellFormed L p → IsTypable L P p s →
     (a : ℕ) → IsClass L a → (m₁ m₂ m₁' m₂' : Store) → length m₁ ≡ length p.globals → length m₂ ≡ length p.globals →
     Agree L p.globals a m₁ m₂ → Evaluates p.body m₁ m₁' → Evaluates p.body m₂ m₂' → Agree L p.globals a m₁' m₂'
 
 -- A command ends from a store where it evaluates it to some store.
-abbrev pub Ends : Command → Store → Type 0
-Ends c m = (m' : Store) × Evaluates c m m'
+abbrev pub Terminates : Command → Store → Type 0
+Terminates c m = (m' : Store) × Evaluates c m m'
 
 -- Under the strict profile a typable program ends from both of two stores that agree on the bottom class, or from
 -- none.
 abbrev pub SameEnding : Type 0
 SameEnding =
-    (L : Lattice) (p : Program) (s : List ℕ) → IsLattice L → IsResolved L p → IsTypable L Strict p s →
+    (L : Lattice) (p : Program) (s : List ℕ) → IsLattice L → IsWellFormed L p → IsTypable L Strict p s →
     (m₁ m₂ : Store) → length m₁ ≡ length p.globals → length m₂ ≡ length p.globals →
-    Agree L p.globals L.bottom m₁ m₂ → Ends p.body m₁ ↔ Ends p.body m₂
+    Agree L p.globals L.bottom m₁ m₂ → Terminates p.body m₁ ↔ Terminates p.body m₂

@@ -3,7 +3,7 @@ use Rattle.std.specs.Prelude.{◌≡◌, ℕ, ◌+◌, Bool, true, false, ◌||�
 use Rattle.std.specs.List.{All}
 use Rattle.vsi_lattice.specs.Order.{Lattice, Below}
 use Rattle.vsi_syntax.specs.declared.token.Span.{Span}
-use Rattle.vsi_scope.specs.Phrase.{Phrase, Literal, Contents, Apply, Command, Nothing, Put, Then, Choose, Repeat, Allocate, letvars, has_loop}
+use Rattle.vsi_scope.specs.Language.{Expression, Number, Location, Operator, Command, Skip, Assign, Sequence, If, While, Letvar, letvars, has_loop}
 use Rattle.vsi_types.specs.declared.rules.Profile.{Profile}
 use Rattle.vsi_types.specs.declared.rules.Profile.TheVariants.{Base, Strict}
 use Rattle.vsi_types.specs.declared.rules.Rule.{Rule}
@@ -11,17 +11,17 @@ use Rattle.vsi_types.specs.declared.rules.Step.{Step}
 use Rattle.vsi_types.specs.declared.rules.Read.{Read}
 use Rattle.vsi_types.specs.declared.rules.Guard.{Guard}
 use Rattle.vsi_types.specs.declared.rules.FlowFault.{FlowFault}
-use Rattle.vsi_types.specs.declared.rules.Rule.TheVariants.{Assign, If, While, Letvar, Loop}
+use Rattle.vsi_types.specs.declared.rules.Rule.TheVariants as typing
 
 -- The variable that stands for the ending of loops.
 abbrev pub sink : ℕ
 sink = 65535
 
 -- What an expression reads, in text order, where the scope gives the variable of each location.
-abbrev pub reads : List ℕ → Phrase → List Read
-reads scope (Literal z) = []
-reads scope (Contents l s) = record { variable = slice_index scope l; place = s } ∷ []
-reads scope (Apply o a b) = reads scope a ++ reads scope b
+abbrev pub reads : List ℕ → Expression → List Read
+reads scope (Number z) = []
+reads scope (Location l s) = record { variable = slice_index scope l; place = s } ∷ []
+reads scope (Operator o a b) = reads scope a ++ reads scope b
 
 -- What a guard reads, under the rule of that guard.
 abbrev pub guarded : Rule → List Read → List Guard
@@ -38,7 +38,7 @@ flows target written gs = map (flow target written) gs
 
 -- The flow of what is read into the ending of a loop, which is written where it is read.
 abbrev pub ending : Read → Step
-ending r = record { rule = Loop; source = r.variable; target = sink; read = r.place; written = r.place }
+ending r = record { rule = typing.Loop; source = r.variable; target = sink; read = r.place; written = r.place }
 
 -- The flows of what is read into the ending of a loop, under the strict profile and where there is a loop.
 abbrev pub endings : Profile → Bool → List Read → List Step
@@ -50,17 +50,17 @@ endings Strict true rs = map ending rs
 --   names   where the name of each declaration stands
 --   scope   the variable of each location.
 abbrev pub steps : Profile → (ℕ → Span) → List Guard → List ℕ → ℕ → Command → List Step
-steps P names gs scope n Nothing = []
-steps P names gs scope n (Put l s e) = flows (slice_index scope l) s (guarded Assign (reads scope e) ++ gs)
-steps P names gs scope n (Then a b) = steps P names gs scope n a ++ steps P names gs scope (n + letvars a) b
-steps P names gs scope n (Choose e a b) =
+steps P names gs scope n Skip = []
+steps P names gs scope n (Assign l s e) = flows (slice_index scope l) s (guarded typing.Assign (reads scope e) ++ gs)
+steps P names gs scope n (Sequence a b) = steps P names gs scope n a ++ steps P names gs scope (n + letvars a) b
+steps P names gs scope n (If e a b) =
     endings P (has_loop a || has_loop b) (reads scope e)
-    ++ (steps P names (gs ++ guarded If (reads scope e)) scope n a
-    ++ steps P names (gs ++ guarded If (reads scope e)) scope (n + letvars a) b)
-steps P names gs scope n (Repeat e c) =
-    endings P true (reads scope e) ++ steps P names (gs ++ guarded While (reads scope e)) scope n c
-steps P names gs scope n (Allocate e c) =
-    flows n (names n) (guarded Letvar (reads scope e)) ++ steps P names gs (scope ++ n ∷ []) (n + 1) c
+    ++ (steps P names (gs ++ guarded typing.If (reads scope e)) scope n a
+    ++ steps P names (gs ++ guarded typing.If (reads scope e)) scope (n + letvars a) b)
+steps P names gs scope n (While e c) =
+    endings P true (reads scope e) ++ steps P names (gs ++ guarded typing.While (reads scope e)) scope n c
+steps P names gs scope n (Letvar e c) =
+    flows n (names n) (guarded typing.Letvar (reads scope e)) ++ steps P names gs (scope ++ n ∷ []) (n + 1) c
 
 -- A step is in order where the class of its source is at or below the class of its target.
 abbrev pub IsInOrder : Lattice → (ℕ → ℕ) → Step → Type 0

@@ -3,7 +3,7 @@ use Rattle.std.specs.Prelude.{◌≡◌, ℕ, ◌+◌, ◌<◌, List, [], ◌∷
 use Rattle.vsi_lattice.specs.Order.{Lattice, IsClass, Below}
 use Rattle.vsi_syntax.specs.declared.operator.Op.{Op}
 use Rattle.vsi_syntax.specs.declared.token.Span.{Span}
-use Rattle.vsi_scope.specs.Phrase.{Phrase, Literal, Contents, Apply, Command, Nothing, Put, Then, Choose, Repeat, Allocate, letvars}
+use Rattle.vsi_scope.specs.Language.{Expression, Number, Location, Operator, Command, Skip, Assign, Sequence, If, While, Letvar, letvars}
 use Rattle.vsi_types.specs.declared.rules.Profile.{Profile}
 use Rattle.vsi_types.specs.declared.rules.Profile.TheVariants.{Base, Strict}
 
@@ -16,11 +16,11 @@ pub data HasVar (q : Locations) : ℕ → ℕ → Type 0 where
   VARLOC : {l : ℕ} → l < length q → HasVar q l (slice_index q l)
 
 -- A derivation that an expression has the data type t.
-pub data HasData (L : Lattice) (q : Locations) : Phrase → ℕ → Type 0 where
-  INT : {z : ℤ} {t : ℕ} → IsClass L t → HasData L q (Literal z) t
-  R_VAL : {l : ℕ} {s : Span} {t : ℕ} → HasVar q l t → HasData L q (Contents l s) t
-  ARITH : {o : Op} {a b : Phrase} {t : ℕ} → HasData L q a t → HasData L q b t → HasData L q (Apply o a b) t
-  SUBTYPE : {e : Phrase} {t t' : ℕ} → Below L t t' → IsClass L t' → HasData L q e t → HasData L q e t'
+pub data HasData (L : Lattice) (q : Locations) : Expression → ℕ → Type 0 where
+  INT : {z : ℤ} {t : ℕ} → IsClass L t → HasData L q (Number z) t
+  R_VAL : {l : ℕ} {s : Span} {t : ℕ} → HasVar q l t → HasData L q (Location l s) t
+  ARITH : {o : Op} {a b : Expression} {t : ℕ} → HasData L q a t → HasData L q b t → HasData L q (Operator o a b) t
+  SUBTYPE : {e : Expression} {t t' : ℕ} → Below L t t' → IsClass L t' → HasData L q e t → HasData L q e t'
 
 -- A loop has the type t cmd for any t, and under the strict profile for the bottom class alone.
 abbrev pub LoopType : Lattice → Profile → ℕ → Type 0
@@ -29,18 +29,18 @@ LoopType L Strict t = t ≡ L.bottom
 
 -- A derivation that a command has the type t cmd, where n declarations stand before it and v has the class classes v.
 pub data HasCmd (L : Lattice) (P : Profile) (classes : ℕ → ℕ) : Locations → ℕ → Command → ℕ → Type 0 where
-  EMPTY : {q : Locations} {n t : ℕ} → IsClass L t → HasCmd L P classes q n Nothing t
-  ASSIGN : {q : Locations} {n l : ℕ} {s : Span} {e : Phrase} {t : ℕ} →
-      HasVar q l t → HasData L q e t → HasCmd L P classes q n (Put l s e) t
+  EMPTY : {q : Locations} {n t : ℕ} → IsClass L t → HasCmd L P classes q n Skip t
+  ASSIGN : {q : Locations} {n l : ℕ} {s : Span} {e : Expression} {t : ℕ} →
+      HasVar q l t → HasData L q e t → HasCmd L P classes q n (Assign l s e) t
   COMPOSE : {q : Locations} {n : ℕ} {a b : Command} {t : ℕ} →
-      HasCmd L P classes q n a t → HasCmd L P classes q (n + letvars a) b t → HasCmd L P classes q n (Then a b) t
-  IF : {q : Locations} {n : ℕ} {e : Phrase} {a b : Command} {t : ℕ} →
+      HasCmd L P classes q n a t → HasCmd L P classes q (n + letvars a) b t → HasCmd L P classes q n (Sequence a b) t
+  IF : {q : Locations} {n : ℕ} {e : Expression} {a b : Command} {t : ℕ} →
       HasData L q e t → HasCmd L P classes q n a t → HasCmd L P classes q (n + letvars a) b t →
-      HasCmd L P classes q n (Choose e a b) t
-  WHILE : {q : Locations} {n : ℕ} {e : Phrase} {c : Command} {t : ℕ} →
-      LoopType L P t → HasData L q e t → HasCmd L P classes q n c t → HasCmd L P classes q n (Repeat e c) t
-  LETVAR : {q : Locations} {n : ℕ} {e : Phrase} {c : Command} {t : ℕ} →
+      HasCmd L P classes q n (If e a b) t
+  WHILE : {q : Locations} {n : ℕ} {e : Expression} {c : Command} {t : ℕ} →
+      LoopType L P t → HasData L q e t → HasCmd L P classes q n c t → HasCmd L P classes q n (While e c) t
+  LETVAR : {q : Locations} {n : ℕ} {e : Expression} {c : Command} {t : ℕ} →
       HasData L q e (classes n) → HasCmd L P classes (q ++ classes n ∷ []) (n + 1) c t →
-      HasCmd L P classes q n (Allocate e c) t
+      HasCmd L P classes q n (Letvar e c) t
   SUBTYPE_CMD : {q : Locations} {n : ℕ} {c : Command} {t t' : ℕ} →
       Below L t t' → IsClass L t → HasCmd L P classes q n c t' → HasCmd L P classes q n c t

@@ -10,5 +10,5 @@ pub record Place : Type 0 where
   pub next : ℕ
 
 -- The place where a walk stands.
-abbrev pub place_of : Walker → Place
-place_of w = record { scope = w.scope.items; guards = w.guards.items; next = w.next }
+abbrev pub walker_place : Walker → Place
+walker_place w = record { scope = w.scope.items; guards = w.guards.items; next = w.next }

@@ -5,7 +5,7 @@ use Rattle.vsi_lattice.specs.Order.{Lattice, IsLattice, Below}
 use Rattle.vsi_types.specs.declared.rules.Profile.{Profile}
 use Rattle.vsi_types.specs.declared.rules.Step.{Step}
 use Rattle.vsi_types.specs.Steps.{sink}
-use Rattle.vsi_types.specs.Security.{Program, IsTypable, IsResolved, steps_of}
+use Rattle.vsi_types.specs.Security.{Program, IsTypable, IsWellFormed, steps_of}
 
 -- The declared class of a variable, if it has one; the sink counts as declared at the bottom.
 abbrev pub declared_class : Lattice → Program → ℕ → Option ℕ
@@ -42,5 +42,5 @@ IsBad L P p (s ∷ rest) = IsBadFrom L P p s rest
 -- Where a bad walk exists, no choice is typable.
 abbrev pub BadWalksRefute : Type 0
 BadWalksRefute =
-    (L : Lattice) (P : Profile) (p : Program) (walk : List Step) (s : List ℕ) → IsLattice L → IsResolved L p →
+    (L : Lattice) (P : Profile) (p : Program) (walk : List Step) (s : List ℕ) → IsLattice L → IsWellFormed L p →
     IsBad L P p walk → IsTypable L P p s → ⊥

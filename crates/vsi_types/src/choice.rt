@@ -20,7 +20,7 @@ fn keeps(declared: Option<Class>, class: Class) -> bool
 }
 
 /// Whether there is one class for each entry, and each declared class is kept.
-pub fn is_choice(entries: &[Entry<'_>], choice: &[Class]) -> bool
+pub(crate) fn is_choice(entries: &[Entry<'_>], choice: &[Class]) -> bool
     ensures chosen { result ≡ true → AllZip Keeps (map (λ e. e.class) entries.now) choice.now }
     ensures changed { result ≡ false → AllZip Keeps (map (λ e. e.class) entries.now) choice.now → ⊥ }
 {
@@ -36,7 +36,7 @@ pub fn is_choice(entries: &[Entry<'_>], choice: &[Class]) -> bool
 }
 
 /// The class of each declaration, the globals' first.
-pub fn class_table(
+pub(crate) fn class_table(
     alloc: Heap,
     globals: &[Global<'_>],
     choice: &[Class],

@@ -5,15 +5,19 @@ ghost use Rattle.vsi_types.specs.declared.error.CheckError.TheVariants.{Memory, 
 
 use crate::rules::FlowFault;
 use std::alloc::{AllocError, AllocFailed};
+use thiserror::Error;
 
 /// Why a choice of classes is refused.
-#[derive(Debug, Drop)]
+#[derive(Debug, Drop, Error)]
 pub enum CheckError {
     /// There was no memory for the check.
+    #[error("out of memory")]
     Memory,
     /// The choice hasn't one class for each `letvar`, or changes a declared one.
+    #[error("the choice has not one class for each letvar, or changes a declared one")]
     WrongChoice,
     /// The first flow step that isn't in order.
+    #[error("the flow from byte {start} is not in order", start = .0.span.start)]
     Flow(FlowFault),
 }
 

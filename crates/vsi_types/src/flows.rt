@@ -3,8 +3,8 @@
 ghost use Rattle.std.specs.Prelude.{◌≡◌, ◌||◌, true, length};
 ghost use Rattle.std.specs.List.{All};
 ghost use Rattle.vsi_lattice.specs.Order.{IsClass};
-ghost use Rattle.vsi_scope.specs.Phrase.{has_loop, HasLocations};
-ghost use Rattle.vsi_scope.specs.View.{phrase, sequence};
+ghost use Rattle.vsi_scope.specs.Language.{has_loop, HasLocations};
+ghost use Rattle.vsi_scope.specs.View.{expression, sequence};
 ghost use Rattle.vsi_types.specs.Steps.{reads, guarded, endings};
 ghost use Rattle.vsi_types.specs.Security.{class_of};
 ghost use Rattle.vsi_types.specs.Checking.{FlowsJudged, StepsJudged};
@@ -41,7 +41,7 @@ fn may_flow<C: Classes>(lattice: &C, table: &[Class], source: Var, target: Var) 
 }
 
 /// Whether each guard may flow to the target.
-pub fn check_guards<C: Classes>(
+pub(crate) fn check_guards<C: Classes>(
     lattice: &C,
     table: &[Class],
     target: Var,
@@ -65,7 +65,7 @@ pub fn check_guards<C: Classes>(
 }
 
 /// Whether what an expression reads may flow to the target.
-pub fn check_reads<C: Classes>(
+pub(crate) fn check_reads<C: Classes>(
     lattice: &C,
     table: &[Class],
     target: Var,
@@ -74,9 +74,9 @@ pub fn check_reads<C: Classes>(
     e: &Ex,
 ) -> Result<(), FlowFault>
     requires classes { All (IsClass (C.lattice lattice.now)) table.now }
-    requires places { HasLocations (length scope.now) (phrase e.now) }
+    requires places { HasLocations (length scope.now) (expression e.now) }
     ensures { let classes = class_of (C.lattice lattice.now) table.now in
-        FlowsJudged (C.lattice lattice.now) classes target (guarded rule (reads scope.now (phrase e.now))) result }
+        FlowsJudged (C.lattice lattice.now) classes target (guarded rule (reads scope.now (expression e.now))) result }
 {
     match e {
         Ex::Num(_) => Ok(()),
@@ -101,7 +101,7 @@ pub fn check_reads<C: Classes>(
 }
 
 /// Whether what the guard of a loop reads may tell how the loop ends.
-pub fn check_loop<C: Classes>(
+pub(crate) fn check_loop<C: Classes>(
     lattice: &C,
     profile: Profile,
     table: &[Class],
@@ -109,10 +109,10 @@ pub fn check_loop<C: Classes>(
     guard: &Ex,
 ) -> Result<(), FlowFault>
     requires classes { All (IsClass (C.lattice lattice.now)) table.now }
-    requires places { HasLocations (length scope.now) (phrase guard.now) }
+    requires places { HasLocations (length scope.now) (expression guard.now) }
     ensures { let classes = class_of (C.lattice lattice.now) table.now in
         StepsJudged (C.lattice lattice.now) classes
-        (endings profile true (reads scope.now (phrase guard.now))) result }
+        (endings profile true (reads scope.now (expression guard.now))) result }
 {
     match profile {
         Profile::Base => Ok(()),
@@ -121,25 +121,25 @@ pub fn check_loop<C: Classes>(
 }
 
 /// Whether what the guard of a choice reads may tell how the loops in its branches end.
-pub fn check_choice<C: Classes>(
+pub(crate) fn check_choice<C: Classes>(
     lattice: &C,
     profile: Profile,
     table: &[Class],
     scope: &[Var],
-    first: &[Cmd],
-    second: &[Cmd],
+    then_branch: &[Cmd],
+    else_branch: &[Cmd],
     guard: &Ex,
 ) -> Result<(), FlowFault>
     requires classes { All (IsClass (C.lattice lattice.now)) table.now }
-    requires places { HasLocations (length scope.now) (phrase guard.now) }
-    ensures { let looping = has_loop (sequence first.now) || has_loop (sequence second.now) in
+    requires places { HasLocations (length scope.now) (expression guard.now) }
+    ensures { let looping = has_loop (sequence then_branch.now) || has_loop (sequence else_branch.now) in
         StepsJudged (C.lattice lattice.now) (class_of (C.lattice lattice.now) table.now)
-        (endings profile looping (reads scope.now (phrase guard.now))) result }
+        (endings profile looping (reads scope.now (expression guard.now))) result }
 {
     match profile {
         Profile::Base => Ok(()),
         Profile::Strict => {
-            if loops(first) || loops(second) {
+            if loops(then_branch) || loops(else_branch) {
                 check_loop(lattice, profile, table, scope, guard)
             } else {
                 Ok(())

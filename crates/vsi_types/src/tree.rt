@@ -3,11 +3,11 @@
 ghost use Rattle.std.specs.Prelude.{◌+◌, ◌≤◌, length};
 ghost use Rattle.std.specs.List.{All};
 ghost use Rattle.vsi_lattice.specs.Order.{IsClass};
-ghost use Rattle.vsi_scope.specs.Phrase.{letvars, HasPlaces, Put, Choose, Repeat, Allocate};
-ghost use Rattle.vsi_scope.specs.View.{phrase, command, sequence};
+ghost use Rattle.vsi_scope.specs.Language.{letvars, HasPlaces, Assign, If, While, Letvar};
+ghost use Rattle.vsi_scope.specs.View.{expression, command, sequence};
 ghost use Rattle.vsi_types.specs.Security.{class_of};
 ghost use Rattle.vsi_types.specs.Checking.{Judged};
-ghost use Rattle.vsi_types.specs.Walker.{place_of};
+ghost use Rattle.vsi_types.specs.Walker.{walker_place};
 
 use crate::error::CheckError;
 use crate::flows::{check_choice, check_guards, check_loop, check_reads};
@@ -28,10 +28,11 @@ fn check_assign<C: Classes>(
     value: &Ex,
 ) -> Result<(), CheckError>
     requires classes { All (IsClass (C.lattice lattice.now)) table.now }
-    requires places { HasPlaces (length walk.old.scope.items) (Put location span (phrase value.now)) }
-    requires limit { walk.old.next + letvars (Put location span (phrase value.now)) ≤ 1024 }
-    ensures { Judged (C.lattice lattice.now) profile (class_of (C.lattice lattice.now) table.now) (place_of walk.old)
-        (Put location span (phrase value.now)) (place_of walk.new) result }
+    requires places { HasPlaces (length walk.old.scope.items) (Assign location span (expression value.now)) }
+    requires limit { walk.old.next + letvars (Assign location span (expression value.now)) ≤ 1024 }
+    ensures { Judged (C.lattice lattice.now) profile (class_of (C.lattice lattice.now) table.now)
+        (walker_place walk.old)
+        (Assign location span (expression value.now)) (walker_place walk.new) result }
 {
     let target = walk.scope[location as usize];
     check_reads(lattice, table, target, &walk.scope, Rule::Assign, value)?;
@@ -46,23 +47,34 @@ fn check_if<C: Classes>(
     profile: Profile,
     table: &[Class],
     walk: &mut Walker,
-    first: &[Cmd],
-    second: &[Cmd],
+    then_branch: &[Cmd],
+    else_branch: &[Cmd],
     guard: &Ex,
 ) -> Result<(), CheckError>
     requires classes { All (IsClass (C.lattice lattice.now)) table.now }
     requires places { HasPlaces (length walk.old.scope.items)
-        (Choose (phrase guard.now) (sequence first.now) (sequence second.now)) }
-    requires limit { walk.old.next + letvars (Choose (phrase guard.now) (sequence first.now) (sequence second.now))
+        (If (expression guard.now) (sequence then_branch.now) (sequence else_branch.now)) }
+    requires limit { walk.old.next + letvars (If (expression guard.now) (sequence then_branch.now)
+        (sequence else_branch.now))
         ≤ 1024 }
-    ensures { Judged (C.lattice lattice.now) profile (class_of (C.lattice lattice.now) table.now) (place_of walk.old)
-        (Choose (phrase guard.now) (sequence first.now) (sequence second.now)) (place_of walk.new) result }
+    ensures { Judged (C.lattice lattice.now) profile (class_of (C.lattice lattice.now) table.now)
+        (walker_place walk.old)
+        (If (expression guard.now) (sequence then_branch.now) (sequence else_branch.now))
+        (walker_place walk.new) result }
 {
-    check_choice(lattice, profile, table, &walk.scope, first, second, guard)?;
+    check_choice(
+        lattice,
+        profile,
+        table,
+        &walk.scope,
+        then_branch,
+        else_branch,
+        guard,
+    )?;
     let outside = walk.guards.len();
     push_reads(&mut walk.guards, &walk.scope, Rule::If, guard)?;
-    check_commands(lattice, profile, table, walk, first)?;
-    check_commands(lattice, profile, table, walk, second)?;
+    check_commands(lattice, profile, table, walk, then_branch)?;
+    check_commands(lattice, profile, table, walk, else_branch)?;
     walk.guards.truncate(outside);
     Ok(())
 }
@@ -78,10 +90,11 @@ fn check_while<C: Classes>(
     guard: &Ex,
 ) -> Result<(), CheckError>
     requires classes { All (IsClass (C.lattice lattice.now)) table.now }
-    requires places { HasPlaces (length walk.old.scope.items) (Repeat (phrase guard.now) (sequence body.now)) }
-    requires limit { walk.old.next + letvars (Repeat (phrase guard.now) (sequence body.now)) ≤ 1024 }
-    ensures { Judged (C.lattice lattice.now) profile (class_of (C.lattice lattice.now) table.now) (place_of walk.old)
-        (Repeat (phrase guard.now) (sequence body.now)) (place_of walk.new) result }
+    requires places { HasPlaces (length walk.old.scope.items) (While (expression guard.now) (sequence body.now)) }
+    requires limit { walk.old.next + letvars (While (expression guard.now) (sequence body.now)) ≤ 1024 }
+    ensures { Judged (C.lattice lattice.now) profile (class_of (C.lattice lattice.now) table.now)
+        (walker_place walk.old)
+        (While (expression guard.now) (sequence body.now)) (walker_place walk.new) result }
 {
     check_loop(lattice, profile, table, &walk.scope, guard)?;
     let outside = walk.guards.len();
@@ -102,10 +115,11 @@ fn check_letvar<C: Classes>(
     value: &Ex,
 ) -> Result<(), CheckError>
     requires classes { All (IsClass (C.lattice lattice.now)) table.now }
-    requires places { HasPlaces (length walk.old.scope.items) (Allocate (phrase value.now) (sequence body.now)) }
-    requires limit { walk.old.next + letvars (Allocate (phrase value.now) (sequence body.now)) ≤ 1024 }
-    ensures { Judged (C.lattice lattice.now) profile (class_of (C.lattice lattice.now) table.now) (place_of walk.old)
-        (Allocate (phrase value.now) (sequence body.now)) (place_of walk.new) result }
+    requires places { HasPlaces (length walk.old.scope.items) (Letvar (expression value.now) (sequence body.now)) }
+    requires limit { walk.old.next + letvars (Letvar (expression value.now) (sequence body.now)) ≤ 1024 }
+    ensures { Judged (C.lattice lattice.now) profile (class_of (C.lattice lattice.now) table.now)
+        (walker_place walk.old)
+        (Letvar (expression value.now) (sequence body.now)) (walker_place walk.new) result }
 {
     let variable = Var(walk.next);
     check_reads(lattice, table, variable, &walk.scope, Rule::Letvar, value)?;
@@ -119,7 +133,7 @@ fn check_letvar<C: Classes>(
 
 /// Checks the commands of a list, one after another.
 #[cycle(walk)]
-pub fn check_commands<C: Classes>(
+pub(crate) fn check_commands<C: Classes>(
     lattice: &C,
     profile: Profile,
     table: &[Class],
@@ -129,8 +143,9 @@ pub fn check_commands<C: Classes>(
     requires classes { All (IsClass (C.lattice lattice.now)) table.now }
     requires places { HasPlaces (length walk.old.scope.items) (sequence body.now) }
     requires limit { walk.old.next + letvars (sequence body.now) ≤ 1024 }
-    ensures { Judged (C.lattice lattice.now) profile (class_of (C.lattice lattice.now) table.now) (place_of walk.old)
-        (sequence body.now) (place_of walk.new) result }
+    ensures { Judged (C.lattice lattice.now) profile (class_of (C.lattice lattice.now) table.now)
+        (walker_place walk.old)
+        (sequence body.now) (walker_place walk.new) result }
 {
     for c in body {
         check_command(lattice, profile, table, walk, c)?;
@@ -150,8 +165,9 @@ fn check_command<C: Classes>(
     requires classes { All (IsClass (C.lattice lattice.now)) table.now }
     requires places { HasPlaces (length walk.old.scope.items) (command c.now) }
     requires limit { walk.old.next + letvars (command c.now) ≤ 1024 }
-    ensures { Judged (C.lattice lattice.now) profile (class_of (C.lattice lattice.now) table.now) (place_of walk.old)
-        (command c.now) (place_of walk.new) result }
+    ensures { Judged (C.lattice lattice.now) profile (class_of (C.lattice lattice.now) table.now)
+        (walker_place walk.old)
+        (command c.now) (walker_place walk.new) result }
 {
     match c {
         Cmd::Assign { loc, span, value } => {

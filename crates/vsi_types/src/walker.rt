@@ -1,8 +1,8 @@
 //! What walks over a program share: where one stands, what it reads there, and whether a loop stands further on.
 
-ghost use Rattle.std.specs.Prelude.{◌≡◌, ◌++◌, length, IfOk, OnOk};
-ghost use Rattle.vsi_scope.specs.Phrase.{has_loop, HasLocations};
-ghost use Rattle.vsi_scope.specs.View.{phrase, command, sequence};
+ghost use Rattle.std.specs.Prelude.{◌≡◌, ◌++◌, length, IfOk, if◌then◌else◌, is_ok};
+ghost use Rattle.vsi_scope.specs.Language.{has_loop, HasLocations};
+ghost use Rattle.vsi_scope.specs.View.{expression, command, sequence};
 ghost use Rattle.vsi_types.specs.Security.{count_from};
 ghost use Rattle.vsi_types.specs.Steps.{reads, guarded};
 
@@ -32,15 +32,17 @@ pub fn first_variables(alloc: Heap, count: u16) -> Result<Vec<Var>, AllocError>
     Ok(scope)
 }
 
-/// Adds what an expression reads, in text order, to the guards under a rule; the scope gives its variables.
+/// Adds what an expression reads, in text order, to the guards under a rule; the scope gives its variables. Where memory
+/// is wanting the guards stay as they were.
 pub fn push_reads(
     guards: &mut Vec<Guard>,
     scope: &[Var],
     rule: Rule,
     e: &Ex,
 ) -> Result<(), AllocError>
-    requires { HasLocations (length scope.now) (phrase e.now) }
-    ensures { OnOk result (guards.new.items ≡ guards.old.items ++ guarded rule (reads scope.now (phrase e.now))) }
+    requires { HasLocations (length scope.now) (expression e.now) }
+    ensures { guards.new.items ≡ (if is_ok result
+        then guards.old.items ++ guarded rule (reads scope.now (expression e.now)) else guards.old.items) }
 {
     match e {
         Ex::Num(_) => Ok(()),
@@ -55,8 +57,13 @@ pub fn push_reads(
             Ok(())
         }
         Ex::Op(_, a, b) => {
+            let before = guards.len();
             push_reads(guards, scope, rule, a)?;
-            push_reads(guards, scope, rule, b)
+            let added = push_reads(guards, scope, rule, b);
+            if added.is_err() {
+                guards.truncate(before);
+            }
+            added
         }
     }
 }

@@ -2,14 +2,14 @@
 
 ghost use Rattle.std.specs.Prelude.{◌≡◌, ◌<◌, length, map, [], option_map, IfOk, IfErr};
 ghost use Rattle.vsi_scope.specs.declared.resolution.ScopeError.TheVariants.{Memory};
-ghost use Rattle.vsi_syntax.specs.Tree.{Set, Choose, Loop, Local};
+ghost use Rattle.vsi_syntax.specs.Tree.{Assign, If, While, Letvar};
 ghost use Rattle.vsi_syntax.specs.View.{tree, named};
-ghost use Rattle.vsi_syntax.specs.Programs as syntax;
-ghost use Rattle.vsi_lattice.specs.Named.{class_named};
+ghost use Rattle.vsi_syntax.specs.CommandView as syntax;
+ghost use Rattle.vsi_lattice.specs.LatticeView.{class_named};
 ghost use Rattle.vsi_scope.specs.Faults.{class_marks, first_fault, Judged, Known};
 ghost use Rattle.vsi_scope.specs.Places.{commands_of};
 ghost use Rattle.vsi_scope.specs.Resolving.{class_of};
-ghost use Rattle.vsi_scope.specs.Walking.{Walked, WalkedOne, WalkedAll, IsWithin, scope_of, fault_in, fault_in_all};
+ghost use Rattle.vsi_scope.specs.Resolver.{Walked, WalkedOne, WalkedAll, IsWithin, scope_of, fault_in, fault_in_all};
 
 use super::expression::expression;
 use super::scope::find;
@@ -20,18 +20,18 @@ use std::alloc::Global;
 use vsi_lattice::{Class, Lattice};
 use vsi_syntax::{Expr, Name, Stmt};
 
-/// Where a walk through the text is.
+/// Where the resolution of a text is.
 #[derive(Drop)]
-pub struct Walk<'a> {
+pub(crate) struct Resolver<'a> {
     /// The names in scope, globals first.
-    pub names: Vec<&'a [u8]>,
+    pub(crate) names: Vec<&'a [u8]>,
     /// The entries of the letvars so far, in text order.
-    pub letvars: Vec<Entry<'a>>,
+    pub(crate) letvars: Vec<Entry<'a>>,
     /// The number of globals.
-    pub globals: usize,
+    pub(crate) globals: usize,
 }
 
-impl<'a> Walk<'a> {
+impl<'a> Resolver<'a> {
     ghost use Rattle.std.specs.Prelude.{◌++◌, ◌∷◌, OnOk, take, ◌-◌};
     ghost use Rattle.vsi_scope.specs.Resolving.{variable, letvar};
 
@@ -86,21 +86,22 @@ fn class<'a>(lattice: &Lattice, class: Option<Name<'a>>) -> Result<Option<Class>
 /// An assignment: the name first, then the value.
 fn assign<'a>(
     alloc: Global,
-    walk: &mut Walk<'a>,
+    resolver: &mut Resolver<'a>,
     out: &mut Vec<Cmd>,
     x: Name<'a>,
     e: &Expr<'a>,
 ) -> Result<(), ScopeError>
-    requires { IsWithin walk.old }
+    requires { IsWithin resolver.old }
     ensures value { IfOk result
-        (λ _. Walked walk.old walk.new out.old.items out.new.items []
-        (commands_of (scope_of walk.old) (Set (named x.entry) (tree e.now)))) }
-    ensures fault { (known : Known) → Judged result (fault_in known walk.old (Set (named x.entry) (tree e.now))) }
+        (λ _. Walked resolver.old resolver.new out.old.items out.new.items []
+        (commands_of (scope_of resolver.old) (Assign (named x.entry) (tree e.now)))) }
+    ensures fault { (known : Known) → Judged result
+        (fault_in known resolver.old (Assign (named x.entry) (tree e.now))) }
 {
-    let Some(loc) = find(&walk.names, x.text) else {
+    let Some(loc) = find(&resolver.names, x.text) else {
         return Err(ScopeError::Unbound(x.span));
     };
-    let value = expression(alloc, &walk.names, e)?;
+    let value = expression(alloc, &resolver.names, e)?;
     out.push(Cmd::Assign {
         loc,
         span: x.span,
@@ -110,131 +111,131 @@ fn assign<'a>(
 }
 
 /// A choice: the guard, the first branch, the second.
-#[cycle(walk)]
+#[cycle(resolution)]
 fn choose<'a>(
     alloc: Global,
     lattice: &Lattice,
-    walk: &mut Walk<'a>,
+    resolver: &mut Resolver<'a>,
     out: &mut Vec<Cmd>,
     guard: &Expr<'a>,
-    first: &Stmt<'a>,
-    second: &Stmt<'a>,
+    then_branch: &Stmt<'a>,
+    else_branch: &Stmt<'a>,
 ) -> Result<(), ScopeError>
-    requires { IsWithin walk.old }
+    requires { IsWithin resolver.old }
     ensures value { IfOk result
-        (λ _. WalkedOne (class_named lattice.now) walk.old walk.new out.old.items out.new.items
-        (Choose (tree guard.now) (syntax.command first.now) (syntax.command second.now))) }
+        (λ _. WalkedOne (class_named lattice.now) resolver.old resolver.new out.old.items out.new.items
+        (If (tree guard.now) (syntax.command then_branch.now) (syntax.command else_branch.now))) }
     ensures fault { Judged result
-        (fault_in (class_named lattice.now) walk.old
-        (Choose (tree guard.now) (syntax.command first.now) (syntax.command second.now))) }
+        (fault_in (class_named lattice.now) resolver.old
+        (If (tree guard.now) (syntax.command then_branch.now) (syntax.command else_branch.now))) }
 {
-    let guard = expression(alloc, &walk.names, guard)?;
+    let guard = expression(alloc, &resolver.names, guard)?;
     let mut yes = Vec::new(alloc);
-    statement(alloc, lattice, walk, &mut yes, first)?;
+    statement(alloc, lattice, resolver, &mut yes, then_branch)?;
     let mut no = Vec::new(alloc);
-    statement(alloc, lattice, walk, &mut no, second)?;
+    statement(alloc, lattice, resolver, &mut no, else_branch)?;
     out.push(Cmd::If { guard, yes, no })?;
     Ok(())
 }
 
 /// A loop: the guard, then the body.
-#[cycle(walk)]
+#[cycle(resolution)]
 fn repeat<'a>(
     alloc: Global,
     lattice: &Lattice,
-    walk: &mut Walk<'a>,
+    resolver: &mut Resolver<'a>,
     out: &mut Vec<Cmd>,
     guard: &Expr<'a>,
     c: &Stmt<'a>,
 ) -> Result<(), ScopeError>
-    requires { IsWithin walk.old }
+    requires { IsWithin resolver.old }
     ensures value { IfOk result
-        (λ _. WalkedOne (class_named lattice.now) walk.old walk.new out.old.items out.new.items
-        (Loop (tree guard.now) (syntax.command c.now))) }
+        (λ _. WalkedOne (class_named lattice.now) resolver.old resolver.new out.old.items out.new.items
+        (While (tree guard.now) (syntax.command c.now))) }
     ensures fault { Judged result
-        (fault_in (class_named lattice.now) walk.old (Loop (tree guard.now) (syntax.command c.now))) }
+        (fault_in (class_named lattice.now) resolver.old (While (tree guard.now) (syntax.command c.now))) }
 {
-    let guard = expression(alloc, &walk.names, guard)?;
+    let guard = expression(alloc, &resolver.names, guard)?;
     let mut body = Vec::new(alloc);
-    statement(alloc, lattice, walk, &mut body, c)?;
+    statement(alloc, lattice, resolver, &mut body, c)?;
     out.push(Cmd::While { guard, body })?;
     Ok(())
 }
 
 /// A letvar: its name, its class, its initial value in the outer scope, and then the body.
-#[cycle(walk)]
+#[cycle(resolution)]
 fn local<'a>(
     alloc: Global,
     lattice: &Lattice,
-    walk: &mut Walk<'a>,
+    resolver: &mut Resolver<'a>,
     out: &mut Vec<Cmd>,
     x: Name<'a>,
     written: Option<Name<'a>>,
     e: &Expr<'a>,
     c: &Stmt<'a>,
 ) -> Result<(), ScopeError>
-    requires { IsWithin walk.old }
+    requires { IsWithin resolver.old }
     ensures value { IfOk result
-        (λ _. WalkedOne (class_named lattice.now) walk.old walk.new out.old.items out.new.items
-        (Local (named x.entry) (option_map named written.entry) (tree e.now) (syntax.command c.now))) }
+        (λ _. WalkedOne (class_named lattice.now) resolver.old resolver.new out.old.items out.new.items
+        (Letvar (named x.entry) (option_map named written.entry) (tree e.now) (syntax.command c.now))) }
     ensures fault { Judged result
-        (fault_in (class_named lattice.now) walk.old
-        (Local (named x.entry) (option_map named written.entry) (tree e.now) (syntax.command c.now))) }
+        (fault_in (class_named lattice.now) resolver.old
+        (Letvar (named x.entry) (option_map named written.entry) (tree e.now) (syntax.command c.now))) }
 {
-    if walk.globals + walk.letvars.len() >= MAX_DECLARATIONS {
+    if resolver.globals + resolver.letvars.len() >= MAX_DECLARATIONS {
         return Err(ScopeError::TooManyDeclarations(x.span));
     }
     let class = class(lattice, written)?;
-    let value = expression(alloc, &walk.names, e)?;
-    walk.enter(x, class)?;
+    let value = expression(alloc, &resolver.names, e)?;
+    resolver.enter(x, class)?;
     let mut body = Vec::new(alloc);
-    statement(alloc, lattice, walk, &mut body, c)?;
-    walk.leave();
+    statement(alloc, lattice, resolver, &mut body, c)?;
+    resolver.leave();
     out.push(Cmd::Letvar { value, body })?;
     Ok(())
 }
 
 /// The commands of a sequence, behind those of `out`.
-#[cycle(walk)]
-pub fn sequence<'a>(
+#[cycle(resolution)]
+pub(crate) fn sequence<'a>(
     alloc: Global,
     lattice: &Lattice,
-    walk: &mut Walk<'a>,
+    resolver: &mut Resolver<'a>,
     out: &mut Vec<Cmd>,
     body: &[Stmt<'a>],
 ) -> Result<(), ScopeError>
-    requires { IsWithin walk.old }
+    requires { IsWithin resolver.old }
     ensures value { IfOk result
-        (λ _. WalkedAll (class_named lattice.now) walk.old walk.new out.old.items out.new.items
+        (λ _. WalkedAll (class_named lattice.now) resolver.old resolver.new out.old.items out.new.items
         (syntax.body_of body.now)) }
-    ensures fault { Judged result (fault_in_all (class_named lattice.now) walk.old (syntax.body_of body.now)) }
+    ensures fault { Judged result (fault_in_all (class_named lattice.now) resolver.old (syntax.body_of body.now)) }
 {
     for c in body {
-        statement(alloc, lattice, walk, out, c)?;
+        statement(alloc, lattice, resolver, out, c)?;
     }
     Ok(())
 }
 
 /// The commands of one statement, behind those of `out`.
-#[cycle(walk)]
+#[cycle(resolution)]
 fn statement<'a>(
     alloc: Global,
     lattice: &Lattice,
-    walk: &mut Walk<'a>,
+    resolver: &mut Resolver<'a>,
     out: &mut Vec<Cmd>,
     c: &Stmt<'a>,
 ) -> Result<(), ScopeError>
-    requires { IsWithin walk.old }
+    requires { IsWithin resolver.old }
     ensures value { IfOk result
-        (λ _. WalkedOne (class_named lattice.now) walk.old walk.new out.old.items out.new.items
+        (λ _. WalkedOne (class_named lattice.now) resolver.old resolver.new out.old.items out.new.items
         (syntax.command c.now)) }
-    ensures fault { Judged result (fault_in (class_named lattice.now) walk.old (syntax.command c.now)) }
+    ensures fault { Judged result (fault_in (class_named lattice.now) resolver.old (syntax.command c.now)) }
 {
     match c {
-        Stmt::Assign(x, e) => assign(alloc, walk, out, *x, e),
-        Stmt::If(e, first, second) => choose(alloc, lattice, walk, out, e, first, second),
-        Stmt::While(e, c) => repeat(alloc, lattice, walk, out, e, c),
-        Stmt::Letvar(x, class, e, c) => local(alloc, lattice, walk, out, *x, *class, e, c),
-        Stmt::Block(body) => sequence(alloc, lattice, walk, out, body),
+        Stmt::Assign(x, e) => assign(alloc, resolver, out, *x, e),
+        Stmt::If(e, first, second) => choose(alloc, lattice, resolver, out, e, first, second),
+        Stmt::While(e, c) => repeat(alloc, lattice, resolver, out, e, c),
+        Stmt::Letvar(x, class, e, c) => local(alloc, lattice, resolver, out, *x, *class, e, c),
+        Stmt::Block(body) => sequence(alloc, lattice, resolver, out, body),
     }
 }

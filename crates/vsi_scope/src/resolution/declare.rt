@@ -1,8 +1,8 @@
 //! The globals, with the faults of their names and classes.
 
 ghost use Rattle.std.specs.Prelude.{◌≡◌, ◌≤◌, length, map, [], IfOk};
-ghost use Rattle.vsi_syntax.specs.Programs as syntax;
-ghost use Rattle.vsi_lattice.specs.Named.{class_named};
+ghost use Rattle.vsi_syntax.specs.CommandView as syntax;
+ghost use Rattle.vsi_lattice.specs.LatticeView.{class_named};
 ghost use Rattle.vsi_scope.specs.Faults.{global_marks, global_names, first_fault, Judged};
 ghost use Rattle.vsi_scope.specs.Resolving.{shown, global_of};
 
@@ -15,13 +15,13 @@ use vsi_syntax::Declaration;
 
 /// The globals, and their names.
 #[derive(Drop)]
-pub struct Globals<'a> {
-    pub list: Vec<resolved::Global<'a>>,
-    pub names: Vec<&'a [u8]>,
+pub(crate) struct Globals<'a> {
+    pub(crate) list: Vec<resolved::Global<'a>>,
+    pub(crate) names: Vec<&'a [u8]>,
 }
 
 /// The globals in order; each name is judged before its class.
-pub fn read_globals<'a>(
+pub(crate) fn read_globals<'a>(
     alloc: Global,
     lattice: &Lattice,
     declarations: &[Declaration<'a>],

@@ -2,8 +2,8 @@
 
 ghost use Rattle.std.specs.Prelude.{◌≡◌, ◌≤◌, length, map, IfOk};
 ghost use Rattle.vsi_syntax.specs.View.{tree};
-ghost use Rattle.vsi_scope.specs.View.{phrase};
-ghost use Rattle.vsi_scope.specs.Places.{phrase_of};
+ghost use Rattle.vsi_scope.specs.View.{expression};
+ghost use Rattle.vsi_scope.specs.Places.{expression_of};
 ghost use Rattle.vsi_scope.specs.Faults.{Known, uses, first_fault, Judged};
 
 use super::ScopeError;
@@ -13,9 +13,13 @@ use std::alloc::Global;
 use vsi_syntax::Expr;
 
 /// The expression with a location for each name; brackets leave nothing.
-pub fn expression<'a>(alloc: Global, names: &[&'a [u8]], e: &Expr<'a>) -> Result<Ex, ScopeError>
+pub(crate) fn expression<'a>(
+    alloc: Global,
+    names: &[&'a [u8]],
+    e: &Expr<'a>,
+) -> Result<Ex, ScopeError>
     requires { length names.now ≤ 1024 }
-    ensures value { IfOk result (λ x. phrase x ≡ phrase_of (map (λ x. x.now) names.now) (tree e.now)) }
+    ensures value { IfOk result (λ x. expression x ≡ expression_of (map (λ x. x.now) names.now) (tree e.now)) }
     ensures fault { (classes : Known) →
         Judged result (first_fault classes (uses (map (λ x. x.now) names.now) (tree e.now))) }
 {

@@ -5,7 +5,7 @@ ghost use Rattle.vsi_scope.specs.Places.{place_of};
 
 /// The last place of a name, by a look at every name from the last on. At most 456 names are in scope at once, so
 /// the time for a name is bounded, whatever the length of the text.
-pub fn find(names: &[&[u8]], name: &[u8]) -> Option<u16>
+pub(crate) fn find(names: &[&[u8]], name: &[u8]) -> Option<u16>
     requires { length names.now ≤ 1024 }
     ensures { result ≡ place_of (map (λ x. x.now) names.now) name.now }
 {

@@ -1,13 +1,13 @@
 //! A whole program.
 
 ghost use Rattle.std.specs.Prelude.{◌≡◌, ℕ, List, IfOk, IfErr};
-ghost use Rattle.vsi_syntax.specs.Program.{whole};
-ghost use Rattle.vsi_lattice.specs.Named.{class_named};
+ghost use Rattle.vsi_syntax.specs.ProgramView.{whole};
+ghost use Rattle.vsi_lattice.specs.LatticeView.{class_named};
 ghost use Rattle.vsi_scope.specs.declared.resolution.ScopeError.TheVariants.{Memory};
-ghost use Rattle.vsi_scope.specs.Phrase.{Command};
-ghost use Rattle.vsi_scope.specs.Resolving.{Resolves, AreBelow, HasClassesBelow, IsResolution, Explains};
+ghost use Rattle.vsi_scope.specs.Language.{Command};
+ghost use Rattle.vsi_scope.specs.Resolving.{Resolves, AreBelow, HasClassesBelow, IsResolution, ExplainsScope};
 
-use super::command::{Walk, sequence};
+use super::command::{Resolver, sequence};
 use super::declare::{Globals, read_globals};
 use super::{MAX_SIZE, ScopeError};
 use crate::measure::size;
@@ -31,21 +31,21 @@ pub fn resolve<'a>(
     ensures resolved { IfOk result (λ r. Resolves (class_named lattice.now) (whole program.now) r) }
     ensures classes { (n : ℕ) → AreBelow n (class_named lattice.now) →
         IfOk result (λ r. HasClassesBelow n r) }
-    ensures refused { IfErr result (λ e. Explains (class_named lattice.now) (whole program.now) e) }
+    ensures refused { IfErr result (λ e. ExplainsScope (class_named lattice.now) (whole program.now) e) }
     ensures exact { (cs : List Command) → IsResolution (class_named lattice.now) (whole program.now) cs →
         IfErr result (λ e. e ≡ Memory) }
 {
     let Globals { list, names } = read_globals(alloc, lattice, program.globals())?;
-    let mut walk = Walk {
+    let mut resolver = Resolver {
         globals: list.len(),
         names,
         letvars: Vec::new(alloc),
     };
     let mut body = Vec::new(alloc);
-    sequence(alloc, lattice, &mut walk, &mut body, program.body())?;
+    sequence(alloc, lattice, &mut resolver, &mut body, program.body())?;
     if size(&body) > MAX_SIZE {
         return Err(ScopeError::TooLarge);
     }
-    let Walk { letvars, .. } = walk;
+    let Resolver { letvars, .. } = resolver;
     Ok(Resolved::new(list, letvars, body))
 }

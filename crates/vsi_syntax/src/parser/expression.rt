@@ -1,8 +1,8 @@
 //! Reads expressions. Levels are 0 for a comparison, 1 for a sum, 2 for a product and 3 for an atom.
 
 ghost use Rattle.std.specs.Prelude.{◌≡◌, ◌≤◌, ◌<◌, IfOk, Some, None, option_map, ◌+◌, max};
-ghost use Rattle.vsi_syntax.specs.Tree.{level, left_level, right_level, depth, Both};
-ghost use Rattle.vsi_syntax.specs.View.{words, tree, IsMeasured};
+ghost use Rattle.vsi_syntax.specs.Tree.{level, left_level, right_level, depth, Binary};
+ghost use Rattle.vsi_syntax.specs.View.{lexemes, tree, IsMeasured};
 ghost use Rattle.vsi_syntax.specs.Parsing.{Gives};
 ghost use Rattle.vsi_syntax.specs.Parsing as spec;
 
@@ -14,10 +14,10 @@ use std::alloc::Global;
 
 /// An expression with its depth and the level of its own operator.
 #[derive(Debug, Drop)]
-pub struct Measured<'a> {
-    pub expr: Expr<'a>,
-    pub depth: u8,
-    pub level: u8,
+pub(crate) struct Measured<'a> {
+    pub(crate) expr: Expr<'a>,
+    pub(crate) depth: u8,
+    pub(crate) level: u8,
 }
 
 /// The operator of a symbol.
@@ -69,7 +69,7 @@ fn right_level_of(op: Op) -> u8
 /// The operator that goes on at this level with what is on its left, and what is behind it.
 #[tactic(auto, unfolding(crate::specs::Parsing::next))]
 fn next<'t, 'a>(least: u8, left: u8, tokens: &'t [Token<'a>]) -> Option<(Op, &'t [Token<'a>])>
-    ensures { option_map (λ x. (x.0, words x.1.now)) result ≡ spec.next least left (words tokens.now) }
+    ensures { option_map (λ x. (x.0, lexemes x.1.now)) result ≡ spec.next least left (lexemes tokens.now) }
 {
     let [token, rest @ ..] = tokens else {
         return None;
@@ -83,7 +83,7 @@ fn next<'t, 'a>(least: u8, left: u8, tokens: &'t [Token<'a>]) -> Option<(Op, &'t
 }
 
 /// Where a fault at the front of the tokens is; `end` is where the last token stops.
-pub fn fault<'a>(tokens: &[Token<'a>], end: usize) -> Span {
+pub(crate) fn fault<'a>(tokens: &[Token<'a>], end: usize) -> Span {
     match tokens {
         [token, ..] => token.span,
         [] => Span {
@@ -95,7 +95,7 @@ pub fn fault<'a>(tokens: &[Token<'a>], end: usize) -> Span {
 
 /// What is behind a closing bracket.
 fn close<'t, 'a>(tokens: &'t [Token<'a>], end: usize) -> Result<&'t [Token<'a>], ParseError>
-    ensures { Gives (λ x. words x.now) result (spec.closing (words tokens.now)) }
+    ensures { Gives (λ x. lexemes x.now) result (spec.closing (lexemes tokens.now)) }
 {
     match tokens {
         [token, rest @ ..] if matches!(token.kind, Kind::Close) => Ok(rest),
@@ -126,8 +126,8 @@ fn atom<'t, 'a>(
     end: usize,
 ) -> Result<(Measured<'a>, &'t [Token<'a>]), ParseError>
     requires { room ≤ 200 }
-    ensures value { Gives (λ x. (tree x.0.expr, words x.1.now)) result
-        (spec.first (spec.inside room) (words tokens.now)) }
+    ensures value { Gives (λ x. (tree x.0.expr, lexemes x.1.now)) result
+        (spec.first (spec.inside room) (lexemes tokens.now)) }
     ensures measured { IfOk result (λ x. IsMeasured room x.0) }
 {
     let [token, rest @ ..] = tokens else {
@@ -172,7 +172,7 @@ fn join<'a>(
 ) -> Result<Measured<'a>, ParseError>
     requires left_room { left.depth < 200 }
     requires right_room { right.depth < 200 }
-    ensures expr { Gives (λ x. tree x.expr) result (Some (Both op (tree left.entry.expr) (tree right.entry.expr))) }
+    ensures expr { Gives (λ x. tree x.expr) result (Some (Binary op (tree left.entry.expr) (tree right.entry.expr))) }
     ensures depth { IfOk result (λ x. x.depth ≡ 1 + max left.entry.depth right.entry.depth) }
     ensures level { IfOk result (λ x. x.level ≡ level op) }
 {
@@ -191,7 +191,7 @@ fn join<'a>(
 
 /// The longest expression of this level and depth that the tokens begin with.
 #[cycle(expression)]
-pub fn expression<'t, 'a>(
+pub(crate) fn expression<'t, 'a>(
     alloc: Global,
     tokens: &'t [Token<'a>],
     least: u8,
@@ -199,7 +199,7 @@ pub fn expression<'t, 'a>(
     end: usize,
 ) -> Result<(Measured<'a>, &'t [Token<'a>]), ParseError>
     requires { room ≤ 200 }
-    ensures value { Gives (λ x. (tree x.0.expr, words x.1.now)) result (spec.parse room least (words tokens.now)) }
+    ensures value { Gives (λ x. (tree x.0.expr, lexemes x.1.now)) result (spec.parse room least (lexemes tokens.now)) }
     ensures measured { IfOk result (λ x. IsMeasured room x.0) }
 {
     let (mut left, mut rest) = atom(alloc, tokens, room, end)?;

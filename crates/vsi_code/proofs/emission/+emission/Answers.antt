@@ -1,10 +1,10 @@
 use Rattle.std.proofs.Common.{rules, ◌≡◌, ◌+◌, ◌++◌, ◌∙◌, append_assoc, arith, ap, sym, subst, refl, length-append, length, take}
 use Rattle.std.proofs.lemmas.Grind.{common_steps}
 use Rattle.vsi_scope.specs.declared.program.Cmd.{the_lemmas}
-use Rattle.vsi_scope.specs.Phrase.{Choose, Repeat, phrase_size, size}
-use Rattle.vsi_scope.specs.View.{phrase, command, sequence}
-use Rattle.vsi_code.specs.Layout.{Fits, phrase_code, code_at}
-use Rattle.vsi_code.proofs.Placed.{phrase_long}
+use Rattle.vsi_scope.specs.Language.{If, While, expression_size, size}
+use Rattle.vsi_scope.specs.View.{expression, command, sequence}
+use Rattle.vsi_code.specs.Layout.{Fits, expression_code, code_at}
+use Rattle.vsi_code.proofs.Placed.{expression_long}
 use Rattle.vsi_code.proofs.Patched.{guard_long, part_long, one_long, set_long, choice_patched, loop_patched, letvar_joined}
 use Rattle.vsi_code.proofs.Parts.{code_more, fits_next, choice_is, loop_is, letvar_is, fits_as, fits_first, fits_second, fits_loop, fits_letvar}
 use Rattle.vsi_code.proofs.emission.+emission.Goals as goal
@@ -40,7 +40,7 @@ emit_all-loop-c-preserved t c =
 pub emit_one-emit_all-requires : goal.emit_one-emit_all-requires
 emit_one-emit_all-requires t c =
     let old = c.args.code.now.items in
-    let e = phrase c.in-If.guard in
+    let e = expression c.in-If.guard in
     let a = sequence c.as_slice.result.now in
     let b = sequence c.in-If.no.items in
     let is = choice_is c.args.c.now c.in-If.guard c.in-If.yes c.in-If.no _ _
@@ -53,7 +53,7 @@ emit_one-emit_all-requires t c =
 pub emit_one-aim_test-requires-clause-within : goal.emit_one-aim_test-requires-clause-within
 emit_one-aim_test-requires-clause-within t c =
     let old = c.args.code.now.items in
-    let e = phrase c.in-If.guard in
+    let e = expression c.in-If.guard in
     let a = sequence c.as_slice.result.now in
     let n1 = guard_long old c.emit_guard.new.code.items e _ c.in_ok-test-in-If.ensures.code in
     let n2 = part_long c.emit_guard.new.code.items c.emit_all.new.code.items a _ _ c.in_ok-emit_all-in-If.ensures in
@@ -63,12 +63,12 @@ emit_one-aim_test-requires-clause-within t c =
 pub emit_one-aim_test-requires-clause-small : goal.emit_one-aim_test-requires-clause-small
 emit_one-aim_test-requires-clause-small t c =
     let old = c.args.code.now.items in
-    let e = phrase c.in-If.guard in
+    let e = expression c.in-If.guard in
     let a = sequence c.as_slice.result.now in
     let b = sequence c.in-If.no.items in
     let is = choice_is c.args.c.now c.in-If.guard c.in-If.yes c.in-If.no _ _
     c.in-If.is c.as_slice.ensures.value refl in
-    let fits = fits_as (length old) c.args.scope (command c.args.c.now) c.requires (Choose e a b) is in
+    let fits = fits_as (length old) c.args.scope (command c.args.c.now) c.requires (If e a b) is in
     let n1 = guard_long old c.emit_guard.new.code.items e _ c.in_ok-test-in-If.ensures.code in
     let n2 = part_long c.emit_guard.new.code.items c.emit_all.new.code.items a _ _ c.in_ok-emit_all-in-If.ensures in
     let n3 = one_long c.emit_all.new.code.items c.put-in-If.new.code.items _ c.in_ok-put-in-If.ensures in
@@ -77,7 +77,7 @@ emit_one-aim_test-requires-clause-small t c =
 pub emit_one-emit_all-requires-in-If : goal.emit_one-emit_all-requires-in-If
 emit_one-emit_all-requires-in-If t c =
     let old = c.args.code.now.items in
-    let e = phrase c.in-If.guard in
+    let e = expression c.in-If.guard in
     let a = sequence c.as_slice.result.now in
     let b = sequence c.as_slice-in-If.result.now in
     let is = choice_is c.args.c.now c.in-If.guard c.in-If.yes c.in-If.no _ _
@@ -86,7 +86,7 @@ emit_one-emit_all-requires-in-If t c =
     let n2 = part_long c.emit_guard.new.code.items c.emit_all.new.code.items a _ _ c.in_ok-emit_all-in-If.ensures in
     let n3 = one_long c.emit_all.new.code.items c.put-in-If.new.code.items _ c.in_ok-put-in-If.ensures in
     let n4 = set_long c.put-in-If.new.code.items c.aim_test.new.code.items _ _ c.aim_test.ensures in
-    let at : length c.aim_test.new.code.items ≡ length old + phrase_size e + 1 + size a + 1 =
+    let at : length c.aim_test.new.code.items ≡ length old + expression_size e + 1 + size a + 1 =
     omega (arith, n1, n2, n3, n4) in (
       first_of (search (rules, the_lemmas), grind (arith, the_lemmas, common_steps), omega (arith, c.decreases)),
       fits_second (length old) c.args.scope (command c.args.c.now) c.requires e a b is _ at,
@@ -95,12 +95,12 @@ emit_one-emit_all-requires-in-If t c =
 pub emit_one-aim_jump-requires-clause-small : goal.emit_one-aim_jump-requires-clause-small
 emit_one-aim_jump-requires-clause-small t c =
     let old = c.args.code.now.items in
-    let e = phrase c.in-If.guard in
+    let e = expression c.in-If.guard in
     let a = sequence c.as_slice.result.now in
     let b = sequence c.as_slice-in-If.result.now in
     let is = choice_is c.args.c.now c.in-If.guard c.in-If.yes c.in-If.no _ _
     c.in-If.is c.as_slice.ensures.value c.as_slice-in-If.ensures.value in
-    let fits = fits_as (length old) c.args.scope (command c.args.c.now) c.requires (Choose e a b) is in
+    let fits = fits_as (length old) c.args.scope (command c.args.c.now) c.requires (If e a b) is in
     let n1 = guard_long old c.emit_guard.new.code.items e _ c.in_ok-test-in-If.ensures.code in
     let n2 = part_long c.emit_guard.new.code.items c.emit_all.new.code.items a _ _ c.in_ok-emit_all-in-If.ensures in
     let n3 = one_long c.emit_all.new.code.items c.put-in-If.new.code.items _ c.in_ok-put-in-If.ensures in
@@ -113,7 +113,7 @@ pub emit_one-returns-in_ok-emit_all-in-If-2 : goal.emit_one-returns-in_ok-emit_a
 emit_one-returns-in_ok-emit_all-in-If-2 t c =
     let old = c.args.code.now.items in
     let k = c.args.scope in
-    let e = phrase c.in-If.guard in
+    let e = expression c.in-If.guard in
     let a = sequence c.as_slice.result.now in
     let b = sequence c.as_slice-in-If.result.now in
     let is = choice_is c.args.c.now c.in-If.guard c.in-If.yes c.in-If.no _ _
@@ -128,7 +128,7 @@ emit_one-returns-in_ok-emit_all-in-If-2 t c =
 pub emit_one-emit_all-requires-in-While : goal.emit_one-emit_all-requires-in-While
 emit_one-emit_all-requires-in-While t c =
     let old = c.args.code.now.items in
-    let e = phrase c.in-While.guard in
+    let e = expression c.in-While.guard in
     let a = sequence c.as_slice-in-While.result.now in
     let is = loop_is c.args.c.now c.in-While.guard c.in-While.body _ c.in-While.is c.as_slice-in-While.ensures.value
     in
@@ -140,7 +140,7 @@ emit_one-emit_all-requires-in-While t c =
 pub emit_one-aim_test-requires-in-While-clause-within : goal.emit_one-aim_test-requires-in-While-clause-within
 emit_one-aim_test-requires-in-While-clause-within t c =
     let old = c.args.code.now.items in
-    let e = phrase c.in-While.guard in
+    let e = expression c.in-While.guard in
     let a = sequence c.as_slice-in-While.result.now in
     let c1 = c.emit_guard-in-While.new.code.items in
     let c2 = c.emit_all-in-While.new.code.items in
@@ -152,13 +152,13 @@ emit_one-aim_test-requires-in-While-clause-within t c =
 pub emit_one-aim_test-requires-in-While-clause-small : goal.emit_one-aim_test-requires-in-While-clause-small
 emit_one-aim_test-requires-in-While-clause-small t c =
     let old = c.args.code.now.items in
-    let e = phrase c.in-While.guard in
+    let e = expression c.in-While.guard in
     let a = sequence c.as_slice-in-While.result.now in
     let c1 = c.emit_guard-in-While.new.code.items in
     let c2 = c.emit_all-in-While.new.code.items in
     let is = loop_is c.args.c.now c.in-While.guard c.in-While.body _ c.in-While.is c.as_slice-in-While.ensures.value
     in
-    let fits = fits_as (length old) c.args.scope (command c.args.c.now) c.requires (Repeat e a) is in
+    let fits = fits_as (length old) c.args.scope (command c.args.c.now) c.requires (While e a) is in
     let n1 = guard_long old c1 e _ c.in_ok-test-in-While.ensures.code in
     let n2 = part_long c1 c2 a _ _ c.in_ok-emit_all-in-While.ensures in
     let n3 = one_long c2 c.put-in-While.new.code.items _ c.in_ok-put-in-While.ensures in
@@ -168,7 +168,7 @@ pub emit_one-returns-in_ok-put-in-While : goal.emit_one-returns-in_ok-put-in-Whi
 emit_one-returns-in_ok-put-in-While t c =
     let old = c.args.code.now.items in
     let k = c.args.scope in
-    let e = phrase c.in-While.guard in
+    let e = expression c.in-While.guard in
     let a = sequence c.as_slice-in-While.result.now in
     let is = loop_is c.args.c.now c.in-While.guard c.in-While.body _ c.in-While.is c.as_slice-in-While.ensures.value
     in
@@ -180,15 +180,15 @@ emit_one-returns-in_ok-put-in-While t c =
 pub emit_one-emit_all-requires-in-Letvar : goal.emit_one-emit_all-requires-in-Letvar
 emit_one-emit_all-requires-in-Letvar t c =
     let old = c.args.code.now.items in
-    let e = phrase c.in-Letvar.value in
+    let e = expression c.in-Letvar.value in
     let a = sequence c.as_slice-in-Letvar.result.now in
     let c1 = c.emit_expression-in-Letvar.new.code.items in
     let c2 = c.put-in-Letvar.new.code.items in
     let is = letvar_is c.args.c.now c.in-Letvar.value c.in-Letvar.body _
     c.in-Letvar.is c.as_slice-in-Letvar.ensures.value in
-    let n1 = ap length c.in_ok-emit_expression-in-Letvar.ensures ∙ length-append old (phrase_code e) in
+    let n1 = ap length c.in_ok-emit_expression-in-Letvar.ensures ∙ length-append old (expression_code e) in
     let n2 = one_long c1 c2 _ c.in_ok-put-in-Letvar.ensures in
-    let at : length c2 ≡ length old + phrase_size e + 1 = omega (arith, n1, n2, phrase_long e) in (
+    let at : length c2 ≡ length old + expression_size e + 1 = omega (arith, n1, n2, expression_long e) in (
       first_of (search (rules, the_lemmas), grind (arith, the_lemmas, common_steps), omega (arith, c.decreases)),
       fits_letvar (length old) c.args.scope (command c.args.c.now) c.requires e a is _ at,
     )
@@ -197,7 +197,7 @@ pub emit_one-returns-in_ok-emit_all-in-Letvar : goal.emit_one-returns-in_ok-emit
 emit_one-returns-in_ok-emit_all-in-Letvar t c =
     let old = c.args.code.now.items in
     let k = c.args.scope in
-    let e = phrase c.in-Letvar.value in
+    let e = expression c.in-Letvar.value in
     let a = sequence c.as_slice-in-Letvar.result.now in
     let is = letvar_is c.args.c.now c.in-Letvar.value c.in-Letvar.body _
     c.in-Letvar.is c.as_slice-in-Letvar.ensures.value in

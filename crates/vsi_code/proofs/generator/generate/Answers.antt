@@ -49,6 +49,22 @@ returns-clause-behaves c =
     c.letvar_nesting.ensures refl c.height-stack.ensures c.in_ok-code.ensures in
     subst (Behaves (length r.globals) (sequence r.body)) (sym c.of.ensures) (made_behaves r image is m)
 
+pub returns-clause-code : goal.returns-clause-code
+returns-clause-code c =
+    let r = c.args.program.now in
+    let is = c.body-body.ensures.resolved in
+    let image : Image = record {
+      globals = c.in_ok-globals.globals;
+      slots = c.len-count.result + c.letvar_nesting.result;
+      stack = c.height-stack.result;
+      code = c.in_ok-code.code;
+    } in
+    let count : c.len-count.result ≡ length c.in_ok-globals.globals.items =
+    omega (arith, c.len-count.ensures, c.in_ok-globals.globals.ok.0) in
+    let m = made r image _ _ _ _ is c.globals.ensures c.body-body.ensures.value c.in_ok-globals.ensures count
+    c.letvar_nesting.ensures refl c.height-stack.ensures c.in_ok-code.ensures in
+    ap (λ i. i.code.items) c.of.ensures ∙ m.code
+
 pub returns-clause-deepest : goal.returns-clause-deepest
 returns-clause-deepest c =
     let r = c.args.program.now in

@@ -1,5 +1,5 @@
 use Rattle.std.proofs.Common.{rules, ap, ◌∙◌}
-use Rattle.vsi_scope.specs.Phrase.{nesting}
+use Rattle.vsi_scope.specs.Language.{nesting}
 use Rattle.vsi_scope.specs.View.{command}
 use Rattle.vsi_scope.proofs.Views.{command_If, command_While, command_Letvar}
 use Rattle.vsi_code.proofs.Heights.{nesting_more}

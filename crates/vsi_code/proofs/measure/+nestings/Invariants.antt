@@ -1,5 +1,5 @@
 use Rattle.std.proofs.Common.{◌≡◌, min, take}
-use Rattle.vsi_scope.specs.Phrase.{nesting}
+use Rattle.vsi_scope.specs.Language.{nesting}
 use Rattle.vsi_scope.specs.View.{sequence}
 use Rattle.vsi_code.proofs.measure.+nestings.Given as goal
 

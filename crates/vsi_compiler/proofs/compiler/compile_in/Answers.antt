@@ -1,11 +1,11 @@
 use Rattle.std.proofs.Common.{All, ap, subst, ◌∙◌}
 use Rattle.std.proofs.lemmas.Result.{err_from_is_err_and}
-use Rattle.vsi_lattice.specs.Named.{class_named, order}
+use Rattle.vsi_lattice.specs.LatticeView.{class_named, order}
 use Rattle.vsi_types.specs.Security.{program, IsTypable}
 use Rattle.vsi_code.specs.Names.{all_named}
 use Rattle.vsi_image.specs.declared.instr.Image.{Image}
 use Rattle.vsi_image.specs.Fields.{HasOpcode}
-use Rattle.vsi_compiler.proofs.Compiled.{known_below, lawful, accepted, globals_kept, meaning_kept, flow_refused, flow_memory}
+use Rattle.vsi_compiler.proofs.Compiled.{known_below, lawful, accepted, globals_kept, meaning_kept, image_kept, size_kept, flow_refused, flow_memory}
 use Rattle.vsi_compiler.proofs.Coded.{coded}
 use Rattle.vsi_compiler.proofs.Programs.{typing_ready, declared_classes, have_classes}
 use Rattle.vsi_compiler.proofs.Security.{behaves_source, noninterfering, ends_alike}
@@ -96,3 +96,19 @@ returns-clause-coded c =
     coded c.in_ok-verified.verified c.image.ensures.valid
     (subst (λ (im : Image). All (HasOpcode 2) im.code.items) c.image.ensures.same
     (subst (All (HasOpcode 2)) c.deref.ensures.value c.have_opcodes.ensures))
+
+pub returns-clause-image : goal.returns-clause-image
+returns-clause-image c =
+    let l = c.args.lattice.now in
+    let o = c.in_ok-optimised.ensures in
+    let v = c.in_ok-verified.ensures in
+    image_kept (class_named l) c.args.text.now c.in_ok-resolved.resolved c.in_ok-resolved.ensures.stands
+    c.in_ok-optimised.optimised c.in_ok-verified.verified
+    (record { globals = v.globals; code = v.code; slots = v.slots; stack = v.stack }) o.globals o.live
+
+pub returns-clause-size : goal.returns-clause-size
+returns-clause-size c =
+    let l = c.args.lattice.now in
+    size_kept (class_named l) c.args.text.now c.in_ok-resolved.resolved c.in_ok-resolved.ensures.stands
+    c.in_ok-optimised.optimised c.in_ok-verified.verified c.in_ok-verified.ensures.count
+    c.in_ok-optimised.ensures.not_larger

@@ -1,18 +1,18 @@
 use Rattle.std.proofs.Common.{sym, subst, ◌∙◌, inr, true≢false}
-use Rattle.vsi_lattice.specs.Named.{class_named, order}
+use Rattle.vsi_lattice.specs.LatticeView.{class_named, order}
 use Rattle.vsi_types.specs.declared.rules.Profile.TheVariants.{Strict}
 use Rattle.vsi_types.specs.Walks.{IsBad}
 use Rattle.vsi_compiler.proofs.Compiled.{known_below, one_program}
 use Rattle.vsi_compiler.proofs.Programs.{global_classes, declared_classes}
 use Rattle.vsi_compiler.proofs.refused.explanation_text.Goals as goal
 
-pub check_walk_in-requires-clause-globals : goal.check_walk_in-requires-clause-globals
-check_walk_in-requires-clause-globals c =
+pub check_walk_once-requires-clause-globals : goal.check_walk_once-requires-clause-globals
+check_walk_once-requires-clause-globals c =
     let l = c.args.lattice.now in
     global_classes (order l) c.in-Ok.resolved (c.in-Ok.ensures.classes _ (known_below l))
 
-pub check_walk_in-requires-clause-declared : goal.check_walk_in-requires-clause-declared
-check_walk_in-requires-clause-declared c =
+pub check_walk_once-requires-clause-declared : goal.check_walk_once-requires-clause-declared
+check_walk_once-requires-clause-declared c =
     let l = c.args.lattice.now in
     declared_classes (order l) c.in-Ok.resolved (c.in-Ok.ensures.classes _ (known_below l))
 
@@ -33,6 +33,6 @@ returns c =
       harmless = λ r stands bad.
           let here = subst (λ p. IsBad (order l) Strict p c.args.walk.now.steps.items)
           (one_program (class_named l) c.args.text.now c.in-Ok.resolved r c.in-Ok.ensures.stands stands) bad in
-          true≢false (sym (c.check_walk_in.ensures.1 here) ∙ c.if-check_walk_in.false);
-      nothing = c.new-else-check_walk_in.ensures.items;
+          true≢false (sym (c.in_ok-is_bad.ensures.1 here) ∙ c.if-is_bad.false);
+      nothing = c.new-else-is_bad.ensures.items;
     })

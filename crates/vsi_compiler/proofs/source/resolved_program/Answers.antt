@@ -1,7 +1,7 @@
 use Rattle.std.proofs.Common.{sym, ap, subst}
 use Rattle.std.proofs.lemmas.Result.{err_from_is_err_and}
-use Rattle.vsi_syntax.specs.Program.{whole}
-use Rattle.vsi_lattice.specs.Named.{class_named}
+use Rattle.vsi_syntax.specs.ProgramView.{whole}
+use Rattle.vsi_lattice.specs.LatticeView.{class_named}
 use Rattle.vsi_scope.specs.Resolving.{IsResolution}
 use Rattle.vsi_compiler.specs.Errors.{scoping}
 use Rattle.vsi_compiler.proofs.source.resolved_program.Goals as goal

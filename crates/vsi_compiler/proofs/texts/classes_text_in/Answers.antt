@@ -1,13 +1,13 @@
 use Rattle.std.proofs.Common.{rules, ◌≡◌, ◌++◌, List, map, length, sym, ap, subst, ◌∙◌}
 use Rattle.std.proofs.lemmas.Result.{err_from_is_err_and}
 use Rattle.std.proofs.lemmas.List.{length-map}
-use Rattle.vsi_syntax.specs.Program.{whole}
-use Rattle.vsi_lattice.specs.Named.{class_named, names, order}
+use Rattle.vsi_syntax.specs.ProgramView.{whole}
+use Rattle.vsi_lattice.specs.LatticeView.{class_named, names, order}
 use Rattle.vsi_scope.specs.declared.resolved.Entry.{Entry}
 use Rattle.vsi_scope.specs.View.{command}
 use Rattle.vsi_types.specs.Security.{Keeps}
 use Rattle.vsi_scope.specs.Resolving.{Variable, variable, IsResolution}
-use Rattle.vsi_syntax.specs.Programs.{declared}
+use Rattle.vsi_syntax.specs.CommandView.{declared}
 use Rattle.vsi_compiler.specs.Classes.{global_lines, letvar_lines}
 use Rattle.vsi_compiler.specs.Errors.{scoping}
 use Rattle.vsi_compiler.specs.Stands.{Stands}

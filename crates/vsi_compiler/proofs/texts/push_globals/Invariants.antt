@@ -1,5 +1,5 @@
 use Rattle.std.proofs.Common.{◌≡◌, ◌++◌, map, drop}
-use Rattle.vsi_syntax.specs.Programs.{declared}
+use Rattle.vsi_syntax.specs.CommandView.{declared}
 use Rattle.vsi_compiler.specs.Classes.{global_lines}
 use Rattle.vsi_compiler.proofs.texts.push_globals.Given as goal
 

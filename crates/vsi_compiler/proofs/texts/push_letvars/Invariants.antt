@@ -1,5 +1,5 @@
 use Rattle.std.proofs.Common.{◌≡◌, ◌++◌, map, drop}
-use Rattle.vsi_lattice.specs.Named.{names}
+use Rattle.vsi_lattice.specs.LatticeView.{names}
 use Rattle.vsi_scope.specs.Resolving.{variable}
 use Rattle.vsi_compiler.specs.Classes.{letvar_lines}
 use Rattle.vsi_compiler.proofs.texts.push_letvars.Given as goal

@@ -3,7 +3,7 @@ use Rattle.std.proofs.lemmas.List.{length-map}
 use Rattle.vsi_lattice.specs.Order.{IsLattice}
 use Rattle.vsi_types.specs.Security.{program}
 use Rattle.vsi_types.proofs.Tables.{resolved_program}
-use Rattle.vsi_infer.specs.Choices.{IsProgram, IsLeastTypable, HasBadWalk}
+use Rattle.vsi_infer.specs.Choices.{IsProgram, IsLeastOrderedChoice, HasBadWalk}
 use Rattle.vsi_infer.specs.Inference.{IsLeast}
 use Rattle.vsi_infer.specs.FlowRows.{flow_has}
 use Rattle.vsi_infer.proofs.Bridge.{is_program, is_least_choice}
@@ -27,7 +27,7 @@ shortest_walk-requires-clause-bad g c =
     let t = c.deref.ensures.value ∙ c.in_ok-declared.ensures in
     let fl : ℕ → ℕ → Bool = λ x y. flow_has c.in_ok-flow.flow.rows.items y x in
     let bad = subst (λ o. MatchOption o (HasBadWalk L.count L.leq fl c.deref.result.now)
-    (λ v. IsLeastTypable L.count L.leq fl c.deref.result.now v.items)) c.in_default.is c.in_ok-choice.ensures in
+    (λ v. IsLeastOrderedChoice L.count L.leq fl c.deref.result.now v.items)) c.in_default.is c.in_ok-choice.ensures in
     subst (HasBadWalk L.count L.leq fl) t bad
 
 pub returns-clause-ok : goal.returns-clause-ok
@@ -39,13 +39,13 @@ returns-clause-ok g c =
     let t = c.deref.ensures.value ∙ c.in_ok-declared.ensures in
     let fl : ℕ → ℕ → Bool = λ x y. flow_has c.in_ok-flow.flow.rows.items y x in
     let least = subst (λ o. MatchOption o (HasBadWalk L.count L.leq fl c.deref.result.now)
-    (λ v. IsLeastTypable L.count L.leq fl c.deref.result.now v.items)) c.in-Some.is c.in_ok-choice.ensures in
+    (λ v. IsLeastOrderedChoice L.count L.leq fl c.deref.result.now v.items)) c.in-Some.is c.in_ok-choice.ensures in
     let n : length c.args.program.now.globals ≡ length p.globals =
     sym (length-map c.args.program.now.globals (λ g. g.class)) in
     let m : length c.args.program.now.letvars ≡ length p.declared =
     sym (length-map c.args.program.now.letvars (λ g. g.class)) in
     let one = is_least_choice L laws c.args.profile p res c.requires.declared fl c.in_ok-flow.ensures
-    c.in-Some.choice.items (subst (λ d. IsLeastTypable L.count L.leq fl d c.in-Some.choice.items) t least) in
+    c.in-Some.choice.items (subst (λ d. IsLeastOrderedChoice L.count L.leq fl d c.in-Some.choice.items) t least) in
     let e : c.in_ok-to_vec.field-0.items ≡ take (length p.declared)
     (drop (length p.globals) c.in-Some.choice.items) = c.in_ok-to_vec.ensures.items_if_clones_equal (λ x y h. h)
     ∙ ap (λ (k : ℕ). take k (drop (length c.globals-first.result.now) c.deref-2.result.now))

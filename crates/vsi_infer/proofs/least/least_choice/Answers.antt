@@ -1,7 +1,7 @@
 use Rattle.std.proofs.Common.{◌≡◌, ◌++◌, ◌<◌, ℕ, List, take, drop, length, arith, sym, subst, ◌∙◌}
-use Rattle.vsi_infer.specs.Choices.{IsLeastTypable, IsOutOfOrder, IsInOrder}
+use Rattle.vsi_infer.specs.Choices.{IsLeastOrderedChoice, IsOutOfOrder, IsInOrder}
 use Rattle.vsi_infer.proofs.OrderLemmas.{order_laws}
-use Rattle.vsi_infer.proofs.RaiseLemmas.{start_facts, is_least, has_bad, written_back}
+use Rattle.vsi_infer.proofs.WorklistLemmas.{start_facts, is_least, has_bad, written_back}
 use Rattle.vsi_infer.proofs.least.least_choice.Goals as goal
 
 pub settle-requires-clause-choice : goal.settle-requires-clause-choice
@@ -25,7 +25,7 @@ returns-in-None g c =
     let facts = c.in_ok-settle.ensures in
     let order = subst (λ (s : List ℕ). (a b : ℕ) → a < length s → b < length s → IsInOrder leq flows s a b)
     (c.deref.ensures.value ∙ whole) c.in-None.ensures.none in
-    subst (IsLeastTypable size leq flows c.args.declared.now) (sym whole)
+    subst (IsLeastOrderedChoice size leq flows c.args.declared.now) (sym whole)
     (is_least size leq _ _ (order_laws _ (g.met.C.Classes.laws c.args.lattice.now)) flows _ c.requires.program new
     facts.choice facts.justified order)
 

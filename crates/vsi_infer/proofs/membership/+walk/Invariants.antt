@@ -12,7 +12,7 @@ invariant-pass_commands-loop-c l =
     (sequence (take l.c-index l.body)) (stand_of l.cursor) l.found
 
 abbrev pub decreases-pass_if : goal.decreases-pass_if
-decreases-pass_if l = 3 * max (most (λ x. the_size x) l.yes.now) (most (λ x. the_size x) l.other.now) + 2
+decreases-pass_if l = 3 * max (most (λ x. the_size x) l.then_branch.now) (most (λ x. the_size x) l.else_branch.now) + 2
 
 abbrev pub decreases-pass_command : goal.decreases-pass_command
 decreases-pass_command l = 3 * the_size l.c.now

@@ -7,8 +7,8 @@ use Rattle.vsi_infer.specs.Shortest.{row_of}
 use Rattle.vsi_infer.proofs.PathLemmas.{path_push, equal}
 use Rattle.vsi_infer.proofs.shortest.follow.Goals as goal
 
-pub next_step-requires : goal.next_step-requires
-next_step-requires c =
+pub next_step-requires-clause-some : goal.next_step-requires-clause-some
+next_step-requires-clause-some c =
     let n : c.loop-left.left ≡ suc (c.loop-left.left - 1) = omega (arith, c.loop-left-test.true) in
     let d = c.requires.down c.loop-left.at (c.loop-left.left - 1) (c.loop-left.invariant.level ∙ n)
     (omega (arith, n, c.loop-left.invariant.small)) in (

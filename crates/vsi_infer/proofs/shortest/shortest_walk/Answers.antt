@@ -32,8 +32,8 @@ overflow_sub-begins g c =
     length_some L laws c.args.profile p res c.requires.letvars fl c.requires.flows T c.requires.declared rows
     c.in_ok-rows.ensures.levels n best c.requires.bad
 
-pub first_wanted-requires : goal.first_wanted-requires
-first_wanted-requires g c =
+pub first_step-requires : goal.first_step-requires
+first_step-requires g c =
     let L = g.C.Classes.lattice c.args.lattice.now in
     let p = program c.args.program.now in
     let laws : IsLattice L = g.met.C.Classes.laws c.args.lattice.now in

@@ -1,6 +1,6 @@
 use Rattle.std.proofs.Common.{◌<◌, map, length, arith, sym, below_more}
 use Rattle.std.proofs.lemmas.List.{length-map}
-use Rattle.vsi_lattice.specs.Names.{StandsEarlier}
+use Rattle.vsi_lattice.specs.NamePlaces.{StandsEarlier}
 use Rattle.vsi_lattice.proofs.NameLemmas.{take_turn, earlier_from, from_earlier, text_of, name_at}
 use Rattle.vsi_lattice.proofs.names.collect_names.Goals as goal
 

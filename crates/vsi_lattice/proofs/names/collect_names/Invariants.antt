@@ -1,5 +1,5 @@
 use Rattle.std.proofs.Common.{◌≡◌, ℕ, ◌<◌, map, take, string_bytes}
-use Rattle.vsi_lattice.specs.Names.{StandsEarlier}
+use Rattle.vsi_lattice.specs.NamePlaces.{StandsEarlier}
 use Rattle.vsi_lattice.proofs.names.collect_names.Given as goal
 
 abbrev pub invariant-loop-i : goal.invariant-loop-i

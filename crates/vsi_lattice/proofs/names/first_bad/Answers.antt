@@ -1,7 +1,7 @@
 use Rattle.std.proofs.Common.{map, below_more, ap, sym, ◌∙◌, true≢false}
 use Rattle.std.proofs.Math.ListN.{get_or-map}
 use Rattle.vsi_syntax.specs.Words.{is_name}
-use Rattle.vsi_lattice.specs.Names.{IsBadName}
+use Rattle.vsi_lattice.specs.NamePlaces.{IsBadName}
 use Rattle.vsi_lattice.proofs.names.first_bad.Goals as goal
 
 pub loop-i-preserved : goal.loop-i-preserved

@@ -1,5 +1,5 @@
 use Rattle.std.proofs.Common.{ℕ, ◌<◌, map}
-use Rattle.vsi_lattice.specs.Names.{IsBadName}
+use Rattle.vsi_lattice.specs.NamePlaces.{IsBadName}
 use Rattle.vsi_lattice.proofs.names.first_bad.Given as goal
 
 abbrev pub invariant-loop-i : goal.invariant-loop-i

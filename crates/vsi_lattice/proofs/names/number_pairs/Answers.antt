@@ -1,7 +1,7 @@
 use Rattle.std.proofs.Common.{◌<◌, [], map, length, string_bytes, arith, ap, sym, ◌∙◌, subst, below_more}
 use Rattle.std.proofs.lemmas.List.{length-map}
 use Rattle.std.proofs.lemmas.List.Elements.{All-push}
-use Rattle.vsi_lattice.specs.Names.{IsUnknown, IsUnknownAt, number_of}
+use Rattle.vsi_lattice.specs.NamePlaces.{IsUnknown, IsUnknownAt, number_of}
 use Rattle.vsi_lattice.specs.Pairs.{ArePairsBelow}
 use Rattle.vsi_lattice.proofs.NameLemmas.{push_turn, texts_of, text_at}
 use Rattle.vsi_lattice.proofs.names.number_pairs.Goals as goal

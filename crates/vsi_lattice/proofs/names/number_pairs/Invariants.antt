@@ -1,5 +1,5 @@
 use Rattle.std.proofs.Common.{◌≡◌, ℕ, ◌<◌, map, take, length, string_bytes}
-use Rattle.vsi_lattice.specs.Names.{IsUnknownAt, number_of}
+use Rattle.vsi_lattice.specs.NamePlaces.{IsUnknownAt, number_of}
 use Rattle.vsi_lattice.specs.Pairs.{ArePairsBelow}
 use Rattle.vsi_lattice.proofs.names.number_pairs.Given as goal
 

@@ -1,5 +1,5 @@
 use Rattle.std.proofs.Common.{◌≡◌, ◌+◌, map, drop, option_map, string_bytes}
-use Rattle.vsi_lattice.specs.Names.{place_in}
+use Rattle.vsi_lattice.specs.NamePlaces.{place_in}
 use Rattle.vsi_lattice.proofs.names.place_of.Given as goal
 
 abbrev pub invariant-loop-i : goal.invariant-loop-i

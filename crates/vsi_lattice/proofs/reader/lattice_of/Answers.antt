@@ -1,7 +1,7 @@
 use Rattle.std.proofs.Common.{◌≡◌, map, length, string_bytes, arith, sym, ◌∙◌}
 use Rattle.std.proofs.lemmas.List.{length-map}
 use Rattle.vsi_lattice.specs.Shape.{File}
-use Rattle.vsi_lattice.specs.Faults.{HasNames, HasPairs}
+use Rattle.vsi_lattice.specs.FileFaults.{HasNames, HasPairs}
 use Rattle.vsi_lattice.proofs.NameLemmas.{text_of, texts_of}
 use Rattle.vsi_lattice.proofs.FileLemmas.{order_fault, numbered, known_of, are_names, has_names, fault_along, is_of}
 use Rattle.vsi_lattice.proofs.reader.lattice_of.Goals as goal
@@ -12,7 +12,7 @@ returns-in-Err-clause-refused c =
     let len : length f.names ≡ length c.args.names.now = length-map c.args.names.now text_of in
     let names : HasNames f =
     has_names f (length c.args.names.now) len (grind (arith, c.is_empty.ensures, c.if-is_empty.false))
-    (omega (arith, c.if-names-gt-MOST_CLASSES.false)) c.in_default.ensures.none c.in_ok-set.ensures.distinct in
+    (omega (arith, c.if-names-gt-MAX_CLASSES.false)) c.in_default.ensures.none c.in_ok-set.ensures.distinct in
     let pairs : HasPairs f = record {
       names = names;
       known = known_of f.names f.pairs c.in_ok-set.set.keys c.as_slice.result.now c.as_slice.ensures.keys
@@ -32,7 +32,7 @@ new-requires-in-Ok c =
     let len : length f.names ≡ length c.args.names.now = length-map c.args.names.now text_of in
     let names : HasNames f =
     has_names f (length c.args.names.now) len (grind (arith, c.is_empty.ensures, c.if-is_empty.false))
-    (omega (arith, c.if-names-gt-MOST_CLASSES.false)) c.in_default.ensures.none c.in_ok-set.ensures.distinct in
+    (omega (arith, c.if-names-gt-MAX_CLASSES.false)) c.in_default.ensures.none c.in_ok-set.ensures.distinct in
     are_names f (map string_bytes c.in_ok-set.set.keys) (length c.in-Ok.order.above.items) c.in_ok-set.ensures.names
     names
     (c.in-Ok.ensures.order.count_is ∙ sym len)
@@ -43,7 +43,7 @@ returns-in-Ok-clause-ok c =
     let len : length f.names ≡ length c.args.names.now = length-map c.args.names.now text_of in
     let names : HasNames f =
     has_names f (length c.args.names.now) len (grind (arith, c.is_empty.ensures, c.if-is_empty.false))
-    (omega (arith, c.if-names-gt-MOST_CLASSES.false)) c.in_default.ensures.none c.in_ok-set.ensures.distinct in
+    (omega (arith, c.if-names-gt-MAX_CLASSES.false)) c.in_default.ensures.none c.in_ok-set.ensures.distinct in
     let pairs : HasPairs f = record {
       names = names;
       known = known_of f.names f.pairs c.in_ok-set.set.keys c.as_slice.result.now c.as_slice.ensures.keys

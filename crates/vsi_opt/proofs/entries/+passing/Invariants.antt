@@ -1,5 +1,5 @@
 use Rattle.std.proofs.Common.{◌≡◌, ◌+◌, drop}
-use Rattle.vsi_scope.specs.Phrase.{letvars}
+use Rattle.vsi_scope.specs.Language.{letvars}
 use Rattle.vsi_scope.specs.View.{sequence}
 use Rattle.vsi_opt.proofs.entries.+passing.Given as goal
 

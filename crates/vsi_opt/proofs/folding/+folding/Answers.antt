@@ -1,6 +1,6 @@
 use Rattle.std.proofs.Common.{◌≡◌, sym, ap, ◌∙◌, subst, Some, true, false, OnOk, None}
-use Rattle.vsi_scope.specs.Phrase.{Put, Repeat}
-use Rattle.vsi_scope.specs.View.{phrase, command, sequence}
+use Rattle.vsi_scope.specs.Language.{Assign, While}
+use Rattle.vsi_scope.specs.View.{expression, command, sequence}
 use Rattle.vsi_opt.specs.Folding.{one, append, fold}
 use Rattle.vsi_opt.proofs.FoldingCases.{fold_if_by, fold_while_by, fold_letvar_by, one_if, one_letvar, known}
 use Rattle.vsi_opt.proofs.Sequences.{pushed, fold_more, fold_end, append_nothing}
@@ -19,7 +19,7 @@ fold_all-returns t c = sym (fold_end c.args.body.now c.loop-c.out.items c.loop-c
 pub fold_one-returns-in-Assign : goal.fold_one-returns-in-Assign
 fold_one-returns-in-Assign t c =
     pushed _ _ _ _ c.in_ok-push-in-Assign.ensures.items
-    (ap (λ x. one (Put c.in-Assign.loc c.in-Assign.span x)) c.in_ok-value-in-Assign.ensures
+    (ap (λ x. one (Assign c.in-Assign.loc c.in-Assign.span x)) c.in_ok-value-in-Assign.ensures
     ∙ sym (ap (λ x. fold (command x)) c.in-Assign.is))
 
 pub fold_one-returns-in-Some-true : goal.fold_one-returns-in-Some-true
@@ -57,7 +57,7 @@ fold_one-returns-in-Some-true-truth t c =
     c.in-While.is c.in_ok-guard-in-While.ensures
     (known c.truth-in-While.result _ c.in-Some-true-truth.field-0 true c.truth-in-While.ensures
     c.in-Some-true-truth.is c.in-Some-true-truth.field-0-test) in
-    let loop_is = ap (λ x. one (Repeat (phrase c.in_ok-guard-in-While.guard) x))
+    let loop_is = ap (λ x. one (While (expression c.in_ok-guard-in-While.guard) x))
     (c.in_ok-fold_list-in-Some-true-truth.ensures
     ∙ ap (λ l. fold (sequence l)) c.deref-in-Some-true-truth.ensures.value) in
     subst (λ d. OnOk c.push_loop.result
@@ -76,7 +76,7 @@ pub fold_one-returns-in-While : goal.fold_one-returns-in-While
 fold_one-returns-in-While t c =
     let e = fold_while_by c.args.c.now c.in-While.guard c.in_ok-guard-in-While.guard c.in-While.body None
     c.in-While.is c.in_ok-guard-in-While.ensures (sym c.in-None-truth.is ∙ c.truth-in-While.ensures) in
-    let loop_is = ap (λ x. one (Repeat (phrase c.in_ok-guard-in-While.guard) x))
+    let loop_is = ap (λ x. one (While (expression c.in_ok-guard-in-While.guard) x))
     (c.in_ok-fold_list-in-None-truth.ensures ∙ ap (λ l. fold (sequence l)) c.deref-in-None-truth.ensures.value) in
     subst (λ d. OnOk c.push_loop-in-None-truth.result
     (sequence c.push_loop-in-None-truth.new.out.items ≡ append (sequence c.args.out.now.items) d)) (loop_is

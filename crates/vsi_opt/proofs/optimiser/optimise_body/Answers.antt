@@ -5,8 +5,8 @@ use Rattle.vsi_opt.specs.Ranges.{Fits}
 use Rattle.vsi_opt.proofs.Kept.{fold_fits}
 use Rattle.vsi_opt.proofs.optimiser.optimise_body.Goals as goal
 
-pub needed_all-requires : goal.needed_all-requires
-needed_all-requires c =
+pub kept_live_all-requires : goal.kept_live_all-requires
+kept_live_all-requires c =
     let body = sequence c.args.body.now in
     subst (Fits c.args.globals)
     (sym (ap sequence c.deref.ensures.value ∙ c.in_ok-fold_all.ensures

@@ -1,5 +1,5 @@
 use Rattle.std.proofs.Common.{◌≡◌, min, drop, ◌+◌, ◌≤◌}
-use Rattle.vsi_scope.specs.Phrase.{size}
+use Rattle.vsi_scope.specs.Language.{size}
 use Rattle.vsi_scope.specs.View.{sequence}
 use Rattle.vsi_scope.proofs.measure.+size.Given as goal
 

@@ -1,6 +1,6 @@
 use Rattle.std.proofs.Common.{◌≡◌, ◌++◌, drop}
 use Rattle.vsi_image.specs.Fields.{globals}
-use Rattle.vsi_lattice.specs.Named.{class_named, order}
+use Rattle.vsi_lattice.specs.LatticeView.{class_named, order}
 use Rattle.vsi_store.specs.View.{view_text_of}
 use Rattle.vsi_store.proofs.observer.seen_text.Given as goal
 

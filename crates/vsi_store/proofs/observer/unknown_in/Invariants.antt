@@ -1,6 +1,6 @@
 use Rattle.std.proofs.Common.{◌≡◌, drop}
 use Rattle.vsi_image.specs.Fields.{globals}
-use Rattle.vsi_lattice.specs.Named.{class_named}
+use Rattle.vsi_lattice.specs.LatticeView.{class_named}
 use Rattle.vsi_store.specs.View.{first_unknown}
 use Rattle.vsi_store.proofs.observer.unknown_in.Given as goal
 

@@ -1,10 +1,10 @@
 use Rattle.std.proofs.Common.{◌≡◌, ◌++◌, sym, ap, ◌∙◌, subst, length, arith, map}
 use Rattle.std.proofs.lemmas.List.{length-map}
 use Rattle.vsi_lattice.specs.Order.{IsLattice}
-use Rattle.vsi_scope.specs.Phrase.{HasPlaces}
+use Rattle.vsi_scope.specs.Language.{HasPlaces}
 use Rattle.vsi_scope.specs.View.{sequence}
 use Rattle.vsi_types.specs.Checking.{Judged}
-use Rattle.vsi_types.specs.Walker.{place_of}
+use Rattle.vsi_types.specs.Walker.{walker_place}
 use Rattle.vsi_types.specs.Security.{class_of, count_from, program}
 use Rattle.vsi_types.proofs.Places.{place}
 use Rattle.vsi_types.proofs.Programs.{length_count}
@@ -33,7 +33,7 @@ returns-clause-typable g c =
     let t = c.deref.ensures.value ∙ c.in_ok-table.ensures
     ∙ ap (λ gs. map (λ g. g.class) gs ++ c.args.choice.now) c.globals-globals.ensures in
     let a = place c.in_ok-first_variables.field-0.items c.new.result.items (length c.globals-globals.result.now) in
-    let b = place_of c.check_commands.new.walk in
+    let b = walker_place c.check_commands.new.walk in
     let h = subst (λ l. Judged L P (class_of L c.deref.result.now) a (sequence l) b c.check_commands.result)
     c.body-body.ensures.value c.check_commands.ensures in
     let res = resolved_program L c.args.program.now c.requires.globals c.body-body.ensures.resolved in
@@ -51,7 +51,7 @@ returns-clause-complete g c =
     let t = c.deref.ensures.value ∙ c.in_ok-table.ensures
     ∙ ap (λ gs. map (λ g. g.class) gs ++ c.args.choice.now) c.globals-globals.ensures in
     let a = place c.in_ok-first_variables.field-0.items c.new.result.items (length c.globals-globals.result.now) in
-    let b = place_of c.check_commands.new.walk in
+    let b = walker_place c.check_commands.new.walk in
     let h = subst (λ l. Judged L P (class_of L c.deref.result.now) a (sequence l) b c.check_commands.result)
     c.body-body.ensures.value c.check_commands.ensures in
     let res = resolved_program L c.args.program.now c.requires.globals c.body-body.ensures.resolved in
@@ -68,7 +68,7 @@ returns-clause-refused g c =
     let t = c.deref.ensures.value ∙ c.in_ok-table.ensures
     ∙ ap (λ gs. map (λ g. g.class) gs ++ c.args.choice.now) c.globals-globals.ensures in
     let a = place c.in_ok-first_variables.field-0.items c.new.result.items (length c.globals-globals.result.now) in
-    let b = place_of c.check_commands.new.walk in
+    let b = walker_place c.check_commands.new.walk in
     let h = subst (λ l. Judged L P (class_of L c.deref.result.now) a (sequence l) b c.check_commands.result)
     c.body-body.ensures.value c.check_commands.ensures in
     let res = resolved_program L c.args.program.now c.requires.globals c.body-body.ensures.resolved in

@@ -1,14 +1,14 @@
 use Rattle.std.proofs.Common.{◌≡◌, ◌∙◌, sym, ap, subst, arith, rules, refl, [], ◌∷◌, ◌++◌, ◌+◌, ◌≤◌, length, take}
 use Rattle.std.specs.Prelude.{true, ◌||◌, Ok, Err}
 use Rattle.std.proofs.lemmas.List.{length_push}
-use Rattle.vsi_scope.specs.View.{phrase, command, sequence}
-use Rattle.vsi_scope.specs.Phrase.{Choose, Repeat, Allocate}
-use Rattle.vsi_types.specs.declared.rules.Rule.TheVariants.{If, While, Letvar}
+use Rattle.vsi_scope.specs.View.{expression, command, sequence}
+use Rattle.vsi_scope.specs.Language.{If, While, Letvar}
+use Rattle.vsi_types.specs.declared.rules.Rule.TheVariants as typing
 use Rattle.vsi_types.specs.Checking.{Judged}
-use Rattle.vsi_types.specs.Walker.{place_of}
+use Rattle.vsi_types.specs.Walker.{walker_place}
 use Rattle.vsi_types.specs.Security.{class_of}
 use Rattle.std.proofs.lemmas.List.Elements.{All-nil}
-use Rattle.vsi_scope.specs.Phrase.{letvars, has_loop, HasPlaces}
+use Rattle.vsi_scope.specs.Language.{letvars, has_loop, HasPlaces}
 use Rattle.vsi_scope.proofs.Views.{command_If, command_While, command_Letvar, letvars_more}
 use Rattle.std.proofs.lemmas.Grind.{common_steps}
 use Rattle.vsi_scope.specs.declared.program.Cmd.{the_lemmas}
@@ -18,11 +18,11 @@ use Rattle.vsi_types.proofs.tree.+walk.Goals as goal
 
 pub check_command-check_if-requires : goal.check_command-check_if-requires
 check_command-check_if-requires g t c κs within =
-    let e : command c.args.c.now ≡ Choose (phrase c.in-If.guard) (sequence c.deref.result.now)
+    let e : command c.args.c.now ≡ If (expression c.in-If.guard) (sequence c.deref.result.now)
     (sequence c.deref-in-If.result.now) =
     ap command c.in-If.is ∙ command_If c.in-If.guard c.in-If.yes c.in-If.no
-    ∙ ap (λ l. Choose (phrase c.in-If.guard) (sequence l) (sequence c.in-If.no.items)) (sym c.deref.ensures.value)
-    ∙ ap (λ l. Choose (phrase c.in-If.guard) (sequence c.deref.result.now) (sequence l))
+    ∙ ap (λ l. If (expression c.in-If.guard) (sequence l) (sequence c.in-If.no.items)) (sym c.deref.ensures.value)
+    ∙ ap (λ l. If (expression c.in-If.guard) (sequence c.deref.result.now) (sequence l))
     (sym c.deref-in-If.ensures.value) in
     let p = subst (HasPlaces (length c.args.walk.now.scope.items)) e c.requires.places in
     let l = subst (λ k. c.args.walk.now.next + letvars k ≤ 1024) e c.requires.limit in (
@@ -35,20 +35,20 @@ check_command-returns-in-If g t c =
     let L = g.C.Classes.lattice c.args.lattice.now in
     let P = c.args.profile in
     let cls = class_of L c.args.table.now in
-    let e : command c.args.c.now ≡ Choose (phrase c.in-If.guard) (sequence c.deref.result.now)
+    let e : command c.args.c.now ≡ If (expression c.in-If.guard) (sequence c.deref.result.now)
     (sequence c.deref-in-If.result.now) =
     ap command c.in-If.is ∙ command_If c.in-If.guard c.in-If.yes c.in-If.no
-    ∙ ap (λ l. Choose (phrase c.in-If.guard) (sequence l) (sequence c.in-If.no.items)) (sym c.deref.ensures.value)
-    ∙ ap (λ l. Choose (phrase c.in-If.guard) (sequence c.deref.result.now) (sequence l))
+    ∙ ap (λ l. If (expression c.in-If.guard) (sequence l) (sequence c.in-If.no.items)) (sym c.deref.ensures.value)
+    ∙ ap (λ l. If (expression c.in-If.guard) (sequence c.deref.result.now) (sequence l))
     (sym c.deref-in-If.ensures.value) in
-    subst (λ k. Judged L P cls (place_of c.args.walk.now) k (place_of c.check_if.new.walk) c.check_if.result)
+    subst (λ k. Judged L P cls (walker_place c.args.walk.now) k (walker_place c.check_if.new.walk) c.check_if.result)
     (sym e) c.check_if.ensures
 
 pub check_command-check_while-requires : goal.check_command-check_while-requires
 check_command-check_while-requires g t c κs within =
-    let e : command c.args.c.now ≡ Repeat (phrase c.in-While.guard) (sequence c.deref-in-While.result.now) =
+    let e : command c.args.c.now ≡ While (expression c.in-While.guard) (sequence c.deref-in-While.result.now) =
     ap command c.in-While.is ∙ command_While c.in-While.guard c.in-While.body
-    ∙ ap (λ l. Repeat (phrase c.in-While.guard) (sequence l)) (sym c.deref-in-While.ensures.value) in
+    ∙ ap (λ l. While (expression c.in-While.guard) (sequence l)) (sym c.deref-in-While.ensures.value) in
     let p = subst (HasPlaces (length c.args.walk.now.scope.items)) e c.requires.places in
     let l = subst (λ k. c.args.walk.now.next + letvars k ≤ 1024) e c.requires.limit in (
       first_of (search (rules, the_lemmas), grind (arith, the_lemmas, common_steps), omega (arith, c.decreases)),
@@ -60,17 +60,18 @@ check_command-returns-in-While g t c =
     let L = g.C.Classes.lattice c.args.lattice.now in
     let P = c.args.profile in
     let cls = class_of L c.args.table.now in
-    let e : command c.args.c.now ≡ Repeat (phrase c.in-While.guard) (sequence c.deref-in-While.result.now) =
+    let e : command c.args.c.now ≡ While (expression c.in-While.guard) (sequence c.deref-in-While.result.now) =
     ap command c.in-While.is ∙ command_While c.in-While.guard c.in-While.body
-    ∙ ap (λ l. Repeat (phrase c.in-While.guard) (sequence l)) (sym c.deref-in-While.ensures.value) in
-    subst (λ k. Judged L P cls (place_of c.args.walk.now) k (place_of c.check_while.new.walk) c.check_while.result)
+    ∙ ap (λ l. While (expression c.in-While.guard) (sequence l)) (sym c.deref-in-While.ensures.value) in
+    subst (λ k. Judged L P cls (walker_place c.args.walk.now) k
+    (walker_place c.check_while.new.walk) c.check_while.result)
     (sym e) c.check_while.ensures
 
 pub check_command-check_letvar-requires : goal.check_command-check_letvar-requires
 check_command-check_letvar-requires g t c κs within =
-    let e : command c.args.c.now ≡ Allocate (phrase c.in-Letvar.value) (sequence c.deref-in-Letvar.result.now) =
+    let e : command c.args.c.now ≡ Letvar (expression c.in-Letvar.value) (sequence c.deref-in-Letvar.result.now) =
     ap command c.in-Letvar.is ∙ command_Letvar c.in-Letvar.value c.in-Letvar.body
-    ∙ ap (λ l. Allocate (phrase c.in-Letvar.value) (sequence l)) (sym c.deref-in-Letvar.ensures.value) in
+    ∙ ap (λ l. Letvar (expression c.in-Letvar.value) (sequence l)) (sym c.deref-in-Letvar.ensures.value) in
     let p = subst (HasPlaces (length c.args.walk.now.scope.items)) e c.requires.places in
     let l = subst (λ k. c.args.walk.now.next + letvars k ≤ 1024) e c.requires.limit in (
       first_of (search (rules, the_lemmas), grind (arith, the_lemmas, common_steps), omega (arith, c.decreases)),
@@ -82,10 +83,10 @@ check_command-returns-in-Letvar g t c =
     let L = g.C.Classes.lattice c.args.lattice.now in
     let P = c.args.profile in
     let cls = class_of L c.args.table.now in
-    let e : command c.args.c.now ≡ Allocate (phrase c.in-Letvar.value) (sequence c.deref-in-Letvar.result.now) =
+    let e : command c.args.c.now ≡ Letvar (expression c.in-Letvar.value) (sequence c.deref-in-Letvar.result.now) =
     ap command c.in-Letvar.is ∙ command_Letvar c.in-Letvar.value c.in-Letvar.body
-    ∙ ap (λ l. Allocate (phrase c.in-Letvar.value) (sequence l)) (sym c.deref-in-Letvar.ensures.value) in
-    subst (λ k. Judged L P cls (place_of c.args.walk.now) k (place_of c.check_letvar.new.walk)
+    ∙ ap (λ l. Letvar (expression c.in-Letvar.value) (sequence l)) (sym c.deref-in-Letvar.ensures.value) in
+    subst (λ k. Judged L P cls (walker_place c.args.walk.now) k (walker_place c.check_letvar.new.walk)
     c.check_letvar.result) (sym e) c.check_letvar.ensures
 
 pub check_commands-loop-c-init : goal.check_commands-loop-c-init
@@ -108,8 +109,9 @@ check_commands-returns-in_err-check_command g t c =
     let L = g.C.Classes.lattice c.args.lattice.now in
     let P = c.args.profile in
     let cls = class_of L c.args.table.now in
-    reached_fault L P cls (place_of c.args.walk.now) (place_of c.loop-c.walk) (place_of c.check_command.new.walk)
-    (place_of c.check_command.new.walk) c.args.body.now c.loop-c.c-index c.c-item.result c.loop-c-test.true
+    reached_fault L P cls (walker_place c.args.walk.now) (walker_place c.loop-c.walk)
+    (walker_place c.check_command.new.walk)
+    (walker_place c.check_command.new.walk) c.args.body.now c.loop-c.c-index c.c-item.result c.loop-c-test.true
     c.c-item.is c.loop-c.invariant c.in_err-check_command.field-0.0 c.from_residual.result c.from_residual.ensures.1
     c.in_err-check_command.ensures
 
@@ -119,7 +121,8 @@ check_commands-loop-c-preserved g t c =
     let P = c.args.profile in
     let cls = class_of L c.args.table.now in
     let count = letvars_more c.args.body.now c.loop-c.c-index c.c-item.result c.loop-c-test.true c.c-item.is in
-    reached_more L P cls (place_of c.args.walk.now) (place_of c.loop-c.walk) (place_of c.check_command.new.walk)
+    reached_more L P cls (walker_place c.args.walk.now) (walker_place c.loop-c.walk)
+    (walker_place c.check_command.new.walk)
     c.args.body.now c.loop-c.c-index c.c-item.result c.loop-c-test.true c.c-item.is count c.loop-c.invariant
     c.in_ok-check_command.ensures
 
@@ -129,7 +132,7 @@ check_commands-returns g t c =
     let P = c.args.profile in
     let cls = class_of L c.args.table.now in
     let le : length c.args.body.now ≤ c.loop-c.c-index = omega arith in
-    reached_all L P cls (place_of c.args.walk.now) (place_of c.loop-c.walk)
+    reached_all L P cls (walker_place c.args.walk.now) (walker_place c.loop-c.walk)
     c.args.body.now c.loop-c.c-index le c.loop-c.invariant
 
 pub check_if-returns-in_err-check_choice : goal.check_if-returns-in_err-check_choice
@@ -137,10 +140,10 @@ check_if-returns-in_err-check_choice g t c =
     let L = g.C.Classes.lattice c.args.lattice.now in
     let P = c.args.profile in
     let cls = class_of L c.args.table.now in
-    let a = place_of c.args.walk.now in
-    let x = phrase c.args.guard.now in
-    let k₁ = sequence c.args.first.now in
-    let k₂ = sequence c.args.second.now in
+    let a = walker_place c.args.walk.now in
+    let x = expression c.args.guard.now in
+    let k₁ = sequence c.args.then_branch.now in
+    let k₂ = sequence c.args.else_branch.now in
     let f = c.in_err-check_choice.field-0.0 in
     if_endings L P cls a a x k₁ k₂ f c.from_residual.result c.from_residual.ensures.1
     (endings_at L P cls (has_loop k₁ || has_loop k₂) x c.deref.result.now c.args.walk.now.scope.items
@@ -149,7 +152,8 @@ check_if-returns-in_err-check_choice g t c =
 pub check_if-check_commands-requires : goal.check_if-check_commands-requires
 check_if-check_commands-requires g t c κs within =
     let p = c.requires.places.1 in
-    let l : c.args.walk.now.next + letvars (sequence c.args.first.now) ≤ 1024 = omega (arith, c.requires.limit) in (
+    let l : c.args.walk.now.next + letvars (sequence c.args.then_branch.now) ≤ 1024 =
+    omega (arith, c.requires.limit) in (
       first_of (search (rules, the_lemmas), grind (arith, the_lemmas, common_steps), omega (arith, c.decreases)),
       search (rules, c.requires.classes),
     )
@@ -159,25 +163,25 @@ check_if-returns-in_err-check_commands g t c =
     let L = g.C.Classes.lattice c.args.lattice.now in
     let P = c.args.profile in
     let cls = class_of L c.args.table.now in
-    let a = place_of c.args.walk.now in
-    let x = phrase c.args.guard.now in
-    let k₁ = sequence c.args.first.now in
-    let k₂ = sequence c.args.second.now in
+    let a = walker_place c.args.walk.now in
+    let x = expression c.args.guard.now in
+    let k₁ = sequence c.args.then_branch.now in
+    let k₂ = sequence c.args.else_branch.now in
     let e = c.in_err-check_commands.field-0.0 in
     let up = endings_at L P cls (has_loop k₁ || has_loop k₂) x c.deref.result.now c.args.walk.now.scope.items
     c.deref.ensures.value (Ok tt) c.in_ok-check_choice.ensures in
-    let h = under_guard L P cls a (place_of c.check_commands.new.walk)
-    If x c.deref-2.result.now c.push_reads.new.guards.items
+    let h = under_guard L P cls a (walker_place c.check_commands.new.walk)
+    typing.If x c.deref-2.result.now c.push_reads.new.guards.items
     c.deref-2.ensures.value c.in_ok-push_reads.ensures k₁ (Err e) c.in_err-check_commands.ensures in
-    let b = place_of c.check_commands.new.walk in
+    let b = walker_place c.check_commands.new.walk in
     if_branches L P cls a b x k₁ k₂ e c.from_residual-in_err-check_commands.result
-    c.from_residual-in_err-check_commands.ensures.1 up (judged_first L P cls (inside If x a) b b k₁ k₂ e h)
+    c.from_residual-in_err-check_commands.ensures.1 up (judged_first L P cls (inside typing.If x a) b b k₁ k₂ e h)
 
 pub check_if-check_commands-requires-2 : goal.check_if-check_commands-requires-2
 check_if-check_commands-requires-2 g t c κs within =
-    let p = subst (λ s. HasPlaces (length s) (sequence c.args.second.now)) (sym c.in_ok-check_commands.ensures.0)
+    let p = subst (λ s. HasPlaces (length s) (sequence c.args.else_branch.now)) (sym c.in_ok-check_commands.ensures.0)
     c.requires.places.2 in
-    let l : c.check_commands.new.walk.next + letvars (sequence c.args.second.now) ≤ 1024 =
+    let l : c.check_commands.new.walk.next + letvars (sequence c.args.else_branch.now) ≤ 1024 =
     omega (arith, c.requires.limit, c.in_ok-check_commands.ensures.2) in (
       first_of (search (rules, the_lemmas), grind (arith, the_lemmas, common_steps), omega (arith, c.decreases)),
       search (rules, c.requires.classes),
@@ -188,50 +192,50 @@ check_if-returns-in_err-check_commands-2 g t c =
     let L = g.C.Classes.lattice c.args.lattice.now in
     let P = c.args.profile in
     let cls = class_of L c.args.table.now in
-    let a = place_of c.args.walk.now in
-    let x = phrase c.args.guard.now in
-    let k₁ = sequence c.args.first.now in
-    let k₂ = sequence c.args.second.now in
+    let a = walker_place c.args.walk.now in
+    let x = expression c.args.guard.now in
+    let k₁ = sequence c.args.then_branch.now in
+    let k₂ = sequence c.args.else_branch.now in
     let e = c.in_err-check_commands-2.field-0.0 in
     let up = endings_at L P cls (has_loop k₁ || has_loop k₂) x c.deref.result.now c.args.walk.now.scope.items
     c.deref.ensures.value (Ok tt) c.in_ok-check_choice.ensures in
-    let h = under_guard L P cls a (place_of c.check_commands.new.walk)
-    If x c.deref-2.result.now c.push_reads.new.guards.items
+    let h = under_guard L P cls a (walker_place c.check_commands.new.walk)
+    typing.If x c.deref-2.result.now c.push_reads.new.guards.items
     c.deref-2.ensures.value c.in_ok-push_reads.ensures k₁ (Ok tt) c.in_ok-check_commands.ensures in
-    let b = place_of c.check_commands.new.walk in
-    let d = place_of c.check_commands-2.new.walk in
+    let b = walker_place c.check_commands.new.walk in
+    let d = walker_place c.check_commands-2.new.walk in
     if_branches L P cls a d x k₁ k₂ e c.from_residual-in_err-check_commands-2.result
     c.from_residual-in_err-check_commands-2.ensures.1 up
-    (judged_then L P cls (inside If x a) b d k₁ k₂ (Err e) h c.in_err-check_commands-2.ensures)
+    (judged_then L P cls (inside typing.If x a) b d k₁ k₂ (Err e) h c.in_err-check_commands-2.ensures)
 
 pub check_if-returns : goal.check_if-returns
 check_if-returns g t c =
     let L = g.C.Classes.lattice c.args.lattice.now in
     let P = c.args.profile in
     let cls = class_of L c.args.table.now in
-    let a = place_of c.args.walk.now in
-    let x = phrase c.args.guard.now in
-    let k₁ = sequence c.args.first.now in
-    let k₂ = sequence c.args.second.now in
+    let a = walker_place c.args.walk.now in
+    let x = expression c.args.guard.now in
+    let k₁ = sequence c.args.then_branch.now in
+    let k₂ = sequence c.args.else_branch.now in
     let up = endings_at L P cls (has_loop k₁ || has_loop k₂) x c.deref.result.now c.args.walk.now.scope.items
     c.deref.ensures.value (Ok tt) c.in_ok-check_choice.ensures in
-    let h = under_guard L P cls a (place_of c.check_commands.new.walk)
-    If x c.deref-2.result.now c.push_reads.new.guards.items
+    let h = under_guard L P cls a (walker_place c.check_commands.new.walk)
+    typing.If x c.deref-2.result.now c.push_reads.new.guards.items
     c.deref-2.ensures.value c.in_ok-push_reads.ensures k₁ (Ok tt) c.in_ok-check_commands.ensures in
-    let b = place_of c.check_commands.new.walk in
-    let d = place_of c.check_commands-2.new.walk in
+    let b = walker_place c.check_commands.new.walk in
+    let d = walker_place c.check_commands-2.new.walk in
     let n : c.len-outside.result ≡ length c.args.walk.now.guards.items = search rules in
     let back = c.truncate.ensures.items ∙ ap (λ k. take k d.guards) n in
     judged_if L P cls a d (place d.scope c.truncate.new.self.items d.next) x k₁ k₂ up
-    (judged_then L P cls (inside If x a) b d k₁ k₂ (Ok tt) h c.in_ok-check_commands-2.ensures) refl back refl
+    (judged_then L P cls (inside typing.If x a) b d k₁ k₂ (Ok tt) h c.in_ok-check_commands-2.ensures) refl back refl
 
 pub check_while-returns-in_err-check_loop : goal.check_while-returns-in_err-check_loop
 check_while-returns-in_err-check_loop g t c =
     let L = g.C.Classes.lattice c.args.lattice.now in
     let P = c.args.profile in
     let cls = class_of L c.args.table.now in
-    let a = place_of c.args.walk.now in
-    let x = phrase c.args.guard.now in
+    let a = walker_place c.args.walk.now in
+    let x = expression c.args.guard.now in
     let k = sequence c.args.body.now in
     let f = c.in_err-check_loop.field-0.0 in
     while_endings L P cls a a x k f c.from_residual.result c.from_residual.ensures.1
@@ -251,16 +255,16 @@ check_while-returns-in_err-check_commands g t c =
     let L = g.C.Classes.lattice c.args.lattice.now in
     let P = c.args.profile in
     let cls = class_of L c.args.table.now in
-    let a = place_of c.args.walk.now in
-    let x = phrase c.args.guard.now in
+    let a = walker_place c.args.walk.now in
+    let x = expression c.args.guard.now in
     let k = sequence c.args.body.now in
     let e = c.in_err-check_commands.field-0.0 in
     let up = endings_at L P cls true x c.deref.result.now c.args.walk.now.scope.items c.deref.ensures.value (Ok tt)
     c.in_ok-check_loop.ensures in
-    let h = under_guard L P cls a (place_of c.check_commands.new.walk)
-    While x c.deref-2.result.now c.push_reads.new.guards.items
+    let h = under_guard L P cls a (walker_place c.check_commands.new.walk)
+    typing.While x c.deref-2.result.now c.push_reads.new.guards.items
     c.deref-2.ensures.value c.in_ok-push_reads.ensures k (Err e) c.in_err-check_commands.ensures in
-    let b = place_of c.check_commands.new.walk in
+    let b = walker_place c.check_commands.new.walk in
     while_body L P cls a b b x k e c.from_residual-in_err-check_commands.result
     c.from_residual-in_err-check_commands.ensures.1 up h
 
@@ -269,15 +273,15 @@ check_while-returns g t c =
     let L = g.C.Classes.lattice c.args.lattice.now in
     let P = c.args.profile in
     let cls = class_of L c.args.table.now in
-    let a = place_of c.args.walk.now in
-    let x = phrase c.args.guard.now in
+    let a = walker_place c.args.walk.now in
+    let x = expression c.args.guard.now in
     let k = sequence c.args.body.now in
     let up = endings_at L P cls true x c.deref.result.now c.args.walk.now.scope.items c.deref.ensures.value (Ok tt)
     c.in_ok-check_loop.ensures in
-    let h = under_guard L P cls a (place_of c.check_commands.new.walk)
-    While x c.deref-2.result.now c.push_reads.new.guards.items
+    let h = under_guard L P cls a (walker_place c.check_commands.new.walk)
+    typing.While x c.deref-2.result.now c.push_reads.new.guards.items
     c.deref-2.ensures.value c.in_ok-push_reads.ensures k (Ok tt) c.in_ok-check_commands.ensures in
-    let b = place_of c.check_commands.new.walk in
+    let b = walker_place c.check_commands.new.walk in
     let n : c.len-outside.result ≡ length c.args.walk.now.guards.items = search rules in
     let back = c.truncate.ensures.items ∙ ap (λ k. take k b.guards) n in
     judged_while L P cls a b (place b.scope c.truncate.new.self.items b.next) x k up h refl back refl
@@ -287,12 +291,13 @@ check_letvar-returns-in_err-check_reads g t c =
     let L = g.C.Classes.lattice c.args.lattice.now in
     let P = c.args.profile in
     let cls = class_of L c.args.table.now in
-    let a = place_of c.args.walk.now in
-    let x = phrase c.args.value.now in
+    let a = walker_place c.args.walk.now in
+    let x = expression c.args.value.now in
     let k = sequence c.args.body.now in
     let f = c.in_err-check_reads.field-0.0 in
     letvar_reads L P cls a a x k f c.from_residual.result c.from_residual.ensures.1
-    (reads_at L P cls a.next Letvar x c.deref.result.now c.args.walk.now.scope.items c.deref.ensures.value (Err f)
+    (reads_at L P cls a.next typing.Letvar x c.deref.result.now c.args.walk.now.scope.items c.deref.ensures.value
+    (Err f)
     c.in_err-check_reads.ensures)
 
 pub check_letvar-check_commands-requires : goal.check_letvar-check_commands-requires
@@ -312,18 +317,19 @@ check_letvar-returns-in_err-check_commands g t c =
     let L = g.C.Classes.lattice c.args.lattice.now in
     let P = c.args.profile in
     let cls = class_of L c.args.table.now in
-    let a = place_of c.args.walk.now in
-    let x = phrase c.args.value.now in
+    let a = walker_place c.args.walk.now in
+    let x = expression c.args.value.now in
     let k = sequence c.args.body.now in
     let e = c.in_err-check_commands.field-0.0 in
-    let up = reads_at L P cls a.next Letvar x c.deref.result.now c.args.walk.now.scope.items c.deref.ensures.value
+    let up = reads_at L P cls a.next typing.Letvar x c.deref.result.now c.args.walk.now.scope.items
+    c.deref.ensures.value
     (Ok tt)
     c.in_ok-check_reads.ensures in
     let pushed = c.in_ok-push.ensures.items in
     let h = at_place L P cls c.push.new.self.items (a.scope ++ a.next ∷ []) a.guards a.guards (a.next + 1)
     (a.next + 1)
-    (place_of c.check_commands.new.walk) k (Err e) pushed refl refl c.in_err-check_commands.ensures in
-    let b = place_of c.check_commands.new.walk in
+    (walker_place c.check_commands.new.walk) k (Err e) pushed refl refl c.in_err-check_commands.ensures in
+    let b = walker_place c.check_commands.new.walk in
     letvar_body L P cls a b b x k e c.from_residual-in_err-check_commands.result
     c.from_residual-in_err-check_commands.ensures.1 up h
 
@@ -332,17 +338,18 @@ check_letvar-returns g t c =
     let L = g.C.Classes.lattice c.args.lattice.now in
     let P = c.args.profile in
     let cls = class_of L c.args.table.now in
-    let a = place_of c.args.walk.now in
-    let x = phrase c.args.value.now in
+    let a = walker_place c.args.walk.now in
+    let x = expression c.args.value.now in
     let k = sequence c.args.body.now in
-    let up = reads_at L P cls a.next Letvar x c.deref.result.now c.args.walk.now.scope.items c.deref.ensures.value
+    let up = reads_at L P cls a.next typing.Letvar x c.deref.result.now c.args.walk.now.scope.items
+    c.deref.ensures.value
     (Ok tt)
     c.in_ok-check_reads.ensures in
     let pushed = c.in_ok-push.ensures.items in
     let h = at_place L P cls c.push.new.self.items (a.scope ++ a.next ∷ []) a.guards a.guards (a.next + 1)
     (a.next + 1)
-    (place_of c.check_commands.new.walk) k (Ok tt) pushed refl refl c.in_ok-check_commands.ensures in
-    let b = place_of c.check_commands.new.walk in
+    (walker_place c.check_commands.new.walk) k (Ok tt) pushed refl refl c.in_ok-check_commands.ensures in
+    let b = walker_place c.check_commands.new.walk in
     let n : c.len-outside.result ≡ length c.args.walk.now.scope.items = search rules in
     let back = c.truncate.ensures.items ∙ ap (λ k. take k b.scope) n in
     letvar_ok L P cls a b (place c.truncate.new.self.items b.guards b.next) x k up h back refl refl

@@ -2,17 +2,18 @@ use Rattle.std.proofs.Common.{max, ◌+◌, ◌*◌}
 use denote.Param.Weighed.{most}
 use Rattle.vsi_scope.proofs.program.Cmd.TheLaws.{the_size}
 use Rattle.vsi_types.specs.Security.{class_of}
-use Rattle.vsi_types.specs.Walker.{place_of}
+use Rattle.vsi_types.specs.Walker.{walker_place}
 use Rattle.vsi_types.proofs.Places.{Reached}
 use Rattle.vsi_types.proofs.tree.+walk.Given as goal
 
 abbrev pub invariant-check_commands-loop-c : goal.invariant-check_commands-loop-c
 invariant-check_commands-loop-c g l =
     let L = g.C.Classes.lattice l.lattice in
-    Reached L l.profile (class_of L l.table) (place_of l.initial.walk) l.body l.c-index (place_of l.walk)
+    Reached L l.profile (class_of L l.table) (walker_place l.initial.walk) l.body l.c-index (walker_place l.walk)
 
 abbrev pub decreases-check_if : goal.decreases-check_if
-decreases-check_if g l = 3 * max (most (λ x. the_size x) l.first.now) (most (λ x. the_size x) l.second.now) + 2
+decreases-check_if g l = 3 * max (most (λ x. the_size x) l.then_branch.now)
+    (most (λ x. the_size x) l.else_branch.now) + 2
 
 abbrev pub decreases-check_command : goal.decreases-check_command
 decreases-check_command g l = 3 * the_size l.c.now

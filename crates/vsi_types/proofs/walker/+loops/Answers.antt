@@ -1,7 +1,7 @@
 use Rattle.std.proofs.Common.{rules, ap, ◌∙◌, sym, arith}
 use Rattle.std.specs.Prelude.{◌||◌}
 use Rattle.std.proofs.lemmas.List.{take_all}
-use Rattle.vsi_scope.specs.Phrase.{has_loop}
+use Rattle.vsi_scope.specs.Language.{has_loop}
 use Rattle.vsi_scope.specs.View.{command, sequence}
 use Rattle.vsi_scope.proofs.Views.{command_If, command_Letvar}
 use Rattle.vsi_types.proofs.Looping.{loop_more, loop_found}

@@ -1,5 +1,5 @@
 use Rattle.std.proofs.Common.{◌≡◌, take, false}
-use Rattle.vsi_scope.specs.Phrase.{has_loop}
+use Rattle.vsi_scope.specs.Language.{has_loop}
 use Rattle.vsi_scope.specs.View.{sequence}
 use Rattle.vsi_types.proofs.walker.+loops.Given as goal
 

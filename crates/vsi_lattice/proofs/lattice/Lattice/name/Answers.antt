@@ -1,6 +1,6 @@
 use Rattle.std.proofs.Common.{◌<◌, sym, ◌∙◌, ap, length, arith}
-use Rattle.vsi_lattice.specs.Named as spec
-use Rattle.vsi_lattice.specs.Names.{place_in}
+use Rattle.vsi_lattice.specs.LatticeView as spec
+use Rattle.vsi_lattice.specs.NamePlaces.{place_in}
 use Rattle.vsi_lattice.proofs.NameLemmas.{found_at_own, own_name}
 use Rattle.vsi_lattice.proofs.lattice.Lattice.name.Goals as goal
 

@@ -1,6 +1,6 @@
 use Rattle.std.proofs.Common.{drop, map}
-use Rattle.vsi_syntax.specs.Programs as syntax
-use Rattle.vsi_lattice.specs.Named.{class_named}
+use Rattle.vsi_syntax.specs.CommandView as syntax
+use Rattle.vsi_lattice.specs.LatticeView.{class_named}
 use Rattle.vsi_scope.proofs.Declaring.{Halfway}
 use Rattle.vsi_scope.proofs.resolution.declare.read_globals.Given as goal
 

@@ -1,9 +1,9 @@
 use Rattle.std.proofs.Common.{◌≤◌, ◌<◌, ap, arith}
 use Rattle.std.proofs.lemmas.Result.{err_from_is_err_and}
-use Rattle.vsi_syntax.specs.Program.{whole}
-use Rattle.vsi_lattice.specs.Named.{class_named}
-use Rattle.vsi_scope.specs.declared.resolution.command.Walk.{Walk}
-use Rattle.vsi_scope.specs.Phrase.{size}
+use Rattle.vsi_syntax.specs.ProgramView.{whole}
+use Rattle.vsi_lattice.specs.LatticeView.{class_named}
+use Rattle.vsi_scope.specs.declared.resolution.command.Resolver.{Resolver}
+use Rattle.vsi_scope.specs.Language.{size}
 use Rattle.vsi_scope.specs.View.{sequence}
 use Rattle.vsi_scope.proofs.Top.{Begun, body_refuses, globals_refuse, too_large, is_resolved, resolves, exact, resolution_small}
 use Rattle.vsi_scope.proofs.Classes.{classes_below}
@@ -24,7 +24,7 @@ pub returns-in_err-sequence-clause-refused : goal.returns-in_err-sequence-clause
 returns-in_err-sequence-clause-refused c =
     let known = class_named c.args.lattice.now in
     let p = whole c.args.program.now in
-    let w : Walk = record { names = c.in_ok-list.field-0.names; letvars = c.new.result; globals = c.len.result } in
+    let w : Resolver = record { names = c.in_ok-list.field-0.names; letvars = c.new.result; globals = c.len.result } in
     let l = c.in_ok-list.field-0.list.items in
     let g = c.in_ok-list.ensures in
     let b : Begun known p l w = record {
@@ -49,7 +49,7 @@ pub returns-then-size-gt-MAX_SIZE-clause-refused : goal.returns-then-size-gt-MAX
 returns-then-size-gt-MAX_SIZE-clause-refused c =
     let known = class_named c.args.lattice.now in
     let p = whole c.args.program.now in
-    let w : Walk = record { names = c.in_ok-list.field-0.names; letvars = c.new.result; globals = c.len.result } in
+    let w : Resolver = record { names = c.in_ok-list.field-0.names; letvars = c.new.result; globals = c.len.result } in
     let l = c.in_ok-list.field-0.list.items in
     let g = c.in_ok-list.ensures in
     let b : Begun known p l w = record {
@@ -64,7 +64,7 @@ returns-then-size-gt-MAX_SIZE-clause-refused c =
     } in
     let walked = rw (c.body.ensures.body) at c.in_ok-sequence.ensures.value in
     let none = rw (c.body.ensures.body) at c.in_ok-sequence.ensures.fault in
-    let new = c.sequence.new.walk in
+    let new = c.sequence.new.resolver in
     let before = c.new-body.result.items in
     let after = c.sequence.new.out.items in
     let large : 65534 < size (sequence after) =
@@ -81,7 +81,7 @@ pub new-requires-2 : goal.new-requires-2
 new-requires-2 c =
     let known = class_named c.args.lattice.now in
     let p = whole c.args.program.now in
-    let w : Walk = record { names = c.in_ok-list.field-0.names; letvars = c.new.result; globals = c.len.result } in
+    let w : Resolver = record { names = c.in_ok-list.field-0.names; letvars = c.new.result; globals = c.len.result } in
     let l = c.in_ok-list.field-0.list.items in
     let g = c.in_ok-list.ensures in
     let b : Begun known p l w = record {
@@ -96,7 +96,7 @@ new-requires-2 c =
     } in
     let walked = rw (c.body.ensures.body) at c.in_ok-sequence.ensures.value in
     let none = rw (c.body.ensures.body) at c.in_ok-sequence.ensures.fault in
-    let new = c.sequence.new.walk in
+    let new = c.sequence.new.resolver in
     let before = c.new-body.result.items in
     let after = c.sequence.new.out.items in
     let fits : size (sequence after) ≤ 65534 =
@@ -108,7 +108,7 @@ pub returns-clause-resolved : goal.returns-clause-resolved
 returns-clause-resolved c =
     let known = class_named c.args.lattice.now in
     let p = whole c.args.program.now in
-    let w : Walk = record { names = c.in_ok-list.field-0.names; letvars = c.new.result; globals = c.len.result } in
+    let w : Resolver = record { names = c.in_ok-list.field-0.names; letvars = c.new.result; globals = c.len.result } in
     let l = c.in_ok-list.field-0.list.items in
     let g = c.in_ok-list.ensures in
     let b : Begun known p l w = record {
@@ -123,7 +123,7 @@ returns-clause-resolved c =
     } in
     let walked = rw (c.body.ensures.body) at c.in_ok-sequence.ensures.value in
     let none = rw (c.body.ensures.body) at c.in_ok-sequence.ensures.fault in
-    let new = c.sequence.new.walk in
+    let new = c.sequence.new.resolver in
     let before = c.new-body.result.items in
     let after = c.sequence.new.out.items in
     let fits : size (sequence after) ≤ 65534 =

@@ -1,0 +1,10 @@
+//! The arguments of a command line: `request_of` reads what they ask for, or gives the help for them.
+#![tactic(auto)]
+
+mod error;
+mod help;
+mod request;
+mod usage;
+
+pub use error::ArgumentsError;
+pub use request::{Compilation, Execution, Request, request_of};

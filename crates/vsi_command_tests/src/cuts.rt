@@ -1,0 +1,117 @@
+//! What is shown where a device fails in mid-stream.
+
+use super::devices::{Device, Room, SUM, Shown, run, show};
+use std::alloc::{AllocError, Global};
+use std::test::Fail;
+
+/// The fault of a standard stream.
+const STREAM: &[u8] = b"file fault: -\n";
+
+/// Whether a device that had so much room took a beginning of what it takes in the whole, and the run ended so.
+fn is_cut(cut: &Shown, whole: &Shown, device: Device, bytes: usize, status: u8) -> bool {
+    cut.status == status
+        && cut.is_closed
+        && cut.taken(device).len() == bytes
+        && whole.taken(device).starts_with(cut.taken(device))
+}
+
+/// Whether standard error was given this, where it isn't itself what fails.
+fn is_told(cut: &Shown, device: Device, error: &[u8]) -> bool {
+    matches!(device, Device::Error) || cut.error.as_slice() == error
+}
+
+/// Whether a line ends so wherever a device takes less than the whole, and tells this.
+fn is_cut_anywhere(
+    alloc: Global,
+    line: &str,
+    device: Device,
+    status: u8,
+    error: &[u8],
+) -> Result<bool, AllocError> {
+    let whole = show(alloc, line, Room::AMPLE)?;
+    for bytes in 0..whole.taken(device).len() {
+        let cut = show(alloc, line, Room::only(device, bytes))?;
+        if !is_cut(&cut, &whole, device, bytes, status) || !is_told(&cut, device, error) {
+            return Ok(false);
+        }
+    }
+    Ok(whole.is_closed && !whole.taken(device).is_empty())
+}
+
+#[test]
+fn tells_faults_of_what_is_written(rt: HostRuntime) -> Result<(), Fail> {
+    for line in &[
+        "check two sum",
+        "classes two sum",
+        "list image",
+        "run image --budget 3",
+        "run image --budget 3 --trace",
+        "view two image --class L --budget 3",
+        "fmt sum",
+        "--version",
+    ] {
+        let is_told = is_cut_anywhere(rt.alloc(), line, Device::Output, 4, STREAM)?;
+        assert!(rt; is_told, "at {line}");
+    }
+    let line = "build two sum made";
+    let error = b"file fault: made\n";
+    assert!(rt; is_cut_anywhere(rt.alloc(), line, Device::Image, 4, error)?);
+    Ok(())
+}
+
+#[test]
+fn keeps_its_status_where_it_goes_unheard(rt: HostRuntime) -> Result<(), Fail> {
+    for (line, status) in &[
+        ("check two leak", 1),
+        ("solve", 2),
+        ("view two image --class Q --budget 3", 2),
+        ("run image --budget 2", 3),
+        ("check gone leak", 4),
+    ] {
+        let is_kept = is_cut_anywhere(rt.alloc(), line, Device::Error, *status, b"")?;
+        assert!(rt; is_kept, "at {line}");
+    }
+    Ok(())
+}
+
+/// Whether this shows a fault and nothing else.
+fn is_fault(shown: &Shown, error: &[u8]) -> bool {
+    shown.status == 4 && shown.output.is_empty() && shown.error.as_slice() == error
+}
+
+#[test]
+fn tells_faults_of_what_is_read(rt: HostRuntime) -> Result<(), Fail> {
+    for line in &[
+        "check torn sum",
+        "check two torn",
+        "list torn",
+        "fmt torn",
+        "run torn --budget 3",
+        "run image --budget 3 --store torn",
+        "view two image --class L --budget 3 --store torn",
+    ] {
+        let shown = show(rt.alloc(), line, Room::AMPLE)?;
+        assert!(rt; is_fault(&shown, b"file fault: torn\n"), "at {line}");
+    }
+    Ok(())
+}
+
+/// Whether a run without words whose output takes so many bytes shows these and the fault.
+fn is_begun(alloc: Global, begun: &[u8]) -> bool {
+    let shown = run(alloc, 0, Room::only(Device::Output, begun.len()));
+    shown.status == 4 && shown.output.as_slice() == begun && shown.error.as_slice() == STREAM
+}
+
+#[test]
+fn tells_faults_without_words(rt: HostRuntime) {
+    for fails_at in 1..23 {
+        let shown = run(rt.alloc(), fails_at, Room::AMPLE);
+        assert!(rt; is_fault(&shown, STREAM), "at {fails_at}");
+    }
+    for begun in &["", "x", "x ", "x =", "x = ", "x = 3"] {
+        assert!(rt; is_begun(rt.alloc(), begun.as_bytes()), "at {begun}");
+    }
+    let unheard = run(rt.alloc(), 1, Room::only(Device::Error, 0));
+    assert!(rt; unheard.status == 4 && unheard.output.is_empty() && unheard.error.is_empty());
+    assert!(rt; SUM.len() == 21);
+}

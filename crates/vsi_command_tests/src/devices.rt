@@ -1,0 +1,238 @@
+//! Readers, writers and files in memory that fail when they are told to.
+
+ghost use Rattle.std.specs.Prelude.{◌≡◌, Some};
+ghost use Rattle.vsi_devices.specs.Counted.{faults_of};
+
+use std::alloc::{AllocError, Global};
+use std::io;
+use std::io::{ErrorKind, Read, Write};
+use vsi::{Counted, Files, command};
+
+/// The text that is read from standard input.
+pub(super) const SUM: &[u8] = b"var x : L; x := 1 + 2";
+
+const TWO: &[u8] = b"classes = [\"L\", \"H\"]\nbelow = [[\"L\", \"H\"]]\n";
+
+/// The image of the sum.
+const IMAGE: &[u8] = b"VSI\x02\x00\x01\x00\x01\x00\x01\x00\x00\x00\x03\x01x\x01L\
+    \x01\x00\x00\x00\x00\x00\x00\x00\x03\x03\x00\x00\x0a";
+
+/// The files that can be read. `torn` fails at its ninth byte.
+const STORED: [(&str, &[u8]); 5] = [
+    ("two", TWO),
+    ("torn", TWO),
+    ("sum", SUM),
+    ("leak", b"var h : H; var l : L; l := h"),
+    ("image", IMAGE),
+];
+
+/// Gives one byte a call, and fails at one call, counted from 1.
+#[derive(Drop)]
+pub(super) struct Drip<'a> {
+    bytes: &'a [u8],
+    calls: u64,
+    fails_at: u64,
+}
+
+impl<'a> Drip<'a> {
+    fn new(bytes: &'a [u8], fails_at: u64) -> Drip<'a> {
+        Drip {
+            bytes,
+            calls: 0,
+            fails_at,
+        }
+    }
+}
+
+impl Read for Drip<'_> {
+    ghost remaining = { λ d. Some d.bytes.now };
+
+    fn read(&mut self, buf: &mut [u8]) -> io::Result<usize> {
+        self.calls = self.calls.saturating_add(1);
+        if self.calls == self.fails_at {
+            return Err(io::Error::from(ErrorKind::Other));
+        }
+        let most = buf.len().min(1);
+        self.bytes.read(&mut buf[..most])
+    }
+}
+
+/// Takes one byte a call, and none beyond its room.
+#[derive(Drop)]
+pub(super) struct Scant {
+    bytes: Vec<u8>,
+    room: usize,
+}
+
+impl Scant {
+    fn new(alloc: Global, room: usize) -> Scant {
+        Scant {
+            bytes: Vec::new(alloc),
+            room,
+        }
+    }
+}
+
+impl Write for Scant {
+    fn write(&mut self, buf: &[u8]) -> io::Result<usize> {
+        if self.bytes.len() >= self.room {
+            return Err(io::Error::from(ErrorKind::StorageFull));
+        }
+        let Some(byte) = buf.first() else {
+            return Ok(0);
+        };
+        self.bytes.push(*byte)?;
+        Ok(1)
+    }
+
+    fn flush(&mut self) -> io::Result<()> {
+        Ok(())
+    }
+}
+
+/// The files, with how many were opened to write and how many closed, and the last of these.
+#[derive(Drop)]
+struct Shelf {
+    alloc: Global,
+    room: usize,
+    opened: u64,
+    closed: u64,
+    page: Option<Scant>,
+}
+
+impl Files for Shelf {
+    type Input = Drip<'static>;
+
+    type Output = Scant;
+
+    fn open_file(&mut self, path: &str) -> Option<Drip<'static>> {
+        for (name, bytes) in &STORED {
+            if *name == path {
+                let fails_at = if path == "torn" { 9 } else { 0 };
+                return Some(Drip::new(*bytes, fails_at));
+            }
+        }
+        None
+    }
+
+    fn create_file(&mut self, _path: &str) -> Option<Scant> {
+        self.opened = self.opened.saturating_add(1);
+        Some(Scant::new(self.alloc, self.room))
+    }
+
+    fn close_file(&mut self, output: Scant) {
+        self.closed = self.closed.saturating_add(1);
+        self.page = Some(output);
+    }
+}
+
+/// What is written to.
+#[derive(Clone, Copy)]
+pub(super) enum Device {
+    Output,
+    Error,
+    Image,
+}
+
+/// How many bytes each device takes.
+#[derive(Clone, Copy)]
+pub(super) struct Room {
+    output: usize,
+    error: usize,
+    image: usize,
+}
+
+impl Room {
+    /// More than is written in these tests.
+    pub(super) const AMPLE: Room = Room {
+        output: 1 << 20,
+        error: 1 << 20,
+        image: 1 << 20,
+    };
+
+    /// So many bytes on one device, and more than is written on the others.
+    pub(super) fn only(device: Device, bytes: usize) -> Room {
+        match device {
+            Device::Output => Room {
+                output: bytes,
+                ..Room::AMPLE
+            },
+            Device::Error => Room {
+                error: bytes,
+                ..Room::AMPLE
+            },
+            Device::Image => Room {
+                image: bytes,
+                ..Room::AMPLE
+            },
+        }
+    }
+}
+
+/// How a command line ended, and what each device took.
+#[derive(Drop)]
+pub(super) struct Shown {
+    pub status: u8,
+    pub output: Vec<u8>,
+    pub error: Vec<u8>,
+    pub image: Vec<u8>,
+    /// Whether each file that was opened to write was closed once.
+    pub is_closed: bool,
+}
+
+impl Shown {
+    /// What a device took.
+    pub(super) fn taken(&self, device: Device) -> &[u8] {
+        match device {
+            Device::Output => self.output.as_slice(),
+            Device::Error => self.error.as_slice(),
+            Device::Image => self.image.as_slice(),
+        }
+    }
+}
+
+/// Calls `command` with these words, this input and this room.
+fn call(alloc: Global, words: &[String], drip: Drip<'_>, room: Room) -> Shown {
+    let mut files = Shelf {
+        alloc,
+        room: room.image,
+        opened: 0,
+        closed: 0,
+        page: None,
+    };
+    let mut input = Counted::new(drip);
+    let mut output = Counted::new(Scant::new(alloc, room.output));
+    let mut error = Counted::new(Scant::new(alloc, room.error));
+    let status = command(
+        alloc,
+        words,
+        &mut files,
+        &mut input,
+        &mut output,
+        &mut error,
+    );
+    Shown {
+        status,
+        output: output.into_inner().bytes,
+        error: error.into_inner().bytes,
+        is_closed: files.opened == files.closed,
+        image: match files.page {
+            Some(page) => page.bytes,
+            None => Vec::new(alloc),
+        },
+    }
+}
+
+/// What the words of a line show within this room. An input that is read fails.
+pub(super) fn show(alloc: Global, line: &str, room: Room) -> Result<Shown, AllocError> {
+    let mut words = Vec::new(alloc);
+    for word in line.split(' ') {
+        words.push(word.to_string(alloc)?)?;
+    }
+    Ok(call(alloc, words.as_slice(), Drip::new(b"", 1), room))
+}
+
+/// What a run without words shows of the sum within this room, where the input fails at one call, counted from 1.
+pub(super) fn run(alloc: Global, fails_at: u64, room: Room) -> Shown {
+    call(alloc, &[], Drip::new(SUM, fails_at), room)
+}

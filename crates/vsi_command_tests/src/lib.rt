@@ -1,0 +1,10 @@
+//! Tests of `command` over devices that fail in mid-stream, and of what errors say of themselves. What `command` writes
+//! where none fails is told by the transcripts in `cases/`.
+#![tactic(auto)]
+
+#[cfg(test)]
+mod cuts;
+#[cfg(test)]
+mod devices;
+#[cfg(test)]
+mod messages;

@@ -1,0 +1,25 @@
+-- What a clause reads of a `Counted`, and what a call of it does to the count.
+use Rattle.std.specs.Prelude.{◌≡◌, ℕ, ◌+◌, ◌-◌, ◌^◌, ◌<◌, min, MatchResult, Result}
+use Rattle.vsi_devices.specs.declared.counted.Counted.{Counted}
+
+-- `c.into_inner()`.
+abbrev pub device_of : {D : Type 0} → Counted D → D
+device_of c = c.device
+
+-- `c.faults()`.
+abbrev pub faults_of : {D : Type 0} → Counted D → ℕ
+faults_of c = c.faults
+
+-- One more, which stops at `u64::MAX`.
+abbrev pub one_more : ℕ → ℕ
+one_more n = min (n + 1) (2 ^ 64 - 1)
+
+-- The call's `Err` is counted, and nothing else.
+abbrev pub CountsReads : {X E : Type 0} → Result X E → ℕ → ℕ → Type 0
+CountsReads r old new = MatchResult r (λ _. new ≡ old) (λ _. new ≡ one_more old)
+
+-- The same, where taking no byte of some is a fault too.
+abbrev pub CountsWrites : {E : Type 0} → Result ℕ E → ℕ → ℕ → ℕ → Type 0
+CountsWrites r len old new = MatchResult r
+    (λ n. ((n ≡ 0 × (0 < len)) → new ≡ one_more old) × ((n ≡ 0 → len ≡ 0) → new ≡ old))
+    (λ _. new ≡ one_more old)

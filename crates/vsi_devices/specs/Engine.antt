@@ -1,0 +1,33 @@
+-- What the calls over devices read, and which errors they may answer.
+use Rattle.std.specs.Prelude.{◌≡◌, ◌≤◌, ℕ, List, length, take, Option, IfSome}
+use Rattle.std.specs.Io.KnownBytes.{Consumes}
+use Rattle.vsi_devices.specs.declared.error.EngineError.{EngineError}
+use Rattle.vsi_devices.specs.declared.error.EngineError.TheVariants.{ReadFault, WriteFault, Compile, Decode, Verify, Store, Memory}
+
+-- What is read of a reader that tells its bytes: all of them, or as many as the limit.
+abbrev pub IsReadFrom : Option (List ℕ) → List ℕ → Type 0
+IsReadFrom remaining bytes = IfSome remaining (λ xs. bytes ≡ take 1048577 xs)
+
+-- A reader that tells its bytes has lost no more of them than the limit, from the front.
+abbrev pub TakesFew : Option (List ℕ) → Option (List ℕ) → Type 0
+TakesFew old new = (taken : List ℕ) × Consumes old new taken × (length taken ≤ 1048577)
+
+-- A fault of the reader, or want of memory.
+abbrev pub IsOfReading : EngineError → Type 0
+IsOfReading ReadFault = Unit {0}
+IsOfReading WriteFault = ⊥
+IsOfReading (Compile e) = ⊥
+IsOfReading (Decode e) = ⊥
+IsOfReading (Verify e) = ⊥
+IsOfReading (Store e) = ⊥
+IsOfReading Memory = Unit {0}
+
+-- A fault of the writer, or want of memory.
+abbrev pub IsOfWriting : EngineError → Type 0
+IsOfWriting ReadFault = ⊥
+IsOfWriting WriteFault = Unit {0}
+IsOfWriting (Compile e) = ⊥
+IsOfWriting (Decode e) = ⊥
+IsOfWriting (Verify e) = ⊥
+IsOfWriting (Store e) = ⊥
+IsOfWriting Memory = Unit {0}

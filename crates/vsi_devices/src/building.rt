@@ -1,0 +1,130 @@
+//! Compiles a text that a reader gives, and writes the bytes of its image.
+
+ghost use Rattle.std.specs.Prelude.{◌≡◌, ◌≢◌, ◌≤◌, ◌<◌, ◌+◌, ◌↔◌, ℕ, take, IfOk, IfErr, OnOk, IsErrOf};
+ghost use Rattle.std.specs.Io.KnownBytes.{Keeps};
+ghost use Rattle.vsi_lattice.specs.LatticeView.{class_named, order};
+ghost use Rattle.vsi_types.specs.declared.rules.Profile.TheVariants.{Base};
+ghost use Rattle.vsi_devices.specs.Building.{Builds, IsBuilt, WrittenCut};
+ghost use Rattle.vsi_devices.specs.Counted.{device_of, faults_of};
+ghost use Rattle.vsi_devices.specs.Engine.{TakesFew};
+ghost use Rattle.vsi_devices.specs.Refusing.{RefusesRead, RefusesText};
+ghost use Rattle.vsi_devices.specs.Running.{WrittenSome};
+
+use crate::counted::Counted;
+use crate::engine::{read_all, write_out};
+use crate::error::EngineError;
+use std::alloc::Global;
+use std::io::{Read, Write};
+use vsi_compiler::compile_in;
+use vsi_image::{EncodeError, encode};
+use vsi_lattice::Lattice;
+use vsi_types::Profile;
+
+/// Compiles the text that a reader gives under a profile, and writes the bytes of its image. Until these are whole
+/// nothing is written.
+///
+/// # Errors
+///
+/// `ReadFault` and `Compile`, in this order and before anything is written; `WriteFault` with a prefix of the bytes
+/// written; `Memory` with nothing written.
+pub fn build_in<R: Read, W: Write>(
+    alloc: Global,
+    profile: Profile,
+    lattice: &Lattice,
+    reader: &mut Counted<R>,
+    writer: &mut Counted<W>,
+) -> Result<(), EngineError>
+    requires reads { faults_of reader.old < u64.MAX }
+    requires writes { faults_of writer.old < u64.MAX }
+    ensures read_fault { IsErrOf result EngineError.ReadFault ↔ faults_of reader.old < faults_of reader.new }
+    ensures write_fault { IsErrOf result EngineError.WriteFault ↔ faults_of writer.old < faults_of writer.new }
+    ensures read_count { faults_of reader.old ≤ faults_of reader.new }
+    ensures write_count { faults_of writer.old ≤ faults_of writer.new }
+    ensures read_once { faults_of reader.new ≤ faults_of reader.old + 1 }
+    ensures write_once { faults_of writer.new ≤ faults_of writer.old + 1 }
+    ensures bound { TakesFew (R.remaining (device_of reader.old)) (R.remaining (device_of reader.new)) }
+    ensures built { OnOk result (WrittenSome
+        (Builds (class_named lattice.now) (order lattice.now) profile (R.remaining (device_of reader.old)))
+        (W.contents (device_of writer.old)) (W.contents (device_of writer.new))) }
+    ensures prefix { IsErrOf result EngineError.WriteFault →
+        WrittenCut (Builds (class_named lattice.now) (order lattice.now) profile (R.remaining (device_of reader.old)))
+        (W.contents (device_of writer.old)) (W.contents (device_of writer.new)) }
+    ensures untouched { IfErr result (λ e. e ≢ EngineError.WriteFault
+        → Keeps (W.contents (device_of writer.old)) (W.contents (device_of writer.new))) }
+    ensures refused { IfErr result (RefusesRead (RefusesText (class_named lattice.now) (order lattice.now) profile)
+        (R.remaining (device_of reader.old))) }
+{
+    let image = read_compiled(alloc, profile, lattice, reader)?;
+    write_out(&image, writer)
+}
+
+/// Compiles the text that a reader gives, and writes the bytes of its image: `build_in` for the base profile.
+pub fn build<R: Read, W: Write>(
+    alloc: Global,
+    lattice: &Lattice,
+    reader: &mut Counted<R>,
+    writer: &mut Counted<W>,
+) -> Result<(), EngineError>
+    requires reads { faults_of reader.old < u64.MAX }
+    requires writes { faults_of writer.old < u64.MAX }
+    ensures read_fault { IsErrOf result EngineError.ReadFault ↔ faults_of reader.old < faults_of reader.new }
+    ensures write_fault { IsErrOf result EngineError.WriteFault ↔ faults_of writer.old < faults_of writer.new }
+    ensures read_count { faults_of reader.old ≤ faults_of reader.new }
+    ensures write_count { faults_of writer.old ≤ faults_of writer.new }
+    ensures read_once { faults_of reader.new ≤ faults_of reader.old + 1 }
+    ensures write_once { faults_of writer.new ≤ faults_of writer.old + 1 }
+    ensures bound { TakesFew (R.remaining (device_of reader.old)) (R.remaining (device_of reader.new)) }
+    ensures built { OnOk result (WrittenSome
+        (Builds (class_named lattice.now) (order lattice.now) Base (R.remaining (device_of reader.old)))
+        (W.contents (device_of writer.old)) (W.contents (device_of writer.new))) }
+    ensures prefix { IsErrOf result EngineError.WriteFault →
+        WrittenCut (Builds (class_named lattice.now) (order lattice.now) Base (R.remaining (device_of reader.old)))
+        (W.contents (device_of writer.old)) (W.contents (device_of writer.new)) }
+    ensures untouched { IfErr result (λ e. e ≢ EngineError.WriteFault
+        → Keeps (W.contents (device_of writer.old)) (W.contents (device_of writer.new))) }
+    ensures refused { IfErr result (RefusesRead (RefusesText (class_named lattice.now) (order lattice.now) Base)
+        (R.remaining (device_of reader.old))) }
+{
+    build_in(alloc, Profile::Base, lattice, reader, writer)
+}
+
+/// The bytes of the image of the text that a reader gives.
+fn read_compiled<R: Read>(
+    alloc: Global,
+    profile: Profile,
+    lattice: &Lattice,
+    reader: &mut Counted<R>,
+) -> Result<Vec<u8>, EngineError>
+    requires { faults_of reader.old < u64.MAX }
+    ensures fault { IsErrOf result EngineError.ReadFault ↔ faults_of reader.old < faults_of reader.new }
+    ensures count { faults_of reader.old ≤ faults_of reader.new }
+    ensures once { faults_of reader.new ≤ faults_of reader.old + 1 }
+    ensures bound { TakesFew (R.remaining (device_of reader.old)) (R.remaining (device_of reader.new)) }
+    ensures only { IfErr result (λ e. e ≢ EngineError.WriteFault) }
+    ensures built { IfOk result (λ bytes. Builds (class_named lattice.now) (order lattice.now) profile
+        (R.remaining (device_of reader.old)) bytes.items) }
+    ensures refused { IfErr result (RefusesRead (RefusesText (class_named lattice.now) (order lattice.now) profile)
+        (R.remaining (device_of reader.old))) }
+{
+    let text = read_all(alloc, reader)?;
+    compiled(alloc, profile, lattice, &text)
+}
+
+/// The bytes of the image of a text.
+fn compiled(
+    alloc: Global,
+    profile: Profile,
+    lattice: &Lattice,
+    text: &[u8],
+) -> Result<Vec<u8>, EngineError>
+    ensures built { IfOk result (λ bytes.
+        IsBuilt (class_named lattice.now) (order lattice.now) profile text.now bytes.items) }
+    ensures refused { IfErr result (RefusesText (class_named lattice.now) (order lattice.now) profile text.now) }
+{
+    let verified = compile_in(alloc, profile, lattice, text)?;
+    match encode(alloc, verified.image()) {
+        Ok(bytes) => Ok(bytes),
+        Err(EncodeError::Memory) => Err(EngineError::Memory),
+        Err(EncodeError::Unencodable(_)) => unreachable!(),
+    }
+}

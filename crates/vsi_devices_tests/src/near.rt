@@ -1,0 +1,119 @@
+//! Images near a worked one, each byte with each other value: what isn't refused is kept and runs.
+
+use std::alloc::Global;
+use vsi_image::{DecodeError, Image, Verified, VerifyError, decode, encode, verify};
+use vsi_machine::{Machine, Outcome};
+
+/// The bytes of an image in version 1: it pushes 3, stores it in `x` and halts.
+const STORES: [u8; 31] = [
+    0x56, 0x53, 0x49, 1, 0, 1, 0, 1, 0, 1, 0, 0, 0, 3, 1, 0x78, 1, 0x4c, 1, 0, 0, 0, 0, 0, 0, 0, 3,
+    3, 0, 0, 10,
+];
+
+/// What becomes of bytes: no image, one that isn't valid, a run with the word that it leaves in the only global, or
+/// nothing that is known, as without memory or where the image is written otherwise than it was read.
+#[derive(Clone, Copy, PartialEq, Eq)]
+enum Fate {
+    NoImage,
+    NotValid(VerifyError),
+    Ran(Outcome, i64),
+    Unknown,
+}
+
+/// How a run of 1,000 instructions from zeros ends where the image has one global.
+fn fate_of_run(alloc: Global, verified: &Verified) -> Fate {
+    match Machine::new(alloc, verified, &[0]) {
+        Ok(mut machine) => {
+            let outcome = machine.run(1000);
+            match machine.store() {
+                [word] => Fate::Ran(outcome, *word),
+                _ => Fate::Unknown,
+            }
+        }
+        Err(_) => Fate::Unknown,
+    }
+}
+
+/// Whether an image is written as its bytes in version 2.
+fn is_kept(alloc: Global, image: &Image, bytes: &[u8; 31]) -> bool {
+    let mut second = *bytes;
+    second[3] = 2;
+    match encode(alloc, image) {
+        Ok(written) => written.as_slice() == second.as_slice(),
+        Err(_) => false,
+    }
+}
+
+/// What becomes of the image of bytes.
+fn fate_of_image(alloc: Global, image: Image, bytes: &[u8; 31]) -> Fate {
+    if !is_kept(alloc, &image, bytes) {
+        return Fate::Unknown;
+    }
+    match verify(image) {
+        Ok(verified) => fate_of_run(alloc, &verified),
+        Err((_, fault)) => Fate::NotValid(fault),
+    }
+}
+
+/// What becomes of bytes whose image, if they are one's, has one global.
+fn fate_of(alloc: Global, bytes: &[u8; 31]) -> Fate {
+    match decode(alloc, bytes) {
+        Ok(image) => fate_of_image(alloc, image, bytes),
+        Err(DecodeError::Memory) => Fate::Unknown,
+        Err(_) => Fate::NoImage,
+    }
+}
+
+/// The word 3 with another byte at one of its eight places.
+fn pushed(place: usize, other: u8) -> i64 {
+    let mut word = [0, 0, 0, 0, 0, 0, 0, 3];
+    if let Some(byte) = word.get_mut(place) {
+        *byte = other;
+    }
+    i64::from_be_bytes(word)
+}
+
+/// What has to become of the image in this version with a byte at a place, worked field by field.
+fn wanted(version: u8, at: usize, other: u8) -> Fate {
+    match (at, other) {
+        (3, 1..=2) | (6, 1) | (7, 2..=255) | (9, 2..=255) => Fate::Ran(Outcome::Halted, 3),
+        (15 | 17, b'A'..=b'Z' | b'a'..=b'z') => Fate::Ran(Outcome::Halted, 3),
+        (19..=26, _) => Fate::Ran(Outcome::Halted, pushed(at.wrapping_sub(19), other)),
+        (9, 0) => Fate::NotValid(VerifyError::Overflow(0)),
+        (27, 2) => Fate::NotValid(VerifyError::Overflow(1)),
+        (28..=29, _) => Fate::NotValid(VerifyError::BadSlot(1)),
+        (30, 4..=7) => Fate::NotValid(VerifyError::Underflow(2)),
+        (30, 11) if version == 2 => Fate::NotValid(VerifyError::Underflow(2)),
+        _ => Fate::NoImage,
+    }
+}
+
+/// Whether what is wanted becomes of the image in this version with a byte at a place.
+fn is_as_wanted(alloc: Global, version: u8, at: usize, other: u8) -> bool {
+    let mut near = STORES;
+    near[3] = version;
+    let whole = near;
+    if let Some(byte) = near.get_mut(at) {
+        *byte = other;
+    }
+    let fate = if near == whole {
+        Fate::Ran(Outcome::Halted, 3)
+    } else {
+        wanted(version, at, other)
+    };
+    fate_of(alloc, &near) == fate
+}
+
+#[test]
+fn a_changed_image_is_kept_and_runs_or_is_refused(rt: HostRuntime) {
+    for version in 1..=2 {
+        for at in 0..31 {
+            for other in 0..=255 {
+                assert!(rt;
+                    is_as_wanted(rt.alloc(), version, at, other),
+                    "{other} at {at}"
+                );
+            }
+        }
+    }
+}

@@ -1,5 +1,0 @@
-use Rattle.vsi_engine.proofs.Seen as law
-use Rattle.vsi_engine.proofs.laws.same_view.Goals as goal
-
-pub returns : goal.returns
-returns c = law.same_view

@@ -1,0 +1,232 @@
+//! The first wanted step from each variable, in one walk over a program.
+
+ghost use Rattle.std.specs.Prelude.{ℕ, length, IfOk};
+ghost use Rattle.std.specs.List.{All, Contains};
+ghost use Rattle.vsi_scope.specs.Language.{HasPlaces, Assign, If, While, Letvar};
+ghost use Rattle.vsi_scope.specs.View.{expression, command, sequence};
+ghost use Rattle.vsi_types.specs.Security.{name_place, program as program_of, steps_of};
+ghost use Rattle.vsi_types.specs.Walker.{walker_place};
+ghost use Rattle.vsi_types.specs.declared.rules.Profile.{Profile};
+ghost use Rattle.vsi_syntax.specs.declared.token.Span.{Span};
+ghost use Rattle.vsi_infer.specs.StepSearch.{HasRoom};
+ghost use Rattle.vsi_infer.specs.FirstSteps.{Gathers};
+
+use crate::looking::{
+    FirstSteps, Gathering, STRIDE, enter, look_ending, look_guards, look_reads, start,
+};
+use crate::step_search::Wanted;
+use std::alloc::{AllocError, Global as Heap};
+use vsi_scope::{Cmd, Entry, Ex, Resolved, Var};
+use vsi_syntax::Span;
+use vsi_types::{Profile, Rule, Step, Walker, first_variables, push_reads};
+
+/// Gathers from an assignment, which doesn't loop.
+fn gather_assign<W: Wanted>(
+    wanted: &W,
+    walk: &Walker,
+    log: &mut Gathering,
+    location: u16,
+    written: Span,
+    value: &Ex,
+) -> Result<bool, AllocError>
+    requires { HasPlaces (length walk.now.scope.items) (Assign location written (expression value.now)) }
+    ensures { (P : Profile) (names : ℕ → Span) → Gathers P names (walker_place walk.now) log.old.kept.steps.items
+        (Assign location written (expression value.now)) (walker_place walk.now) log.new.kept.steps.items result }
+{
+    log.turn = log.turn.wrapping_add(STRIDE);
+    let target = walk.scope[location as usize];
+    look_reads(
+        wanted,
+        log,
+        target,
+        written,
+        &walk.scope,
+        Rule::Assign,
+        value,
+    )?;
+    look_guards(wanted, log, &walk.guards, target, written)?;
+    Ok(false)
+}
+
+/// Gathers from a choice, and says whether it loops.
+#[cycle(walk)]
+fn gather_if<W: Wanted>(
+    wanted: &W,
+    profile: Profile,
+    entries: &[Entry<'_>],
+    first: u16,
+    walk: &mut Walker,
+    log: &mut Gathering,
+    then_branch: &[Cmd],
+    else_branch: &[Cmd],
+    guard: &Ex,
+) -> Result<bool, AllocError>
+    requires { HasRoom first (length entries.now) (walker_place walk.old)
+        (If (expression guard.now) (sequence then_branch.now) (sequence else_branch.now)) }
+    ensures { Gathers profile (name_place entries.now first) (walker_place walk.old) log.old.kept.steps.items
+        (If (expression guard.now) (sequence then_branch.now) (sequence else_branch.now)) (walker_place walk.new)
+        log.new.kept.steps.items result }
+{
+    let turn = log.turn.wrapping_add(STRIDE);
+    log.turn = turn;
+    let around = log.around;
+    let outside = walk.guards.len();
+    push_reads(&mut walk.guards, &walk.scope, Rule::If, guard)?;
+    enter(log, &walk.guards, outside);
+    let one = gather_commands(wanted, profile, entries, first, walk, log, then_branch)?;
+    let two = gather_commands(wanted, profile, entries, first, walk, log, else_branch)?;
+    walk.guards.truncate(outside);
+    log.around = around;
+    look_ending(wanted, profile, log, &walk.scope, turn, one | two, guard)?;
+    Ok(one | two)
+}
+
+/// Gathers from a loop.
+#[cycle(walk)]
+fn gather_while<W: Wanted>(
+    wanted: &W,
+    profile: Profile,
+    entries: &[Entry<'_>],
+    first: u16,
+    walk: &mut Walker,
+    log: &mut Gathering,
+    body: &[Cmd],
+    guard: &Ex,
+) -> Result<bool, AllocError>
+    requires { HasRoom first (length entries.now) (walker_place walk.old)
+        (While (expression guard.now) (sequence body.now)) }
+    ensures { Gathers profile (name_place entries.now first) (walker_place walk.old) log.old.kept.steps.items
+        (While (expression guard.now) (sequence body.now)) (walker_place walk.new) log.new.kept.steps.items result }
+{
+    let turn = log.turn.wrapping_add(STRIDE);
+    log.turn = turn;
+    look_ending(wanted, profile, log, &walk.scope, turn, true, guard)?;
+    let around = log.around;
+    let outside = walk.guards.len();
+    push_reads(&mut walk.guards, &walk.scope, Rule::While, guard)?;
+    enter(log, &walk.guards, outside);
+    gather_commands(wanted, profile, entries, first, walk, log, body)?;
+    walk.guards.truncate(outside);
+    log.around = around;
+    Ok(true)
+}
+
+/// Gathers from a letvar, and says whether it loops.
+#[cycle(walk)]
+fn gather_letvar<W: Wanted>(
+    wanted: &W,
+    profile: Profile,
+    entries: &[Entry<'_>],
+    first: u16,
+    walk: &mut Walker,
+    log: &mut Gathering,
+    body: &[Cmd],
+    value: &Ex,
+) -> Result<bool, AllocError>
+    requires { HasRoom first (length entries.now) (walker_place walk.old)
+        (Letvar (expression value.now) (sequence body.now)) }
+    ensures { Gathers profile (name_place entries.now first) (walker_place walk.old) log.old.kept.steps.items
+        (Letvar (expression value.now) (sequence body.now)) (walker_place walk.new) log.new.kept.steps.items result }
+{
+    log.turn = log.turn.wrapping_add(STRIDE);
+    let variable = Var(walk.next);
+    let written = entries[(walk.next - first) as usize].span;
+    look_reads(
+        wanted,
+        log,
+        variable,
+        written,
+        &walk.scope,
+        Rule::Letvar,
+        value,
+    )?;
+    let outside = walk.scope.len();
+    walk.scope.push(variable)?;
+    walk.next += 1;
+    let looping = gather_commands(wanted, profile, entries, first, walk, log, body)?;
+    walk.scope.truncate(outside);
+    Ok(looping)
+}
+
+/// Gathers from the commands of a list, and says whether one loops.
+#[cycle(walk)]
+fn gather_commands<W: Wanted>(
+    wanted: &W,
+    profile: Profile,
+    entries: &[Entry<'_>],
+    first: u16,
+    walk: &mut Walker,
+    log: &mut Gathering,
+    body: &[Cmd],
+) -> Result<bool, AllocError>
+    requires { HasRoom first (length entries.now) (walker_place walk.old) (sequence body.now) }
+    ensures { Gathers profile (name_place entries.now first) (walker_place walk.old) log.old.kept.steps.items
+        (sequence body.now) (walker_place walk.new) log.new.kept.steps.items result }
+{
+    let mut looping = false;
+    for c in body {
+        let one = gather_command(wanted, profile, entries, first, walk, log, c)?;
+        looping |= one;
+    }
+    Ok(looping)
+}
+
+/// Gathers from one command, and says whether it loops.
+#[cycle(walk)]
+fn gather_command<W: Wanted>(
+    wanted: &W,
+    profile: Profile,
+    entries: &[Entry<'_>],
+    first: u16,
+    walk: &mut Walker,
+    log: &mut Gathering,
+    c: &Cmd,
+) -> Result<bool, AllocError>
+    requires { HasRoom first (length entries.now) (walker_place walk.old) (command c.now) }
+    ensures { Gathers profile (name_place entries.now first) (walker_place walk.old) log.old.kept.steps.items
+        (command c.now) (walker_place walk.new) log.new.kept.steps.items result }
+{
+    match c {
+        Cmd::Assign { loc, span, value } => gather_assign(wanted, walk, log, *loc, *span, value),
+        Cmd::If { guard, yes, no } => gather_if(
+            wanted, profile, entries, first, walk, log, yes, no, guard,
+        ),
+        Cmd::While { guard, body } => gather_while(
+            wanted, profile, entries, first, walk, log, body, guard,
+        ),
+        Cmd::Letvar { value, body } => gather_letvar(
+            wanted, profile, entries, first, walk, log, body, value,
+        ),
+    }
+}
+
+/// The first wanted step from each variable of a program.
+pub(crate) fn first_steps<W: Wanted>(
+    alloc: Heap,
+    profile: Profile,
+    program: &Resolved<'_>,
+    wanted: &W,
+) -> Result<FirstSteps, AllocError>
+    ensures { IfOk result (λ f. All (Contains (steps_of profile (program_of program.now))) f.steps.items) }
+{
+    let body = program.body();
+    let first = program.globals().len() as u16;
+    let count = first + program.letvars().len() as u16;
+    let mut walk = Walker {
+        scope: first_variables(alloc, first)?,
+        guards: Vec::new(alloc),
+        next: first,
+    };
+    let mut log = start(alloc, count)?;
+    gather_commands(
+        wanted,
+        profile,
+        program.letvars(),
+        first,
+        &mut walk,
+        &mut log,
+        body,
+    )?;
+    let Gathering { kept, .. } = log;
+    Ok(kept)
+}

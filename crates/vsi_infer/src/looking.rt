@@ -1,0 +1,349 @@
+//! What a walk over a program keeps: the first wanted step from each variable.
+//!
+//! A search for one step goes over all flow steps of a program, of which there are as many as guards times
+//! assignments. Here each pair of variables is looked at once: of the guards in force that read a variable only the
+//! first can give its first step to a target, and a row of bits says which variables they read. What is promised of a
+//! kept step is that it is one of the program's. That it is wanted and the first is left to those who use it: they
+//! test what they need, and search where a test fails.
+
+ghost use Rattle.std.specs.Prelude.{◌≡◌, ◌∷◌, [], true, length, OnOk, IfOk, IfSome};
+ghost use Rattle.std.specs.List.{Contains};
+ghost use Rattle.vsi_scope.specs.Language.{HasLocations};
+ghost use Rattle.vsi_scope.specs.View.{expression};
+ghost use Rattle.vsi_types.specs.Steps.{reads, guarded, flows, endings};
+ghost use Rattle.vsi_types.specs.declared.rules.Profile.TheVariants.{Strict};
+ghost use Rattle.vsi_infer.specs.FirstSteps.{IsFrom};
+
+use crate::flow_matrix::observes_ending;
+use crate::rows::{has_bit, note};
+use crate::step_search::Wanted;
+use std::alloc::{AllocError, Global as Heap};
+use vsi_scope::{Ex, Var};
+use vsi_syntax::Span;
+use vsi_types::{Guard, LOOP, Profile, Rule, Step};
+
+/// How far apart the turns of two commands are: more than there are guards.
+pub(crate) const STRIDE: u64 = 4_294_967_296;
+
+/// The first wanted step from each variable.
+#[derive(Drop)]
+pub(crate) struct FirstSteps {
+    /// The steps that were kept.
+    pub(crate) steps: Vec<Step>,
+    /// Their turns in the order of the program's steps.
+    turns: Vec<u64>,
+    /// For each variable the place of its step among them, or a place past the end.
+    places: Vec<usize>,
+}
+
+/// What a gathering walk knows of the place where it stands.
+#[derive(Drop)]
+pub(crate) struct Gathering {
+    pub(crate) kept: FirstSteps,
+    /// For each target a row of the sources that were looked at.
+    seen: Vec<u64>,
+    /// The variables that the guards in force read.
+    pub(crate) around: [u64; 16],
+    /// For each of these variables the place of the first guard that reads it.
+    guarding: Vec<usize>,
+    /// The turn of the command.
+    pub(crate) turn: u64,
+}
+
+impl FirstSteps {
+    /// The step that is kept from a variable.
+    pub(crate) fn from_source(&self, source: Var) -> Option<Step>
+        ensures { IfSome result (Contains self.now.steps.items) }
+    {
+        match self.places.get(source.0 as usize) {
+            Some(place) => self.at(*place),
+            None => None,
+        }
+    }
+
+    /// The first of the steps that are kept.
+    pub(crate) fn earliest(&self) -> Option<Step>
+        ensures { IfSome result (Contains self.now.steps.items) }
+    {
+        let mut best = 0;
+        let mut least = u64::MAX;
+        for i in 0..self.turns.len() {
+            if self.turns[i] < least {
+                least = self.turns[i];
+                best = i;
+            }
+        }
+        self.at(best)
+    }
+
+    /// The step at a place.
+    fn at(&self, place: usize) -> Option<Step>
+        ensures { IfSome result (Contains self.now.steps.items) }
+    {
+        match self.steps.get(place) {
+            Some(step) => Some(*step),
+            None => None,
+        }
+    }
+}
+
+/// Nothing is kept, for as many variables.
+pub(crate) fn start(alloc: Heap, count: u16) -> Result<Gathering, AllocError>
+    ensures { IfOk result (λ g. g.kept.steps.items ≡ []) }
+{
+    let kept = FirstSteps {
+        steps: Vec::new(alloc),
+        turns: Vec::new(alloc),
+        places: vec![in alloc; usize::MAX; count as usize]?,
+    };
+    Ok(Gathering {
+        kept,
+        seen: vec![in alloc; 0; count as usize * 16]?,
+        around: [0; 16],
+        guarding: vec![in alloc; 0; count as usize]?,
+        turn: 0,
+    })
+}
+
+/// Keeps a step where none is kept from its source, or one of a later turn.
+fn keep(kept: &mut FirstSteps, step: Step, turn: u64) -> Result<(), AllocError>
+    ensures { OnOk result (IsFrom (step ∷ []) kept.old.steps.items kept.new.steps.items) }
+{
+    let source = step.source.0 as usize;
+    if source >= kept.places.len() {
+        return Ok(());
+    }
+    let other = match kept.turns.get(kept.places[source]) {
+        Some(other) => *other,
+        None => u64::MAX,
+    };
+    if other <= turn {
+        return Ok(());
+    }
+    kept.places[source] = kept.steps.len();
+    kept.turns.push(turn)?;
+    kept.steps.push(step)?;
+    Ok(())
+}
+
+/// Whether a flow wasn't looked at before; now it was.
+fn is_new(seen: &mut [u64], source: Var, target: Var) -> bool {
+    let row = target.0 as usize;
+    let bit = source.0 as usize;
+    if bit >= 1024 || row * 16 + 16 > seen.len() {
+        return true;
+    }
+    if has_bit(seen, row, bit) {
+        return false;
+    }
+    note(seen, row, bit);
+    true
+}
+
+/// Looks at a step.
+fn look<W: Wanted>(wanted: &W, log: &mut Gathering, step: Step, turn: u64) -> Result<(), AllocError>
+    ensures { OnOk result (IsFrom (step ∷ []) log.old.kept.steps.items log.new.kept.steps.items) }
+{
+    if !is_new(&mut log.seen, step.source, step.target) {
+        return Ok(());
+    }
+    if !wanted.is_wanted(&step) {
+        return Ok(());
+    }
+    keep(&mut log.kept, step, turn)
+}
+
+/// Looks at the flow of the first guard in force that reads a variable.
+fn look_guard<W: Wanted>(
+    wanted: &W,
+    log: &mut Gathering,
+    guards: &[Guard],
+    target: Var,
+    written: Span,
+    variable: usize,
+) -> Result<(), AllocError>
+    ensures { OnOk result (IsFrom (flows target written guards.now)
+        log.old.kept.steps.items log.new.kept.steps.items) }
+{
+    let place = match log.guarding.get(variable) {
+        Some(place) => *place,
+        None => return Ok(()),
+    };
+    let Some(g) = guards.get(place) else {
+        return Ok(());
+    };
+    let step = Step {
+        rule: g.rule,
+        source: g.read.variable,
+        target,
+        read: g.read.place,
+        written,
+    };
+    let turn = log.turn.wrapping_add(place as u64).wrapping_add(1);
+    look(wanted, log, step, turn)?;
+    Ok(())
+}
+
+/// The variables of a word of the guards in force whose flow to the target wasn't looked at before.
+fn unseen(log: &Gathering, target: Var, word: usize) -> u64 {
+    let around = match log.around.get(word) {
+        Some(bits) => *bits,
+        None => 0,
+    };
+    match log.seen.get(target.0 as usize * 16 + word % 16) {
+        Some(bits) => around & !*bits,
+        None => around,
+    }
+}
+
+/// Looks at the flows of 64 variables that guards in force may read.
+fn look_word<W: Wanted>(
+    wanted: &W,
+    log: &mut Gathering,
+    guards: &[Guard],
+    target: Var,
+    written: Span,
+    word: usize,
+) -> Result<(), AllocError>
+    ensures { OnOk result (IsFrom (flows target written guards.now)
+        log.old.kept.steps.items log.new.kept.steps.items) }
+{
+    let bits = unseen(log, target, word);
+    if bits == 0 {
+        return Ok(());
+    }
+    for bit in 0..64 {
+        if bits >> bit & 1 == 0 {
+            continue;
+        }
+        let variable = word % 16 * 64 + bit;
+        look_guard(wanted, log, guards, target, written, variable)?;
+    }
+    Ok(())
+}
+
+/// Looks at the flows of the guards in force.
+pub(crate) fn look_guards<W: Wanted>(
+    wanted: &W,
+    log: &mut Gathering,
+    guards: &[Guard],
+    target: Var,
+    written: Span,
+) -> Result<(), AllocError>
+    ensures { OnOk result (IsFrom (flows target written guards.now)
+        log.old.kept.steps.items log.new.kept.steps.items) }
+{
+    for word in 0..16 {
+        look_word(wanted, log, guards, target, written, word)?;
+    }
+    Ok(())
+}
+
+/// Looks at the flows of what is read.
+pub(crate) fn look_reads<W: Wanted>(
+    wanted: &W,
+    log: &mut Gathering,
+    target: Var,
+    written: Span,
+    scope: &[Var],
+    rule: Rule,
+    e: &Ex,
+) -> Result<(), AllocError>
+    requires { HasLocations (length scope.now) (expression e.now) }
+    ensures { OnOk result (IsFrom (flows target written (guarded rule (reads scope.now (expression e.now))))
+        log.old.kept.steps.items log.new.kept.steps.items) }
+{
+    match e {
+        Ex::Num(_) => Ok(()),
+        Ex::Loc(l, place) => {
+            let step = Step {
+                rule,
+                source: scope[*l as usize],
+                target,
+                read: *place,
+                written,
+            };
+            let turn = log.turn;
+            look(wanted, log, step, turn)?;
+            Ok(())
+        }
+        Ex::Op(_, a, b) => {
+            look_reads(wanted, log, target, written, scope, rule, a)?;
+            look_reads(wanted, log, target, written, scope, rule, b)?;
+            Ok(())
+        }
+    }
+}
+
+/// Looks at the flows of what is read to the ending of a loop, which come at the given turn.
+fn look_endings<W: Wanted>(
+    wanted: &W,
+    log: &mut Gathering,
+    scope: &[Var],
+    turn: u64,
+    e: &Ex,
+) -> Result<(), AllocError>
+    requires { HasLocations (length scope.now) (expression e.now) }
+    ensures { OnOk result (IsFrom (endings Strict true (reads scope.now (expression e.now)))
+        log.old.kept.steps.items log.new.kept.steps.items) }
+{
+    match e {
+        Ex::Num(_) => Ok(()),
+        Ex::Loc(l, place) => {
+            let step = Step {
+                rule: Rule::Loop,
+                source: scope[*l as usize],
+                target: LOOP,
+                read: *place,
+                written: *place,
+            };
+            if wanted.is_wanted(&step) {
+                keep(&mut log.kept, step, turn)?;
+            }
+            Ok(())
+        }
+        Ex::Op(_, a, b) => {
+            look_endings(wanted, log, scope, turn, a)?;
+            look_endings(wanted, log, scope, turn, b)?;
+            Ok(())
+        }
+    }
+}
+
+/// Looks at the flows of a guard's reads to the ending of what loops; they come before what the guard encloses.
+pub(crate) fn look_ending<W: Wanted>(
+    wanted: &W,
+    profile: Profile,
+    log: &mut Gathering,
+    scope: &[Var],
+    turn: u64,
+    looping: bool,
+    guard: &Ex,
+) -> Result<(), AllocError>
+    requires { HasLocations (length scope.now) (expression guard.now) }
+    ensures { OnOk result (IsFrom (endings profile looping (reads scope.now (expression guard.now)))
+        log.old.kept.steps.items log.new.kept.steps.items) }
+{
+    if observes_ending(profile, looping) {
+        look_endings(wanted, log, scope, turn, guard)?;
+    }
+    Ok(())
+}
+
+/// Puts the guards from a place on in force.
+pub(crate) fn enter(log: &mut Gathering, guards: &[Guard], from: usize)
+    ensures { log.new.kept.steps.items ≡ log.old.kept.steps.items }
+{
+    for i in from..guards.len() {
+        let g = guards[i];
+        let variable = g.read.variable.0 as usize;
+        if variable >= 1024 || variable >= log.guarding.len() {
+            continue;
+        }
+        if has_bit(&log.around, 0, variable) {
+            continue;
+        }
+        note(&mut log.around, 0, variable);
+        log.guarding[variable] = i;
+    }
+}

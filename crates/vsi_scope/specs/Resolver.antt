@@ -1,0 +1,53 @@
+-- What a walk through the text has done.
+use Rattle.std.specs.Prelude.{◌≡◌, ℕ, ◌+◌, ◌≤◌, List, ◌++◌, length, map, Option}
+use Rattle.vsi_syntax.specs.Tree as tree
+use Rattle.vsi_scope.specs.declared.program.Cmd.{Cmd}
+use Rattle.vsi_scope.specs.declared.resolution.command.Resolver.{Resolver}
+use Rattle.vsi_scope.specs.declared.resolution.ScopeError.{ScopeError}
+use Rattle.vsi_scope.specs.Language.{Command}
+use Rattle.vsi_scope.specs.View.{command}
+use Rattle.vsi_scope.specs.Scopes.{Scope}
+use Rattle.vsi_scope.specs.Places.{commands_of, all_commands}
+use Rattle.vsi_scope.specs.Faults.{Known, marks, all_marks, first_fault}
+use Rattle.vsi_scope.specs.Resolving.{Variable, variable, variables, all_variables}
+
+-- The names in scope.
+abbrev pub scope_of : Resolver → Scope
+scope_of w = map (λ x. x.now) w.names.items
+
+-- The number of declarations so far.
+abbrev pub declared : Resolver → ℕ
+declared w = w.globals + length w.letvars.items
+
+-- The names in scope are declared, and not too many are.
+pub record IsWithin (w : Resolver) : Type 0 where
+  pub names : length w.names.items ≤ declared w
+  pub few : declared w ≤ 1024
+
+-- The walk has gone over these letvars and has left these commands.
+pub record Walked
+    (old new : Resolver) (before after : List Cmd) (variables : List Variable) (commands : List Command)
+    : Type 0 where
+  pub within : IsWithin new
+  pub names : new.names.items ≡ old.names.items
+  pub globals : new.globals ≡ old.globals
+  pub letvars : map variable new.letvars.items ≡ map variable old.letvars.items ++ variables
+  pub body : map command after ≡ map command before ++ commands
+
+-- The walk has gone over a command.
+abbrev pub WalkedOne : Known → Resolver → Resolver → List Cmd → List Cmd → tree.Command → Type 0
+WalkedOne known old new before after c =
+    Walked old new before after (variables known c) (commands_of (scope_of old) c)
+
+-- The walk has gone over a sequence.
+abbrev pub WalkedAll : Known → Resolver → Resolver → List Cmd → List Cmd → tree.Body → Type 0
+WalkedAll known old new before after b =
+    Walked old new before after (all_variables known b) (all_commands (scope_of old) b)
+
+-- The first fault of a command where the walk is.
+abbrev pub fault_in : Known → Resolver → tree.Command → Option ScopeError
+fault_in known w c = first_fault known (marks (scope_of w) (declared w) c)
+
+-- The first fault of a sequence where the walk is.
+abbrev pub fault_in_all : Known → Resolver → tree.Body → Option ScopeError
+fault_in_all known w b = first_fault known (all_marks (scope_of w) (declared w) b)

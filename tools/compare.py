@@ -1,0 +1,174 @@
+#!/usr/bin/env python3
+"""Runs the built program and the second implementation, tools/second, on the same inputs, and reports differences.
+
+usage: tools/compare.py [PROGRAM] [--programs N] [--inputs N] [--minutes M] [--seed S] [--first N] [--jobs J]
+        [--keep FOLDER]
+
+PROGRAM is crates/vsi_program/out/vsi_program unless another is named. Programs are source texts from a generator,
+with lattices and stores; each goes through fmt, check, check --strict, classes and build, its image through list, run
+and view. Inputs are those of tools/soak.py. Program or input number K is the same for the same seed, whatever the
+other options are, so --first K --programs 1 --inputs 0 gives it again. Compared are status, both streams and the
+written image; of help and of mistakes in the words only the status and which stream is written. Each difference is
+reported with its input, whose files are copied to FOLDER. The last line has the counts; the status is 1 where there
+was a difference. It needs /dev/shm, and leaves nothing there.
+"""
+
+import argparse
+import collections
+import multiprocessing
+import os
+import random
+import shutil
+import sys
+import tempfile
+import time
+
+sys.dont_write_bytecode = True
+sys.path.insert(1, os.path.join(os.path.dirname(os.path.abspath(__file__)), "second"))
+
+import program as second  # noqa: E402
+from compare_inputs import Case  # noqa: E402
+from soak import Answer, Runner  # noqa: E402
+from soak_inputs import Input  # noqa: E402
+
+SHOWN_BYTES = 1500
+NO_FILES = {"source": b"", "lattice": b"", "image": b"", "store": b""}
+MISTAKE = b"error: a mistake in the words\n"
+
+
+def second_answer(words, files):
+    """What the second implementation answers; a fault of its own is an answer that the program never gives."""
+    try:
+        return second.answer([word.encode() for word in words], lambda limit: files["source"][:limit])
+    except Exception as fault:
+        return -1, b"", f"{type(fault).__name__}: {fault}".encode()
+
+
+def is_same(one, other):
+    """Whether the program's answer is the second implementation's; the wording of help and of mistakes is free."""
+    if other.status == 2 and other.error == MISTAKE:
+        return one.status == 2 and not one.output and one.error and not one.error.startswith(b"no class ")
+    if other.status == 0 and other.output == second.HELP:
+        return one.status == 0 and one.output and not one.error
+    return one == other
+
+
+class Worker:
+    """Goes through every so many programs and inputs."""
+
+    def __init__(self, options, job, folder):
+        self.options = options
+        self.numbers = range(options.first + job, options.first + max(options.programs, options.inputs), options.jobs)
+        self.runner = Runner(options.program, folder)
+        self.figures = collections.Counter()
+
+    def compare(self, label, words, files):
+        """Runs both on a command line with its files; the second implementation's answer."""
+        self.runner.put(files)
+        self.runner.is_stopped = False
+        one, _ = self.runner.run(words)
+        other = Answer(*second_answer(words, files), None)
+        other = other._replace(written=self.runner.written())
+        self.figures["runs"] += 1
+        self.figures[f"status {other.status}"] += 1
+        if other.status == 1:
+            self.figures["refused " + other.error.split()[1].decode()] += 1
+        if self.runner.is_stopped or not is_same(one, other):
+            self.report(label, words, files, one, other)
+        return other
+
+    def report(self, label, words, files, one, other):
+        self.figures["differences"] += 1
+        named = [name for name in files if name in words or not words and name == "source"]
+        lines = [f"{label}: {words}", *(f"  {name}: {files[name][:SHOWN_BYTES]!r}" for name in named)]
+        for who, answer in (("program", one), ("second", other)):
+            lines += [f"  {who}: {answer.status} {answer.output[:SHOWN_BYTES]!r} {answer.error[:SHOWN_BYTES]!r} "
+                      f"{answer.written and answer.written[:SHOWN_BYTES]!r}"]
+        print("\n".join(lines), flush=True)
+        if self.options.keep:
+            folder = os.path.join(self.options.keep, f"{label.replace(' ', '-')}-{self.figures['runs']}")
+            os.makedirs(folder, exist_ok=True)
+            for name, data in {**files, "words": "\n".join(words).encode()}.items():
+                with open(os.path.join(folder, name), "wb") as file:
+                    file.write(data)
+
+    def try_program(self, number):
+        case = Case(random.Random(f"program {self.options.seed}/{number}"))
+        files = {**NO_FILES, "source": case.source, "lattice": case.lattice}
+        answer = None
+        for words in case.compilations():
+            answer = self.compare(f"program {number}", words, files)
+        self.figures["programs"] += 1
+        if answer.status != 0:
+            return
+        self.figures["accepted"] += 1
+        files["image"] = answer.written
+        for words, store in case.runs():
+            self.compare(f"program {number}", words, {**files, "store": store})
+
+    def try_input(self, number):
+        given = Input(random.Random(f"{self.options.seed}/{number}"))
+        self.compare(f"input {number}", given.words, given.files)
+        self.figures["inputs"] += 1
+
+    def work(self):
+        end = time.monotonic() + 60 * self.options.minutes
+        for number in self.numbers:
+            if time.monotonic() > end:
+                break
+            if number < self.options.first + self.options.programs:
+                self.try_program(number)
+            if number < self.options.first + self.options.inputs:
+                self.try_input(number)
+        return self.figures
+
+
+def read_options():
+    parser = argparse.ArgumentParser(usage=__doc__.split("usage: ")[1].split("\n\n")[0])
+    here = os.path.dirname(os.path.dirname(os.path.abspath(__file__)))
+    parser.add_argument("program", nargs="?", default=os.path.join(here, "crates/vsi_program/out/vsi_program"))
+    parser.add_argument("--programs", type=int, default=10_000)
+    parser.add_argument("--inputs", type=int, default=10_000)
+    parser.add_argument("--minutes", type=float, default=600)
+    parser.add_argument("--seed", type=int, default=1)
+    parser.add_argument("--first", type=int, default=0)
+    parser.add_argument("--jobs", type=int, default=2)
+    parser.add_argument("--keep", type=os.path.abspath)
+    options = parser.parse_args()
+    options.program = os.path.abspath(options.program)
+    if not os.access(options.program, os.X_OK):
+        parser.error(f"{options.program} is no program")
+    return options
+
+
+def start_worker(options, job, folder, connection):
+    os.mkdir(folder)
+    connection.send(Worker(options, job, folder).work())
+
+
+def main():
+    options = read_options()
+    context = multiprocessing.get_context("fork")
+    figures, folder = collections.Counter(), tempfile.mkdtemp(prefix="compare-", dir="/dev/shm")
+    try:
+        ends = []
+        for job in range(options.jobs):
+            end, far_end = context.Pipe(duplex=False)
+            context.Process(target=start_worker, args=(options, job, os.path.join(folder, str(job)), far_end)).start()
+            far_end.close()
+            ends.append(end)
+        for end in ends:
+            try:
+                figures += end.recv()
+            except EOFError:
+                figures["lost workers"] += 1
+    finally:
+        shutil.rmtree(folder, ignore_errors=True)
+    counts = ["programs", "accepted", "inputs", "runs", *sorted(key for key in figures if key[:2] in ("st", "re")),
+              "lost workers", "differences"]
+    print(f"seed {options.seed}: " + ", ".join(f"{key} {figures[key]}" for key in counts))
+    return 1 if figures["lost workers"] or figures["differences"] else 0
+
+
+if __name__ == "__main__":
+    sys.exit(main())
