@@ -1,15 +1,19 @@
 //! Does what a command line asks for.
 
-ghost use Rattle.std.specs.Prelude.{◌≡◌, ◌≢◌, ◌<◌, ◌≤◌, [], IfErr};
+ghost use Rattle.std.specs.Prelude.{◌≡◌, ◌≢◌, ◌<◌, ◌≤◌, [], false, IfErr};
 ghost use Rattle.std.specs.Io.KnownBytes.{Keeps};
 ghost use Rattle.vsi.specs.Stops.{status_of, TellsFault};
+ghost use Rattle.vsi.specs.Words as spec;
 ghost use Rattle.vsi_devices.specs.Counted.{device_of, faults_of};
 
+use crate::auditing::{audit, source};
+use crate::driving::drive;
 use crate::files::Files;
+use crate::leaking::leak;
 use crate::reading::{device_stop, refused, two_classes};
 use crate::running::{run, run_from_zeros, view};
 use crate::stop::{STREAM, Stop, write};
-use crate::subcommands::{build, check, classes, format, list};
+use crate::subcommands::{build, check, classes, flows, format, list};
 use std::alloc::Global;
 use std::io::{Read, Write};
 use vsi_arguments::{ArgumentsError, Request, request_of};
@@ -42,12 +46,21 @@ pub fn command<F: Files, R: Read, W: Write, E: Write>(
     ensures output_fault { faults_of output.old < faults_of output.new → result ≡ 4 }
     ensures silent { words.now ≡ [] → result ≢ 0 → result ≢ 4
         → Keeps (W.contents (device_of output.old)) (W.contents (device_of output.new)) }
-    ensures unread { words.now ≢ [] → input.new ≡ input.old }
+    ensures unread { words.now ≢ [] → spec.reads_input words.now ≡ false → input.new ≡ input.old }
 {
     let answer = if words.is_empty() {
         run_input(alloc, input, output)
     } else {
         match request_of(alloc, words) {
+            Ok(
+                Request::Drive {
+                    lattice,
+                    class,
+                    execution,
+                },
+            ) if reads_input(words) => {
+                drive(alloc, lattice, class, execution, files, input, output)
+            }
             Ok(request) => perform(alloc, request, files, output),
             Err(error) => answer_arguments(error, output),
         }
@@ -58,6 +71,16 @@ pub fn command<F: Files, R: Read, W: Write, E: Write>(
             let _ = stop.tell(error);
             stop.status()
         }
+    }
+}
+
+/// Whether the words ask for the subcommand that reads the input.
+fn reads_input(words: &[String]) -> bool
+    ensures { result ≡ spec.reads_input words.now }
+{
+    match words {
+        [first, ..] => first.as_bytes() == b"drive".as_slice(),
+        [] => false,
     }
 }
 
@@ -113,14 +136,20 @@ fn perform<'a, F: Files, W: Write>(
     match request {
         Request::Check(compilation) => check(alloc, compilation, files, output),
         Request::Classes(compilation) => classes(alloc, compilation, files, output),
+        Request::Flows(compilation) => flows(alloc, compilation, files, output),
         Request::Build(compilation, image) => build(alloc, compilation, image, files),
         Request::List(image) => list(alloc, image, files, output),
+        Request::Audit(asked) => audit(alloc, asked, files, output),
+        Request::Source(image) => source(alloc, image, files, output),
         Request::Run(execution, has_trace) => run(alloc, execution, has_trace, files, output),
         Request::View {
             lattice,
             class,
             execution,
         } => view(alloc, lattice, class, execution, files, output),
+        // It is done before, with the input.
+        Request::Drive { .. } => Err(Stop::FileFault(STREAM)),
+        Request::Leak(search) => leak(alloc, search, files, output),
         Request::Format(source) => format(alloc, source, files, output),
     }
 }

@@ -12,12 +12,13 @@ use std::io::Write;
 use vsi_arguments::Compilation;
 use vsi_compiler::{classes_text_in, compile_in, format_text};
 use vsi_devices::{Counted, EngineError, build_in, write_out};
+use vsi_flows::flows_text_in;
 use vsi_image::listing;
 use vsi_lattice::Lattice;
 use vsi_types::Profile;
 
-/// The profile that judges a text.
-fn profile(is_strict: bool) -> Profile {
+/// The profile that judges a text or an image.
+pub(crate) fn profile(is_strict: bool) -> Profile {
     if is_strict {
         Profile::Strict
     } else {
@@ -67,6 +68,24 @@ pub(crate) fn classes<'a, F: Files, W: Write>(
     let (classes, text) = policy_and_text(alloc, compilation, files)?;
     let profile = profile(compilation.is_strict);
     match classes_text_in(alloc, profile, &classes, text.as_slice()) {
+        Ok(lines) => write(lines.as_slice(), output),
+        Err(error) => Err(refused(alloc, &classes, text.as_slice(), &error)),
+    }
+}
+
+/// Writes the flows between the declared variables of the source text.
+pub(crate) fn flows<'a, F: Files, W: Write>(
+    alloc: Global,
+    compilation: Compilation<'a>,
+    files: &mut F,
+    output: &mut Counted<W>,
+) -> Result<(), Stop<'a>>
+    requires { faults_of output.old < u64.MAX }
+    ensures fault { TellsFault (faults_of output.old) (faults_of output.new) result }
+{
+    let (classes, text) = policy_and_text(alloc, compilation, files)?;
+    let profile = profile(compilation.is_strict);
+    match flows_text_in(alloc, profile, &classes, text.as_slice()) {
         Ok(lines) => write(lines.as_slice(), output),
         Err(error) => Err(refused(alloc, &classes, text.as_slice(), &error)),
     }

@@ -69,6 +69,30 @@ Example:
   1:5 h : H
   1:19 t : H";
 
+/// What `flows` does.
+pub(crate) const FLOWS: &str = "\
+Prints each two declared variables that a chain of flows joins.
+
+Reads the lattice file and the source text as `check` does, and prints for each
+two different variables with a declared class that a chain of flow steps joins a
+line `NAME : CLASS flows to NAME : CLASS VERDICT STEPS`: `allowed` where the
+first class is at or below the second, else `refused`, and the fewest steps of
+such a chain. The lines are in the order of declarations. The text is accepted
+where no line is refused, but a refused line is no refusal here.
+
+Statuses: 0 printed, 1 refused for another cause than a flow, 2 usage,
+4 file fault, 5 out of memory.";
+
+/// An example of `flows`.
+pub(crate) const FLOWS_EXAMPLE: &str = "\
+Example:
+  $ cat three.vsi
+  var h : H; var l : L; var m : L; letvar t := l in { m := t; l := h }
+  $ vsi flows two.toml three.vsi
+  h : H flows to l : L refused 1
+  h : H flows to m : L refused 3
+  l : L flows to m : L allowed 2";
+
 /// What `build` does.
 pub(crate) const BUILD: &str = "\
 Compiles a source text to an image.
@@ -109,6 +133,43 @@ Example:
   0: PUSH 3
   1: STORE 0
   2: HALT";
+
+/// What `audit` does.
+pub(crate) const AUDIT: &str = "\
+Says whether an image is accepted, whoever made it.
+
+Reads the lattice file and judges it, reads the image and verifies it, reads the
+commands back from its code, and judges their flows. Prints `accepted`. What is
+accepted keeps to the policy: the image itself is judged, and not who made it. A
+refused flow is told with numbers of instructions for places and made-up names
+for the locals, which are those that `vsi source` prints.
+
+Statuses: 0 accepted, 1 refused, 2 usage, 4 file fault, 5 out of memory.";
+
+/// An example of `audit`.
+pub(crate) const AUDIT_EXAMPLE: &str = "\
+Example:
+  $ vsi audit two.toml leak.image
+  refused: 25 Refused
+  0 h flows to l by ASSIGN at 1
+  h : H may not flow to l : L";
+
+/// What `source` does.
+pub(crate) const IMAGE_SOURCE: &str = "\
+Prints the source text that an image stands for.
+
+Reads the image, verifies it, reads the commands back from its code, and prints
+them as a text that `check` and `build` take. The locals have made-up names. A
+`letvar` with the number 0 stands where there is no command.
+
+Statuses: 0 printed, 1 refused, 2 usage, 4 file fault, 5 out of memory.";
+
+/// An example of `source`.
+pub(crate) const IMAGE_SOURCE_EXAMPLE: &str = "\
+Example:
+  $ vsi source sum.image
+  var x : L;
+  x := 3";
 
 /// What `run` does.
 pub(crate) const RUN: &str = "\
@@ -153,6 +214,56 @@ Example:
   $ vsi build two.toml add.vsi add.image
   $ vsi view two.toml add.image --class L --budget 7 --store start.toml
   l = 2";
+
+/// What `drive` does.
+pub(crate) const DRIVE: &str = "\
+Runs an image once for each line of standard input.
+
+Reads the lattice file, looks for the class in it, reads and verifies the image,
+and reads the store file where there is one. Then each line of standard input
+sets globals at or below the class, the image runs, and what the class sees is
+written as one line of the same form; the store stays for the next line. A
+faulty line, or a run that is out of budget, is told in its place, and leaves
+the store as it was.
+
+Statuses: 0 standard input has ended, 1 refused, 2 usage or no such class,
+4 file fault, 5 out of memory.";
+
+/// An example of `drive`.
+pub(crate) const DRIVE_EXAMPLE: &str = "\
+Example:
+  $ printf 'l = 4\\n\\nh = 1\\n' > lines
+  $ vsi drive add.image two.toml --class L --budget 7 < lines
+  l = 5
+  l = 6
+  refused: 47 AboveClass 0";
+
+/// What `leak` does.
+pub(crate) const LEAK: &str = "\
+Searches a source text for a leak, and shows it.
+
+Reads the lattice file, looks for the class in it, reads the source text, and
+runs it, accepted or not, from pairs of stores that agree in each global whose
+class is at or below the one that looks. Where the ends of two runs differ in
+such a global, both stores and what the class sees of both ends are told on
+standard error. Else `no leak in N pairs of runs` is printed, which says nothing
+of other pairs. Equal words give equal answers.
+
+Statuses: 0 none found, 1 refused or a leak, 2 usage or no such class,
+4 file fault, 5 out of memory.";
+
+/// An example of `leak`.
+pub(crate) const LEAK_EXAMPLE: &str = "\
+Example:
+  $ cat lamp.vsi
+  var h : H; var l : L; if h then l := 1 else l := 0
+  $ vsi leak two.toml lamp.vsi
+  leak at L
+  * h = 0                 h = 1
+    l = 0                 l = 0
+  L sees
+  * l = 0                 l = 1
+  * after 5 instructions  after 6 instructions";
 
 /// What `fmt` does.
 pub(crate) const FORMAT: &str = "\
@@ -221,3 +332,34 @@ The path of the store file, a TOML document of at most 1048576 bytes
 with a key `NAME = NUMBER` for each global that doesn't begin as 0, a
 number being one from -9223372036854775808 to 9223372036854775807.
 Without a file each global begins as 0.";
+
+/// What a class is that looks for a leak.
+pub(crate) const LOOKING: &str = "\
+The name of the class that looks, one of LATTICE. Without it each
+class of LATTICE looks, each behind those below it.";
+
+/// What the budget of a search is.
+pub(crate) const RUN_BUDGET: &str = "\
+The most instructions of each run, the halt included: a whole number
+from 0 to 18446744073709551615, in digits alone. Without it 10000.";
+
+/// What the tries of a search are.
+pub(crate) const TRIES: &str = "\
+The most pairs of runs that are tried for a class, and again for
+--endings and for --steps: a whole number from 0 to
+18446744073709551615, in digits alone. Without it 10000.";
+
+/// What the seed of a search is.
+pub(crate) const SEED: &str = "\
+The seed of the stores that are drawn: a whole number from 0 to
+18446744073709551615, in digits alone. Without it 0.";
+
+/// What the search for endings is.
+pub(crate) const ENDINGS: &str = "\
+Where no ends differ, looks for two stores of which the run from one
+halts within the budget, and the run from the other doesn't.";
+
+/// What the search for steps is.
+pub(crate) const STEPS: &str = "\
+Where nothing else is found, looks for two stores whose runs halt
+after different numbers of instructions.";

@@ -7,4 +7,4 @@ mod request;
 mod usage;
 
 pub use error::ArgumentsError;
-pub use request::{Compilation, Execution, Request, request_of};
+pub use request::{Audit, Compilation, Execution, Request, Search, request_of};

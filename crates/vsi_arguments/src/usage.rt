@@ -11,6 +11,7 @@ const VERSION: &str = "0.1.0";
 pub(crate) fn program<'a>(alloc: Global) -> Result<Command<'a>, AllocError> {
     let program = with_judges(alloc, described(alloc)?)?;
     let program = with_runs(alloc, program)?;
+    let program = with(program, leak_command(alloc))?;
     with(program, format_command(alloc))
 }
 
@@ -18,14 +19,18 @@ pub(crate) fn program<'a>(alloc: Global) -> Result<Command<'a>, AllocError> {
 fn with_judges<'a>(alloc: Global, program: Command<'a>) -> Result<Command<'a>, AllocError> {
     let program = with(program, check_command(alloc))?;
     let program = with(program, classes_command(alloc))?;
+    let program = with(program, flows_command(alloc))?;
     with(program, build_command(alloc))
 }
 
-/// The program with the subcommands that show or run an image.
+/// The program with the subcommands that show, judge or run an image.
 fn with_runs<'a>(alloc: Global, program: Command<'a>) -> Result<Command<'a>, AllocError> {
     let program = with(program, list_command(alloc))?;
+    let program = with(program, audit_command(alloc))?;
+    let program = with(program, source_command(alloc))?;
     let program = with(program, run_command(alloc))?;
-    with(program, view_command(alloc))
+    let program = with(program, view_command(alloc))?;
+    with(program, drive_command(alloc))
 }
 
 /// The program with one more subcommand.
@@ -83,6 +88,16 @@ fn classes_command<'a>(alloc: Global) -> Result<Command<'a>, AllocError> {
     judging(alloc, classes)
 }
 
+fn flows_command<'a>(alloc: Global) -> Result<Command<'a>, AllocError> {
+    let flows = with_help(
+        Command::new(alloc, "flows"),
+        "Prints each two declared variables that a chain of flows joins",
+        help::FLOWS,
+        help::FLOWS_EXAMPLE,
+    );
+    judging(alloc, flows)
+}
+
 fn build_command<'a>(alloc: Global) -> Result<Command<'a>, AllocError> {
     let build = with_help(
         Command::new(alloc, "build"),
@@ -111,6 +126,29 @@ fn list_command<'a>(alloc: Global) -> Result<Command<'a>, AllocError> {
     list.arg(image_argument(alloc))
 }
 
+fn audit_command<'a>(alloc: Global) -> Result<Command<'a>, AllocError> {
+    let audit = with_help(
+        Command::new(alloc, "audit"),
+        "Says whether an image is accepted, whoever made it",
+        help::AUDIT,
+        help::AUDIT_EXAMPLE,
+    );
+    audit
+        .arg(lattice_argument(alloc))?
+        .arg(image_argument(alloc))?
+        .arg(strict_argument(alloc))
+}
+
+fn source_command<'a>(alloc: Global) -> Result<Command<'a>, AllocError> {
+    let source = with_help(
+        Command::new(alloc, "source"),
+        "Prints the source text that an image stands for",
+        help::IMAGE_SOURCE,
+        help::IMAGE_SOURCE_EXAMPLE,
+    );
+    source.arg(image_argument(alloc))
+}
+
 fn run_command<'a>(alloc: Global) -> Result<Command<'a>, AllocError> {
     let run = with_help(
         Command::new(alloc, "run"),
@@ -132,12 +170,47 @@ fn view_command<'a>(alloc: Global) -> Result<Command<'a>, AllocError> {
     running(alloc, view.arg(class_argument(alloc))?)
 }
 
+fn drive_command<'a>(alloc: Global) -> Result<Command<'a>, AllocError> {
+    let drive = with_help(
+        Command::new(alloc, "drive"),
+        "Runs an image once for each line of standard input",
+        help::DRIVE,
+        help::DRIVE_EXAMPLE,
+    );
+    let drive = running(alloc, drive)?;
+    drive
+        .arg(lattice_argument(alloc))?
+        .arg(class_argument(alloc))
+}
+
 /// A subcommand that runs an image, with the words for it.
 fn running<'a>(alloc: Global, command: Command<'a>) -> Result<Command<'a>, AllocError> {
     command
         .arg(image_argument(alloc))?
         .arg(budget_argument(alloc))?
         .arg(store_argument(alloc))
+}
+
+fn leak_command<'a>(alloc: Global) -> Result<Command<'a>, AllocError> {
+    let leak = with_help(
+        Command::new(alloc, "leak"),
+        "Searches a source text for a leak, and shows it",
+        help::LEAK,
+        help::LEAK_EXAMPLE,
+    );
+    let leak = leak.arg(lattice_argument(alloc))?;
+    let leak = leak.arg(source_argument(alloc))?;
+    searching(alloc, leak.arg(looking_argument(alloc))?)
+}
+
+/// A subcommand that searches, with the words that say how long and for what.
+fn searching<'a>(alloc: Global, command: Command<'a>) -> Result<Command<'a>, AllocError> {
+    command
+        .arg(run_budget_argument(alloc))?
+        .arg(tries_argument(alloc))?
+        .arg(seed_argument(alloc))?
+        .arg(endings_argument(alloc))?
+        .arg(steps_argument(alloc))
 }
 
 fn format_command<'a>(alloc: Global) -> Result<Command<'a>, AllocError> {
@@ -219,4 +292,55 @@ fn store_argument<'a>(alloc: Global) -> Arg<'a> {
         .value_name("FILE")
         .help("The store file; without it the run begins from zeros")
         .long_help(help::STORE)
+}
+
+fn looking_argument<'a>(alloc: Global) -> Arg<'a> {
+    Arg::new(alloc, "class")
+        .long("class")
+        .value_name("C")
+        .help("The class that looks; without it each one")
+        .long_help(help::LOOKING)
+}
+
+fn run_budget_argument<'a>(alloc: Global) -> Arg<'a> {
+    Arg::new(alloc, "budget")
+        .long("budget")
+        .value_name("N")
+        .value_parser(value_parser!(u64))
+        .help("The most instructions of a run, 10000 where it isn't given")
+        .long_help(help::RUN_BUDGET)
+}
+
+fn tries_argument<'a>(alloc: Global) -> Arg<'a> {
+    Arg::new(alloc, "tries")
+        .long("tries")
+        .value_name("N")
+        .value_parser(value_parser!(u64))
+        .help("The most pairs of runs, 10000 where it isn't given")
+        .long_help(help::TRIES)
+}
+
+fn seed_argument<'a>(alloc: Global) -> Arg<'a> {
+    Arg::new(alloc, "seed")
+        .long("seed")
+        .value_name("S")
+        .value_parser(value_parser!(u64))
+        .help("The seed of what is drawn, 0 where it isn't given")
+        .long_help(help::SEED)
+}
+
+fn endings_argument<'a>(alloc: Global) -> Arg<'a> {
+    Arg::new(alloc, "endings")
+        .long("endings")
+        .action(ArgAction::SetTrue)
+        .help("Looks also for runs that are out of budget")
+        .long_help(help::ENDINGS)
+}
+
+fn steps_argument<'a>(alloc: Global) -> Arg<'a> {
+    Arg::new(alloc, "steps")
+        .long("steps")
+        .action(ArgAction::SetTrue)
+        .help("Looks also for runs of different numbers of instructions")
+        .long_help(help::STEPS)
 }

@@ -6,3 +6,4 @@ pub mod Compiled
 pub mod Coded
 pub mod Runs
 pub mod Profiles
+pub mod Typed

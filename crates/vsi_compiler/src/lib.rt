@@ -9,9 +9,12 @@ mod refused;
 mod run;
 mod source;
 mod texts;
+mod unjudged;
 
 pub use compiler::{compile, compile_in};
 pub use error::CompileError;
 pub use refused::explanation_text;
 pub use run::{RunError, run_source};
+pub use source::resolved_program;
 pub use texts::{classes_text, classes_text_in, format_text};
+pub use unjudged::unjudged_image;

@@ -30,7 +30,7 @@ pub(crate) fn read_program<'a>(alloc: Global, text: &'a [u8]) -> Result<Program<
 }
 
 /// The text over locations.
-pub(crate) fn resolved_program<'a>(
+pub fn resolved_program<'a>(
     alloc: Global,
     lattice: &Lattice,
     text: &'a [u8],

@@ -12,7 +12,7 @@ use Rattle.vsi_types.specs.Steps.{reads, guarded, flows, endings, steps}
 use Rattle.vsi_types.specs.Security.{steps_of}
 use Rattle.vsi_infer.specs.Laws.{BaseWalksStayBad}
 
-stays : (names : ℕ → Span) (x : Step) (gs : List Guard) (scope : List ℕ) (n : ℕ) (c : Command)
+pub stays : (names : ℕ → Span) (x : Step) (gs : List Guard) (scope : List ℕ) (n : ℕ) (c : Command)
     → Contains (steps Base names gs scope n c) x → Contains (steps Strict names gs scope n c) x
 stays names x gs scope n Skip h = h
 stays names x gs scope n (Assign l s e) h = h

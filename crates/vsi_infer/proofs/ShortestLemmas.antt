@@ -40,7 +40,7 @@ is_high_of leq low d h e n = ap (is_high leq low) e ∙ by (leq low h) n
     by false n = refl
 
 -- Flows from the first on.
-leads_push : (flows : ℕ → ℕ → Bool) (n a b c : ℕ) → Leads flows n a b → flows b c ≡ true → Leads flows (suc n) a c
+pub leads_push : (flows : ℕ → ℕ → Bool) (n a b c : ℕ) → Leads flows n a b → flows b c ≡ true → Leads flows (suc n) a c
 leads_push flows zero a b c w f = (c, ap (λ (x : ℕ). flows x c) w ∙ f, refl)
 leads_push flows (suc n) a b c (d, g, w) f = (d, g, leads_push flows n d b c w f)
 
@@ -90,14 +90,14 @@ module _ (L : Lattice) (laws : IsLattice L) (P : Profile) (p : Program) (res : I
   ]
 
   -- A variable and its row.
-  row_back : (b : ℕ) → b ≤ size_of p → row_of (size_of p) (variable_at (size_of p) b) ≡ b
+  pub row_back : (b : ℕ) → b ≤ size_of p → row_of (size_of p) (variable_at (size_of p) b) ≡ b
   row_back b le = elim (cases_eq b (size_of p)) [
     | inl e ↦ ap (λ t. row_of (size_of p) (cond t sink b)) (eq-eqb b (size_of p) e) ∙ sym e
     | inr n ↦ ap (λ t. row_of (size_of p) (cond t sink b)) (ne_eqb b (size_of p) n)
         ∙ ap (λ t. cond t (size_of p) b) (ne_eqb b sink (λ e. omega (arith, e, le, are.size)))
   ]
 
-  row_plain : (v : ℕ) → row_of (size_of p) v < size_of p → row_of (size_of p) v ≡ v
+  pub row_plain : (v : ℕ) → row_of (size_of p) v < size_of p → row_of (size_of p) v ≡ v
   row_plain v lt = elim (cases_eq v sink) [
     | inl e ↦ absurd (let q : row_of (size_of p) v ≡ size_of p = ap (λ t. cond t (size_of p) v) (eq-eqb v sink e) in
         omega (arith, q, lt))
@@ -137,7 +137,7 @@ module _ (L : Lattice) (laws : IsLattice L) (P : Profile) (p : Program) (res : I
         (r.1.0, r.1.1, r.1.2 ∙ row_plain v r.0, r.1.3)
 
   -- A step as a flow.
-  step_flow : (x : Step) → Contains (steps_of P p) x → (b : ℕ) × (b ≤ size_of p)
+  pub step_flow : (x : Step) → Contains (steps_of P p) x → (b : ℕ) × (b ≤ size_of p)
       × (x.target ≡ variable_at (size_of p) b) × (flows x.source b ≡ true)
   step_flow x there =
       let to = All-contains (HasTarget (size_of p)) (steps_of P p) x
@@ -153,7 +153,7 @@ module _ (L : Lattice) (laws : IsLattice L) (P : Profile) (p : Program) (res : I
   source_within x there = let f = step_flow x there in (are.within x.source f.0 f.3).0
 
   -- The place of a variable that is a source too.
-  same_place : (b v : ℕ) → b ≤ size_of p → v < size_of p → variable_at (size_of p) b ≡ v → b ≡ v
+  pub same_place : (b v : ℕ) → b ≤ size_of p → v < size_of p → variable_at (size_of p) b ≡ v → b ≡ v
   same_place b v le lt e = elim (cases_lt b (size_of p)) [
     | inl l ↦ sym (at_place L p res.entries res.limit b l) ∙ e
     | inr g ↦ absurd (let q : b ≡ size_of p = omega (arith, le, g) in
@@ -176,7 +176,7 @@ module _ (L : Lattice) (laws : IsLattice L) (P : Profile) (p : Program) (res : I
       (r.0, r.1, r.2, (t.source, subst (λ v. flows s.source v ≡ true) e f.3, r.3))
 
   -- The end of a path is a place.
-  path_place : (a b : ℕ) (s : Step) (rest : List Step) → IsPath (steps_of P p) a (s ∷ rest) b → (i : ℕ)
+  pub path_place : (a b : ℕ) (s : Step) (rest : List Step) → IsPath (steps_of P p) a (s ∷ rest) b → (i : ℕ)
       × (i ≤ size_of p) × (b ≡ variable_at (size_of p) i)
   path_place a b s [] w = let f = step_flow s w.1 in (f.0, f.1, sym w.2 ∙ f.2)
   path_place a b s (t ∷ rest) w = path_place s.target b t rest w.2

@@ -81,7 +81,7 @@ fn put_class(text: &mut Vec<u8>, lattice: &Lattice, class: Option<Class>) -> Res
 }
 
 /// Adds the name of a variable and that of its declared class.
-fn put_variable(
+pub fn put_variable(
     text: &mut Vec<u8>,
     lattice: &Lattice,
     program: &Resolved<'_>,
@@ -120,7 +120,7 @@ fn put_step(
 }
 
 /// Adds the lines of steps.
-fn put_steps(
+pub fn put_steps(
     text: &mut Vec<u8>,
     source: &[u8],
     marks: &[Mark],

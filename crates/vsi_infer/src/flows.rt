@@ -14,7 +14,7 @@ use vsi_types::{Profile, first_variables};
 
 /// For each variable 16 words, a bit for each variable that flows to it; the last row is that of the loops' ending.
 #[derive(Drop)]
-pub(crate) struct FlowRows {
+pub struct FlowRows {
     rows: Vec<u64>,
     ghost lawful: { length rows.items ≤ 16400 },
 }
@@ -30,7 +30,7 @@ impl Flow for FlowRows {
 }
 
 /// The rows of a program's flows.
-pub(crate) fn flow_rows(
+pub fn flow_rows(
     alloc: Heap,
     profile: Profile,
     program: &Resolved<'_>,

@@ -26,8 +26,12 @@ mod step_search;
 mod walk;
 mod worklist;
 
+pub use distances::distances as fewest_flows;
 pub use error::InferError;
-pub use explanation::explain;
+pub use explanation::{explain, put_steps, put_variable};
+pub use flows::{FlowRows, flow_rows};
 pub use inference::{infer, infer_in};
+pub use lines::{Mark, marks_of};
 pub use vsi_types::Step;
-pub use walk::{Walk, check_walk, check_walk_in, check_walk_once};
+pub use walk::{Walk, check_walk, check_walk_in, check_walk_once, declared_class};
+pub use worklist::Flow;

@@ -16,7 +16,7 @@ const SPACE: usize = 1024;
 
 /// A place of a text, and its line and column, both counted from 1.
 #[derive(Clone, Copy)]
-pub(crate) struct Mark {
+pub struct Mark {
     at: usize,
     line: usize,
     column: usize,
@@ -45,7 +45,7 @@ fn next_mark(text: &[u8], mark: Mark) -> Mark
 }
 
 /// A mark of a text at every so many places, from its start on.
-pub(crate) fn marks_of(alloc: Global, text: &[u8]) -> Result<Vec<Mark>, AllocError>
+pub fn marks_of(alloc: Global, text: &[u8]) -> Result<Vec<Mark>, AllocError>
     ensures { IfOk result (λ m. All (IsMarkOf text.now) m.items) }
 {
     let mut marks = Vec::new(alloc);

@@ -119,7 +119,7 @@ fn path_end(
 }
 
 /// The declared class of a variable, and the bottom class for the loops' ending.
-pub(crate) fn declared_class<C: Classes>(
+pub fn declared_class<C: Classes>(
     lattice: &C,
     program: &Resolved<'_>,
     variable: Var,

@@ -8,7 +8,7 @@ use std::alloc::{AllocError, Global};
 use vsi_lattice::{Class, Classes};
 
 /// Which variable flows to which.
-pub(crate) trait Flow {
+pub trait Flow {
     ghost flows: { Self → ℕ → ℕ → Bool };
 
     fn has(&self, from: usize, to: usize) -> bool

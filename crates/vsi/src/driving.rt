@@ -1,0 +1,138 @@
+//! Drives an image, a cycle for each line of the input.
+
+ghost use Rattle.std.specs.Prelude.{◌≡◌, ◌<◌, ◌≤◌, length, IfOk, OnOk};
+ghost use Rattle.vsi.specs.Stops.{TellsFault};
+ghost use Rattle.vsi_devices.specs.Counted.{faults_of};
+ghost use Rattle.vsi_drive.specs.Control.{control};
+
+use crate::files::Files;
+use crate::reading::{faulty, image_in, lattice_in, store_in};
+use crate::stop::{STREAM, Stop, write};
+use std::alloc::Global;
+use std::io::{Read, Write};
+use vsi_arguments::Execution;
+use vsi_devices::Counted;
+use vsi_drive::{Controller, LINE_LIMIT};
+use vsi_faults::Fault;
+use vsi_image::Verified;
+use vsi_store::read_store;
+
+/// How many bytes a read is given room for.
+const CHUNK: usize = 4096;
+
+/// Drives an image file: each line of the input sets globals, and what a class sees behind its run is written.
+pub(crate) fn drive<'a, F: Files, R: Read, W: Write>(
+    alloc: Global,
+    lattice: &'a str,
+    class: &'a str,
+    execution: Execution<'a>,
+    files: &mut F,
+    input: &mut Counted<R>,
+    output: &mut Counted<W>,
+) -> Result<(), Stop<'a>>
+    requires input { faults_of input.old < u64.MAX }
+    requires output { faults_of output.old < u64.MAX }
+    ensures input_fault { TellsFault (faults_of input.old) (faults_of input.new) result }
+    ensures output_fault { TellsFault (faults_of output.old) (faults_of output.new) result }
+{
+    let classes = lattice_in(alloc, lattice, files)?;
+    let Some(driver) = classes.class_named(class.as_bytes()) else {
+        return Err(Stop::NoClass(class));
+    };
+    let verified = image_in(alloc, execution.image, files)?;
+    let mut words = words_in(alloc, &verified, execution.store, files)?;
+    match Controller::new(&classes, &verified, driver, execution.budget) {
+        Ok(controller) => drive_input(alloc, &controller, words.as_mut_slice(), input, output),
+        Err(error) => Err(faulty(alloc, &Fault::View(error))),
+    }
+}
+
+/// The words that a store file tells for an image, or zeros without one.
+fn words_in<'a, F: Files>(
+    alloc: Global,
+    verified: &Verified,
+    path: Option<&'a str>,
+    files: &mut F,
+) -> Result<Vec<i64>, Stop<'a>>
+    ensures { IfOk result (λ words. length words.items ≡ length verified.now.globals.items) }
+{
+    let bytes = store_in(alloc, path, files)?;
+    match read_store(alloc, verified.image(), bytes.as_slice()) {
+        Ok(words) => Ok(words),
+        Err(error) => Err(faulty(alloc, &Fault::Store(error))),
+    }
+}
+
+/// Does a cycle for each line of the input, to its end.
+fn drive_input<'a, R: Read, W: Write>(
+    alloc: Global,
+    controller: &Controller,
+    store: &mut [i64],
+    input: &mut Counted<R>,
+    output: &mut Counted<W>,
+) -> Result<(), Stop<'a>>
+    requires words { length store.old ≡ length (control controller.now).image.globals.items }
+    requires input { faults_of input.old < u64.MAX }
+    requires output { faults_of output.old < u64.MAX }
+    ensures input_fault { TellsFault (faults_of input.old) (faults_of input.new) result }
+    ensures output_fault { TellsFault (faults_of output.old) (faults_of output.new) result }
+{
+    let mut line = Vec::new(alloc);
+    let mut chunk = [0; CHUNK];
+    for _call in 0..u64::MAX {
+        let Ok(count) = input.read(&mut chunk) else {
+            return Err(Stop::FileFault(STREAM));
+        };
+        if count == 0 {
+            break;
+        }
+        drive_bytes(alloc, controller, &chunk[..count], &mut line, store, output)?;
+    }
+    if line.is_empty() {
+        return Ok(());
+    }
+    drive_line(alloc, controller, &line, store, output)
+}
+
+/// Does a cycle for each line that ends in these bytes. What has been read of a line stands in `line`, of a line that
+/// is too long one byte more than its limit.
+fn drive_bytes<'a, W: Write>(
+    alloc: Global,
+    controller: &Controller,
+    bytes: &[u8],
+    line: &mut Vec<u8>,
+    store: &mut [i64],
+    output: &mut Counted<W>,
+) -> Result<(), Stop<'a>>
+    requires words { length store.old ≡ length (control controller.now).image.globals.items }
+    requires output { faults_of output.old < u64.MAX }
+    ensures fault { TellsFault (faults_of output.old) (faults_of output.new) result }
+{
+    for byte in bytes {
+        if *byte == b'\n' {
+            drive_line(alloc, controller, line, store, output)?;
+            line.clear();
+        } else if line.len() <= LINE_LIMIT {
+            line.push(*byte)?;
+        }
+    }
+    Ok(())
+}
+
+/// Does a cycle and writes its line.
+fn drive_line<'a, W: Write>(
+    alloc: Global,
+    controller: &Controller,
+    line: &[u8],
+    store: &mut [i64],
+    output: &mut Counted<W>,
+) -> Result<(), Stop<'a>>
+    requires words { length store.old ≡ length (control controller.now).image.globals.items }
+    requires output { faults_of output.old < u64.MAX }
+    ensures fault { TellsFault (faults_of output.old) (faults_of output.new) result }
+{
+    match controller.cycle(alloc, line, store) {
+        Ok((_ending, text)) => write(text.as_slice(), output),
+        Err(_) => Err(Stop::Memory),
+    }
+}

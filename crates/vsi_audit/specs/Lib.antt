@@ -1,0 +1,4 @@
+pub mod Fitting
+pub mod Standing
+pub mod Refusal
+pub mod Text

@@ -1,0 +1,177 @@
+//! The judgement of an image.
+
+ghost use Rattle.std.specs.Prelude.{◌≡◌, ℕ, true, None, All, IfOk, IfErr, OnOk, length};
+ghost use Rattle.vsi_image.specs.Fields.{fields, Spells};
+ghost use Rattle.vsi_image.specs.Valid.{IsValid};
+ghost use Rattle.vsi_lattice.specs.LatticeView.{class_named, order};
+ghost use Rattle.vsi_scope.specs.Program.{IsResolved};
+ghost use Rattle.vsi_scope.specs.Resolving.{AreBelow, HasClassesBelow};
+ghost use Rattle.vsi_scope.specs.View.{sequence};
+ghost use Rattle.vsi_types.specs.declared.rules.Profile.TheVariants.{Strict};
+ghost use Rattle.vsi_code.specs.Behaves.{Behaves};
+ghost use Rattle.vsi_compiler.specs.Observation.{IsNoninterfering, EndsAlike};
+ghost use Rattle.vsi_audit.specs.Refusal.{Refuses};
+ghost use Rattle.vsi_audit.specs.Standing.{HasKnownClasses, HaveClasses, StandsFor};
+
+use crate::builder::{Commands, commands_of};
+use crate::error::{AuditError, Unread};
+use crate::fitting::fit_all;
+use crate::globals::{declarations, declared_program, unknown_class};
+use crate::reading::span_at;
+use std::alloc::{AllocError, Global};
+use vsi_code::generate;
+use vsi_image::{EncodeError, Image, Verified, encode};
+use vsi_infer::{InferError, infer_in};
+use vsi_lattice::Lattice;
+use vsi_scope::{Entry, Resolved, size};
+use vsi_types::Profile;
+
+/// The entries of letvars without a written class.
+fn entries<'a>(
+    alloc: Global,
+    name: &'a [u8],
+    places: &[usize],
+) -> Result<Vec<Entry<'a>>, AllocError>
+    ensures { IfOk result (λ es. All (λ e. e.class ≡ None) es.items) }
+{
+    let mut entries = Vec::new(alloc);
+    for place in places {
+        entries.extend_from_slice(&[Entry {
+            name,
+            class: None,
+            span: span_at(*place),
+        }])?;
+    }
+    Ok(entries)
+}
+
+/// The program with these commands in place of its own, where they are within the limits.
+fn with_commands<'a>(
+    alloc: Global,
+    base: &Resolved<'a>,
+    name: &'a [u8],
+    commands: Commands,
+) -> Result<Resolved<'a>, Unread>
+    ensures kept { IfOk result IsResolved }
+    ensures globals { IfOk result (λ r. r.globals ≡ base.now.globals) }
+    ensures letvars { IfOk result (λ r. All (λ e. e.class ≡ None) r.letvars) }
+{
+    let _body = base.body();
+    let Commands { letvars, body } = commands;
+    let entries = entries(alloc, name, &letvars)?;
+    let count = base.globals().len();
+    let Some(found) = fit_all(&body, count as u16, 200) else {
+        return Err(Unread::At(0));
+    };
+    if found as usize != entries.len() {
+        return Err(Unread::At(0));
+    }
+    if count + entries.len() > 1024 {
+        return Err(Unread::At(0));
+    }
+    if size(&body) > 65_534 {
+        return Err(Unread::At(0));
+    }
+    match base.rebuilt(alloc, entries, body) {
+        Ok(program) => Ok(program),
+        Err(_) => Err(Unread::Memory),
+    }
+}
+
+/// Where two images differ: at an instruction, or in other fields.
+fn difference(made: &Image, image: &Image) -> Unread {
+    for place in 0..made.code.len() {
+        if made.code.get(place) != image.code.get(place) {
+            return Unread::At(place);
+        }
+    }
+    if made.code.len() < image.code.len() {
+        return Unread::At(made.code.len());
+    }
+    Unread::Fields
+}
+
+/// The bytes of an image.
+fn bytes_of(alloc: Global, image: &Image) -> Result<Vec<u8>, Unread>
+    ensures { IfOk result (λ bytes. Spells bytes.items (fields image.now)) }
+{
+    match encode(alloc, image) {
+        Ok(bytes) => Ok(bytes),
+        Err(EncodeError::Memory) => Err(Unread::Memory),
+        Err(EncodeError::Unencodable(_)) => Err(Unread::Fields),
+    }
+}
+
+/// Whether two images have the same fields, by their bytes.
+fn are_alike(alloc: Global, made: &Image, image: &Image) -> Result<bool, Unread>
+    ensures { IfOk result (λ alike. alike ≡ true → fields made.now ≡ fields image.now) }
+{
+    let first = bytes_of(alloc, made)?;
+    let second = bytes_of(alloc, image)?;
+    Ok(first.as_slice() == second.as_slice())
+}
+
+/// Compares the image of a program with an image.
+fn compare(alloc: Global, program: &Resolved<'_>, image: &Image) -> Result<(), Unread>
+    ensures stands { OnOk result (StandsFor program.now image.now) }
+    ensures behaves { OnOk result (Behaves (length program.now.globals) (sequence program.now.body) image.now) }
+{
+    let made = generate(alloc, program)?;
+    let is_alike = are_alike(alloc, made.image(), image)?;
+    if is_alike {
+        Ok(())
+    } else {
+        Err(difference(made.image(), image))
+    }
+}
+
+/// The program that an image's code stands for; the text declares its globals.
+fn program_of<'a>(
+    alloc: Global,
+    lattice: &Lattice,
+    text: &'a [u8],
+    image: &Image,
+) -> Result<Resolved<'a>, Unread>
+    ensures kept { IfOk result IsResolved }
+    ensures classes { (n : ℕ) → AreBelow n (class_named lattice.now) → IfOk result (HasClassesBelow n) }
+    ensures named { IfOk result (λ r. HaveClasses (class_named lattice.now) r.globals) }
+    ensures stands { IfOk result (λ r. StandsFor r image.now) }
+    ensures behaves { IfOk result (λ r. Behaves (length r.globals) (sequence r.body) image.now) }
+{
+    let base = declared_program(alloc, lattice, text)?;
+    let commands = commands_of(alloc, image)?;
+    let program = with_commands(alloc, &base, text, commands)?;
+    compare(alloc, &program, image)?;
+    Ok(program)
+}
+
+/// Judges an image by the policy that its class names say, under a profile. Where it is accepted, it is noninterfering,
+/// whoever made it.
+///
+/// # Errors
+///
+/// `UnknownClass` first, then `Unstructured` or `WrongFields`, then `Flow`. `Memory` may stand in place of any answer.
+pub fn audit_in(
+    alloc: Global,
+    profile: Profile,
+    lattice: &Lattice,
+    image: &Verified,
+) -> Result<(), AuditError>
+    ensures valid { OnOk result (IsValid image.now) }
+    ensures classes { OnOk result (HasKnownClasses (class_named lattice.now) image.now) }
+    ensures noninterference { OnOk result (IsNoninterfering (class_named lattice.now) (order lattice.now) image.now) }
+    ensures endings { profile ≡ Strict → OnOk result (EndsAlike (class_named lattice.now) (order lattice.now) image.now) }
+    ensures refused { IfErr result (Refuses (class_named lattice.now) (order lattice.now) profile image.now) }
+{
+    let image = image.image();
+    if let Some(global) = unknown_class(lattice, &image.globals) {
+        return Err(AuditError::UnknownClass(global));
+    }
+    let text = declarations(alloc, image)?;
+    let program = program_of(alloc, lattice, &text, image)?;
+    match infer_in(alloc, profile, lattice, &program) {
+        Ok(_) => Ok(()),
+        Err(InferError::Memory) => Err(AuditError::Memory),
+        Err(InferError::Refused(walk)) => Err(AuditError::Flow(walk)),
+    }
+}

@@ -1,0 +1,116 @@
+//! What is told of a flow that breaks the policy.
+
+use crate::error::AuditError;
+use crate::names::{Names, put_number};
+use std::alloc::{AllocError, Global};
+use vsi_image::Image;
+use vsi_infer::Step;
+use vsi_lattice::{Classes, Lattice};
+use vsi_scope::Var;
+use vsi_types::{LOOP, Rule};
+
+/// The word of a rule.
+fn rule_text(rule: Rule) -> &'static [u8] {
+    match rule {
+        Rule::Assign => b"ASSIGN",
+        Rule::If => b"IF",
+        Rule::While => b"WHILE",
+        Rule::Letvar => b"LETVAR",
+        Rule::Loop => b"LOOP",
+    }
+}
+
+/// Adds the name of a variable.
+fn put_name(out: &mut Vec<u8>, names: &Names<'_>, variable: Var) -> Result<(), AllocError> {
+    if variable == LOOP {
+        return out.extend_from_slice(b"(loop)");
+    }
+    names.put_variable(out, variable.0)
+}
+
+/// Adds the name of a variable and that of its class.
+fn put_variable(
+    out: &mut Vec<u8>,
+    lattice: &Lattice,
+    image: &Image,
+    names: &Names<'_>,
+    variable: Var,
+) -> Result<(), AllocError> {
+    put_name(out, names, variable)?;
+    out.extend_from_slice(b" : ")?;
+    if variable == LOOP {
+        return out.extend_from_slice(lattice.name(lattice.bottom()));
+    }
+    match image.globals.get(variable.0 as usize) {
+        Some(global) => out.extend_from_slice(&global.1),
+        None => Ok(()),
+    }
+}
+
+/// Adds the line of a step.
+fn put_step(out: &mut Vec<u8>, names: &Names<'_>, step: &Step) -> Result<(), AllocError> {
+    put_number(out, step.read.start as u64)?;
+    out.extend_from_slice(b" ")?;
+    put_name(out, names, step.source)?;
+    out.extend_from_slice(b" flows to ")?;
+    put_name(out, names, step.target)?;
+    out.extend_from_slice(b" by ")?;
+    out.extend_from_slice(rule_text(step.rule))?;
+    out.extend_from_slice(b" at ")?;
+    put_number(out, step.written.start as u64)?;
+    out.extend_from_slice(b"\n")
+}
+
+/// Adds the lines of a walk: one for each step, and a last one with the classes of its ends.
+fn put_walk(
+    out: &mut Vec<u8>,
+    lattice: &Lattice,
+    image: &Image,
+    names: &Names<'_>,
+    steps: &[Step],
+) -> Result<(), AllocError> {
+    if steps.is_empty() {
+        return Ok(());
+    }
+    for step in steps {
+        put_step(out, names, step)?;
+    }
+    put_variable(out, lattice, image, names, steps[0].source)?;
+    out.extend_from_slice(b" may not flow to ")?;
+    put_variable(out, lattice, image, names, steps[steps.len() - 1].target)?;
+    out.extend_from_slice(b"\n")
+}
+
+/// Adds a line of a refusal that ends with a number.
+fn put_numbered(out: &mut Vec<u8>, start: &[u8], number: usize) -> Result<(), AllocError> {
+    out.extend_from_slice(start)?;
+    put_number(out, number as u64)?;
+    out.extend_from_slice(b"\n")
+}
+
+/// The text of a refusal of an image: its number and its name, and what it names; of a flow each step and the classes of
+/// the two ends. In place of lines and columns there are numbers of instructions, and the locals have the names of
+/// `source_text`. The image and the lattice are to be those that were refused.
+pub fn audit_text(
+    alloc: Global,
+    lattice: &Lattice,
+    image: &Image,
+    error: &AuditError,
+) -> Result<Vec<u8>, AllocError> {
+    let mut out = Vec::new(alloc);
+    match error {
+        AuditError::UnknownClass(n) => {
+            put_numbered(&mut out, b"refused: 43 ClassNotInLattice ", *n)?;
+        }
+        AuditError::Unstructured(n) => put_numbered(&mut out, b"refused: 49 NoCommands ", *n)?,
+        AuditError::WrongFields => out.extend_from_slice(b"refused: 50 WrongFields\n")?,
+        AuditError::NoText => out.extend_from_slice(b"refused: 51 NoText\n")?,
+        AuditError::Flow(walk) => {
+            out.extend_from_slice(b"refused: 25 Refused\n")?;
+            let names = Names::of(alloc, &image.globals);
+            put_walk(&mut out, lattice, image, &names, &walk.steps)?;
+        }
+        AuditError::Memory => out.extend_from_slice(b"out of memory\n")?,
+    }
+    Ok(out)
+}

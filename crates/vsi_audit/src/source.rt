@@ -1,0 +1,198 @@
+//! The commands of an image as text, and a bad walk of them.
+
+ghost use Rattle.std.specs.Prelude.{IfOk};
+ghost use Rattle.vsi_audit.specs.Text.{IsProgramText};
+
+use crate::builder::{Commands, commands_of};
+use crate::error::{AuditError, Unread};
+use crate::globals::put_declarations;
+use crate::names::{Names, put_number};
+use std::alloc::{AllocError, Global};
+use vsi_compiler::{CompileError, format_text};
+use vsi_image::{Image, Verified};
+use vsi_scope::{Cmd, Ex};
+use vsi_syntax::Op;
+
+/// What an empty sequence is written as: it does nothing, and nothing flows out of it.
+fn put_nothing(out: &mut Vec<u8>, names: &Names<'_>) -> Result<(), AllocError> {
+    out.extend_from_slice(b"letvar ")?;
+    names.put_made(out, 0)?;
+    out.extend_from_slice(b":=0 in ")?;
+    names.put_made(out, 0)?;
+    out.extend_from_slice(b":=0")
+}
+
+/// The symbol of an operator.
+fn symbol(op: Op) -> &'static [u8] {
+    match op {
+        Op::Add => b"+",
+        Op::Sub => b"-",
+        Op::Mul => b"*",
+        Op::Eq => b"=",
+        Op::Lt => b"<",
+    }
+}
+
+/// How tightly an operator binds: comparisons 0, sums 1, products 2.
+fn level(op: Op) -> u8 {
+    match op {
+        Op::Mul => 2,
+        Op::Add => 1,
+        Op::Sub => 1,
+        Op::Eq => 0,
+        Op::Lt => 0,
+    }
+}
+
+/// Adds a number. A number below 0 has no word: it is written as the difference or, for the least, the sum that gives
+/// it.
+fn put_word(out: &mut Vec<u8>, n: i64) -> Result<(), AllocError> {
+    if n >= 0 {
+        return put_number(out, n.unsigned_abs());
+    }
+    if n == i64::MIN {
+        return out.extend_from_slice(b"9223372036854775807+1");
+    }
+    out.extend_from_slice(b"0-")?;
+    put_number(out, n.unsigned_abs())
+}
+
+/// Adds an expression, in brackets where it binds less tightly than this level: 3 for an atom.
+fn put_expression(
+    e: &Ex,
+    out: &mut Vec<u8>,
+    names: &Names<'_>,
+    least: u8,
+) -> Result<(), AllocError> {
+    match e {
+        Ex::Num(n) => {
+            let is_bracketed = *n < 0 && least > 1;
+            open(out, is_bracketed)?;
+            put_word(out, *n)?;
+            close(out, is_bracketed)
+        }
+        Ex::Loc(location, _) => names.put(out, *location),
+        Ex::Op(op, left, right) => {
+            let own = level(*op);
+            let is_bracketed = own < least;
+            open(out, is_bracketed)?;
+            put_expression(left, out, names, own.max(1))?;
+            out.extend_from_slice(symbol(*op))?;
+            put_expression(right, out, names, own.saturating_add(1))?;
+            close(out, is_bracketed)
+        }
+    }
+}
+
+/// Adds an opening bracket, where there is one.
+fn open(out: &mut Vec<u8>, is_bracketed: bool) -> Result<(), AllocError> {
+    if is_bracketed {
+        out.extend_from_slice(b"(")?;
+    }
+    Ok(())
+}
+
+/// Adds a closing bracket, where there is one.
+fn close(out: &mut Vec<u8>, is_bracketed: bool) -> Result<(), AllocError> {
+    if is_bracketed {
+        out.extend_from_slice(b")")?;
+    }
+    Ok(())
+}
+
+/// Adds the commands of a sequence, with `;` between them.
+#[cycle(writing)]
+fn put_all(body: &[Cmd], out: &mut Vec<u8>, names: &mut Names<'_>) -> Result<(), AllocError> {
+    if body.is_empty() {
+        return put_nothing(out, names);
+    }
+    let mut is_first = true;
+    for c in body {
+        if !is_first {
+            out.extend_from_slice(b";")?;
+        }
+        is_first = false;
+        put_one(c, out, names)?;
+    }
+    Ok(())
+}
+
+/// Adds a sequence as one command: as a block, where it has more than one.
+#[cycle(writing)]
+fn put_part(body: &[Cmd], out: &mut Vec<u8>, names: &mut Names<'_>) -> Result<(), AllocError> {
+    let is_block = body.len() > 1;
+    if is_block {
+        out.extend_from_slice(b"{")?;
+    }
+    put_all(body, out, names)?;
+    if is_block {
+        out.extend_from_slice(b"}")?;
+    }
+    Ok(())
+}
+
+/// Adds a command.
+#[cycle(writing)]
+fn put_one(c: &Cmd, out: &mut Vec<u8>, names: &mut Names<'_>) -> Result<(), AllocError> {
+    match c {
+        Cmd::Assign { loc, value, .. } => {
+            names.put(out, *loc)?;
+            out.extend_from_slice(b":=")?;
+            put_expression(value, out, names, 0)
+        }
+        Cmd::If { guard, yes, no } => {
+            out.extend_from_slice(b"if ")?;
+            put_expression(guard, out, names, 0)?;
+            out.extend_from_slice(b" then ")?;
+            put_part(yes, out, names)?;
+            out.extend_from_slice(b" else ")?;
+            put_part(no, out, names)
+        }
+        Cmd::While { guard, body } => {
+            out.extend_from_slice(b"while ")?;
+            put_expression(guard, out, names, 0)?;
+            out.extend_from_slice(b" do ")?;
+            put_part(body, out, names)
+        }
+        Cmd::Letvar { value, body } => {
+            out.extend_from_slice(b"letvar ")?;
+            names.put_next(out)?;
+            out.extend_from_slice(b":=")?;
+            put_expression(value, out, names, 0)?;
+            out.extend_from_slice(b" in ")?;
+            names.begin()?;
+            put_part(body, out, names)?;
+            names.end();
+            Ok(())
+        }
+    }
+}
+
+/// The text of an image's globals and commands, not laid out.
+fn written(alloc: Global, image: &Image) -> Result<Vec<u8>, Unread> {
+    let Commands { body, .. } = commands_of(alloc, image)?;
+    let mut out = Vec::new(alloc);
+    put_declarations(&mut out, image)?;
+    let mut names = Names::of(alloc, &image.globals);
+    put_all(&body, &mut out, &mut names)?;
+    Ok(out)
+}
+
+/// The text that an image's code stands for, in its canonical layout: a text of the language, over the image's globals.
+/// The locals have made-up names with numbers, as in `audit_text`; one with the number 0 stands where there is no
+/// command.
+///
+/// # Errors
+///
+/// `Unstructured`; `NoText`, where the text would be out of the limits on texts; `Memory` may stand in place of any
+/// answer.
+pub fn source_text(alloc: Global, image: &Verified) -> Result<Vec<u8>, AuditError>
+    ensures { IfOk result (λ out. IsProgramText out.items) }
+{
+    let text = written(alloc, image.image())?;
+    match format_text(alloc, &text) {
+        Ok(out) => Ok(out),
+        Err(CompileError::Memory) => Err(AuditError::Memory),
+        Err(_) => Err(AuditError::NoText),
+    }
+}

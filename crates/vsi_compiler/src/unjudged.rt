@@ -1,0 +1,41 @@
+//! The image of a text whose flows aren't judged.
+
+ghost use Rattle.std.specs.Prelude.{IfOk, IfErr};
+ghost use Rattle.vsi_lattice.specs.LatticeView.{class_named, order};
+ghost use Rattle.vsi_types.specs.declared.rules.Profile.{Profile};
+ghost use Rattle.vsi_compiler.specs.Acceptance.{IsAccepted};
+ghost use Rattle.vsi_compiler.specs.Headline.{HasGlobals, KeepsMeaning, IsImageOf};
+ghost use Rattle.vsi_compiler.specs.Observation.{IsNoninterfering};
+ghost use Rattle.vsi_compiler.specs.Refusal.{RefusesProgram};
+
+use crate::error::CompileError;
+use crate::source::resolved_program;
+use std::alloc::Global;
+use vsi_code::generate;
+use vsi_image::Verified;
+use vsi_lattice::Lattice;
+use vsi_opt::optimise;
+
+/// The image of a text, whether its flows are in order or not: where `compile` accepts the text, the one that it
+/// answers.
+///
+/// # Errors
+///
+/// The first refusal in the order text, words, tree, scope, size, and never one of a flow.
+pub fn unjudged_image(
+    alloc: Global,
+    lattice: &Lattice,
+    text: &[u8],
+) -> Result<Verified, CompileError>
+    ensures refused { IfErr result (RefusesProgram (class_named lattice.now) text.now) }
+    ensures globals { IfOk result (HasGlobals text.now) }
+    ensures meaning { IfOk result (KeepsMeaning (class_named lattice.now) text.now) }
+    ensures image { IfOk result (IsImageOf (class_named lattice.now) text.now) }
+    ensures accepted { (P : Profile) → IsAccepted (class_named lattice.now) (order lattice.now) P text.now
+        → IfOk result (IsNoninterfering (class_named lattice.now) (order lattice.now)) }
+{
+    let resolved = resolved_program(alloc, lattice, text)?;
+    let optimised = optimise(alloc, &resolved)?;
+    let verified = generate(alloc, &optimised)?;
+    Ok(verified)
+}

@@ -1,0 +1,4 @@
+pub mod FieldsOf
+pub mod Written
+pub mod Lengths
+pub mod Alike

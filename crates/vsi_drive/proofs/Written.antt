@@ -1,0 +1,78 @@
+-- What fields set, three by three.
+use Rattle.std.proofs.Common.{◌≡◌, ℕ, ◌+◌, ◌<◌, List, [], ◌∷◌, length, drop, Some, Ok, Err, refl, sym, ap, ◌∙◌, arith}
+use Rattle.std.specs.Prelude.{ℤ, Result, slice_get, slice_set}
+use Rattle.std.proofs.lemmas.List.{drop_more}
+use Rattle.std.proofs.lemmas.Option.{get_or_from_slice_get}
+use Rattle.vsi_drive.specs.declared.fault.LineFault.{LineFault}
+use Rattle.vsi_drive.specs.declared.fault.LineFault.TheVariants.{BadSetting}
+use Rattle.vsi_drive.specs.Control.{Control}
+use Rattle.vsi_drive.specs.Settings as spec
+use Rattle.vsi_drive.specs.Cycles as cycles
+
+-- What stands behind a place is the field there and what stands behind it.
+drop_field : (fs : List (List ℕ)) (at : ℕ) (x : List ℕ) → at < length fs → slice_get fs at ≡ Some x →
+    drop at fs ≡ x ∷ drop (at + 1) fs
+drop_field fs at x within is =
+    drop_more fs at [] within ∙ ap (λ f. f ∷ drop (at + 1) fs) (get_or_from_slice_get fs at x [] is)
+
+-- The next three fields are a setting in front of the others.
+pub next_setting : (c : Control) (n at : ℕ) (fs : List (List ℕ)) (x y z : List ℕ) → at + 2 < length fs →
+    slice_get fs at ≡ Some x → slice_get fs (at + 1) ≡ Some y → slice_get fs (at + 2) ≡ Some z →
+    spec.settings_from c n (drop at fs)
+    ≡ spec.in_front (spec.setting c n x y z) (spec.settings_from c (n + 1) (drop (at + 3) fs))
+next_setting c n at fs x y z within isx isy isz =
+    let first = drop_field fs at x (omega (arith, within)) isx in
+    let second = drop_field fs (at + 1) y (omega (arith, within)) isy in
+    let third = drop_field fs (at + 1 + 1) z (omega (arith, within)) (ap (slice_get fs) (omega arith) ∙ isz) in
+    let end : drop (at + 1 + 1 + 1) fs ≡ drop (at + 3) fs = ap (λ k. drop k fs) (omega arith) in
+    ap (spec.settings_from c n)
+    (first ∙ ap (λ l. x ∷ l) (second ∙ ap (λ l. y ∷ l) (third ∙ ap (λ l. z ∷ l) end)))
+
+-- A setting that is made goes in front of those behind it.
+pub made : (i : ℕ) (w : ℤ) (r : Result (List spec.Setting) LineFault) (m : List ℤ) →
+    spec.written (spec.in_front (Ok (i, w)) r) m ≡ spec.written r (slice_set m i w)
+made i w (Err fault) m = refl
+made i w (Ok ss) m = refl
+
+-- Where nothing is written, there is the fault.
+pub fault_of : (r : Result (List spec.Setting) LineFault) (m : List ℤ) (fault : LineFault) →
+    spec.written r m ≡ Err fault → r ≡ Err fault
+fault_of (Err e) m fault h = ap (λ x. Err (error_in e x)) h
+  where
+    error_in : LineFault → Result (List ℤ) LineFault → LineFault
+    error_in d (Ok x) = d
+    error_in d (Err e) = e
+fault_of (Ok ss) m fault h = absurd (cc)
+
+-- Fields of which there are none set nothing.
+pub none_left : (c : Control) (n : ℕ) (fs : List (List ℕ)) → length fs ≡ 0 → spec.settings_from c n fs ≡ Ok []
+none_left c n [] none = refl
+none_left c n (f ∷ fs) none = absurd (omega (arith, none))
+
+-- One field or two are no setting.
+pub few_left : (c : Control) (n : ℕ) (fs : List (List ℕ)) → 0 < length fs → length fs < 3 →
+    spec.settings_from c n fs ≡ Err (BadSetting n)
+few_left c n [] some few = absurd (omega arith)
+few_left c n (x ∷ []) some few = refl
+few_left c n (x ∷ y ∷ []) some few = refl
+few_left c n (x ∷ y ∷ z ∷ fs) some few = absurd (omega (arith, few))
+
+-- A cycle of settings that are made is the one from the store that they lead to.
+pub cycle_written : (c : Control) (m words : List ℤ) (r : Result (List spec.Setting) LineFault) →
+    spec.written r m ≡ Ok words → cycles.cycle_of c m r ≡ cycles.cycle_from c m words
+cycle_written c m words (Err fault) h = absurd (cc)
+cycle_written c m words (Ok ss) h = ap (λ x. cycles.cycle_from c m (words_in m x)) h
+  where
+    words_in : List ℤ → Result (List ℤ) LineFault → List ℤ
+    words_in d (Ok x) = x
+    words_in d (Err e) = d
+
+-- A faulty setting is the fault of all.
+pub faulty : (s : Result spec.Setting LineFault) (r : Result (List spec.Setting) LineFault) {fault : LineFault} →
+    Err fault ≡ s → spec.in_front s r ≡ Err fault
+faulty s r {fault} h = ap (λ x. spec.in_front x r) (sym h)
+
+-- Where there is a fault, nothing is written.
+pub written_fault : (r : Result (List spec.Setting) LineFault) (m : List ℤ) (fault : LineFault) →
+    r ≡ Err fault → spec.written r m ≡ Err fault
+written_fault r m fault h = ap (λ x. spec.written x m) h

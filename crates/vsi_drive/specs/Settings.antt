@@ -1,0 +1,76 @@
+-- What a line sets, and what is wrong with one that sets nothing.
+use Rattle.std.specs.Prelude.{ℕ, ◌+◌, nat_lt, ℤ, List, [], ◌∷◌, ◌++◌, length, Option, Some, None, Result, Ok, Err, if◌then◌else◌, bytes_eq, codes, decimal, slice_set}
+use Rattle.vsi_image.specs.Fields.{Global, globals}
+use Rattle.vsi_store.specs.View.{is_seen}
+use Rattle.vsi_drive.specs.declared.fault.LineFault.{LineFault}
+use Rattle.vsi_drive.specs.declared.fault.LineFault.TheVariants.{TooLong, BadSetting, UnknownGlobal, AboveClass, NotANumber}
+use Rattle.vsi_drive.specs.Control.{Control}
+use Rattle.vsi_drive.specs.Fields.{fields_of, word_of}
+
+-- The number of a global, and the word that it is set to.
+abbrev pub Setting : Type 0
+Setting = ℕ × ℤ
+
+-- The number of the global that a setting names, where these globals have numbers from i on. It is at or below the class.
+abbrev pub target_from : Control → ℕ → ℕ → List Global → List ℕ → Result ℕ LineFault
+target_from c n i [] name = Err (UnknownGlobal n)
+target_from c n i (g ∷ gs) name =
+    if bytes_eq g.0 name
+    then (if is_seen c.known c.order c.class g.1 then Ok i else Err (AboveClass n))
+    else target_from c n (i + 1) gs name
+
+-- The setting of a global to the word that a field writes.
+abbrev pub with_word : ℕ → Result ℕ LineFault → Option ℤ → Result Setting LineFault
+with_word n (Err fault) w = Err fault
+with_word n (Ok i) None = Err (NotANumber n)
+with_word n (Ok i) (Some w) = Ok (i, w)
+
+-- The setting that three fields are: the name of a global, `=`, and a number.
+abbrev pub setting : Control → ℕ → List ℕ → List ℕ → List ℕ → Result Setting LineFault
+setting c n name equal number =
+    if bytes_eq equal (codes "=")
+    then with_word n (target_from c n 0 (globals c.image.globals.items) name) (word_of number)
+    else Err (BadSetting n)
+
+-- A setting in front of others; the first fault stands for all.
+abbrev pub in_front : Result Setting LineFault → Result (List Setting) LineFault → Result (List Setting) LineFault
+in_front (Err fault) others = Err fault
+in_front (Ok s) (Err fault) = Err fault
+in_front (Ok s) (Ok ss) = Ok (s ∷ ss)
+
+-- The settings that fields are, three by three, of which the first has this number.
+abbrev pub settings_from : Control → ℕ → List (List ℕ) → Result (List Setting) LineFault
+settings_from c n [] = Ok []
+settings_from c n (x ∷ []) = Err (BadSetting n)
+settings_from c n (x ∷ y ∷ []) = Err (BadSetting n)
+settings_from c n (x ∷ y ∷ z ∷ fields) = in_front (setting c n x y z) (settings_from c (n + 1) fields)
+
+-- The settings of a line of at most 65,536 bytes.
+abbrev pub settings_of : Control → List ℕ → Result (List Setting) LineFault
+settings_of c line = if nat_lt 65536 (length line) then Err TooLong else settings_from c 0 (fields_of line)
+
+-- A store in which globals have been set, one after another.
+abbrev pub applied : List Setting → List ℤ → List ℤ
+applied [] m = m
+applied (s ∷ ss) m = applied ss (slice_set m s.0 s.1)
+
+-- A faulty setting, with its number, from 0.
+abbrev pub numbered : List ℕ → ℕ → List ℕ
+numbered name n = name ++ codes " " ++ decimal n
+
+-- The number, the name and the field of a fault.
+abbrev pub fault_name : LineFault → List ℕ
+fault_name TooLong = codes "44 LineTooLong"
+fault_name (BadSetting n) = numbered (codes "45 BadSetting") n
+fault_name (UnknownGlobal n) = numbered (codes "46 NoGlobal") n
+fault_name (AboveClass n) = numbered (codes "47 AboveClass") n
+fault_name (NotANumber n) = numbered (codes "48 NoNumber") n
+
+-- The line of a fault.
+abbrev pub fault_line : LineFault → List ℕ
+fault_line fault = codes "refused: " ++ fault_name fault ++ codes "\n"
+
+-- The store in which settings have been made, or their fault.
+abbrev pub written : Result (List Setting) LineFault → List ℤ → Result (List ℤ) LineFault
+written (Err fault) m = Err fault
+written (Ok ss) m = Ok (applied ss m)

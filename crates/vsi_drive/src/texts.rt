@@ -1,0 +1,98 @@
+//! The lines that are written.
+
+ghost use Rattle.std.specs.Prelude.{◌≡◌, ◌++◌, ◌-◌, length, take, codes, decimal, IfOk, OnOk};
+ghost use Rattle.vsi_image.specs.Fields.{global, globals};
+ghost use Rattle.vsi_drive.specs.Settings as settings;
+ghost use Rattle.vsi_drive.specs.Control.{control};
+ghost use Rattle.vsi_drive.specs.Cycles as spec;
+
+use crate::controller::Controller;
+use crate::fault::LineFault;
+use itoa::Buffer;
+use std::alloc::{AllocError, Global};
+
+/// A name, a space and a number more.
+fn push_numbered(text: &mut Vec<u8>, name: &[u8], number: usize) -> Result<(), AllocError>
+    ensures { OnOk result (text.new.items ≡ text.old.items ++ settings.numbered name.now number) }
+{
+    let mut buffer = Buffer::new();
+    text.extend_from_slice(name)?;
+    text.extend_from_slice(b" ")?;
+    text.extend_from_slice(buffer.format(number).as_bytes())
+}
+
+/// The line of a fault.
+pub(crate) fn fault_line(alloc: Global, fault: LineFault) -> Result<Vec<u8>, AllocError>
+    ensures { IfOk result (λ text. text.items ≡ settings.fault_line fault) }
+{
+    let mut text = Vec::from_slice(alloc, b"refused: ")?;
+    match fault {
+        LineFault::TooLong => text.extend_from_slice(b"44 LineTooLong")?,
+        LineFault::BadSetting(n) => push_numbered(&mut text, b"45 BadSetting", n)?,
+        LineFault::UnknownGlobal(n) => push_numbered(&mut text, b"46 NoGlobal", n)?,
+        LineFault::AboveClass(n) => push_numbered(&mut text, b"47 AboveClass", n)?,
+        LineFault::NotANumber(n) => push_numbered(&mut text, b"48 NoNumber", n)?,
+    }
+    text.extend_from_slice(b"\n")?;
+    Ok(text)
+}
+
+/// The line of a cycle that is out of budget.
+pub(crate) fn spent_line(alloc: Global) -> Result<Vec<u8>, AllocError>
+    ensures { IfOk result (λ text. text.items ≡ codes "out of budget\n") }
+{
+    Vec::from_slice(alloc, b"out of budget\n")
+}
+
+/// One global more, where the class sees it, and a space.
+fn push_seen(
+    text: &mut Vec<u8>,
+    controller: &Controller,
+    variable: &(Vec<u8>, Vec<u8>),
+    word: i64,
+) -> Result<(), AllocError>
+    ensures { OnOk result (text.new.items ≡ text.old.items
+        ++ spec.global_seen (control controller.now) (global variable.now) word) }
+{
+    if controller.sees(variable.1.as_slice()) {
+        let mut buffer = Buffer::new();
+        text.extend_from_slice(variable.0.as_slice())?;
+        text.extend_from_slice(b" = ")?;
+        text.extend_from_slice(buffer.format(word).as_bytes())?;
+        text.extend_from_slice(b" ")?;
+    }
+    Ok(())
+}
+
+/// What the class sees of a store, each global with a space behind it.
+fn globals_seen(
+    alloc: Global,
+    controller: &Controller,
+    words: &[i64],
+) -> Result<Vec<u8>, AllocError>
+    requires { length words.now ≡ length (control controller.now).image.globals.items }
+    ensures { IfOk result (λ text. text.items
+        ≡ spec.globals_seen (control controller.now) (globals (control controller.now).image.globals.items) words.now) }
+{
+    let variables = controller.globals();
+    let mut text = Vec::new(alloc);
+    for (i, variable) in variables.iter().enumerate() {
+        push_seen(&mut text, controller, variable, words[i])?;
+    }
+    Ok(text)
+}
+
+/// What the class sees of a store, as a line.
+pub(crate) fn line_seen(
+    alloc: Global,
+    controller: &Controller,
+    words: &[i64],
+) -> Result<Vec<u8>, AllocError>
+    requires { length words.now ≡ length (control controller.now).image.globals.items }
+    ensures { IfOk result (λ text. text.items ≡ spec.line_seen (control controller.now) words.now) }
+{
+    let mut text = globals_seen(alloc, controller, words)?;
+    text.pop();
+    text.extend_from_slice(b"\n")?;
+    Ok(text)
+}

@@ -1,0 +1,111 @@
+-- Distances of places are distances of variables.
+use Rattle.std.proofs.Common.{◌≡◌, ◌↔◌, ◌⊎◌, ℕ, zero, suc, ◌+◌, ◌<◌, ◌≤◌, Bool, true, List, [], ◌∷◌, ◌++◌, map, length, get_or, Some, refl, sym, ap, ◌∙◌, subst, arith, inl, inr}
+use Rattle.std.specs.Prelude.{Result, Ok, Err, IfOk}
+use Rattle.std.proofs.lemmas.Bool.{cases_lt}
+use Rattle.std.proofs.lemmas.List.{get_or_append_left, get_or_at, map-append, length-map}
+use Rattle.vsi_lattice.specs.Order.{Lattice, IsLattice}
+use Rattle.vsi_types.specs.declared.rules.Profile.{Profile}
+use Rattle.vsi_types.specs.declared.rules.Step.{Step}
+use Rattle.vsi_types.specs.Security.{Program, IsWellFormed, steps_of}
+use Rattle.vsi_types.specs.Walks.{declared_class}
+use Rattle.vsi_infer.specs.Distances.{Leads, IsGoal, AreDistances}
+use Rattle.vsi_infer.specs.Flowing.{size_of, variable_at, AreFlowsOf}
+use Rattle.vsi_infer.specs.Inference.{AreClasses}
+use Rattle.vsi_infer.specs.Paths.{IsPath}
+use Rattle.vsi_infer.specs.Shortest.{row_of}
+use Rattle.vsi_infer.proofs.Bridge.{step_there, at_place}
+use Rattle.vsi_infer.proofs.DistanceLemmas.{fewest}
+use Rattle.vsi_infer.proofs.ShortestLemmas.{row_back, step_flow, same_place, source_within}
+use Rattle.vsi_flows.specs.Rows.{AreLeast, AreLeastRows, IsRowTo, AreRows}
+
+-- Distances to one goal.
+pub least_of : (flows : ℕ → ℕ → Bool) (goals : List Bool) (row : List ℕ) (count b : ℕ) → length goals ≡ count
+    → count ≤ 1025 → ((v : ℕ) → IsGoal goals v ↔ (v ≡ b))
+    → ((x y : ℕ) → flows x y ≡ true → (x < count) × (y < count))
+    → AreDistances flows goals row → AreLeast flows count b row
+least_of flows goals row count b len small goal within d = record {
+  sound = λ v lt far.
+      let away = d.sound v (omega (arith, lt, d.len, len)) far in
+      subst (λ (x : ℕ). Leads flows (get_or row v 0) v x) ((goal away.0).0 away.1) away.2;
+  least = λ n v w. fewest flows goals row (omega (arith, len, small))
+      (λ x y f. let i = within x y f in (omega (arith, i.0, len), omega (arith, i.1, len))) d n v b w
+      ((goal b).1 refl);
+}
+
+module _ (L : Lattice) (laws : IsLattice L) (P : Profile) (p : Program) (res : IsWellFormed L p)
+    (ds : AreClasses L p.declared) (flows : ℕ → ℕ → Bool) (are : AreFlowsOf P p flows) where
+  k : ℕ
+  k = size_of p
+
+  -- A walk is a chain of flows.
+  path_leads : (a b : ℕ) (w : List Step) → a ≤ size_of p → b ≤ size_of p
+      → IsPath (steps_of P p) (variable_at (size_of p) a) w (variable_at (size_of p) b) → Leads flows (length w) a b
+  path_leads a b [] la lb e =
+      sym (row_back L laws P p res ds flows are a la) ∙ ap (row_of (size_of p)) e
+      ∙ row_back L laws P p res ds flows are b lb
+  path_leads a b (s ∷ rest) la lb w =
+      let f = step_flow L laws P p res ds flows are s w.1 in
+      let lt = source_within L laws P p res ds flows are s w.1 in
+      let e : a ≡ s.source = same_place L laws P p res ds flows are a s.source la lt (sym w.0) in (
+        f.0,
+        subst (λ (x : ℕ). flows x f.0 ≡ true) (sym e) f.3,
+        path_leads f.0 b rest f.1 lb
+            (subst (λ (x : ℕ). IsPath (steps_of P p) x rest (variable_at (size_of p) b)) f.2 w.2),
+      )
+
+  -- A chain of flows is a walk.
+  leads_path : (n a b : ℕ) → Leads flows n a b
+      → (w : List Step) × IsPath (steps_of P p) (variable_at (size_of p) a) w (variable_at (size_of p) b)
+      × (length w ≡ n)
+  leads_path zero a b e = ([], ap (variable_at (size_of p)) e, refl)
+  leads_path (suc n) a b (c, f, r) =
+      let fits = are.within a c f in
+      let s = step_there (steps_of P p) a (variable_at (size_of p) c) (sym (are.flow a c fits.1) ∙ f) in
+      let rest = leads_path n c b r in (
+        s.0 ∷ rest.0,
+        (
+          s.2 ∙ sym (at_place L p res.entries res.limit a fits.0),
+          s.1,
+          subst (λ (x : ℕ). IsPath (steps_of P p) x rest.0 (variable_at (size_of p) b)) (sym s.3) rest.1,
+        ),
+        ap suc rest.2,
+      )
+
+  -- The row of a place is the row of its variable.
+  pub row_is : (b : ℕ) (row : List ℕ) → b ≤ size_of p → AreLeast flows (size_of p + 1) b row
+      → IsRowTo P p (variable_at (size_of p) b) row
+  row_is b row lb d = record {
+    walk = λ a la far. leads_path (get_or row a 0) a b (d.sound a (omega (arith, la)) far);
+    fewest = λ a w la q. d.least (length w) a (path_leads a b w la lb q);
+  }
+
+  -- The rows of places are rows of variables.
+  pub rows_are : (last : ℕ) (rows : List (List ℕ)) → last ≡ size_of p → AreLeastRows L p flows last rows
+      → AreRows L P p rows
+  rows_are last rows e h b c le d =
+      let lb : b ≤ last = omega (arith, le, e) in
+      row_is b (get_or rows b []) le (subst (λ (n : ℕ). AreLeast flows (n + 1) b (get_or rows b [])) e
+      (h b c lb (subst (λ (n : ℕ). declared_class L p (variable_at n b) ≡ Some c) (sym e) d)))
+
+  pub within_last : (last : ℕ) → last ≡ size_of p → (a b : ℕ) → flows a b ≡ true → (a < last + 1) × (b < last + 1)
+  within_last last e a b f = let w = are.within a b f in (omega (arith, w.0, e), omega (arith, w.1, e))
+
+-- One row more.
+pub rows_push : {V : Type 0} (f : V → List ℕ) (rows : List V) (row : V) (Q : ℕ → List ℕ → Type 0)
+    → ((b : ℕ) → b < length rows → Q b (get_or (map f rows) b [])) → Q (length rows) (f row)
+    → (b : ℕ) → b < length rows + 1 → Q b (get_or (map f (rows ++ row ∷ [])) b [])
+rows_push f rows row Q h q b lt =
+    subst (λ l. Q b (get_or l b [])) (sym (map-append f rows (row ∷ []))) (by (cases_lt b (length rows)))
+  where
+    by : (b < length rows) ⊎ (length rows ≤ b) → Q b (get_or (map f rows ++ f row ∷ []) b [])
+    by (inl l) = subst (Q b) (sym (get_or_append_left (map f rows) (f row ∷ []) [] b
+        (omega (arith, l, length-map rows f)))) (h b l)
+    by (inr g) =
+        let e : b ≡ length rows = omega (arith, lt, g) in
+        subst (Q b) (sym (get_or_at (map f rows) (f row) [] [] b (omega (arith, e, length-map rows f))))
+        (subst (λ (x : ℕ). Q x (f row)) (sym e) q)
+
+-- What holds of an answer, weaker.
+pub ok_weaker : {X E : Type 0} (r : Result X E) (P Q : X → Type 0) → ((x : X) → P x → Q x) → IfOk r P → IfOk r Q
+ok_weaker (Ok x) P Q f h = f x h
+ok_weaker (Err e) P Q f h = tt

@@ -1,0 +1,5 @@
+pub mod Table
+pub mod Rows
+pub mod Filling
+pub mod Independence
+pub mod Text

@@ -1,0 +1,4 @@
+pub mod Agreement
+pub mod Counts
+pub mod Leaks
+pub mod Rows

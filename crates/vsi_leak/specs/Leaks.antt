@@ -1,0 +1,85 @@
+-- What a leak is: two runs of an image that an observer at a class tells apart, though their stores agreed there.
+use Rattle.std.specs.Prelude.{◌≡◌, ◌≢◌, ℕ, ◌-◌, ◌≤◌, List, Some, false}
+use Rattle.vsi_image.specs.declared.instr.Image.{Image}
+use Rattle.vsi_image.specs.Meaning.{State}
+use Rattle.vsi_lattice.specs.Order.{Lattice, IsClass}
+use Rattle.vsi_machine.specs.Runs.{run_of}
+use Rattle.vsi_scope.specs.Meaning.{Store}
+use Rattle.vsi_compiler.specs.Observation.{Known, AgreeAt, IsStoreOf, Ends}
+use Rattle.vsi_leak.specs.declared.found.Ending.{Ending}
+use Rattle.vsi_leak.specs.declared.found.Ending.TheVariants.{Halted, OutOfBudget}
+use Rattle.vsi_leak.specs.declared.found.Finding.{Finding}
+use Rattle.vsi_leak.specs.declared.found.Finding.TheVariants as finding
+use Rattle.vsi_leak.specs.declared.found.Leak.{Leak}
+use Rattle.vsi_leak.specs.declared.found.Sign.{Sign}
+use Rattle.vsi_leak.specs.declared.found.Sign.TheVariants.{Words, Endings, Steps}
+
+-- The run from a store with this budget has not halted.
+pub record GoesOn (image : Image) (m : Store) (budget : ℕ) : Type 0 where
+  pub state : State
+  pub reached : run_of image m budget ≡ Some state
+  pub going : state.halted ≡ false
+
+-- The run from a store takes this many instructions: it has halted within them, with these words in the globals, and
+-- had not within one fewer.
+pub record Takes (image : Image) (m : Store) (n : ℕ) (m' : Store) : Type 0 where
+  pub ends : Ends image m n m'
+  pub before : GoesOn image m (n - 1)
+
+-- What is told of the end of a run from a store, within a budget, is so.
+abbrev pub EndsSo : Image → Store → ℕ → Ending → Type 0
+EndsSo image m budget (Halted n words) = (n ≤ budget) × Takes image m n words.items
+EndsSo image m budget OutOfBudget = GoesOn image m budget
+
+-- An observer at a class tells the ends of two runs apart by this sign.
+abbrev pub TellsApart : Known → Lattice → Image → ℕ → Sign → Ending → Ending → Type 0
+TellsApart known L image a Words (Halted n words) (Halted n' words') =
+    ¬ (AgreeAt known L image a words.items words'.items)
+TellsApart known L image a Words (Halted n words) OutOfBudget = ⊥
+TellsApart known L image a Words OutOfBudget e = ⊥
+TellsApart known L image a Endings (Halted n words) (Halted n' words') = ⊥
+TellsApart known L image a Endings (Halted n words) OutOfBudget = Unit {0}
+TellsApart known L image a Endings OutOfBudget e = ⊥
+TellsApart known L image a Steps (Halted n words) (Halted n' words') = n ≢ n'
+TellsApart known L image a Steps (Halted n words) OutOfBudget = ⊥
+TellsApart known L image a Steps OutOfBudget e = ⊥
+
+-- A leak of an image at a class: two stores that agree at and below it, and their runs within a budget, which an
+-- observer at the class tells apart.
+pub record IsLeak (known : Known) (L : Lattice) (image : Image) (budget : ℕ) (leak : Leak) : Type 0 where
+  pub class : IsClass L leak.class
+  pub first_store : IsStoreOf image leak.first.store.items
+  pub second_store : IsStoreOf image leak.second.store.items
+  pub agree : AgreeAt known L image leak.class leak.first.store.items leak.second.store.items
+  pub first_end : EndsSo image leak.first.store.items budget leak.first.ending
+  pub second_end : EndsSo image leak.second.store.items budget leak.second.ending
+  pub apart : TellsApart known L image leak.class leak.sign leak.first.ending leak.second.ending
+
+-- A leak by this sign at this class, of runs from these stores.
+pub record IsOf (s : Sign) (a : ℕ) (m m' : Store) (leak : Leak) : Type 0 where
+  pub sign : leak.sign ≡ s
+  pub class : leak.class ≡ a
+  pub first : leak.first.store.items ≡ m
+  pub second : leak.second.store.items ≡ m'
+
+-- A leak by this sign at this class.
+pub record IsLeakBy (known : Known) (L : Lattice) (image : Image) (budget : ℕ) (s : Sign) (a : ℕ)
+    (leak : Leak) : Type 0 where
+  pub shown : IsLeak known L image budget leak
+  pub sign : leak.sign ≡ s
+  pub class : leak.class ≡ a
+
+-- What is told is by this sign at this class.
+abbrev pub IsAsked : Sign → ℕ → Finding → Type 0
+IsAsked s a (finding.Leak leak) = (leak.sign ≡ s) × (leak.class ≡ a)
+IsAsked s a (finding.Nothing pairs) = Unit {0}
+
+-- What a search ends with is a leak, or tells of none.
+abbrev pub IsFinding : Known → Lattice → Image → ℕ → Finding → Type 0
+IsFinding known L image budget (finding.Leak leak) = IsLeak known L image budget leak
+IsFinding known L image budget (finding.Nothing pairs) = Unit {0}
+
+-- No leak by words is told.
+abbrev pub TellsNoWords : Finding → Type 0
+TellsNoWords (finding.Leak leak) = leak.sign ≢ Words
+TellsNoWords (finding.Nothing pairs) = Unit {0}

@@ -1,0 +1,4 @@
+pub mod Leaks
+pub mod Agreement
+pub mod Laws
+pub mod Texts

@@ -1,0 +1,72 @@
+-- The text of a leak: both runs side by side, a row for each word.
+use Rattle.std.specs.Prelude.{◌≡◌, ℕ, ◌-◌, ℤ, List, [], ◌∷◌, ◌++◌, length, replicate, Bool, true, if◌then◌else◌, Option, Some, None, codes, decimal, bytes_eq, slice_get}
+use Rattle.std.specs.Fmt.{signed_decimal}
+use Rattle.vsi_image.specs.Fields.{Global}
+use Rattle.vsi_lattice.specs.Order.{Lattice}
+use Rattle.vsi_lattice.specs.LatticeView.{names, order, class_named}
+use Rattle.vsi_lattice.specs.declared.lattice.Lattice as named
+use Rattle.vsi_scope.specs.Meaning.{Store}
+use Rattle.vsi_compiler.specs.Observation.{Known}
+use Rattle.vsi_leak.specs.Agreement.{is_seen}
+use Rattle.vsi_leak.specs.declared.found.Ending.{Ending}
+use Rattle.vsi_leak.specs.declared.found.Ending.TheVariants.{Halted, OutOfBudget}
+use Rattle.vsi_leak.specs.declared.found.Leak.{Leak}
+
+-- The name of a global and its word.
+abbrev pub word_cell : List ℕ → ℤ → List ℕ
+word_cell name word = name ++ codes " = " ++ signed_decimal word
+
+-- A cell with as many spaces behind it as bring it to the width.
+abbrev pub padded : ℕ → List ℕ → List ℕ
+padded width cell = cell ++ replicate (width - length cell) 32
+
+-- A star before a row whose cells differ.
+abbrev pub mark : List ℕ → List ℕ → List ℕ
+mark left right = if bytes_eq left right then codes "  " else codes "* "
+
+-- A row of two cells.
+abbrev pub row : ℕ → List ℕ → List ℕ → List ℕ
+row width left right = mark left right ++ padded width left ++ codes "  " ++ right ++ 10 ∷ []
+
+-- Whether a global is shown: to a class what it sees, else all.
+abbrev pub is_shown : Known → Lattice → Option ℕ → List ℕ → Bool
+is_shown known L None name = true
+is_shown known L (Some a) name = is_seen known L a name
+
+-- The row of a global, where it is shown.
+abbrev pub shown_row : Bool → ℕ → List ℕ → ℤ → ℤ → List ℕ
+shown_row shown width name w v = if shown then row width (word_cell name w) (word_cell name v) else []
+
+-- A row for each global that is shown, in order.
+abbrev pub word_rows : Known → Lattice → Option ℕ → ℕ → List Global → Store → Store → List ℕ
+word_rows known L to width [] ws vs = []
+word_rows known L to width (g ∷ gs) [] vs = []
+word_rows known L to width (g ∷ gs) (w ∷ ws) [] = []
+word_rows known L to width (g ∷ gs) (w ∷ ws) (v ∷ vs) =
+    shown_row (is_shown known L to g.1) width g.0 w v ++ word_rows known L to width gs ws vs
+
+-- After how many instructions a run halts, or that it is out of budget.
+abbrev pub end_cell : Ending → List ℕ
+end_cell (Halted n words) = codes "after " ++ decimal n ++ codes " instructions"
+end_cell OutOfBudget = codes "out of budget"
+
+-- What the class sees at the ends of both runs, where both halt.
+abbrev pub seen_rows : Known → Lattice → ℕ → ℕ → List Global → Ending → Ending → List ℕ
+seen_rows known L a width gs (Halted n ws) (Halted n' vs) = word_rows known L (Some a) width gs ws.items vs.items
+seen_rows known L a width gs (Halted n ws) OutOfBudget = []
+seen_rows known L a width gs OutOfBudget e = []
+
+-- The whole text: the class, both stores at the start, and what the class sees of both runs.
+abbrev pub leak_text_of : Known → Lattice → List ℕ → ℕ → List Global → Leak → List ℕ
+leak_text_of known L name width gs leak =
+    codes "leak at " ++ name ++ 10 ∷ []
+    ++ word_rows known L None width gs leak.first.store.items leak.second.store.items
+    ++ name ++ codes " sees\n"
+    ++ seen_rows known L leak.class width gs leak.first.ending leak.second.ending
+    ++ row width (end_cell leak.first.ending) (end_cell leak.second.ending)
+
+-- The text of a leak under a lattice with names, for some width of the left cells.
+abbrev pub IsLeakText : named.Lattice → List Global → Leak → List ℕ → Type 0
+IsLeakText l gs leak text =
+    (name : List ℕ) × (width : ℕ) × (slice_get (names l) leak.class ≡ Some name)
+    × (text ≡ leak_text_of (class_named l) (order l) name width gs leak)

@@ -1,0 +1,24 @@
+//! Leaks shown: two stores that agree at and below a class, and whose runs an observer at that class tells apart.
+//!
+//! `find_leak` searches an image for them, `leak_of_text` the image of a source text, accepted or not. What they answer
+//! has been run on the machine by `check_leak`, whose clause `leak` says that it is one (`specs/Leaks`); what proposes
+//! it need not be believed. `leak_text` tells it. The laws of leaks stand in `laws`.
+#![tactic(auto)]
+
+mod check;
+mod found;
+pub mod laws;
+mod observer;
+mod propose;
+mod runs;
+mod search;
+mod shrink;
+mod text;
+mod values;
+mod whole;
+
+pub use check::check_leak;
+pub use found::{Effort, Ending, Finding, Leak, Run, Sign};
+pub use search::find_leak;
+pub use text::leak_text;
+pub use whole::{Wanted, leak_of_text};

@@ -1,0 +1,200 @@
+//! The text of a leak: both runs side by side, a row for each word.
+
+ghost use Rattle.std.specs.Prelude.{◌≡◌, ◌++◌, IfOk, IfSome, OnOk};
+ghost use Rattle.vsi_image.specs.Fields.{global, globals};
+ghost use Rattle.vsi_lattice.specs.LatticeView.{class_named, order};
+ghost use Rattle.vsi_lattice.specs.Order.{IsClass};
+ghost use Rattle.vsi_leak.specs.Texts as spec;
+
+use crate::found::{Ending, Leak};
+use crate::observer::sees;
+use itoa::Buffer;
+use std::alloc::{AllocError, Global};
+use vsi_image::Image;
+use vsi_lattice::{Class, Lattice};
+
+/// A row of two cells, marked where they differ.
+fn put_row(
+    alloc: Global,
+    text: &mut Vec<u8>,
+    width: usize,
+    left: &[u8],
+    right: &[u8],
+) -> Result<(), AllocError>
+    ensures { OnOk result (text.new.items ≡ text.old.items ++ spec.row width left.now right.now) }
+{
+    let mut cell = left.to_vec(alloc)?;
+    if cell.len() < width {
+        cell.resize(width, b' ')?;
+    }
+    if left == right {
+        text.extend_from_slice(b"  ")?;
+    } else {
+        text.extend_from_slice(b"* ")?;
+    }
+    text.extend_from_slice(&cell)?;
+    text.extend_from_slice(b"  ")?;
+    text.extend_from_slice(right)?;
+    text.push(b'\n')?;
+    Ok(())
+}
+
+/// The name of a global and its word.
+fn word_cell(alloc: Global, name: &[u8], word: i64) -> Result<Vec<u8>, AllocError>
+    ensures { IfOk result (λ cell. cell.items ≡ spec.word_cell name.now word) }
+{
+    let mut buffer = Buffer::new();
+    let mut cell = name.to_vec(alloc)?;
+    cell.extend_from_slice(b" = ")?;
+    cell.extend_from_slice(buffer.format(word).as_bytes())?;
+    Ok(cell)
+}
+
+/// After how many instructions a run halts, or that it is out of budget.
+fn end_cell(alloc: Global, ending: &Ending) -> Result<Vec<u8>, AllocError>
+    ensures { IfOk result (λ cell. cell.items ≡ spec.end_cell ending.now) }
+{
+    let mut cell = Vec::new(alloc);
+    match ending {
+        Ending::Halted { instructions, .. } => {
+            let mut buffer = Buffer::new();
+            cell.extend_from_slice(b"after ")?;
+            cell.extend_from_slice(buffer.format(*instructions).as_bytes())?;
+            cell.extend_from_slice(b" instructions")?;
+        }
+        Ending::OutOfBudget => cell.extend_from_slice(b"out of budget")?,
+    }
+    Ok(cell)
+}
+
+/// Whether a global of this class name is shown: to a class what it sees, else all.
+fn is_shown(lattice: &Lattice, to: &Option<Class>, name: &[u8]) -> bool
+    requires { IfSome to.now (IsClass (order lattice.now)) }
+    ensures { result ≡ spec.is_shown (class_named lattice.now) (order lattice.now) to.now name.now }
+{
+    match to {
+        None => true,
+        Some(class) => sees(lattice, *class, name),
+    }
+}
+
+/// The row of a global, where it is shown.
+fn put_word_row(
+    alloc: Global,
+    text: &mut Vec<u8>,
+    width: usize,
+    shown: bool,
+    name: &[u8],
+    words: (i64, i64),
+) -> Result<(), AllocError>
+    ensures { OnOk result (text.new.items ≡ text.old.items
+        ++ spec.shown_row shown width name.now words.0 words.1) }
+{
+    if shown {
+        let left = word_cell(alloc, name, words.0)?;
+        let right = word_cell(alloc, name, words.1)?;
+        put_row(alloc, text, width, &left, &right)?;
+    }
+    Ok(())
+}
+
+/// A row for each global that is shown.
+fn put_rows(
+    alloc: Global,
+    text: &mut Vec<u8>,
+    lattice: &Lattice,
+    to: &Option<Class>,
+    width: usize,
+    variables: &[(Vec<u8>, Vec<u8>)],
+    words: (&[i64], &[i64]),
+) -> Result<(), AllocError>
+    requires { IfSome to.now (IsClass (order lattice.now)) }
+    ensures { OnOk result (text.new.items ≡ text.old.items
+        ++ spec.word_rows (class_named lattice.now) (order lattice.now) to.now width (globals variables.now)
+        words.entry.0.now words.entry.1.now) }
+{
+    let (first, second) = words;
+    for (i, variable) in variables.iter().enumerate() {
+        let shown = is_shown(lattice, to, variable.1.as_slice());
+        match (first.get(i), second.get(i)) {
+            (Some(one), Some(other)) => {
+                let pair = (*one, *other);
+                put_word_row(alloc, text, width, shown, variable.0.as_slice(), pair)?;
+            }
+            _ => return Ok(()),
+        }
+    }
+    Ok(())
+}
+
+/// The words at the ends of two runs that halt.
+fn put_seen(
+    alloc: Global,
+    text: &mut Vec<u8>,
+    lattice: &Lattice,
+    width: usize,
+    variables: &[(Vec<u8>, Vec<u8>)],
+    leak: &Leak,
+) -> Result<(), AllocError>
+    requires { IsClass (order lattice.now) leak.now.class }
+    ensures { OnOk result (text.new.items ≡ text.old.items
+        ++ spec.seen_rows (class_named lattice.now) (order lattice.now) leak.now.class width (globals variables.now)
+        leak.now.first.ending leak.now.second.ending) }
+{
+    match (&leak.first.ending, &leak.second.ending) {
+        (Ending::Halted { words, .. }, Ending::Halted { words: others, .. }) => put_rows(
+            alloc,
+            text,
+            lattice,
+            &Some(leak.class),
+            width,
+            variables,
+            (words.as_slice(), others.as_slice()),
+        ),
+        (Ending::Halted { .. }, Ending::OutOfBudget) => Ok(()),
+        (Ending::OutOfBudget, _) => Ok(()),
+    }
+}
+
+/// The greatest length of a left cell.
+fn widest(alloc: Global, image: &Image, leak: &Leak) -> Result<usize, AllocError> {
+    let mut width = end_cell(alloc, &leak.first.ending)?.len();
+    for (variable, word) in image.globals.iter().zip(leak.first.store.iter()) {
+        width = width.max(word_cell(alloc, variable.0.as_slice(), *word)?.len());
+    }
+    if let Ending::Halted { words, .. } = &leak.first.ending {
+        for (variable, word) in image.globals.iter().zip(words.iter()) {
+            width = width.max(word_cell(alloc, variable.0.as_slice(), *word)?.len());
+        }
+    }
+    Ok(width)
+}
+
+/// The text of a leak: both stores side by side, then what the class sees of both runs and after how many instructions
+/// they halt. A star stands before each row whose sides differ.
+pub fn leak_text(
+    alloc: Global,
+    lattice: &Lattice,
+    image: &Image,
+    leak: &Leak,
+) -> Result<Vec<u8>, AllocError>
+    requires { IsClass (order lattice.now) leak.now.class }
+    ensures { IfOk result (λ text.
+        spec.IsLeakText lattice.now (globals image.now.globals.items) leak.now text.items) }
+{
+    let name = lattice.name(leak.class);
+    let variables = image.globals.as_slice();
+    let width = widest(alloc, image, leak)?;
+    let mut text = Vec::from_slice(alloc, b"leak at ")?;
+    text.extend_from_slice(name)?;
+    text.push(b'\n')?;
+    let stores = (leak.first.store.as_slice(), leak.second.store.as_slice());
+    put_rows(alloc, &mut text, lattice, &None, width, variables, stores)?;
+    text.extend_from_slice(name)?;
+    text.extend_from_slice(b" sees\n")?;
+    put_seen(alloc, &mut text, lattice, width, variables, leak)?;
+    let left = end_cell(alloc, &leak.first.ending)?;
+    let right = end_cell(alloc, &leak.second.ending)?;
+    put_row(alloc, &mut text, width, &left, &right)?;
+    Ok(text)
+}

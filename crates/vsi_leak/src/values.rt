@@ -1,0 +1,65 @@
+//! The words that a search tries: those of the program and their neighbours, small ones, the extremes, and drawn ones.
+
+use rand_core::Rng;
+use rand_xoshiro::SplitMix64;
+use std::alloc::{AllocError, Global};
+use vsi_image::{Image, Instr};
+
+/// The most words that are taken from a program.
+const MOST_VALUES: usize = 256;
+
+/// A word more, where it isn't there yet and there is room.
+fn add(values: &mut Vec<i64>, word: i64) -> Result<(), AllocError> {
+    if values.len() < MOST_VALUES && !values.contains(&word) {
+        values.push(word)?;
+    }
+    Ok(())
+}
+
+/// 1, -1 and 0, the numbers of the code with what stands beside them, and the extremes.
+pub(crate) fn values_of(alloc: Global, image: &Image) -> Result<Vec<i64>, AllocError> {
+    let mut values = Vec::new(alloc);
+    for word in [1, 0, -1, i64::MAX, i64::MIN].iter() {
+        add(&mut values, *word)?;
+    }
+    for instr in image.code.iter() {
+        if let Instr::Push(word) = instr {
+            add(&mut values, *word)?;
+            add(&mut values, word.wrapping_add(1))?;
+            add(&mut values, word.wrapping_sub(1))?;
+        }
+    }
+    Ok(values)
+}
+
+/// A number below a bound that isn't 0; 0 where it is.
+pub(crate) fn below(random: &mut SplitMix64, bound: usize) -> usize {
+    match random.next_u64().checked_rem(bound as u64) {
+        Some(number) => number as usize,
+        None => 0,
+    }
+}
+
+/// A word: mostly one of the values, seldom any.
+pub(crate) fn drawn(random: &mut SplitMix64, values: &[i64]) -> i64 {
+    if below(random, 8) == 0 {
+        return random.next_u64().cast_signed();
+    }
+    let place = below(random, values.len());
+    word_at(values, place)
+}
+
+/// The word at a place, 0 where there is none.
+pub(crate) fn word_at(words: &[i64], place: usize) -> i64 {
+    match words.get(place) {
+        Some(word) => *word,
+        None => 0,
+    }
+}
+
+/// Puts a word at a place, where there is one.
+pub(crate) fn put(words: &mut [i64], place: usize, word: i64) {
+    if place < words.len() {
+        words[place] = word;
+    }
+}

@@ -1,0 +1,169 @@
+//! Calls about classes and their order.
+
+ghost use Rattle.vsi_lattice.specs.Pairs.{ArePairsBelow};
+
+use crate::row::Row;
+use crate::wrong::Wrong;
+use std::alloc::Global;
+use vsi_faults::{Fault, fault_text};
+use vsi_lattice::{
+    Class, Classes, Lattice, LatticeError, MaskLattice, OrderError, PairLattice, read_lattice,
+};
+
+/// Adds for two classes whether the first is at or below the second, their join and their meet.
+fn put_pair<C: Classes>(row: &mut Row<'_>, lattice: &C, low: Class, high: Class) {
+    if low.index() >= lattice.count() || high.index() >= lattice.count() {
+        return;
+    }
+    row.put(if lattice.leq(low, high) { " <" } else { " ." });
+    row.put_number(lattice.join(low, high).index());
+    row.put("/");
+    row.put_number(lattice.meet(low, high).index());
+}
+
+/// Adds the line of a class.
+fn put_class<C: Classes>(row: &mut Row<'_>, lattice: &C, low: Class) {
+    row.put_number(low.index());
+    row.put(":");
+    for number in 0..64u8 {
+        put_pair(row, lattice, low, Class::at(number));
+    }
+    row.put("\n");
+}
+
+/// Adds a line for each class with what `put_pair` adds for each class as the second.
+fn put_order<C: Classes>(row: &mut Row<'_>, lattice: &C) {
+    row.put("bottom ");
+    row.put_number(lattice.bottom().index());
+    row.put(" top ");
+    row.put_number(lattice.top().index());
+    row.put("\n");
+    for number in 0..64u8 {
+        if usize::from(number) < lattice.count() {
+            put_class(row, lattice, Class::at(number));
+        }
+    }
+}
+
+/// Adds the names of the classes, each behind a space.
+fn put_names(row: &mut Row<'_>, lattice: &Lattice) {
+    row.put("classes");
+    for number in 0..64u8 {
+        let class = Class::at(number);
+        if class.index() < lattice.count() {
+            row.put(" ");
+            row.put_bytes(lattice.name(class));
+        }
+    }
+    row.put("\n");
+}
+
+/// The lattice of a file, unless it is refused; then the line of the refusal is added.
+fn accepted(alloc: Global, row: &mut Row<'_>) -> Option<Lattice> {
+    let text = row.text(alloc);
+    match read_lattice(alloc, &text) {
+        Ok(lattice) => Some(lattice),
+        Err(error) => {
+            row.put_made(fault_text(alloc, &Fault::Lattice(error)));
+            None
+        }
+    }
+}
+
+/// `lattice TEXT`: the classes of a lattice file and their order, or the line of the refusal.
+pub(crate) fn read(alloc: Global, row: &mut Row<'_>) {
+    if let Some(lattice) = accepted(alloc, row) {
+        put_names(row, &lattice);
+        put_order(row, &lattice);
+    }
+}
+
+/// `class NAME TEXT`: the number of the class of a name in a lattice file.
+pub(crate) fn named(alloc: Global, row: &mut Row<'_>) {
+    let name = row.field();
+    if let Some(lattice) = accepted(alloc, row) {
+        match lattice.class_named(name.as_bytes()) {
+            Some(class) => row.put_number(class.index()),
+            None => row.put("no class"),
+        }
+        row.put("\n");
+    }
+}
+
+/// Adds the names of the join and of the meet of two classes.
+fn put_bounds(row: &mut Row<'_>, lattice: &Lattice, low: &str, high: &str) {
+    let low = lattice.class_named(low.as_bytes());
+    let high = lattice.class_named(high.as_bytes());
+    match (low, high) {
+        (Some(low), Some(high)) => {
+            row.put("join ");
+            row.put_bytes(lattice.name(lattice.join(low, high)));
+            row.put(" meet ");
+            row.put_bytes(lattice.name(lattice.meet(low, high)));
+            row.put("\n");
+        }
+        _ => row.fail(Wrong::Row),
+    }
+}
+
+/// `join NAME NAME TEXT`: the names of the join and of the meet of two classes of a lattice file.
+pub(crate) fn joined(alloc: Global, row: &mut Row<'_>) {
+    let low = row.field();
+    let high = row.field();
+    if let Some(lattice) = accepted(alloc, row) {
+        put_bounds(row, &lattice, low, high);
+    }
+}
+
+/// `index NUMBERS`: the place of the class at each place.
+pub(crate) fn index(alloc: Global, row: &mut Row<'_>) {
+    for class in &row.classes(alloc) {
+        row.put_number(class.index());
+        row.put("\n");
+    }
+}
+
+/// Adds the lines of an order or its fault.
+fn put_made<C: Classes + Drop>(row: &mut Row<'_>, made: Result<C, OrderError>) {
+    match made {
+        Ok(lattice) => put_order(row, &lattice),
+        Err(error) => row.put_line(&error),
+    }
+}
+
+/// A number as that of a class, and one that no class has where it is none.
+fn class_number(text: &str) -> u8 {
+    text.parse::<u8>().unwrap_or(u8::MAX)
+}
+
+/// The pairs `LOW<HIGH` of a field, with commas between them, without those that aren't of numbers below a count.
+fn pairs_below(alloc: Global, row: &mut Row<'_>, count: u8) -> Vec<(u8, u8)>
+    ensures below { ArePairsBelow count result.items }
+{
+    let mut pairs = Vec::new(alloc);
+    for pair in row.field().split(',') {
+        let (low, high) = pair.split_once('<').unwrap_or(("", ""));
+        let (low, high) = (class_number(low), class_number(high));
+        if low < count && high < count {
+            row.note(pairs.push((low, high)).is_err());
+        } else {
+            row.fail(Wrong::Row);
+        }
+    }
+    pairs
+}
+
+/// `mask COUNT PAIRS` and `pair COUNT PAIRS`: the order of so many classes that pairs `LOW<HIGH` of their numbers declare,
+/// or its fault, by either form.
+pub(crate) fn order(alloc: Global, row: &mut Row<'_>, is_mask: bool) {
+    let count = u8::try_from(row.small()).unwrap_or(0);
+    if count == 0 || count > 64 {
+        return row.fail(Wrong::Row);
+    }
+    let pairs = pairs_below(alloc, row, count);
+    if is_mask {
+        put_made(row, MaskLattice::new(alloc, usize::from(count), &pairs));
+    } else {
+        put_made(row, PairLattice::new(alloc, usize::from(count), &pairs));
+    }
+}

@@ -1,0 +1,259 @@
+//! A row: what is given to a call, and what is answered.
+
+use crate::escapes::bytes_of;
+use crate::wrong::Wrong;
+use std::alloc::{AllocError, Global};
+use std::fmt::Debug;
+use std::str::from_utf8;
+use vsi_lattice::{Class, Lattice, read_lattice};
+use vsi_syntax::Span;
+use vsi_types::Profile;
+
+/// A row whose first fields are read and whose answer is written bit by bit. Where something goes wrong, that is noted,
+/// and the row goes on with a 0, an empty text or what is there already.
+#[derive(Drop)]
+pub(crate) struct Row<'a> {
+    /// The fields that aren't read yet, and the text.
+    pub rest: &'a str,
+    pub answer: String,
+    /// What went wrong last.
+    pub wrong: Option<Wrong>,
+}
+
+/// `L` alone.
+const ONE: &[u8] = b"classes = [\"L\"]\nbelow = []\n";
+
+/// `L` below `H`.
+const TWO: &[u8] = b"classes = [\"L\", \"H\"]\nbelow = [[\"L\", \"H\"]]\n";
+
+/// `L` below `A` and `B`, and these below `H`.
+const FOUR: &[u8] = b"classes = [\"L\", \"A\", \"B\", \"H\"]
+below = [[\"L\", \"A\"], [\"L\", \"B\"], [\"A\", \"H\"], [\"B\", \"H\"]]
+";
+
+/// `M` alone.
+const OTHER: &[u8] = b"classes = [\"M\"]\nbelow = []\n";
+
+/// Reading.
+impl<'a> Row<'a> {
+    /// A row without an answer yet.
+    pub(crate) fn new(alloc: Global, line: &'a str) -> Row<'a> {
+        Row {
+            rest: line,
+            answer: String::new(alloc),
+            wrong: None,
+        }
+    }
+
+    /// The next field.
+    pub(crate) fn field(&mut self) -> &'a str {
+        match self.rest.split_once(' ') {
+            Some((field, rest)) => {
+                self.rest = rest;
+                field
+            }
+            None => {
+                let field = self.rest;
+                self.rest = "";
+                field
+            }
+        }
+    }
+
+    /// The next field as a number.
+    pub(crate) fn number(&mut self) -> u64 {
+        match self.field().parse::<u64>() {
+            Ok(number) => number,
+            Err(_) => {
+                self.fail(Wrong::Row);
+                0
+            }
+        }
+    }
+
+    /// The next field as a number below 65,536.
+    pub(crate) fn small(&mut self) -> u16 {
+        match self.field().parse::<u16>() {
+            Ok(number) => number,
+            Err(_) => {
+                self.fail(Wrong::Row);
+                0
+            }
+        }
+    }
+
+    /// The next field as a place in a text or a number in a file; 0 where no field is left.
+    pub(crate) fn place(&mut self) -> usize {
+        let field = self.field();
+        match field.parse::<usize>() {
+            Ok(place) => place,
+            Err(_) => {
+                if !field.is_empty() {
+                    self.fail(Wrong::Row);
+                }
+                0
+            }
+        }
+    }
+
+    /// The next field as the name of a profile. A row without one, whose next field names a lattice, has the base profile.
+    pub(crate) fn profile(&mut self) -> Profile {
+        match self.rest.split_once(' ') {
+            Some(("base", rest)) => {
+                self.rest = rest;
+                Profile::Base
+            }
+            Some(("strict", rest)) => {
+                self.rest = rest;
+                Profile::Strict
+            }
+            _ => Profile::Base,
+        }
+    }
+
+    /// The next field as the name of a lattice.
+    pub(crate) fn lattice(&mut self, alloc: Global) -> Option<Lattice> {
+        let file = match self.field() {
+            "one" => ONE,
+            "two" => TWO,
+            "four" => FOUR,
+            _ => OTHER,
+        };
+        match read_lattice(alloc, file) {
+            Ok(lattice) => Some(lattice),
+            Err(_) => {
+                self.fail(Wrong::Memory);
+                None
+            }
+        }
+    }
+
+    /// The next field as numbers with commas between them, `-` for none.
+    pub(crate) fn numbers(&mut self, alloc: Global) -> Vec<i64> {
+        let mut numbers = Vec::new(alloc);
+        let field = self.field();
+        if field != "-" {
+            for part in field.split(',') {
+                match part.parse::<i64>() {
+                    Ok(number) => self.note(numbers.push(number).is_err()),
+                    Err(_) => self.fail(Wrong::Row),
+                }
+            }
+        }
+        numbers
+    }
+
+    /// The next field as the numbers of classes.
+    pub(crate) fn classes(&mut self, alloc: Global) -> Vec<Class> {
+        let mut classes = Vec::new(alloc);
+        for number in &self.numbers(alloc) {
+            match u8::try_from(*number) {
+                Ok(number) => self.note(classes.push(Class::at(number)).is_err()),
+                Err(_) => self.fail(Wrong::Row),
+            }
+        }
+        classes
+    }
+
+    /// What is left up to ` | `, as the bytes that it stands for; then what stands behind that is left. Where there is
+    /// no ` | `, the whole text stands for both.
+    pub(crate) fn first_text(&mut self, alloc: Global) -> Vec<u8> {
+        match self.rest.split_once(" | ") {
+            Some((first, other)) => {
+                self.rest = first;
+                let text = self.text(alloc);
+                self.rest = other;
+                text
+            }
+            None => self.text(alloc),
+        }
+    }
+
+    /// What is left, as the bytes that it stands for.
+    pub(crate) fn text(&mut self, alloc: Global) -> Vec<u8> {
+        match bytes_of(alloc, self.rest) {
+            Ok(text) => text,
+            Err(wrong) => {
+                self.fail(wrong);
+                Vec::new(alloc)
+            }
+        }
+    }
+}
+
+/// Writing.
+impl<'a> Row<'a> {
+    /// Notes what went wrong.
+    pub(crate) fn fail(&mut self, wrong: Wrong) {
+        self.wrong = Some(wrong);
+    }
+
+    /// Notes that memory was wanting, where it was.
+    pub(crate) fn note(&mut self, is_wanting: bool) {
+        if is_wanting {
+            self.wrong = Some(Wrong::Memory);
+        }
+    }
+
+    /// Adds a text.
+    pub(crate) fn put(&mut self, text: &str) {
+        let is_wanting = self.answer.push_str(text).is_err();
+        self.note(is_wanting);
+    }
+
+    /// Adds bytes that are text.
+    pub(crate) fn put_bytes(&mut self, bytes: &[u8]) {
+        match from_utf8(bytes) {
+            Ok(text) => self.put(text),
+            Err(_) => self.fail(Wrong::Row),
+        }
+    }
+
+    /// Adds the bytes of a text that was made, unless memory was wanting for it.
+    pub(crate) fn put_made(&mut self, made: Result<Vec<u8>, AllocError>) {
+        match made {
+            Ok(text) => self.put_bytes(&text),
+            Err(_) => self.fail(Wrong::Memory),
+        }
+    }
+
+    /// Adds a number.
+    pub(crate) fn put_number(&mut self, number: usize) {
+        let is_wanting = write!(self.answer, "{number}").is_err();
+        self.note(is_wanting);
+    }
+
+    /// Adds a word of the machine.
+    pub(crate) fn put_word(&mut self, word: i64) {
+        let is_wanting = write!(self.answer, "{word}").is_err();
+        self.note(is_wanting);
+    }
+
+    /// Adds a space and a word, for each of some words.
+    pub(crate) fn put_words(&mut self, words: &[i64]) {
+        for word in words {
+            self.put(" ");
+            self.put_word(*word);
+        }
+        self.put("\n");
+    }
+
+    /// Adds where a span starts and stops.
+    pub(crate) fn put_span(&mut self, span: Span) {
+        self.put_number(span.start);
+        self.put("..");
+        self.put_number(span.stop);
+    }
+
+    /// Adds a value by its name in the code.
+    pub(crate) fn put_value(&mut self, value: &impl Debug) {
+        let is_wanting = write!(self.answer, "{value:?}").is_err();
+        self.note(is_wanting);
+    }
+
+    /// Adds a line with a value by its name in the code.
+    pub(crate) fn put_line(&mut self, value: &impl Debug) {
+        self.put_value(value);
+        self.put("\n");
+    }
+}

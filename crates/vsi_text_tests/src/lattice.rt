@@ -1,5 +1,0 @@
-//! Orders and lattice files, accepted and refused.
-
-mod files;
-mod forms;
-mod orders;

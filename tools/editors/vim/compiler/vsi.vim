@@ -1,0 +1,17 @@
+" `:make LATTICE` checks the text of the buffer, `:make --strict LATTICE` under the strict profile. A refusal names no
+" file, so the command prints the name first.
+if exists("current_compiler")
+  finish
+endif
+let current_compiler = "vsi"
+
+let s:cpo = &cpo
+set cpo&vim
+
+CompilerSet makeprg=(printf\ 'checking\ \\%s\\n'\ %:S;\ vsi\ check\ $*\ %:S)
+
+" The name of the file, a refusal with a place, a step of a walk. Other lines stay in the list as they are.
+CompilerSet errorformat=%-Pchecking\ %f,refused:\ %n\ %m\ %l:%c,%l:%c\ %m
+
+let &cpo = s:cpo
+unlet s:cpo
