@@ -13,14 +13,10 @@ reported with its input, whose files are copied to FOLDER. The last line has the
 was a difference. It needs /dev/shm, and leaves nothing there.
 """
 
-import argparse
 import collections
-import multiprocessing
 import os
 import random
-import shutil
 import sys
-import tempfile
 import time
 
 sys.dont_write_bytecode = True
@@ -30,6 +26,7 @@ import program as second  # noqa: E402
 from compare_inputs import Case  # noqa: E402
 from soak import Answer, Runner  # noqa: E402
 from soak_inputs import Input  # noqa: E402
+from workers import gathered, option_parser, read_options  # noqa: E402
 
 SHOWN_BYTES = 1500
 NO_FILES = {"source": b"", "lattice": b"", "image": b"", "store": b""}
@@ -123,47 +120,18 @@ class Worker:
         return self.figures
 
 
-def read_options():
-    parser = argparse.ArgumentParser(usage=__doc__.split("usage: ")[1].split("\n\n")[0])
-    here = os.path.dirname(os.path.dirname(os.path.abspath(__file__)))
-    parser.add_argument("program", nargs="?", default=os.path.join(here, "crates/vsi_program/out/vsi_program"))
+def tool_options():
+    parser = option_parser(__doc__, 600, 2)
     parser.add_argument("--programs", type=int, default=10_000)
     parser.add_argument("--inputs", type=int, default=10_000)
-    parser.add_argument("--minutes", type=float, default=600)
-    parser.add_argument("--seed", type=int, default=1)
-    parser.add_argument("--first", type=int, default=0)
-    parser.add_argument("--jobs", type=int, default=2)
     parser.add_argument("--keep", type=os.path.abspath)
-    options = parser.parse_args()
-    options.program = os.path.abspath(options.program)
-    if not os.access(options.program, os.X_OK):
-        parser.error(f"{options.program} is no program")
-    return options
-
-
-def start_worker(options, job, folder, connection):
-    os.mkdir(folder)
-    connection.send(Worker(options, job, folder).work())
+    return read_options(parser)
 
 
 def main():
-    options = read_options()
-    context = multiprocessing.get_context("fork")
-    figures, folder = collections.Counter(), tempfile.mkdtemp(prefix="compare-", dir="/dev/shm")
-    try:
-        ends = []
-        for job in range(options.jobs):
-            end, far_end = context.Pipe(duplex=False)
-            context.Process(target=start_worker, args=(options, job, os.path.join(folder, str(job)), far_end)).start()
-            far_end.close()
-            ends.append(end)
-        for end in ends:
-            try:
-                figures += end.recv()
-            except EOFError:
-                figures["lost workers"] += 1
-    finally:
-        shutil.rmtree(folder, ignore_errors=True)
+    options = tool_options()
+    answers, lost = gathered(Worker, options, "compare")
+    figures = sum(answers, collections.Counter({"lost workers": lost}))
     counts = ["programs", "accepted", "inputs", "runs", *sorted(key for key in figures if key[:2] in ("st", "re")),
               "lost workers", "differences"]
     print(f"seed {options.seed}: " + ", ".join(f"{key} {figures[key]}" for key in counts))

@@ -13,21 +13,19 @@ files of reported inputs are copied to FOLDER/K. The last line has the figures, 
 is at least a worker's own; the status is 1 where anything was reported. It needs /dev/shm, and leaves nothing there.
 """
 
-import argparse
 import collections
-import multiprocessing
 import os
 import random
 import re
 import shutil
 import signal
 import sys
-import tempfile
 import time
 
 sys.dont_write_bytecode = True
 
 from soak_inputs import Input  # noqa: E402
+from workers import gathered, option_parser, read_options  # noqa: E402
 
 SLOW_SECONDS = 0.5
 STOP_SECONDS = 20.0
@@ -201,51 +199,20 @@ class Worker:
         return self.figures, self.runner.longest, self.runner.most_memory
 
 
-def read_options():
-    usage = __doc__.split("usage: ")[1].split("\n")[0]
-    parser = argparse.ArgumentParser(usage=usage)
-    here = os.path.dirname(os.path.dirname(os.path.abspath(__file__)))
-    parser.add_argument("program", nargs="?", default=os.path.join(here, "crates/vsi_program/out/vsi_program"))
+def tool_options():
+    parser = option_parser(__doc__, 60, len(os.sched_getaffinity(0)))
     parser.add_argument("--count", type=int, default=1_000_000)
-    parser.add_argument("--minutes", type=float, default=60)
-    parser.add_argument("--seed", type=int, default=1)
-    parser.add_argument("--jobs", type=int, default=len(os.sched_getaffinity(0)))
-    parser.add_argument("--first", type=int, default=0)
     parser.add_argument("--keep", type=os.path.abspath)
-    options = parser.parse_args()
-    options.program = os.path.abspath(options.program)
-    if not os.access(options.program, os.X_OK):
-        parser.error(f"{options.program} is no program")
-    return options
-
-
-def start_worker(options, job, folder, connection):
-    os.mkdir(folder)
-    connection.send(Worker(options, job, folder).work())
+    return read_options(parser)
 
 
 def main():
-    options = read_options()
-    context = multiprocessing.get_context("fork")
-    figures, longest, most_memory, lost = collections.Counter(), 0.0, 0, 0
-    folder = tempfile.mkdtemp(prefix="soak-", dir="/dev/shm")
-    try:
-        ends = []
-        for job in range(options.jobs):
-            end, far_end = context.Pipe(duplex=False)
-            context.Process(target=start_worker, args=(options, job, os.path.join(folder, str(job)), far_end)).start()
-            far_end.close()
-            ends.append(end)
-        for end in ends:
-            try:
-                counted, seconds, memory = end.recv()
-            except EOFError:
-                lost += 1
-                continue
-            figures += counted
-            longest, most_memory = max(longest, seconds), max(most_memory, memory)
-    finally:
-        shutil.rmtree(folder, ignore_errors=True)
+    options = tool_options()
+    answers, lost = gathered(Worker, options, "soak")
+    figures, longest, most_memory = collections.Counter(), 0.0, 0
+    for counted, seconds, memory in answers:
+        figures += counted
+        longest, most_memory = max(longest, seconds), max(most_memory, memory)
     runs = {key: figures[key] for key in sorted(figures) if key.startswith("status")}
     print(f"seed {options.seed}, inputs {figures['inputs']}, runs {sum(runs.values())},",
           *(f"{key}: {count}," for key, count in runs.items()),

@@ -1,11 +1,12 @@
 -- What the program ends with where it stops early.
 use Rattle.std.specs.Prelude.{◌≡◌, ◌<◌, ℕ, Result, IsErrAnd}
 use Rattle.vsi.specs.declared.stop.Stop.{Stop}
-use Rattle.vsi.specs.declared.stop.Stop.TheVariants.{Refused, Usage, NoClass, OutOfBudget, FileFault, Memory}
+use Rattle.vsi.specs.declared.stop.Stop.TheVariants.{Refused, Differs, Usage, NoClass, OutOfBudget, FileFault, Memory}
 
 -- The status of the program.
 abbrev pub status_of : Stop → ℕ
 status_of (Refused text) = 1
+status_of Differs = 1
 status_of (Usage text) = 2
 status_of (NoClass name) = 2
 status_of OutOfBudget = 3

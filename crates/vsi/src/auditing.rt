@@ -1,20 +1,15 @@
-//! What the subcommands that judge an image without its source read and write.
-
-ghost use Rattle.std.specs.Prelude.{◌<◌};
-ghost use Rattle.vsi.specs.Stops.{TellsFault};
-ghost use Rattle.vsi_devices.specs.Counted.{faults_of};
+//! What the subcommands that judge an image without its source answer.
 
 use crate::files::Files;
 use crate::reading::{image_in, lattice_in, two_classes};
-use crate::stop::{Stop, write};
+use crate::stop::Stop;
 use crate::subcommands::profile;
 use std::alloc::Global;
-use std::io::Write;
 use vsi_arguments::Audit;
 use vsi_audit::{AuditError, audit_in, audit_text, source_text};
-use vsi_devices::Counted;
-use vsi_image::Image;
+use vsi_image::{Image, Verified};
 use vsi_lattice::Lattice;
+use vsi_steady::{SteadyError, steady_in, steady_text};
 
 /// What stands for the refusal of an image.
 fn refused_image<'a>(
@@ -32,37 +27,61 @@ fn refused_image<'a>(
     }
 }
 
-/// Writes `accepted` where the image is.
-pub(crate) fn audit<'a, F: Files, W: Write>(
+/// What stands for the refusal of an image that isn't steady.
+fn refused_unsteady<'a>(
     alloc: Global,
-    asked: Audit<'a>,
-    files: &mut F,
-    output: &mut Counted<W>,
-) -> Result<(), Stop<'a>>
-    requires { faults_of output.old < u64.MAX }
-    ensures fault { TellsFault (faults_of output.old) (faults_of output.new) result }
-{
-    let classes = lattice_in(alloc, asked.lattice, files)?;
-    let verified = image_in(alloc, asked.image, files)?;
-    match audit_in(alloc, profile(asked.is_strict), &classes, &verified) {
-        Ok(()) => write(b"accepted\n", output),
-        Err(error) => Err(refused_image(alloc, &classes, verified.image(), &error)),
+    lattice: &Lattice,
+    image: &Image,
+    error: &SteadyError,
+) -> Stop<'a> {
+    if let SteadyError::Memory = error {
+        return Stop::Memory;
+    }
+    match steady_text(alloc, lattice, image, error) {
+        Ok(text) => Stop::Refused(text),
+        Err(_) => Stop::Memory,
     }
 }
 
-/// Writes the source text that the image stands for.
-pub(crate) fn source<'a, F: Files, W: Write>(
+/// Judges an image as it is asked.
+fn judge<'a>(
+    alloc: Global,
+    asked: Audit<'a>,
+    classes: &Lattice,
+    verified: &Verified,
+) -> Result<(), Stop<'a>> {
+    if asked.is_steady {
+        return match steady_in(alloc, classes, verified) {
+            Ok(()) => Ok(()),
+            Err(error) => Err(refused_unsteady(alloc, classes, verified.image(), &error)),
+        };
+    }
+    match audit_in(alloc, profile(asked.is_strict), classes, verified) {
+        Ok(()) => Ok(()),
+        Err(error) => Err(refused_image(alloc, classes, verified.image(), &error)),
+    }
+}
+
+/// Whether the image is accepted.
+pub(crate) fn audit<'a, F: Files>(
+    alloc: Global,
+    asked: Audit<'a>,
+    files: &mut F,
+) -> Result<(), Stop<'a>> {
+    let classes = lattice_in(alloc, asked.lattice, files)?;
+    let verified = image_in(alloc, asked.image, files)?;
+    judge(alloc, asked, &classes, &verified)
+}
+
+/// The source text that the image stands for.
+pub(crate) fn source<'a, F: Files>(
     alloc: Global,
     image: &'a str,
     files: &mut F,
-    output: &mut Counted<W>,
-) -> Result<(), Stop<'a>>
-    requires { faults_of output.old < u64.MAX }
-    ensures fault { TellsFault (faults_of output.old) (faults_of output.new) result }
-{
+) -> Result<Vec<u8>, Stop<'a>> {
     let verified = image_in(alloc, image, files)?;
     match source_text(alloc, &verified) {
-        Ok(text) => write(text.as_slice(), output),
+        Ok(text) => Ok(text),
         Err(error) => Err(refused_image(alloc, &two_classes(alloc)?, verified.image(), &error)),
     }
 }

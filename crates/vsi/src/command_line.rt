@@ -7,29 +7,36 @@ ghost use Rattle.vsi.specs.Words as spec;
 ghost use Rattle.vsi_devices.specs.Counted.{device_of, faults_of};
 
 use crate::auditing::{audit, source};
+use crate::comparing::compare;
 use crate::driving::drive;
 use crate::files::Files;
 use crate::leaking::leak;
 use crate::reading::{device_stop, refused, two_classes};
 use crate::running::{run, run_from_zeros, view};
 use crate::stop::{STREAM, Stop, write};
-use crate::subcommands::{build, check, classes, flows, format, list};
+use crate::subcommands::{build, check, check_steady, classes, flows, format, list};
 use std::alloc::Global;
 use std::io::{Read, Write};
 use vsi_arguments::{ArgumentsError, Request, request_of};
 use vsi_compiler::compile;
-use vsi_devices::{Counted, read_all, write_out};
+use vsi_devices::{Counted, read_all};
+use vsi_lattice::Lattice;
 
 /// The budget of a run without words, in instructions.
 const DEFAULT_BUDGET: u64 = 1_000_000;
 
-/// Does what the words ask for, and gives the status that the program ends with. The words leave out its name; without
-/// any, a source text is read from the input, compiled with the classes `L` below `H`, run from zeros with a budget of
-/// 1,000,000, and the text of its store is written to the output.
+/// What words get to read that don't ask for the subcommand that reads the input.
+const NOTHING: &[u8] = b"";
+
+/// Does what the words ask for, and gives the status that the program ends with. The words leave
+/// out its name; without any, a source text is read from the input, compiled with the classes `L`
+/// below `H`, run from zeros with a budget of 1,000,000, and the text of its store is written to
+/// the output.
 ///
-/// The status is 0 where all was done, 1 for a refusal, 2 for a mistake in the words, 3 where a run is out of budget, 4
-/// for a fault of a file or a stream, 5 for want of memory. For all but 0 a text that tells the cause goes to `error`,
-/// whose own faults leave the status as it is.
+/// The status is 0 where all was done, 1 for a refusal or a difference, 2 for a mistake in the
+/// words, 3 where a run is out of budget, 4 for a fault of a file or a stream, 5 for want of
+/// memory. For all but 0 a text that tells the cause goes to `error`, whose own faults leave the
+/// status as it is.
 pub fn command<F: Files, R: Read, W: Write, E: Write>(
     alloc: Global,
     words: &[String],
@@ -50,20 +57,10 @@ pub fn command<F: Files, R: Read, W: Write, E: Write>(
 {
     let answer = if words.is_empty() {
         run_input(alloc, input, output)
+    } else if reads_input(words) {
+        obey(alloc, words, files, input, output)
     } else {
-        match request_of(alloc, words) {
-            Ok(
-                Request::Drive {
-                    lattice,
-                    class,
-                    execution,
-                },
-            ) if reads_input(words) => {
-                drive(alloc, lattice, class, execution, files, input, output)
-            }
-            Ok(request) => perform(alloc, request, files, output),
-            Err(error) => answer_arguments(error, output),
-        }
+        obey(alloc, words, files, &mut Counted::new(NOTHING), output)
     };
     match answer {
         Ok(()) => 0,
@@ -71,6 +68,25 @@ pub fn command<F: Files, R: Read, W: Write, E: Write>(
             let _ = stop.tell(error);
             stop.status()
         }
+    }
+}
+
+/// Does what the words ask for, or tells what is wrong with them.
+fn obey<'a, F: Files, R: Read, W: Write>(
+    alloc: Global,
+    words: &'a [String],
+    files: &mut F,
+    input: &mut Counted<R>,
+    output: &mut Counted<W>,
+) -> Result<(), Stop<'a>>
+    requires input { faults_of input.old < u64.MAX }
+    requires output { faults_of output.old < u64.MAX }
+    ensures input_fault { TellsFault (faults_of input.old) (faults_of input.new) result }
+    ensures output_fault { TellsFault (faults_of output.old) (faults_of output.new) result }
+{
+    match request_of(alloc, words) {
+        Ok(request) => perform(alloc, request, files, input, output),
+        Err(error) => answer_arguments(error, output),
     }
 }
 
@@ -114,42 +130,87 @@ fn run_input<'a, R: Read, W: Write>(
 {
     let lattice = two_classes(alloc)?;
     let source = read_all(alloc, input).map_err(|error| device_stop(alloc, error, STREAM))?;
-    match compile(alloc, &lattice, source.as_slice()) {
-        Ok(verified) => {
-            let text = run_from_zeros(alloc, &verified, DEFAULT_BUDGET)?;
-            write(text.as_slice(), output)
-        }
-        Err(error) => Err(refused(alloc, &lattice, source.as_slice(), &error)),
+    let text = ran(alloc, &lattice, source.as_slice())?;
+    write(text.as_slice(), output)
+}
+
+/// The text of the store in which the run of a source text ends.
+fn ran<'a>(alloc: Global, lattice: &Lattice, source: &[u8]) -> Result<Vec<u8>, Stop<'a>> {
+    match compile(alloc, lattice, source) {
+        Ok(verified) => run_from_zeros(alloc, &verified, DEFAULT_BUDGET),
+        Err(error) => Err(refused(alloc, lattice, source, &error)),
     }
 }
 
-/// Does one subcommand.
-fn perform<'a, F: Files, W: Write>(
-    alloc: Global,
-    request: Request<'a>,
-    files: &mut F,
+/// Writes `accepted` where nothing is wrong.
+fn accept<'a, W: Write>(
+    answer: Result<(), Stop<'a>>,
     output: &mut Counted<W>,
 ) -> Result<(), Stop<'a>>
     requires { faults_of output.old < u64.MAX }
     ensures fault { TellsFault (faults_of output.old) (faults_of output.new) result }
 {
+    answer?;
+    write(b"accepted\n", output)
+}
+
+/// Writes the text of an answer.
+fn put<'a, W: Write>(
+    answer: Result<Vec<u8>, Stop<'a>>,
+    output: &mut Counted<W>,
+) -> Result<(), Stop<'a>>
+    requires { faults_of output.old < u64.MAX }
+    ensures fault { TellsFault (faults_of output.old) (faults_of output.new) result }
+{
+    let text = answer?;
+    write(text.as_slice(), output)
+}
+
+/// Does one subcommand.
+fn perform<'a, F: Files, R: Read, W: Write>(
+    alloc: Global,
+    request: Request<'a>,
+    files: &mut F,
+    input: &mut Counted<R>,
+    output: &mut Counted<W>,
+) -> Result<(), Stop<'a>>
+    requires input { faults_of input.old < u64.MAX }
+    requires output { faults_of output.old < u64.MAX }
+    ensures input_fault { TellsFault (faults_of input.old) (faults_of input.new) result }
+    ensures output_fault { TellsFault (faults_of output.old) (faults_of output.new) result }
+{
     match request {
-        Request::Check(compilation) => check(alloc, compilation, files, output),
-        Request::Classes(compilation) => classes(alloc, compilation, files, output),
-        Request::Flows(compilation) => flows(alloc, compilation, files, output),
+        Request::Check {
+            compilation,
+            is_steady: true,
+        } => accept(check_steady(alloc, compilation, files), output),
+        Request::Check {
+            compilation,
+            is_steady: false,
+        } => accept(check(alloc, compilation, files), output),
+        Request::Classes(compilation) => put(classes(alloc, compilation, files), output),
+        Request::Flows {
+            compilation,
+            has_walks,
+        } => put(flows(alloc, compilation, has_walks, files), output),
         Request::Build(compilation, image) => build(alloc, compilation, image, files),
-        Request::List(image) => list(alloc, image, files, output),
-        Request::Audit(asked) => audit(alloc, asked, files, output),
-        Request::Source(image) => source(alloc, image, files, output),
-        Request::Run(execution, has_trace) => run(alloc, execution, has_trace, files, output),
+        Request::List(image) => put(list(alloc, image, files), output),
+        Request::Audit(asked) => accept(audit(alloc, asked, files), output),
+        Request::Source(image) => put(source(alloc, image, files), output),
+        Request::Run {
+            execution,
+            outset,
+            has_trace,
+        } => run(alloc, execution, &outset, has_trace, files, output),
         Request::View {
             lattice,
             class,
             execution,
-        } => view(alloc, lattice, class, execution, files, output),
-        // It is done before, with the input.
-        Request::Drive { .. } => Err(Stop::FileFault(STREAM)),
-        Request::Leak(search) => leak(alloc, search, files, output),
-        Request::Format(source) => format(alloc, source, files, output),
+            outset,
+        } => view(alloc, lattice, class, execution, &outset, files, output),
+        Request::Drive(driving) => drive(alloc, driving, files, input, output),
+        Request::Compare(comparison) => compare(alloc, comparison, files, output),
+        Request::Leak(search) => put(leak(alloc, search, files), output),
+        Request::Format(source) => put(format(alloc, source, files), output),
     }
 }

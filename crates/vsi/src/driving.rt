@@ -6,26 +6,26 @@ ghost use Rattle.vsi_devices.specs.Counted.{faults_of};
 ghost use Rattle.vsi_drive.specs.Control.{control};
 
 use crate::files::Files;
-use crate::reading::{faulty, image_in, lattice_in, store_in};
+use crate::reading::{class_in, faulty, image_in, lattice_in, store_in};
+use crate::running::replace;
 use crate::stop::{STREAM, Stop, write};
 use std::alloc::Global;
 use std::io::{Read, Write};
-use vsi_arguments::Execution;
+use vsi_arguments::Driving;
 use vsi_devices::Counted;
 use vsi_drive::{Controller, LINE_LIMIT};
 use vsi_faults::Fault;
 use vsi_image::Verified;
-use vsi_store::read_store;
+use vsi_store::{read_store, store_text};
 
 /// How many bytes a read is given room for.
 const CHUNK: usize = 4096;
 
-/// Drives an image file: each line of the input sets globals, and what a class sees behind its run is written.
+/// Drives an image file: each line of the input sets globals, and what a class sees behind its run
+/// is written. The last store goes to the file that is asked for.
 pub(crate) fn drive<'a, F: Files, R: Read, W: Write>(
     alloc: Global,
-    lattice: &'a str,
-    class: &'a str,
-    execution: Execution<'a>,
+    driving: Driving<'a>,
     files: &mut F,
     input: &mut Counted<R>,
     output: &mut Counted<W>,
@@ -35,20 +35,38 @@ pub(crate) fn drive<'a, F: Files, R: Read, W: Write>(
     ensures input_fault { TellsFault (faults_of input.old) (faults_of input.new) result }
     ensures output_fault { TellsFault (faults_of output.old) (faults_of output.new) result }
 {
-    let classes = lattice_in(alloc, lattice, files)?;
-    let Some(driver) = classes.class_named(class.as_bytes()) else {
-        return Err(Stop::NoClass(class));
-    };
-    let verified = image_in(alloc, execution.image, files)?;
-    let mut words = words_in(alloc, &verified, execution.store, files)?;
-    match Controller::new(&classes, &verified, driver, execution.budget) {
-        Ok(controller) => drive_input(alloc, &controller, words.as_mut_slice(), input, output),
-        Err(error) => Err(faulty(alloc, &Fault::View(error))),
+    let classes = lattice_in(alloc, driving.lattice, files)?;
+    let driver = class_in(&classes, driving.class)?;
+    let verified = image_in(alloc, driving.execution.image, files)?;
+    let mut words = stored_words(alloc, &verified, driving.execution.store, files)?;
+    match Controller::new(&classes, &verified, driver, driving.execution.budget) {
+        Ok(controller) => drive_input(alloc, &controller, words.as_mut_slice(), input, output)?,
+        Err(error) => return Err(faulty(alloc, &Fault::View(error))),
+    }
+    save(alloc, &verified, &words, driving.save, files)
+}
+
+/// Writes a store to the file that is asked for, if one is.
+fn save<'a, F: Files>(
+    alloc: Global,
+    verified: &Verified,
+    words: &[i64],
+    path: Option<&'a str>,
+    files: &mut F,
+) -> Result<(), Stop<'a>>
+    requires { length words.now ≡ length verified.now.globals.items }
+{
+    match path {
+        Some(path) => {
+            let text = store_text(alloc, verified.image(), words)?;
+            replace(alloc, &text, path, files)
+        }
+        None => Ok(()),
     }
 }
 
 /// The words that a store file tells for an image, or zeros without one.
-fn words_in<'a, F: Files>(
+pub(crate) fn stored_words<'a, F: Files>(
     alloc: Global,
     verified: &Verified,
     path: Option<&'a str>,
@@ -94,8 +112,8 @@ fn drive_input<'a, R: Read, W: Write>(
     drive_line(alloc, controller, &line, store, output)
 }
 
-/// Does a cycle for each line that ends in these bytes. What has been read of a line stands in `line`, of a line that
-/// is too long one byte more than its limit.
+/// Does a cycle for each line that ends in these bytes. What has been read of a line stands in
+/// `line`, of a line that is too long one byte more than its limit.
 fn drive_bytes<'a, W: Write>(
     alloc: Global,
     controller: &Controller,

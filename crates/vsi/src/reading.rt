@@ -1,23 +1,26 @@
 //! Files, read and judged.
 
-ghost use Rattle.std.specs.Prelude.{◌≡◌};
+ghost use Rattle.std.specs.Prelude.{◌≡◌, IfOk};
 ghost use Rattle.vsi.specs.Stops.{status_of};
 ghost use Rattle.vsi_devices.specs.declared.error.EngineError.TheVariants.{ReadFault, WriteFault};
+ghost use Rattle.vsi_lattice.specs.LatticeView.{order};
+ghost use Rattle.vsi_lattice.specs.Order.{IsClass};
 
 use crate::files::Files;
 use crate::stop::{STREAM, Stop};
 use std::alloc::Global;
 use vsi_compiler::CompileError;
-use vsi_devices::{Counted, EngineError, READ_LIMIT, read_all};
+use vsi_devices::{Counted, EngineError, READ_LIMIT, read_all, verified_image};
 use vsi_faults::{Fault, fault_text, refusal_text};
-use vsi_image::{DecodeError, Verified, decode, verify};
-use vsi_lattice::{Lattice, LatticeError, read_lattice};
+use vsi_image::{DecodeError, Verified};
+use vsi_lattice::{Class, Lattice, LatticeError, read_lattice};
 use vsi_store::{StoreError, ViewError};
 
 /// The lattice of a run without words.
 const TWO_CLASSES: &[u8] = b"classes = [\"L\", \"H\"]\nbelow = [[\"L\", \"H\"]]\n";
 
-/// What stands for an error of a call that reads the file at the path. No such call compiles.
+/// What stands for an error of a call that reads the file at the path, or judges its bytes. No such
+/// call compiles.
 pub(crate) fn device_stop<'a>(alloc: Global, error: EngineError, path: &'a str) -> Stop<'a>
     ensures read { error ≡ ReadFault → status_of result ≡ 4 }
     ensures write { error ≡ WriteFault → status_of result ≡ 4 }
@@ -124,6 +127,16 @@ pub(crate) fn lattice_in<'a, F: Files>(
     declared_lattice(alloc, bytes.as_slice())
 }
 
+/// The class of this name.
+pub(crate) fn class_in<'a>(lattice: &Lattice, name: &'a str) -> Result<Class, Stop<'a>>
+    ensures { IfOk result (IsClass (order lattice.now)) }
+{
+    match lattice.class_named(name.as_bytes()) {
+        Some(class) => Ok(class),
+        None => Err(Stop::NoClass(name)),
+    }
+}
+
 /// The verified image of a file.
 pub(crate) fn image_in<'a, F: Files>(
     alloc: Global,
@@ -131,11 +144,5 @@ pub(crate) fn image_in<'a, F: Files>(
     files: &mut F,
 ) -> Result<Verified, Stop<'a>> {
     let bytes = bytes_in(alloc, path, files)?;
-    match decode(alloc, bytes.as_slice()) {
-        Ok(image) => match verify(image) {
-            Ok(verified) => Ok(verified),
-            Err((_image, error)) => Err(faulty(alloc, &Fault::Verify(error))),
-        },
-        Err(error) => Err(faulty(alloc, &Fault::Decode(error))),
-    }
+    verified_image(alloc, bytes.as_slice()).map_err(|error| device_stop(alloc, error, path))
 }

@@ -18,6 +18,8 @@ pub(crate) const STREAM: &str = "-";
 pub(crate) enum Stop<'a> {
     /// With the fault text.
     Refused(Vec<u8>),
+    /// A class sees a difference, of which standard output has told.
+    Differs,
     /// With the text of the parser of command lines.
     Usage(String),
     /// The lattice has no class of this name.
@@ -53,7 +55,7 @@ impl Stop<'_> {
         ensures bound { result ≤ 5 }
     {
         match self {
-            Stop::Refused(_) => 1,
+            Stop::Refused(_) | Stop::Differs => 1,
             Stop::Usage(_) | Stop::NoClass(_) => 2,
             Stop::OutOfBudget => 3,
             Stop::FileFault(_) => 4,
@@ -67,6 +69,7 @@ impl Stop<'_> {
     {
         match self {
             Stop::Refused(text) => write_out(text.as_slice(), error),
+            Stop::Differs => Ok(()),
             Stop::Usage(text) => write_out(text.as_bytes(), error),
             Stop::NoClass(name) => tell_line(b"no class ", name, error),
             Stop::OutOfBudget => write_out(b"out of budget\n", error),

@@ -1,20 +1,17 @@
-//! What the subcommands that run nothing read and write.
-
-ghost use Rattle.std.specs.Prelude.{◌<◌};
-ghost use Rattle.vsi.specs.Stops.{TellsFault};
-ghost use Rattle.vsi_devices.specs.Counted.{faults_of};
+//! What the subcommands that run nothing answer: the text to be written, or why there is none.
 
 use crate::files::Files;
 use crate::reading::{bytes_in, image_in, lattice_in, refused, two_classes};
-use crate::stop::{Stop, write};
-use std::alloc::Global;
-use std::io::Write;
+use crate::stop::Stop;
+use std::alloc::{AllocError, Global};
 use vsi_arguments::Compilation;
-use vsi_compiler::{classes_text_in, compile_in, format_text};
-use vsi_devices::{Counted, EngineError, build_in, write_out};
-use vsi_flows::flows_text_in;
+use vsi_compiler::{CompileError, classes_text_in, compile_in, format_text, unjudged_image};
+use vsi_devices::{Counted, EngineError, image_bytes, write_out};
+use vsi_faults::refusal_text;
+use vsi_flows::{flows_text_in, walks_text_in};
 use vsi_image::listing;
 use vsi_lattice::Lattice;
+use vsi_steady::{UnsteadyError, compile_steady, steady_explanation, steady_text};
 use vsi_types::Profile;
 
 /// The profile that judges a text or an image.
@@ -37,72 +34,115 @@ fn policy_and_text<'a, F: Files>(
     Ok((classes, text))
 }
 
-/// Writes `accepted` where the source text is.
-pub(crate) fn check<'a, F: Files, W: Write>(
+/// Whether the source text is accepted.
+pub(crate) fn check<'a, F: Files>(
     alloc: Global,
     compilation: Compilation<'a>,
     files: &mut F,
-    output: &mut Counted<W>,
-) -> Result<(), Stop<'a>>
-    requires { faults_of output.old < u64.MAX }
-    ensures fault { TellsFault (faults_of output.old) (faults_of output.new) result }
-{
+) -> Result<(), Stop<'a>> {
     let (classes, text) = policy_and_text(alloc, compilation, files)?;
     let profile = profile(compilation.is_strict);
     match compile_in(alloc, profile, &classes, text.as_slice()) {
-        Ok(_verified) => write(b"accepted\n", output),
+        Ok(_verified) => Ok(()),
         Err(error) => Err(refused(alloc, &classes, text.as_slice(), &error)),
     }
 }
 
-/// Writes the class of each declaration of the source text.
-pub(crate) fn classes<'a, F: Files, W: Write>(
+/// The text of a refusal of a source text whose image is to be steady.
+fn unsteady_text(
+    alloc: Global,
+    classes: &Lattice,
+    source: &[u8],
+    error: &UnsteadyError,
+) -> Result<Vec<u8>, AllocError> {
+    match error {
+        UnsteadyError::Compile(CompileError::Flow(walk)) => {
+            let mut text = Vec::from_slice(alloc, b"refused: 25 Refused\n")?;
+            let lines = steady_explanation(alloc, classes, source, walk)?;
+            text.extend_from_slice(&lines)?;
+            Ok(text)
+        }
+        UnsteadyError::Compile(error) => refusal_text(alloc, classes, source, error),
+        UnsteadyError::Image(error) => match unjudged_image(alloc, classes, source) {
+            Ok(verified) => steady_text(alloc, classes, verified.image(), error),
+            Err(_) => Err(AllocError),
+        },
+        UnsteadyError::Memory => Err(AllocError),
+    }
+}
+
+/// Whether the source text is accepted, and the number of its image's instructions tells nothing.
+pub(crate) fn check_steady<'a, F: Files>(
     alloc: Global,
     compilation: Compilation<'a>,
     files: &mut F,
-    output: &mut Counted<W>,
-) -> Result<(), Stop<'a>>
-    requires { faults_of output.old < u64.MAX }
-    ensures fault { TellsFault (faults_of output.old) (faults_of output.new) result }
-{
+) -> Result<(), Stop<'a>> {
+    let (classes, text) = policy_and_text(alloc, compilation, files)?;
+    let source = text.as_slice();
+    match compile_steady(alloc, &classes, source) {
+        Ok(_verified) => Ok(()),
+        Err(error) => match unsteady_text(alloc, &classes, source, &error) {
+            Ok(text) => Err(Stop::Refused(text)),
+            Err(_) => Err(Stop::Memory),
+        },
+    }
+}
+
+/// The class of each declaration of the source text.
+pub(crate) fn classes<'a, F: Files>(
+    alloc: Global,
+    compilation: Compilation<'a>,
+    files: &mut F,
+) -> Result<Vec<u8>, Stop<'a>> {
     let (classes, text) = policy_and_text(alloc, compilation, files)?;
     let profile = profile(compilation.is_strict);
     match classes_text_in(alloc, profile, &classes, text.as_slice()) {
-        Ok(lines) => write(lines.as_slice(), output),
+        Ok(lines) => Ok(lines),
         Err(error) => Err(refused(alloc, &classes, text.as_slice(), &error)),
     }
 }
 
-/// Writes the flows between the declared variables of the source text.
-pub(crate) fn flows<'a, F: Files, W: Write>(
+/// The flows between the declared variables of a text, each with a walk where that is asked for.
+fn flow_lines(
+    alloc: Global,
+    profile: Profile,
+    has_walks: bool,
+    classes: &Lattice,
+    text: &[u8],
+) -> Result<Vec<u8>, CompileError> {
+    if has_walks {
+        walks_text_in(alloc, profile, classes, text)
+    } else {
+        flows_text_in(alloc, profile, classes, text)
+    }
+}
+
+/// The flows between the declared variables of the source text.
+pub(crate) fn flows<'a, F: Files>(
+    alloc: Global,
+    compilation: Compilation<'a>,
+    has_walks: bool,
+    files: &mut F,
+) -> Result<Vec<u8>, Stop<'a>> {
+    let (classes, text) = policy_and_text(alloc, compilation, files)?;
+    let profile = profile(compilation.is_strict);
+    match flow_lines(alloc, profile, has_walks, &classes, text.as_slice()) {
+        Ok(lines) => Ok(lines),
+        Err(error) => Err(refused(alloc, &classes, text.as_slice(), &error)),
+    }
+}
+
+/// The bytes of the image of the source text.
+fn built<'a, F: Files>(
     alloc: Global,
     compilation: Compilation<'a>,
     files: &mut F,
-    output: &mut Counted<W>,
-) -> Result<(), Stop<'a>>
-    requires { faults_of output.old < u64.MAX }
-    ensures fault { TellsFault (faults_of output.old) (faults_of output.new) result }
-{
+) -> Result<Vec<u8>, Stop<'a>> {
     let (classes, text) = policy_and_text(alloc, compilation, files)?;
     let profile = profile(compilation.is_strict);
-    match flows_text_in(alloc, profile, &classes, text.as_slice()) {
-        Ok(lines) => write(lines.as_slice(), output),
-        Err(error) => Err(refused(alloc, &classes, text.as_slice(), &error)),
-    }
-}
-
-/// The bytes of the image of a text. They are built from bytes and into memory, so that a device's fault is want of it.
-fn image_bytes<'a>(
-    alloc: Global,
-    profile: Profile,
-    classes: &Lattice,
-    text: &[u8],
-) -> Result<Vec<u8>, Stop<'a>> {
-    let mut reader = Counted::new(text);
-    let mut writer = Counted::new(Vec::new(alloc));
-    match build_in(alloc, profile, classes, &mut reader, &mut writer) {
-        Ok(()) => Ok(writer.into_inner()),
-        Err(EngineError::Compile(error)) => Err(refused(alloc, classes, text, &error)),
+    match image_bytes(alloc, profile, &classes, text.as_slice()) {
+        Ok(bytes) => Ok(bytes),
+        Err(EngineError::Compile(error)) => Err(refused(alloc, &classes, text.as_slice(), &error)),
         Err(_) => Err(Stop::Memory),
     }
 }
@@ -114,9 +154,7 @@ pub(crate) fn build<'a, F: Files>(
     image: &'a str,
     files: &mut F,
 ) -> Result<(), Stop<'a>> {
-    let (classes, text) = policy_and_text(alloc, compilation, files)?;
-    let profile = profile(compilation.is_strict);
-    let bytes = image_bytes(alloc, profile, &classes, text.as_slice())?;
+    let bytes = built(alloc, compilation, files)?;
     let Some(file) = files.create_file(image) else {
         return Err(Stop::FileFault(image));
     };
@@ -126,34 +164,25 @@ pub(crate) fn build<'a, F: Files>(
     answer.map_err(|_| Stop::FileFault(image))
 }
 
-/// Writes the listing of the image.
-pub(crate) fn list<'a, F: Files, W: Write>(
+/// The listing of the image.
+pub(crate) fn list<'a, F: Files>(
     alloc: Global,
     image: &'a str,
     files: &mut F,
-    output: &mut Counted<W>,
-) -> Result<(), Stop<'a>>
-    requires { faults_of output.old < u64.MAX }
-    ensures fault { TellsFault (faults_of output.old) (faults_of output.new) result }
-{
+) -> Result<Vec<u8>, Stop<'a>> {
     let verified = image_in(alloc, image, files)?;
-    let text = listing(alloc, verified.image())?;
-    write(text.as_slice(), output)
+    Ok(listing(alloc, verified.image())?)
 }
 
-/// Writes the canonical text of the source text.
-pub(crate) fn format<'a, F: Files, W: Write>(
+/// The canonical text of the source text.
+pub(crate) fn format<'a, F: Files>(
     alloc: Global,
     source: &'a str,
     files: &mut F,
-    output: &mut Counted<W>,
-) -> Result<(), Stop<'a>>
-    requires { faults_of output.old < u64.MAX }
-    ensures fault { TellsFault (faults_of output.old) (faults_of output.new) result }
-{
+) -> Result<Vec<u8>, Stop<'a>> {
     let bytes = bytes_in(alloc, source, files)?;
     match format_text(alloc, bytes.as_slice()) {
-        Ok(text) => write(text.as_slice(), output),
+        Ok(text) => Ok(text),
         Err(error) => Err(refused(alloc, &two_classes(alloc)?, bytes.as_slice(), &error)),
     }
 }

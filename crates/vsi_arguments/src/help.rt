@@ -1,4 +1,5 @@
-//! The longer texts of help: what each subcommand reads and writes, the statuses, what each word is, and an example.
+//! The longer texts of help: what each subcommand reads and writes, the statuses, what each word
+//! is, and an example.
 
 /// What the program is, in full.
 pub(crate) const PROGRAM: &str = "\
@@ -33,7 +34,8 @@ Says whether a source text is accepted.
 
 Reads the lattice file and judges it, then reads the source text and judges it,
 and prints `accepted`. A refusal is told on standard error: its number, its name
-and its place, and of a refused flow each step and the two classes.
+and its place, and of a refused flow each step and the two classes. With
+--steady its image is judged too, and nothing is written.
 
 Statuses: 0 accepted, 1 refused, 2 usage, 4 file fault, 5 out of memory.";
 
@@ -48,7 +50,13 @@ Example:
   $ vsi check two.toml leak.vsi
   refused: 25 Refused
   1:28 h flows to l by ASSIGN at 1:23
-  h : H may not flow to l : L";
+  h : H may not flow to l : L
+  $ cat branch.vsi
+  var h : H; if h then h := 0 else h := 1
+  $ vsi check --steady two.toml branch.vsi
+  refused: 25 Refused
+  1:15 h flows to (loop) by LOOP at 1:15
+  h : H may not flow to (loop) : L";
 
 /// What `classes` does.
 pub(crate) const CLASSES: &str = "\
@@ -77,8 +85,9 @@ Reads the lattice file and the source text as `check` does, and prints for each
 two different variables with a declared class that a chain of flow steps joins a
 line `NAME : CLASS flows to NAME : CLASS VERDICT STEPS`: `allowed` where the
 first class is at or below the second, else `refused`, and the fewest steps of
-such a chain. The lines are in the order of declarations. The text is accepted
-where no line is refused, but a refused line is no refusal here.
+such a chain. The lines are in the order of declarations. With --walks the steps
+of a shortest chain stand below each line. The text is accepted where no line is
+refused, but a refused line is no refusal here.
 
 Statuses: 0 printed, 1 refused for another cause than a flow, 2 usage,
 4 file fault, 5 out of memory.";
@@ -91,7 +100,11 @@ Example:
   $ vsi flows two.toml three.vsi
   h : H flows to l : L refused 1
   h : H flows to m : L refused 3
-  l : L flows to m : L allowed 2";
+  l : L flows to m : L allowed 2
+  $ vsi flows --walks two.toml three.vsi | tail -n 3
+  l : L flows to m : L allowed 2
+  1:46 l flows to t by LETVAR at 1:41
+  1:58 t flows to m by ASSIGN at 1:53";
 
 /// What `build` does.
 pub(crate) const BUILD: &str = "\
@@ -144,6 +157,9 @@ accepted keeps to the policy: the image itself is judged, and not who made it. A
 refused flow is told with numbers of instructions for places and made-up names
 for the locals, which are those that `vsi source` prints.
 
+With --steady the code is judged as it stands, also where no commands can be
+read back from it: its jumps may depend on nothing above the least class.
+
 Statuses: 0 accepted, 1 refused, 2 usage, 4 file fault, 5 out of memory.";
 
 /// An example of `audit`.
@@ -176,8 +192,9 @@ pub(crate) const RUN: &str = "\
 Runs an image and prints the store in which it halts.
 
 Reads the store file where there is one, then the image, verifies the image,
-judges the store file, and runs the image until it halts or its budget is spent.
-Where it halts a line `NAME = NUMBER` is printed for each global.
+judges the store file, sets globals, and runs the image until it halts or its
+budget is spent. Where it halts a line `NAME = NUMBER` is printed for each
+global, or written to a file, which may be the store file itself.
 
 Statuses: 0 halted, 1 refused, 2 usage, 3 out of budget, 4 file fault,
 5 out of memory.";
@@ -196,9 +213,10 @@ pub(crate) const VIEW: &str = "\
 Runs an image and prints what a class may see.
 
 Reads the lattice file, looks for the class in it, reads and verifies the image,
-reads the store file where there is one, and runs the image. Where it halts
-within its budget a line `NAME = NUMBER` is printed for each global whose class
-is at or below the one that looks; else nothing is.
+reads the store file where there is one, sets globals, and runs the image. Where
+it halts within its budget a line `NAME = NUMBER` is printed for each global
+whose class is at or below the one that looks, or written to a file; else
+nothing is.
 
 Statuses: 0 halted, 1 refused, 2 usage or no such class, 3 out of budget,
 4 file fault, 5 out of memory.";
@@ -224,7 +242,8 @@ and reads the store file where there is one. Then each line of standard input
 sets globals at or below the class, the image runs, and what the class sees is
 written as one line of the same form; the store stays for the next line. A
 faulty line, or a run that is out of budget, is told in its place, and leaves
-the store as it was.
+the store as it was. Behind the last line the store is written to a file, where
+one is asked for.
 
 Statuses: 0 standard input has ended, 1 refused, 2 usage or no such class,
 4 file fault, 5 out of memory.";
@@ -237,6 +256,35 @@ Example:
   l = 5
   l = 6
   refused: 47 AboveClass 0";
+
+/// What `compare` does.
+pub(crate) const COMPARE: &str = "\
+Runs an image from two stores and prints what a class sees of both.
+
+Reads the lattice file, looks for the class in it, reads and verifies the image,
+reads and judges both store files, and runs the image from each. Prints a row
+for each global whose class is at or below the one that looks, before the runs
+and, where both halt, after them, and one for how they end. Behind a star both
+sides of a row are told, the first run's first; else they are equal. The class
+sees the same where both runs halt and no row after them has a star, but for the
+one of how they end; and where neither halts.
+
+Statuses: 0 the class sees the same after both runs, 1 it doesn't, or refused,
+2 usage or no such class, 4 file fault, 5 out of memory.";
+
+/// An example of `compare`.
+pub(crate) const COMPARE_EXAMPLE: &str = "\
+Example:
+  $ printf 'h = 5\\nl = 1\\n' > a
+  $ printf 'h = 9\\nl = 1\\n' > b
+  $ vsi compare two.toml add.image --class H --budget 7 --store a --store b
+  H sees before
+  * h = 5 | h = 9
+    l = 1
+  H sees after
+    h = 2
+    l = 2
+    after 7 instructions";
 
 /// What `leak` does.
 pub(crate) const LEAK: &str = "\
@@ -312,6 +360,29 @@ Judges by the strict profile: each variable that the guard of a
 the least class, so that whether a run ends tells nothing of the
 classes above it.";
 
+/// What `--steady` asks for of a source text.
+pub(crate) const STEADY_SOURCE: &str = "\
+Judges by the strict profile as if each `if` were a `while`: each
+variable that a guard reads must have the least class. Then judges
+the image as `vsi audit --steady` does: two runs from stores that
+agree at and below a class do the same instructions and write the
+same there. With it --strict adds nothing.";
+
+/// What `--steady` asks for of an image.
+pub(crate) const STEADY: &str = "\
+Accepts only an image whose jumps depend on nothing above the least
+class. Two runs from stores that agree at and below a class then do
+the same instructions, as many as any budget allows, and write the
+same there. These are instructions, not seconds. With it --strict
+adds nothing.";
+
+/// What `--walks` asks for.
+pub(crate) const WALKS: &str = "\
+Prints below each line the steps of a shortest chain, each as in the
+explanation of a refusal: where a name is read, where it flows to, by
+which rule, and where that is written. Of all shortest chains it is
+the first in the order of the program's steps.";
+
 /// What a trace is.
 pub(crate) const TRACE: &str = "\
 Prints a line before each instruction that is done: its number, its
@@ -332,6 +403,34 @@ The path of the store file, a TOML document of at most 1048576 bytes
 with a key `NAME = NUMBER` for each global that doesn't begin as 0, a
 number being one from -9223372036854775808 to 9223372036854775807.
 Without a file each global begins as 0.";
+
+/// What a setting is.
+pub(crate) const SET: &str = "\
+Sets a global, of whatever class, behind the store file: its name, `=`
+and a number from -9223372036854775808 to 9223372036854775807. It may
+be given again, and of two settings of one global the second stands.";
+
+/// What a full store is.
+pub(crate) const FULL_STORE: &str = "\
+Refuses to begin where a global has no key in the store file and isn't
+set, so that none begins as 0 by oversight.";
+
+/// What the file of a store is that is written.
+pub(crate) const OUT: &str = "\
+The path of a file that gets the store in place of standard output. It
+is replaced as a whole where the run halts, and left as it is
+otherwise, so that it may be the store file that is read.";
+
+/// What the file of the last store is.
+pub(crate) const SAVE: &str = "\
+The path of a file that gets the last store, where standard input has
+ended and no read and no write has failed. It is replaced as a whole,
+so that it may be the store file that is read.";
+
+/// What the store files are that are compared.
+pub(crate) const STORES: &str = "\
+The path of a store file, as `vsi help run` tells of it, given twice:
+the first run begins from the first one, the second from the second.";
 
 /// What a class is that looks for a leak.
 pub(crate) const LOOKING: &str = "\

@@ -1,4 +1,5 @@
-//! The arguments of a command line: `request_of` reads what they ask for, or gives the help for them.
+//! The arguments of a command line: `request_of` reads what they ask for, or gives the help for
+//! them.
 #![tactic(auto)]
 
 mod error;
@@ -7,4 +8,6 @@ mod request;
 mod usage;
 
 pub use error::ArgumentsError;
-pub use request::{Audit, Compilation, Execution, Request, Search, request_of};
+pub use request::{
+    Audit, Comparison, Compilation, Driving, Execution, Outset, Request, Search, request_of,
+};

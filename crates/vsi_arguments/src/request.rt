@@ -4,28 +4,61 @@ use crate::error::ArgumentsError;
 use crate::usage::program;
 use clap::error::ErrorKind;
 use clap::{ArgMatches, Command, Error};
-use std::alloc::Global;
+use std::alloc::{AllocError, Global};
 
-/// What is compiled: the paths of a lattice file and of a source text, and whether the strict profile judges it.
-#[derive(Clone, Copy, Debug)]
+/// What is compiled: the paths of a lattice file and of a source text, and whether the strict
+/// profile judges it.
+#[derive(Clone, Copy)]
 pub struct Compilation<'a> {
     pub lattice: &'a str,
     pub source: &'a str,
     pub is_strict: bool,
 }
 
-/// What is run: the path of an image, the most instructions that are done, and the path of a store file, without which
-/// the run begins from zeros.
-#[derive(Clone, Copy, Debug)]
+/// What is run: the path of an image, the most instructions that are done, and the path of a store
+/// file, without which the run begins from zeros.
+#[derive(Clone, Copy)]
 pub struct Execution<'a> {
     pub image: &'a str,
     pub budget: u64,
     pub store: Option<&'a str>,
 }
 
-/// What is searched for a leak: the paths of a lattice file and of a source text, the class that looks, or each; the most
-/// instructions of a run, the most pairs of runs, the seed; and whether the endings and the steps of runs count.
-#[derive(Clone, Copy, Debug)]
+/// What a run begins with besides its store file, and where the text of its store goes: globals
+/// that are set behind the file, each as `NAME=NUMBER`; whether each global must be named in the
+/// file or set; and the path of a file that gets what standard output gets without it.
+#[derive(Drop)]
+pub struct Outset<'a> {
+    pub settings: Vec<&'a [u8]>,
+    pub is_full: bool,
+    pub out: Option<&'a str>,
+}
+
+/// What a controller is driven by: the path of a lattice file, the class that sets and sees, the
+/// run of each cycle, and the path of a file that gets the last store.
+#[derive(Clone, Copy)]
+pub struct Driving<'a> {
+    pub lattice: &'a str,
+    pub class: &'a str,
+    pub execution: Execution<'a>,
+    pub save: Option<&'a str>,
+}
+
+/// What is compared: the paths of a lattice file, of an image and of two store files, the class
+/// that looks, and the most instructions of each run.
+#[derive(Clone, Copy)]
+pub struct Comparison<'a> {
+    pub lattice: &'a str,
+    pub image: &'a str,
+    pub class: &'a str,
+    pub budget: u64,
+    pub stores: (&'a str, &'a str),
+}
+
+/// What is searched for a leak: the paths of a lattice file and of a source text, the class that
+/// looks, or each; the most instructions of a run, the most pairs of runs, the seed; and whether
+/// the endings and the steps of runs count.
+#[derive(Clone, Copy)]
 pub struct Search<'a> {
     pub lattice: &'a str,
     pub source: &'a str,
@@ -37,35 +70,45 @@ pub struct Search<'a> {
     pub has_steps: bool,
 }
 
-/// What is audited: the paths of a lattice file and of an image, and whether the strict profile judges it.
-#[derive(Clone, Copy, Debug)]
+/// What is audited: the paths of a lattice file and of an image, whether the strict profile judges
+/// it, and whether its jumps are judged instead.
+#[derive(Clone, Copy)]
 pub struct Audit<'a> {
     pub lattice: &'a str,
     pub image: &'a str,
     pub is_strict: bool,
+    pub is_steady: bool,
 }
 
 /// A subcommand with what it is given.
-#[derive(Clone, Copy, Debug)]
+#[derive(Drop)]
 pub enum Request<'a> {
-    Check(Compilation<'a>),
+    Check {
+        compilation: Compilation<'a>,
+        is_steady: bool,
+    },
     Classes(Compilation<'a>),
-    Flows(Compilation<'a>),
+    Flows {
+        compilation: Compilation<'a>,
+        has_walks: bool,
+    },
     Build(Compilation<'a>, &'a str),
     List(&'a str),
     Audit(Audit<'a>),
     Source(&'a str),
-    Run(Execution<'a>, bool),
+    Run {
+        execution: Execution<'a>,
+        outset: Outset<'a>,
+        has_trace: bool,
+    },
     View {
         lattice: &'a str,
         class: &'a str,
         execution: Execution<'a>,
+        outset: Outset<'a>,
     },
-    Drive {
-        lattice: &'a str,
-        class: &'a str,
-        execution: Execution<'a>,
-    },
+    Drive(Driving<'a>),
+    Compare(Comparison<'a>),
     Leak(Search<'a>),
     Format(&'a str),
 }
@@ -77,7 +120,8 @@ const SEARCH: u64 = 10_000;
 ///
 /// # Errors
 ///
-/// `Help` where help or the version is asked for, `Mistake` where the arguments are wrong, `Memory`.
+/// `Help` where help or the version is asked for, `Mistake` where the arguments are wrong,
+/// `Memory`.
 pub fn request_of<'a>(
     alloc: Global,
     arguments: &'a [String],
@@ -101,10 +145,11 @@ fn told(alloc: Global, error: &Error) -> ArgumentsError {
 }
 
 /// What is wrong with arguments that the parser of command lines takes.
-#[derive(Clone, Copy, Debug)]
+#[derive(Clone, Copy)]
 enum Mistake {
     SignedBudget,
     SignedNumber,
+    NoTwoStores,
     NoSubcommand,
 }
 
@@ -112,6 +157,7 @@ impl Mistake {
     fn kind(self) -> ErrorKind {
         match self {
             Mistake::SignedBudget | Mistake::SignedNumber => ErrorKind::ValueValidation,
+            Mistake::NoTwoStores => ErrorKind::WrongNumberOfValues,
             Mistake::NoSubcommand => ErrorKind::MissingSubcommand,
         }
     }
@@ -120,6 +166,7 @@ impl Mistake {
         match self {
             Mistake::SignedBudget => "a budget is written by digits alone",
             Mistake::SignedNumber => "a number is written by digits alone",
+            Mistake::NoTwoStores => "two stores are compared",
             Mistake::NoSubcommand => "a subcommand is needed",
         }
     }
@@ -128,7 +175,16 @@ impl Mistake {
 /// Parses the arguments.
 fn parsed<'a>(alloc: Global, arguments: &'a [String]) -> Result<Request<'a>, Error> {
     let mut command = program(alloc)?;
-    match asked(&mut command, arguments)? {
+    answered(alloc, &mut command, arguments)
+}
+
+/// What arguments ask for, or what is wrong with them.
+fn answered<'a>(
+    alloc: Global,
+    command: &mut Command<'a>,
+    arguments: &'a [String],
+) -> Result<Request<'a>, Error> {
+    match asked(alloc, command, arguments)? {
         Ok(request) => Ok(request),
         Err(mistake) => Err(command.error(mistake.kind(), mistake.text())?),
     }
@@ -136,57 +192,114 @@ fn parsed<'a>(alloc: Global, arguments: &'a [String]) -> Result<Request<'a>, Err
 
 /// What arguments that the program takes ask for.
 fn asked<'a>(
+    alloc: Global,
     command: &mut Command<'a>,
     arguments: &'a [String],
 ) -> Result<Result<Request<'a>, Mistake>, Error> {
     let matches = command.try_get_matches_from_mut(arguments)?;
-    Ok(judged(&matches))
+    judged(alloc, &matches)
 }
 
 /// What is asked for, with a budget of digits alone.
-fn judged<'a>(matches: &ArgMatches<'a>) -> Result<Request<'a>, Mistake> {
+fn judged<'a>(
+    alloc: Global,
+    matches: &ArgMatches<'a>,
+) -> Result<Result<Request<'a>, Mistake>, Error> {
     if has_signed_budget(matches) {
-        return Err(Mistake::SignedBudget);
+        return Ok(Err(Mistake::SignedBudget));
     }
     if has_signed_search(matches) {
-        return Err(Mistake::SignedNumber);
+        return Ok(Err(Mistake::SignedNumber));
     }
-    requested(matches).ok_or(Mistake::NoSubcommand)
+    let Some((name, inner)) = matches.subcommand() else {
+        return Ok(Err(Mistake::NoSubcommand));
+    };
+    match name {
+        "run" => Ok(Ok(run_request(alloc, inner)?)),
+        "view" => Ok(Ok(view_request(alloc, inner)?)),
+        "compare" => Ok(compare_request(inner)),
+        _ => Ok(Ok(requested(name, inner))),
+    }
 }
 
-/// What a subcommand asks for, where there is one.
-fn requested<'a>(matches: &ArgMatches<'a>) -> Option<Request<'a>> {
-    let (name, inner) = matches.subcommand()?;
-    let request = match name {
-        "check" => Request::Check(compilation_in(inner)),
+/// What a subcommand asks for that takes no list of words.
+fn requested<'a>(name: &str, inner: &ArgMatches<'a>) -> Request<'a> {
+    match name {
+        "check" => check_request(inner),
         "classes" => Request::Classes(compilation_in(inner)),
-        "flows" => Request::Flows(compilation_in(inner)),
+        "flows" => flows_request(inner),
         "build" => Request::Build(compilation_in(inner), text(inner, "IMAGE")),
         "list" => Request::List(text(inner, "IMAGE")),
         "audit" => Request::Audit(audit_in(inner)),
         "source" => Request::Source(text(inner, "IMAGE")),
-        "run" => Request::Run(execution_in(inner), inner.get_flag("trace")),
-        "view" => view_request(inner),
-        "drive" => drive_request(inner),
+        "drive" => Request::Drive(driving_in(inner)),
         "leak" => Request::Leak(search_in(inner)),
         _ => Request::Format(text(inner, "SOURCE")),
-    };
-    Some(request)
-}
-
-fn view_request<'a>(matches: &ArgMatches<'a>) -> Request<'a> {
-    Request::View {
-        lattice: text(matches, "LATTICE"),
-        class: text(matches, "class"),
-        execution: execution_in(matches),
     }
 }
 
-fn drive_request<'a>(matches: &ArgMatches<'a>) -> Request<'a> {
-    Request::Drive {
+fn check_request<'a>(matches: &ArgMatches<'a>) -> Request<'a> {
+    Request::Check {
+        compilation: compilation_in(matches),
+        is_steady: matches.get_flag("steady"),
+    }
+}
+
+fn flows_request<'a>(matches: &ArgMatches<'a>) -> Request<'a> {
+    Request::Flows {
+        compilation: compilation_in(matches),
+        has_walks: matches.get_flag("walks"),
+    }
+}
+
+fn run_request<'a>(alloc: Global, matches: &ArgMatches<'a>) -> Result<Request<'a>, AllocError> {
+    Ok(Request::Run {
+        execution: execution_in(matches),
+        outset: outset_in(alloc, matches)?,
+        has_trace: matches.get_flag("trace"),
+    })
+}
+
+fn view_request<'a>(alloc: Global, matches: &ArgMatches<'a>) -> Result<Request<'a>, AllocError> {
+    Ok(Request::View {
         lattice: text(matches, "LATTICE"),
         class: text(matches, "class"),
         execution: execution_in(matches),
+        outset: outset_in(alloc, matches)?,
+    })
+}
+
+fn compare_request<'a>(matches: &ArgMatches<'a>) -> Result<Request<'a>, Mistake> {
+    match matches.get_strs("store") {
+        Some([first, second]) => Ok(Request::Compare(Comparison {
+            lattice: text(matches, "LATTICE"),
+            image: text(matches, "IMAGE"),
+            class: text(matches, "class"),
+            budget: matches.get_one::<u64>("budget").unwrap_or(0),
+            stores: (*first, *second),
+        })),
+        _ => Err(Mistake::NoTwoStores),
+    }
+}
+
+fn outset_in<'a>(alloc: Global, matches: &ArgMatches<'a>) -> Result<Outset<'a>, AllocError> {
+    let mut settings = Vec::new(alloc);
+    for setting in matches.get_strs("set").unwrap_or(&[]) {
+        settings.push(setting.as_bytes())?;
+    }
+    Ok(Outset {
+        settings,
+        is_full: matches.get_flag("full-store"),
+        out: matches.get_str("out"),
+    })
+}
+
+fn driving_in<'a>(matches: &ArgMatches<'a>) -> Driving<'a> {
+    Driving {
+        lattice: text(matches, "LATTICE"),
+        class: text(matches, "class"),
+        execution: execution_in(matches),
+        save: matches.get_str("save"),
     }
 }
 
@@ -203,6 +316,7 @@ fn audit_in<'a>(matches: &ArgMatches<'a>) -> Audit<'a> {
         lattice: text(matches, "LATTICE"),
         image: text(matches, "IMAGE"),
         is_strict: matches.get_flag("strict"),
+        is_steady: matches.get_flag("steady"),
     }
 }
 
@@ -235,7 +349,7 @@ fn text<'a>(matches: &ArgMatches<'a>, id: &str) -> &'a str {
 /// Whether the budget begins with a sign.
 fn has_signed_budget(matches: &ArgMatches<'_>) -> bool {
     match matches.subcommand() {
-        Some(("run" | "view" | "drive" | "leak", inner)) => {
+        Some(("run" | "view" | "drive" | "compare" | "leak", inner)) => {
             text(inner, "budget").starts_with('+')
         }
         _ => false,

@@ -9,45 +9,51 @@ const VERSION: &str = "0.1.0";
 
 /// The program with its subcommands.
 pub(crate) fn program<'a>(alloc: Global) -> Result<Command<'a>, AllocError> {
-    let program = with_judges(alloc, described(alloc)?)?;
-    let program = with_runs(alloc, program)?;
-    let program = with(program, leak_command(alloc))?;
+    let program = with_judges(alloc, described(alloc));
+    let program = with_runs(alloc, program);
+    let program = with(program, compare_command(alloc));
+    let program = with(program, leak_command(alloc));
     with(program, format_command(alloc))
 }
 
 /// The program with the subcommands that judge a source text.
-fn with_judges<'a>(alloc: Global, program: Command<'a>) -> Result<Command<'a>, AllocError> {
-    let program = with(program, check_command(alloc))?;
-    let program = with(program, classes_command(alloc))?;
-    let program = with(program, flows_command(alloc))?;
+fn with_judges<'a>(
+    alloc: Global,
+    program: Result<Command<'a>, AllocError>,
+) -> Result<Command<'a>, AllocError> {
+    let program = with(program, check_command(alloc));
+    let program = with(program, classes_command(alloc));
+    let program = with(program, flows_command(alloc));
     with(program, build_command(alloc))
 }
 
 /// The program with the subcommands that show, judge or run an image.
-fn with_runs<'a>(alloc: Global, program: Command<'a>) -> Result<Command<'a>, AllocError> {
-    let program = with(program, list_command(alloc))?;
-    let program = with(program, audit_command(alloc))?;
-    let program = with(program, source_command(alloc))?;
-    let program = with(program, run_command(alloc))?;
-    let program = with(program, view_command(alloc))?;
+fn with_runs<'a>(
+    alloc: Global,
+    program: Result<Command<'a>, AllocError>,
+) -> Result<Command<'a>, AllocError> {
+    let program = with(program, list_command(alloc));
+    let program = with(program, audit_command(alloc));
+    let program = with(program, source_command(alloc));
+    let program = with(program, run_command(alloc));
+    let program = with(program, view_command(alloc));
     with(program, drive_command(alloc))
 }
 
 /// The program with one more subcommand.
 fn with<'a>(
-    program: Command<'a>,
+    program: Result<Command<'a>, AllocError>,
     subcommand: Result<Command<'a>, AllocError>,
 ) -> Result<Command<'a>, AllocError> {
-    match subcommand {
-        Ok(subcommand) => program.subcommand(subcommand),
-        Err(refused) => Err(refused),
-    }
+    let program = program?;
+    program.subcommand(subcommand?)
 }
 
 /// The program itself, without its subcommands.
 fn described<'a>(alloc: Global) -> Result<Command<'a>, AllocError> {
     let program = with_help(
-        Command::new(alloc, "vsi"),
+        alloc,
+        "vsi",
         "Compiles programs whose flows of information are typed, and runs them",
         help::PROGRAM,
         help::PROGRAM_EXAMPLE,
@@ -60,27 +66,47 @@ fn described<'a>(alloc: Global) -> Result<Command<'a>, AllocError> {
 
 /// A command with its help: the line of it, the whole, and an example.
 fn with_help<'a>(
-    command: Command<'a>,
+    alloc: Global,
+    name: &'a str,
     line: &'a str,
     whole: &'a str,
     example: &'a str,
 ) -> Command<'a> {
-    command.about(line).long_about(whole).after_help(example)
+    Command::new(alloc, name)
+        .about(line)
+        .long_about(whole)
+        .after_help(example)
+}
+
+/// A command with one more word.
+fn taking<'a>(
+    command: Result<Command<'a>, AllocError>,
+    word: Arg<'a>,
+) -> Result<Command<'a>, AllocError> {
+    match command {
+        Ok(command) => command.arg(word),
+        Err(refused) => Err(refused),
+    }
 }
 
 fn check_command<'a>(alloc: Global) -> Result<Command<'a>, AllocError> {
     let check = with_help(
-        Command::new(alloc, "check"),
+        alloc,
+        "check",
         "Says whether a source text is accepted",
         help::CHECK,
         help::CHECK_EXAMPLE,
     );
-    judging(alloc, check)
+    taking(
+        judging(alloc, check),
+        steady_argument(alloc, help::STEADY_SOURCE),
+    )
 }
 
 fn classes_command<'a>(alloc: Global) -> Result<Command<'a>, AllocError> {
     let classes = with_help(
-        Command::new(alloc, "classes"),
+        alloc,
+        "classes",
         "Prints the class of each declaration, declared or inferred",
         help::CLASSES,
         help::CLASSES_EXAMPLE,
@@ -90,35 +116,37 @@ fn classes_command<'a>(alloc: Global) -> Result<Command<'a>, AllocError> {
 
 fn flows_command<'a>(alloc: Global) -> Result<Command<'a>, AllocError> {
     let flows = with_help(
-        Command::new(alloc, "flows"),
+        alloc,
+        "flows",
         "Prints each two declared variables that a chain of flows joins",
         help::FLOWS,
         help::FLOWS_EXAMPLE,
     );
-    judging(alloc, flows)
+    taking(judging(alloc, flows), walks_argument(alloc))
 }
 
 fn build_command<'a>(alloc: Global) -> Result<Command<'a>, AllocError> {
     let build = with_help(
-        Command::new(alloc, "build"),
+        alloc,
+        "build",
         "Compiles a source text to an image",
         help::BUILD,
         help::BUILD_EXAMPLE,
     );
-    judging(alloc, build)?.arg(new_image_argument(alloc))
+    taking(judging(alloc, build), new_image_argument(alloc))
 }
 
 /// A subcommand that judges a source text, with the words for it.
 fn judging<'a>(alloc: Global, command: Command<'a>) -> Result<Command<'a>, AllocError> {
-    command
-        .arg(lattice_argument(alloc))?
-        .arg(source_argument(alloc))?
-        .arg(strict_argument(alloc))
+    let command = command.arg(lattice_argument(alloc));
+    let command = taking(command, source_argument(alloc));
+    taking(command, strict_argument(alloc))
 }
 
 fn list_command<'a>(alloc: Global) -> Result<Command<'a>, AllocError> {
     let list = with_help(
-        Command::new(alloc, "list"),
+        alloc,
+        "list",
         "Prints the instructions of an image",
         help::LIST,
         help::LIST_EXAMPLE,
@@ -128,20 +156,22 @@ fn list_command<'a>(alloc: Global) -> Result<Command<'a>, AllocError> {
 
 fn audit_command<'a>(alloc: Global) -> Result<Command<'a>, AllocError> {
     let audit = with_help(
-        Command::new(alloc, "audit"),
+        alloc,
+        "audit",
         "Says whether an image is accepted, whoever made it",
         help::AUDIT,
         help::AUDIT_EXAMPLE,
     );
-    audit
-        .arg(lattice_argument(alloc))?
-        .arg(image_argument(alloc))?
-        .arg(strict_argument(alloc))
+    let audit = audit.arg(lattice_argument(alloc));
+    let audit = taking(audit, image_argument(alloc));
+    let audit = taking(audit, strict_argument(alloc));
+    taking(audit, steady_argument(alloc, help::STEADY))
 }
 
 fn source_command<'a>(alloc: Global) -> Result<Command<'a>, AllocError> {
     let source = with_help(
-        Command::new(alloc, "source"),
+        alloc,
+        "source",
         "Prints the source text that an image stands for",
         help::IMAGE_SOURCE,
         help::IMAGE_SOURCE_EXAMPLE,
@@ -151,71 +181,108 @@ fn source_command<'a>(alloc: Global) -> Result<Command<'a>, AllocError> {
 
 fn run_command<'a>(alloc: Global) -> Result<Command<'a>, AllocError> {
     let run = with_help(
-        Command::new(alloc, "run"),
+        alloc,
+        "run",
         "Runs an image and prints the store in which it halts",
         help::RUN,
         help::RUN_EXAMPLE,
     );
-    running(alloc, run)?.arg(trace_argument(alloc))
+    let run = starting(alloc, running(alloc, Ok(run)));
+    taking(run, trace_argument(alloc))
 }
 
 fn view_command<'a>(alloc: Global) -> Result<Command<'a>, AllocError> {
     let view = with_help(
-        Command::new(alloc, "view"),
+        alloc,
+        "view",
         "Runs an image and prints what a class may see",
         help::VIEW,
         help::VIEW_EXAMPLE,
     );
-    let view = view.arg(lattice_argument(alloc))?;
-    running(alloc, view.arg(class_argument(alloc))?)
+    let view = view.arg(lattice_argument(alloc));
+    let view = taking(view, class_argument(alloc));
+    starting(alloc, running(alloc, view))
 }
 
 fn drive_command<'a>(alloc: Global) -> Result<Command<'a>, AllocError> {
     let drive = with_help(
-        Command::new(alloc, "drive"),
+        alloc,
+        "drive",
         "Runs an image once for each line of standard input",
         help::DRIVE,
         help::DRIVE_EXAMPLE,
     );
-    let drive = running(alloc, drive)?;
-    drive
-        .arg(lattice_argument(alloc))?
-        .arg(class_argument(alloc))
+    let drive = running(alloc, Ok(drive));
+    let drive = taking(drive, lattice_argument(alloc));
+    let drive = taking(drive, class_argument(alloc));
+    taking(drive, save_argument(alloc))
+}
+
+fn compare_command<'a>(alloc: Global) -> Result<Command<'a>, AllocError> {
+    let compare = with_help(
+        alloc,
+        "compare",
+        "Runs an image from two stores and tells what a class sees of both",
+        help::COMPARE,
+        help::COMPARE_EXAMPLE,
+    );
+    let compare = compare.arg(lattice_argument(alloc));
+    let compare = taking(compare, image_argument(alloc));
+    let compare = taking(compare, class_argument(alloc));
+    let compare = taking(compare, budget_argument(alloc));
+    taking(compare, stores_argument(alloc))
 }
 
 /// A subcommand that runs an image, with the words for it.
-fn running<'a>(alloc: Global, command: Command<'a>) -> Result<Command<'a>, AllocError> {
-    command
-        .arg(image_argument(alloc))?
-        .arg(budget_argument(alloc))?
-        .arg(store_argument(alloc))
+fn running<'a>(
+    alloc: Global,
+    command: Result<Command<'a>, AllocError>,
+) -> Result<Command<'a>, AllocError> {
+    let command = taking(command, image_argument(alloc));
+    let command = taking(command, budget_argument(alloc));
+    taking(command, store_argument(alloc))
+}
+
+/// A subcommand that runs an image once, with the words for what it begins with and where its text
+/// goes.
+fn starting<'a>(
+    alloc: Global,
+    command: Result<Command<'a>, AllocError>,
+) -> Result<Command<'a>, AllocError> {
+    let command = taking(command, set_argument(alloc));
+    let command = taking(command, full_store_argument(alloc));
+    taking(command, out_argument(alloc))
 }
 
 fn leak_command<'a>(alloc: Global) -> Result<Command<'a>, AllocError> {
     let leak = with_help(
-        Command::new(alloc, "leak"),
+        alloc,
+        "leak",
         "Searches a source text for a leak, and shows it",
         help::LEAK,
         help::LEAK_EXAMPLE,
     );
-    let leak = leak.arg(lattice_argument(alloc))?;
-    let leak = leak.arg(source_argument(alloc))?;
-    searching(alloc, leak.arg(looking_argument(alloc))?)
+    let leak = leak.arg(lattice_argument(alloc));
+    let leak = taking(leak, source_argument(alloc));
+    searching(alloc, taking(leak, looking_argument(alloc)))
 }
 
 /// A subcommand that searches, with the words that say how long and for what.
-fn searching<'a>(alloc: Global, command: Command<'a>) -> Result<Command<'a>, AllocError> {
-    command
-        .arg(run_budget_argument(alloc))?
-        .arg(tries_argument(alloc))?
-        .arg(seed_argument(alloc))?
-        .arg(endings_argument(alloc))?
-        .arg(steps_argument(alloc))
+fn searching<'a>(
+    alloc: Global,
+    command: Result<Command<'a>, AllocError>,
+) -> Result<Command<'a>, AllocError> {
+    let command = taking(command, run_budget_argument(alloc));
+    let command = taking(command, tries_argument(alloc));
+    let command = taking(command, seed_argument(alloc));
+    let command = taking(command, endings_argument(alloc));
+    taking(command, steps_argument(alloc))
 }
 
 fn format_command<'a>(alloc: Global) -> Result<Command<'a>, AllocError> {
     let format = with_help(
-        Command::new(alloc, "fmt"),
+        alloc,
+        "fmt",
         "Prints the canonical text of a source text",
         help::FORMAT,
         help::FORMAT_EXAMPLE,
@@ -223,124 +290,153 @@ fn format_command<'a>(alloc: Global) -> Result<Command<'a>, AllocError> {
     format.arg(source_argument(alloc))
 }
 
-fn lattice_argument<'a>(alloc: Global) -> Arg<'a> {
-    Arg::new(alloc, "LATTICE")
+/// A word that is needed, by its place.
+fn placed<'a>(alloc: Global, id: &'a str, line: &'a str, whole: &'a str) -> Arg<'a> {
+    Arg::new(alloc, id)
         .required(true)
-        .help("The lattice file")
-        .long_help(help::LATTICE)
+        .help(line)
+        .long_help(whole)
+}
+
+/// A word `--ID` that is there or not.
+fn flag<'a>(alloc: Global, id: &'a str, line: &'a str, whole: &'a str) -> Arg<'a> {
+    option(alloc, id, line, whole).action(ArgAction::SetTrue)
+}
+
+/// A word `--ID` with a number behind it.
+fn number<'a>(alloc: Global, id: &'a str, line: &'a str, whole: &'a str) -> Arg<'a> {
+    option(alloc, id, line, whole).value_parser(value_parser!(u64))
+}
+
+/// A word `--ID`.
+fn option<'a>(alloc: Global, id: &'a str, line: &'a str, whole: &'a str) -> Arg<'a> {
+    Arg::new(alloc, id).long(id).help(line).long_help(whole)
+}
+
+fn lattice_argument<'a>(alloc: Global) -> Arg<'a> {
+    placed(alloc, "LATTICE", "The lattice file", help::LATTICE)
 }
 
 fn source_argument<'a>(alloc: Global) -> Arg<'a> {
-    Arg::new(alloc, "SOURCE")
-        .required(true)
-        .help("The source text")
-        .long_help(help::SOURCE)
+    placed(alloc, "SOURCE", "The source text", help::SOURCE)
 }
 
 fn image_argument<'a>(alloc: Global) -> Arg<'a> {
-    Arg::new(alloc, "IMAGE")
-        .required(true)
-        .help("The image file")
-        .long_help(help::IMAGE)
+    placed(alloc, "IMAGE", "The image file", help::IMAGE)
 }
 
 fn new_image_argument<'a>(alloc: Global) -> Arg<'a> {
-    Arg::new(alloc, "IMAGE")
-        .required(true)
-        .help("The image file that is written")
-        .long_help(help::NEW_IMAGE)
+    let line = "The image file that is written";
+    placed(alloc, "IMAGE", line, help::NEW_IMAGE)
 }
 
 fn strict_argument<'a>(alloc: Global) -> Arg<'a> {
-    Arg::new(alloc, "strict")
-        .long("strict")
-        .action(ArgAction::SetTrue)
-        .help("Asks that the ending of loops tells nothing either")
-        .long_help(help::STRICT)
+    let line = "Asks that the ending of loops tells nothing either";
+    flag(alloc, "strict", line, help::STRICT)
+}
+
+fn steady_argument<'a>(alloc: Global, whole: &'a str) -> Arg<'a> {
+    let line = "Asks that the number of instructions tells nothing";
+    flag(alloc, "steady", line, whole)
+}
+
+fn walks_argument<'a>(alloc: Global) -> Arg<'a> {
+    let line = "Prints the steps of a shortest chain below each line";
+    flag(alloc, "walks", line, help::WALKS)
 }
 
 fn trace_argument<'a>(alloc: Global) -> Arg<'a> {
-    Arg::new(alloc, "trace")
-        .long("trace")
-        .action(ArgAction::SetTrue)
-        .help("Prints each instruction before it is done")
-        .long_help(help::TRACE)
+    let line = "Prints each instruction before it is done";
+    flag(alloc, "trace", line, help::TRACE)
 }
 
 fn class_argument<'a>(alloc: Global) -> Arg<'a> {
-    Arg::new(alloc, "class")
-        .long("class")
+    option(alloc, "class", "The class that looks", help::CLASS)
         .value_name("C")
         .required(true)
-        .help("The class that looks")
-        .long_help(help::CLASS)
 }
 
 fn budget_argument<'a>(alloc: Global) -> Arg<'a> {
-    Arg::new(alloc, "budget")
-        .long("budget")
+    let line = "The most instructions that are done";
+    number(alloc, "budget", line, help::BUDGET)
         .value_name("N")
         .required(true)
-        .value_parser(value_parser!(u64))
-        .help("The most instructions that are done")
-        .long_help(help::BUDGET)
 }
 
 fn store_argument<'a>(alloc: Global) -> Arg<'a> {
+    let line = "The store file; without it the run begins from zeros";
+    option(alloc, "store", line, help::STORE).value_name("FILE")
+}
+
+fn set_argument<'a>(alloc: Global) -> Arg<'a> {
+    Arg::new(alloc, "set")
+        .long("set")
+        .value_name("NAME=NUMBER")
+        .action(ArgAction::Append)
+        .help("Sets a global behind the store file; can be repeated")
+        .long_help(help::SET)
+}
+
+fn full_store_argument<'a>(alloc: Global) -> Arg<'a> {
+    Arg::new(alloc, "full-store")
+        .long("full-store")
+        .action(ArgAction::SetTrue)
+        .help("Asks that each global is in the store file or set")
+        .long_help(help::FULL_STORE)
+}
+
+fn out_argument<'a>(alloc: Global) -> Arg<'a> {
+    Arg::new(alloc, "out")
+        .long("out")
+        .value_name("FILE")
+        .help("The file that the store goes to, not standard output")
+        .long_help(help::OUT)
+}
+
+fn save_argument<'a>(alloc: Global) -> Arg<'a> {
+    Arg::new(alloc, "save")
+        .long("save")
+        .value_name("FILE")
+        .help("The file that gets the last store")
+        .long_help(help::SAVE)
+}
+
+fn stores_argument<'a>(alloc: Global) -> Arg<'a> {
     Arg::new(alloc, "store")
         .long("store")
         .value_name("FILE")
-        .help("The store file; without it the run begins from zeros")
-        .long_help(help::STORE)
+        .required(true)
+        .action(ArgAction::Append)
+        .help("A store file, given twice")
+        .long_help(help::STORES)
 }
 
 fn looking_argument<'a>(alloc: Global) -> Arg<'a> {
-    Arg::new(alloc, "class")
-        .long("class")
-        .value_name("C")
-        .help("The class that looks; without it each one")
-        .long_help(help::LOOKING)
+    let line = "The class that looks; without it each one";
+    option(alloc, "class", line, help::LOOKING).value_name("C")
 }
 
 fn run_budget_argument<'a>(alloc: Global) -> Arg<'a> {
-    Arg::new(alloc, "budget")
-        .long("budget")
-        .value_name("N")
-        .value_parser(value_parser!(u64))
-        .help("The most instructions of a run, 10000 where it isn't given")
-        .long_help(help::RUN_BUDGET)
+    let line = "The most instructions of a run, 10000 where it isn't given";
+    number(alloc, "budget", line, help::RUN_BUDGET).value_name("N")
 }
 
 fn tries_argument<'a>(alloc: Global) -> Arg<'a> {
-    Arg::new(alloc, "tries")
-        .long("tries")
-        .value_name("N")
-        .value_parser(value_parser!(u64))
-        .help("The most pairs of runs, 10000 where it isn't given")
-        .long_help(help::TRIES)
+    let line = "The most pairs of runs, 10000 where it isn't given";
+    number(alloc, "tries", line, help::TRIES).value_name("N")
 }
 
 fn seed_argument<'a>(alloc: Global) -> Arg<'a> {
-    Arg::new(alloc, "seed")
-        .long("seed")
-        .value_name("S")
-        .value_parser(value_parser!(u64))
-        .help("The seed of what is drawn, 0 where it isn't given")
-        .long_help(help::SEED)
+    let line = "The seed of what is drawn, 0 where it isn't given";
+    number(alloc, "seed", line, help::SEED).value_name("S")
 }
 
 fn endings_argument<'a>(alloc: Global) -> Arg<'a> {
-    Arg::new(alloc, "endings")
-        .long("endings")
-        .action(ArgAction::SetTrue)
-        .help("Looks also for runs that are out of budget")
-        .long_help(help::ENDINGS)
+    let line = "Looks also for runs that are out of budget";
+    flag(alloc, "endings", line, help::ENDINGS)
 }
 
 fn steps_argument<'a>(alloc: Global) -> Arg<'a> {
-    Arg::new(alloc, "steps")
-        .long("steps")
-        .action(ArgAction::SetTrue)
-        .help("Looks also for runs of different numbers of instructions")
-        .long_help(help::STEPS)
+    let line = "Looks also for runs of different numbers of instructions";
+    flag(alloc, "steps", line, help::STEPS)
 }

@@ -13,7 +13,7 @@ ghost use Rattle.vsi_compiler.specs.Observation.{IsNoninterfering, EndsAlike};
 ghost use Rattle.vsi_audit.specs.Refusal.{Refuses};
 ghost use Rattle.vsi_audit.specs.Standing.{HasKnownClasses, HaveClasses, StandsFor};
 
-use crate::builder::{Commands, commands_of};
+use crate::builder::{Commands, MAX_DECLARATIONS, commands_of};
 use crate::error::{AuditError, Unread};
 use crate::fitting::fit_all;
 use crate::globals::{declarations, declared_program, unknown_class};
@@ -24,7 +24,11 @@ use vsi_image::{EncodeError, Image, Verified, encode};
 use vsi_infer::{InferError, infer_in};
 use vsi_lattice::Lattice;
 use vsi_scope::{Entry, Resolved, size};
+use vsi_syntax::MAX_DEPTH;
 use vsi_types::Profile;
+
+/// The greatest size of a program's body.
+const MAX_SIZE: u32 = 65_534;
 
 /// The entries of letvars without a written class.
 fn entries<'a>(
@@ -56,20 +60,21 @@ fn with_commands<'a>(
     ensures globals { IfOk result (λ r. r.globals ≡ base.now.globals) }
     ensures letvars { IfOk result (λ r. All (λ e. e.class ≡ None) r.letvars) }
 {
+    // Read for its contract alone: the base's own facts bound its globals.
     let _body = base.body();
     let Commands { letvars, body } = commands;
     let entries = entries(alloc, name, &letvars)?;
     let count = base.globals().len();
-    let Some(found) = fit_all(&body, count as u16, 200) else {
+    let Some(found) = fit_all(&body, count as u16, MAX_DEPTH as u16) else {
         return Err(Unread::At(0));
     };
     if found as usize != entries.len() {
         return Err(Unread::At(0));
     }
-    if count + entries.len() > 1024 {
+    if count + entries.len() > MAX_DECLARATIONS {
         return Err(Unread::At(0));
     }
-    if size(&body) > 65_534 {
+    if size(&body) > MAX_SIZE {
         return Err(Unread::At(0));
     }
     match base.rebuilt(alloc, entries, body) {
@@ -114,7 +119,8 @@ fn are_alike(alloc: Global, made: &Image, image: &Image) -> Result<bool, Unread>
 /// Compares the image of a program with an image.
 fn compare(alloc: Global, program: &Resolved<'_>, image: &Image) -> Result<(), Unread>
     ensures stands { OnOk result (StandsFor program.now image.now) }
-    ensures behaves { OnOk result (Behaves (length program.now.globals) (sequence program.now.body) image.now) }
+    ensures behaves { OnOk result
+        (Behaves (length program.now.globals) (sequence program.now.body) image.now) }
 {
     let made = generate(alloc, program)?;
     let is_alike = are_alike(alloc, made.image(), image)?;
@@ -133,7 +139,8 @@ fn program_of<'a>(
     image: &Image,
 ) -> Result<Resolved<'a>, Unread>
     ensures kept { IfOk result IsResolved }
-    ensures classes { (n : ℕ) → AreBelow n (class_named lattice.now) → IfOk result (HasClassesBelow n) }
+    ensures classes { (n : ℕ) → AreBelow n (class_named lattice.now) →
+        IfOk result (HasClassesBelow n) }
     ensures named { IfOk result (λ r. HaveClasses (class_named lattice.now) r.globals) }
     ensures stands { IfOk result (λ r. StandsFor r image.now) }
     ensures behaves { IfOk result (λ r. Behaves (length r.globals) (sequence r.body) image.now) }
@@ -145,12 +152,13 @@ fn program_of<'a>(
     Ok(program)
 }
 
-/// Judges an image by the policy that its class names say, under a profile. Where it is accepted, it is noninterfering,
-/// whoever made it.
+/// Judges an image by the policy that its class names say, under a profile. Where it is accepted,
+/// it is noninterfering, whoever made it.
 ///
 /// # Errors
 ///
-/// `UnknownClass` first, then `Unstructured` or `WrongFields`, then `Flow`. `Memory` may stand in place of any answer.
+/// `UnknownClass` first, then `Unstructured` or `WrongFields`, then `Flow`. `Memory` may stand in
+/// place of any answer.
 pub fn audit_in(
     alloc: Global,
     profile: Profile,
@@ -159,9 +167,16 @@ pub fn audit_in(
 ) -> Result<(), AuditError>
     ensures valid { OnOk result (IsValid image.now) }
     ensures classes { OnOk result (HasKnownClasses (class_named lattice.now) image.now) }
-    ensures noninterference { OnOk result (IsNoninterfering (class_named lattice.now) (order lattice.now) image.now) }
-    ensures endings { profile ≡ Strict → OnOk result (EndsAlike (class_named lattice.now) (order lattice.now) image.now) }
-    ensures refused { IfErr result (Refuses (class_named lattice.now) (order lattice.now) profile image.now) }
+    // Two stores that agree at and below a class end in agreement there, whenever both runs halt.
+    ensures noninterference { OnOk result
+        (IsNoninterfering (class_named lattice.now) (order lattice.now) image.now) }
+    // Under the strict profile two runs that agree at the bottom class both halt, or neither does.
+    ensures endings { profile ≡ Strict → OnOk result
+        (EndsAlike (class_named lattice.now) (order lattice.now) image.now) }
+    // What is refused names a class that is missing, or has a bad walk of the program that the
+    // image stands for.
+    ensures refused { IfErr result
+        (Refuses (class_named lattice.now) (order lattice.now) profile image.now) }
 {
     let image = image.image();
     if let Some(global) = unknown_class(lattice, &image.globals) {

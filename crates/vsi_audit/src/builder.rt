@@ -8,14 +8,13 @@ use std::alloc::Global;
 use std::mem;
 use vsi_image::Image;
 use vsi_scope::{Cmd, Ex};
+use vsi_syntax::MAX_DEPTH;
 
-/// The most parts of commands in one another.
-const MAX_NESTING: usize = 200;
+/// The most declarations of a program, globals and `letvar`s together.
+pub(crate) const MAX_DECLARATIONS: usize = 1024;
 
-/// The most declarations of a program.
-const MAX_DECLARATIONS: usize = 1024;
-
-/// The commands that code stands for, and the place of the store that begins each `letvar`, in the order of the code.
+/// The commands that code stands for, and the place of the store that begins each `letvar`, in the
+/// order of the code.
 #[derive(Drop)]
 pub(crate) struct Commands {
     pub letvars: Vec<usize>,
@@ -58,11 +57,13 @@ struct Builder {
     scope: u16,
     /// How many of them were in scope where the innermost branch or body began.
     floor: u16,
-    /// Whether a `letvar` ends where its slot is needed no more, and not only with its branch or body.
+    /// Whether a `letvar` ends where its slot is needed no more, and not only with its branch or
+    /// body.
     ends_early: bool,
 }
 
-/// The commands of an image's code: with as many `letvar`s as there can be, and with as few where those are too many.
+/// The commands of an image's code: with as many `letvar`s as there can be, and with as few where
+/// those are too many.
 ///
 /// # Errors
 ///
@@ -93,7 +94,7 @@ fn build(alloc: Global, image: &Image, ends_early: bool) -> Result<Commands, Unr
             scope: globals,
             begins: false,
         });
-        put(&mut builder, alloc, need, event)?;
+        put_event(&mut builder, alloc, need, event)?;
     }
     end_letvars(&mut builder, globals)?;
     let Builder { letvars, done, .. } = builder;
@@ -104,7 +105,7 @@ fn build(alloc: Global, image: &Image, ends_early: bool) -> Result<Commands, Unr
 }
 
 /// One event more.
-fn put(builder: &mut Builder, alloc: Global, need: Need, event: Event) -> Result<(), Unread> {
+fn put_event(builder: &mut Builder, alloc: Global, need: Need, event: Event) -> Result<(), Unread> {
     match event {
         Event::Store {
             slot,
@@ -121,17 +122,13 @@ fn put(builder: &mut Builder, alloc: Global, need: Need, event: Event) -> Result
             guard,
         } => {
             begin(builder, need, place, reads)?;
-            let before = mem::replace(&mut builder.done, Vec::new(alloc));
-            let floor = mem::replace(&mut builder.floor, builder.scope);
-            push(
-                builder,
-                place,
-                Frame::Yes {
-                    guard,
-                    before,
-                    floor,
-                },
-            )
+            let (before, floor) = open_part(builder, alloc);
+            let frame = Frame::Yes {
+                guard,
+                before,
+                floor,
+            };
+            push(builder, place, frame)
         }
         Event::While {
             place,
@@ -139,19 +136,15 @@ fn put(builder: &mut Builder, alloc: Global, need: Need, event: Event) -> Result
             guard,
         } => {
             begin(builder, need, place, reads)?;
-            let before = mem::replace(&mut builder.done, Vec::new(alloc));
-            let floor = mem::replace(&mut builder.floor, builder.scope);
-            push(
-                builder,
-                place,
-                Frame::Body {
-                    guard,
-                    before,
-                    floor,
-                },
-            )
+            let (before, floor) = open_part(builder, alloc);
+            let frame = Frame::Body {
+                guard,
+                before,
+                floor,
+            };
+            push(builder, place, frame)
         }
-        Event::Else => turn(builder, alloc),
+        Event::Else => begin_second(builder, alloc),
         Event::EndIf => end_part(builder),
         Event::EndWhile => end_part(builder),
     }
@@ -168,9 +161,16 @@ fn begin(builder: &mut Builder, need: Need, place: usize, reads: u16) -> Result<
     Ok(())
 }
 
+/// A branch or a body begins: what its sequence was so far, and the floor of its `letvar`s.
+fn open_part(builder: &mut Builder, alloc: Global) -> (Vec<Cmd>, u16) {
+    let before = mem::replace(&mut builder.done, Vec::new(alloc));
+    let floor = mem::replace(&mut builder.floor, builder.scope);
+    (before, floor)
+}
+
 /// One part more that has begun.
 fn push(builder: &mut Builder, place: usize, frame: Frame) -> Result<(), Unread> {
-    if builder.frames.len() >= MAX_NESTING {
+    if builder.frames.len() >= MAX_DEPTH as usize {
         return Err(Unread::At(place));
     }
     builder.frames.push(frame)?;
@@ -227,7 +227,7 @@ fn end_letvars(builder: &mut Builder, scope: u16) -> Result<(), Unread> {
 }
 
 /// Ends the first branch of a conditional, and begins the second.
-fn turn(builder: &mut Builder, alloc: Global) -> Result<(), Unread> {
+fn begin_second(builder: &mut Builder, alloc: Global) -> Result<(), Unread> {
     end_letvars(builder, 0)?;
     if let Some(
         Frame::Yes {

@@ -14,8 +14,8 @@ pub enum AuditError {
     /// The lattice has no class of this global's class name; globals are numbered from 0.
     #[error("the class of global {0} is not in the lattice")]
     UnknownClass(usize),
-    /// The code isn't that of commands; the number is that of the first instruction that doesn't fit, or the number of
-    /// instructions.
+    /// The code isn't that of commands; the number is that of the first instruction that doesn't
+    /// fit, or the number of instructions.
     #[error("the code has no commands that can be judged, at instruction {0}")]
     Unstructured(usize),
     /// The slots or the stack field isn't the one that the code needs.
@@ -24,8 +24,9 @@ pub enum AuditError {
     /// The commands of the code have no text within the limits on texts.
     #[error("the commands have no text within the limits")]
     NoText,
-    /// A flow breaks the policy. The places of the steps are numbers of instructions: of the LOAD that reads and of the
-    /// STORE that writes. The variables behind the globals are the locals, in the order of the code.
+    /// A flow breaks the policy. The places of the steps are numbers of instructions: of the LOAD
+    /// that reads and of the STORE that writes. The variables behind the globals are the locals, in
+    /// the order of the code.
     #[error("a flow breaks the policy")]
     Flow(Walk),
     #[error("out of memory")]

@@ -2,8 +2,8 @@
 
 use vsi_scope::Ex;
 
-/// What a reader of the code comes by, in the order of the code. `place` is the number of the instruction that ends
-/// the expression, `reads` how many slots must be there for it to be read.
+/// What a reader of the code comes by, in the order of the code. `place` is the number of the
+/// instruction that ends the expression, `reads` how many slots must be there for it to be read.
 #[derive(Drop)]
 pub(crate) enum Event {
     /// The value is put into the slot.
@@ -36,7 +36,8 @@ pub(crate) enum Event {
 /// What is known of the slots at an event.
 #[derive(Clone, Copy)]
 pub(crate) struct Need {
-    /// How many slots must be in scope there, so that all that follows in the same sequence finds its own.
+    /// How many slots must be in scope there, so that all that follows in the same sequence finds
+    /// its own.
     pub scope: u16,
     /// Whether a store begins a `letvar`, where it stands above all slots in scope.
     pub begins: bool,

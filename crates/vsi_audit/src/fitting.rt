@@ -25,8 +25,8 @@ fn fits_expression(e: &Ex, scope: u16, room: u16) -> bool
     }
 }
 
-/// The number of letvars of commands whose locations exist, with so many in scope, and that go no deeper than there is
-/// room; none for other commands.
+/// The number of letvars of commands whose locations exist, with so many in scope, and that go no
+/// deeper than there is room; none for other commands.
 #[cycle(fitting)]
 pub(crate) fn fit_all(body: &[Cmd], scope: u16, room: u16) -> Option<u32>
     ensures { IfSome result (λ n. Fits scope room n (sequence body.now)) }

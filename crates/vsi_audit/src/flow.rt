@@ -88,9 +88,10 @@ fn put_numbered(out: &mut Vec<u8>, start: &[u8], number: usize) -> Result<(), Al
     out.extend_from_slice(b"\n")
 }
 
-/// The text of a refusal of an image: its number and its name, and what it names; of a flow each step and the classes of
-/// the two ends. In place of lines and columns there are numbers of instructions, and the locals have the names of
-/// `source_text`. The image and the lattice are to be those that were refused.
+/// The text of a refusal of an image: its number and its name, and what it names; of a flow each
+/// step and the classes of the two ends. In place of lines and columns there are numbers of
+/// instructions, and the locals have the names of `source_text`. The image and the lattice are to
+/// be those that were refused.
 pub fn audit_text(
     alloc: Global,
     lattice: &Lattice,

@@ -56,7 +56,8 @@ pub(crate) fn declared_program<'a>(
     text: &'a [u8],
 ) -> Result<Resolved<'a>, Unread>
     ensures kept { IfOk result IsResolved }
-    ensures classes { (n : ℕ) → AreBelow n (class_named lattice.now) → IfOk result (HasClassesBelow n) }
+    ensures classes { (n : ℕ) → AreBelow n (class_named lattice.now) →
+        IfOk result (HasClassesBelow n) }
     ensures named { IfOk result (λ r. HaveClasses (class_named lattice.now) r.globals) }
 {
     let tokens = match lex(alloc, text) {

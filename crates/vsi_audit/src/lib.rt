@@ -1,8 +1,9 @@
 //! Images from elsewhere, judged without their source.
 //!
-//! A verified image comes in, whoever made it. `audit_in` reads the commands back from its code, makes the code of
-//! these again, compares it with the image's and judges their flows: what it accepts is noninterfering, whatever the
-//! reading back did. `source_text` writes the commands as a text, `audit_text` tells why an image is refused.
+//! A verified image comes in, whoever made it. `audit_in` reads the commands back from its code,
+//! makes the code of these again, compares it with the image's and judges their flows: what it
+//! accepts is noninterfering, whatever the reading back did. `source_text` writes the commands as a
+//! text, `audit_text` tells why an image is refused.
 #![tactic(auto)]
 
 mod audit;

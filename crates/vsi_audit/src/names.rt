@@ -50,8 +50,8 @@ fn is_taken(globals: &[(Vec<u8>, Vec<u8>)], letter: u8, bars: usize) -> bool {
     false
 }
 
-/// The first form that no global has: `t1`, then `t_1` and so on, then `u1`. Each global takes one form at most, so
-/// that of 260 one is free for 256 globals.
+/// The first form that no global has: `t1`, then `t_1` and so on, then `u1`. Each global takes one
+/// form at most, so that of 260 one is free for 256 globals.
 fn free_form(globals: &[(Vec<u8>, Vec<u8>)]) -> (u8, usize) {
     for letter in b'a'..=b'z' {
         for bars in 0..10 {
@@ -102,7 +102,8 @@ impl<'a> Names<'a> {
         self.put_made(out, number)
     }
 
-    /// Adds the name of a variable: the globals come first, then the locals in the order of the code.
+    /// Adds the name of a variable: the globals come first, then the locals in the order of the
+    /// code.
     pub(crate) fn put_variable(&self, out: &mut Vec<u8>, variable: u16) -> Result<(), AllocError> {
         let place = variable as usize;
         if place < self.globals.len() {

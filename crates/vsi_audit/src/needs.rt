@@ -3,8 +3,8 @@
 use crate::events::{Event, Need};
 use std::alloc::{AllocError, Global};
 
-/// The need before a store, and whether it begins a `letvar`: its value reads no slot from its own on, and nothing that
-/// follows needs a slot above it from before.
+/// The need before a store, and whether it begins a `letvar`: its value reads no slot from its own
+/// on, and nothing that follows needs a slot above it from before.
 fn before_store(globals: u16, after: u16, slot: u16, reads: u16) -> Need {
     let above = slot.saturating_add(1);
     if slot >= globals && reads <= slot && after <= above {

@@ -5,10 +5,7 @@ use crate::events::Event;
 use std::alloc::Global;
 use vsi_image::Instr;
 use vsi_scope::Ex;
-use vsi_syntax::{Op, Span};
-
-/// The most levels of an expression.
-const MAX_DEPTH: u16 = 200;
+use vsi_syntax::{MAX_DEPTH, Op, Span};
 
 /// An operand that the code has made, with its levels.
 #[derive(Drop)]
@@ -66,10 +63,10 @@ pub(crate) fn events_of(alloc: Global, code: &[Instr]) -> Result<Vec<Event>, Unr
             Instr::Mul => put_operator(&mut reader, alloc, place, Op::Mul)?,
             Instr::Eq => put_operator(&mut reader, alloc, place, Op::Eq)?,
             Instr::Lt => put_operator(&mut reader, alloc, place, Op::Lt)?,
-            Instr::Store(slot) => store(&mut reader, place, slot)?,
-            Instr::Jz(target) => branch(&mut reader, code, place, target as usize)?,
-            Instr::Jmp(target) => jump(&mut reader, place, target as usize)?,
-            Instr::Halt => return halt(reader, place, code.len()),
+            Instr::Store(slot) => put_store(&mut reader, place, slot)?,
+            Instr::Jz(target) => begin_region(&mut reader, code, place, target as usize)?,
+            Instr::Jmp(_) => end_region(&mut reader, place)?,
+            Instr::Halt => return end(reader, place, code.len()),
         }
     }
     Err(Unread::At(code.len()))
@@ -105,7 +102,7 @@ fn put_operand(reader: &mut Reader, place: usize, value: Ex, depth: u16) -> Resu
     if reader.operands.is_empty() {
         reader.start = place;
     }
-    if depth > MAX_DEPTH {
+    if depth > MAX_DEPTH as u16 {
         return Err(Unread::At(place));
     }
     reader.operands.push(Operand { value, depth })?;
@@ -143,7 +140,7 @@ fn only_operand(reader: &mut Reader, place: usize) -> Result<(Ex, u16), Unread> 
 }
 
 /// A store of the one operand.
-fn store(reader: &mut Reader, place: usize, slot: u16) -> Result<(), Unread> {
+fn put_store(reader: &mut Reader, place: usize, slot: u16) -> Result<(), Unread> {
     let (value, reads) = only_operand(reader, place)?;
     reader.events.push(Event::Store {
         slot,
@@ -163,8 +160,14 @@ fn jump_before(code: &[Instr], place: usize) -> Option<(usize, usize)> {
     }
 }
 
-/// A jump on 0: the jump before its target leads back to the guard of a loop, or ahead to the end of a conditional.
-fn branch(reader: &mut Reader, code: &[Instr], place: usize, target: usize) -> Result<(), Unread> {
+/// A jump on 0: the jump before its target leads back to the guard of a loop, or ahead to the end
+/// of a conditional.
+fn begin_region(
+    reader: &mut Reader,
+    code: &[Instr],
+    place: usize,
+    target: usize,
+) -> Result<(), Unread> {
     let (guard, reads) = only_operand(reader, place)?;
     let Some((jump, end)) = jump_before(code, target) else {
         return Err(Unread::At(place));
@@ -193,8 +196,9 @@ fn branch(reader: &mut Reader, code: &[Instr], place: usize, target: usize) -> R
     Ok(())
 }
 
-/// A jump, which ends the innermost part of the code.
-fn jump(reader: &mut Reader, place: usize, _target: usize) -> Result<(), Unread> {
+/// A jump, which ends the innermost part of the code. Where it leads to is looked at by the jump on
+/// 0 that began the part, and by the comparison of the whole code.
+fn end_region(reader: &mut Reader, place: usize) -> Result<(), Unread> {
     match reader.regions.pop() {
         Some(Region::Yes { jump, end }) => {
             if jump != place {
@@ -215,7 +219,7 @@ fn jump(reader: &mut Reader, place: usize, _target: usize) -> Result<(), Unread>
 }
 
 /// The end of the code, where nothing is open and nothing follows.
-fn halt(reader: Reader, place: usize, length: usize) -> Result<Vec<Event>, Unread> {
+fn end(reader: Reader, place: usize, length: usize) -> Result<Vec<Event>, Unread> {
     let Reader {
         events,
         operands,

@@ -1,4 +1,4 @@
-//! The commands of an image as text, and a bad walk of them.
+//! The commands of an image as a text of the language.
 
 ghost use Rattle.std.specs.Prelude.{IfOk};
 ghost use Rattle.vsi_audit.specs.Text.{IsProgramText};
@@ -44,8 +44,8 @@ fn level(op: Op) -> u8 {
     }
 }
 
-/// Adds a number. A number below 0 has no word: it is written as the difference or, for the least, the sum that gives
-/// it.
+/// Adds a number. A number below 0 has no word: it is written as the difference or, for the least,
+/// the sum that gives it.
 fn put_word(out: &mut Vec<u8>, n: i64) -> Result<(), AllocError> {
     if n >= 0 {
         return put_number(out, n.unsigned_abs());
@@ -178,14 +178,14 @@ fn written(alloc: Global, image: &Image) -> Result<Vec<u8>, Unread> {
     Ok(out)
 }
 
-/// The text that an image's code stands for, in its canonical layout: a text of the language, over the image's globals.
-/// The locals have made-up names with numbers, as in `audit_text`; one with the number 0 stands where there is no
-/// command.
+/// The text that an image's code stands for, in its canonical layout: a text of the language, over
+/// the image's globals. The locals have made-up names with numbers, as in `audit_text`; one with
+/// the number 0 stands where there is no command.
 ///
 /// # Errors
 ///
-/// `Unstructured`; `NoText`, where the text would be out of the limits on texts; `Memory` may stand in place of any
-/// answer.
+/// `Unstructured`; `NoText`, where the text would be out of the limits on texts; `Memory` may stand
+/// in place of any answer.
 pub fn source_text(alloc: Global, image: &Verified) -> Result<Vec<u8>, AuditError>
     ensures { IfOk result (λ out. IsProgramText out.items) }
 {

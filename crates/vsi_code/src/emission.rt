@@ -1,5 +1,5 @@
-//! From commands to instructions. A jump ahead is put down aimed at 0, and is aimed again once the code that it passes
-//! stands, so that each instruction is written once and no part is measured.
+//! From commands to instructions. A jump ahead is put down aimed at 0, and is aimed again once the
+//! code that it passes stands, so that each instruction is written once and no part is measured.
 
 ghost use Rattle.std.specs.Prelude.{◌≡◌, ◌+◌, ◌<◌, ◌≤◌, [], ◌∷◌, ◌++◌, length, slice_set, IfOk, OnOk};
 ghost use Rattle.vsi_code.specs.Layout.{Fits, most_instructions, op_code, expression_code, guard_code, with_code, whole_code};
@@ -51,8 +51,10 @@ fn emit_expression(code: &mut Vec<Instr>, e: &Ex) -> Result<(), AllocError>
 
 /// A guard and its test, which is not aimed yet; answers the place of the test.
 fn emit_guard(code: &mut Vec<Instr>, guard: &Ex) -> Result<usize, AllocError>
-    ensures code { OnOk result (code.new.items ≡ code.old.items ++ guard_code (expression guard.now) 0) }
-    ensures place { IfOk result (λ place. place ≡ length code.old.items + expression_size (expression guard.now)) }
+    ensures code { OnOk result
+        (code.new.items ≡ code.old.items ++ guard_code (expression guard.now) 0) }
+    ensures place { IfOk result
+        (λ place. place ≡ length code.old.items + expression_size (expression guard.now)) }
 {
     emit_expression(code, guard)?;
     let place = code.len();

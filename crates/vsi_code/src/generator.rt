@@ -28,17 +28,20 @@ fn copied(alloc: Heap, globals: &[Global]) -> Result<Vec<(Vec<u8>, Vec<u8>)>, Al
     Ok(copies)
 }
 
-/// The image of a program, which is valid by proof and is not verified again. It takes time and memory linear in the
-/// size of the program's code; only memory can be missing.
+/// The image of a program, which is valid by proof and is not verified again. It takes time and
+/// memory linear in the size of the program's code; only memory can be missing.
 pub fn generate(alloc: Heap, program: &Resolved) -> Result<Verified, AllocError>
-    ensures behaves { IfOk result (λ image. Behaves (length program.now.globals) (sequence program.now.body) image) }
-    ensures globals { IfOk result (λ image. fields.globals image.globals.items ≡ all_named program.now.globals) }
+    ensures behaves { IfOk result
+        (λ image. Behaves (length program.now.globals) (sequence program.now.body) image) }
+    ensures globals { IfOk result
+        (λ image. fields.globals image.globals.items ≡ all_named program.now.globals) }
     ensures slots { IfOk result (λ image. image.slots ≡ slots_of program.now) }
     ensures stack { IfOk result (λ image. image.stack ≡ height (sequence program.now.body)) }
     ensures code { IfOk result (λ image. image.code.items ≡
         whole_code (length program.now.globals) (sequence program.now.body)) }
     ensures deepest { IfOk result (λ image. IsGreatestDepth image.code.items image.stack) }
-    ensures count { IfOk result (λ image. length image.code.items ≡ size (sequence program.now.body) + 1) }
+    ensures count { IfOk result
+        (λ image. length image.code.items ≡ size (sequence program.now.body) + 1) }
 {
     let body = program.body();
     let globals = copied(alloc, program.globals())?;

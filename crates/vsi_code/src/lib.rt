@@ -1,8 +1,8 @@
 //! Code generation: the verified image of a resolved program.
 //!
-//! A `Resolved` comes in, a `Verified` goes out; the clause `behaves` of `generate` says that the image's runs end in
-//! exactly the stores that the program's body evaluates to, and `globals`, `slots`, `stack` and `code` say which image
-//! that is.
+//! A `Resolved` comes in, a `Verified` goes out; the clause `behaves` of `generate` says that the
+//! image's runs end in exactly the stores that the program's body evaluates to, and `globals`,
+//! `slots`, `stack` and `code` say which image that is.
 #![tactic(auto)]
 
 mod emission;

@@ -7,7 +7,8 @@ use std::test::Fail;
 /// The fault of a standard stream.
 const STREAM: &[u8] = b"file fault: -\n";
 
-/// Whether a device that had so much room took a beginning of what it takes in the whole, and the run ended so.
+/// Whether a device that had so much room took a beginning of what it takes in the whole, and the
+/// run ended so.
 fn is_cut(cut: &Shown, whole: &Shown, device: Device, bytes: usize, status: u8) -> bool {
     cut.status == status
         && cut.is_closed

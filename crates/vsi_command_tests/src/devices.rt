@@ -232,7 +232,8 @@ pub(super) fn show(alloc: Global, line: &str, room: Room) -> Result<Shown, Alloc
     Ok(call(alloc, words.as_slice(), Drip::new(b"", 1), room))
 }
 
-/// What a run without words shows of the sum within this room, where the input fails at one call, counted from 1.
+/// What a run without words shows of the sum within this room, where the input fails at one call,
+/// counted from 1.
 pub(super) fn run(alloc: Global, fails_at: u64, room: Room) -> Shown {
     call(alloc, &[], Drip::new(SUM, fails_at), room)
 }

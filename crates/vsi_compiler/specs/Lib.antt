@@ -9,3 +9,4 @@ pub mod Run
 pub mod Classes
 pub mod Explaining
 pub mod Laws
+pub mod Readable

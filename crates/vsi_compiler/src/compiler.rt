@@ -24,21 +24,26 @@ use vsi_types::Profile;
 ///
 /// # Errors
 ///
-/// The first refusal in the order text, words, tree, scope, size, flow. `Memory` may stand in place of any answer.
+/// The first refusal in the order text, words, tree, scope, size, flow. `Memory` may stand in place
+/// of any answer.
 pub fn compile_in(
     alloc: Global,
     profile: Profile,
     lattice: &Lattice,
     text: &[u8],
 ) -> Result<Verified, CompileError>
-    ensures accepted { IfOk result (λ _. IsAccepted (class_named lattice.now) (order lattice.now) profile text.now) }
-    ensures refused { IfErr result (Refuses (class_named lattice.now) (order lattice.now) profile text.now) }
+    ensures accepted { IfOk result
+        (λ _. IsAccepted (class_named lattice.now) (order lattice.now) profile text.now) }
+    ensures refused { IfErr result
+        (Refuses (class_named lattice.now) (order lattice.now) profile text.now) }
     ensures exact { IsAccepted (class_named lattice.now) (order lattice.now) profile text.now
         → IfErr result (λ e. e ≡ Memory) }
     ensures globals { IfOk result (HasGlobals text.now) }
     ensures meaning { IfOk result (KeepsMeaning (class_named lattice.now) text.now) }
-    ensures noninterference { IfOk result (IsNoninterfering (class_named lattice.now) (order lattice.now)) }
-    ensures endings { profile ≡ Strict → IfOk result (EndsAlike (class_named lattice.now) (order lattice.now)) }
+    ensures noninterference { IfOk result
+        (IsNoninterfering (class_named lattice.now) (order lattice.now)) }
+    ensures endings { profile ≡ Strict →
+        IfOk result (EndsAlike (class_named lattice.now) (order lattice.now)) }
     ensures coded { IfOk result IsCoded }
     ensures image { IfOk result (IsImageOf (class_named lattice.now) text.now) }
     ensures size { IfOk result (IsNoLarger (class_named lattice.now) text.now) }
@@ -53,13 +58,16 @@ pub fn compile_in(
 
 /// The image of a text that is accepted: `compile_in` for the base profile.
 pub fn compile(alloc: Global, lattice: &Lattice, text: &[u8]) -> Result<Verified, CompileError>
-    ensures accepted { IfOk result (λ _. IsAccepted (class_named lattice.now) (order lattice.now) Base text.now) }
-    ensures refused { IfErr result (Refuses (class_named lattice.now) (order lattice.now) Base text.now) }
+    ensures accepted { IfOk result
+        (λ _. IsAccepted (class_named lattice.now) (order lattice.now) Base text.now) }
+    ensures refused { IfErr result
+        (Refuses (class_named lattice.now) (order lattice.now) Base text.now) }
     ensures exact { IsAccepted (class_named lattice.now) (order lattice.now) Base text.now
         → IfErr result (λ e. e ≡ Memory) }
     ensures globals { IfOk result (HasGlobals text.now) }
     ensures meaning { IfOk result (KeepsMeaning (class_named lattice.now) text.now) }
-    ensures noninterference { IfOk result (IsNoninterfering (class_named lattice.now) (order lattice.now)) }
+    ensures noninterference { IfOk result
+        (IsNoninterfering (class_named lattice.now) (order lattice.now)) }
     ensures coded { IfOk result IsCoded }
     ensures image { IfOk result (IsImageOf (class_named lattice.now) text.now) }
     ensures size { IfOk result (IsNoLarger (class_named lattice.now) text.now) }

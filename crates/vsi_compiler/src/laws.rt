@@ -1,4 +1,5 @@
-//! The laws of the profiles and of the image. Each function's contract is a law, and its body does nothing.
+//! The laws of the profiles and of the image. Each function's contract is a law, and its body does
+//! nothing.
 
 ghost use Rattle.vsi_compiler.specs.Laws.{OneImage, StrictImpliesBase};
 

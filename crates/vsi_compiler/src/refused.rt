@@ -10,15 +10,16 @@ use vsi_infer::{Walk, check_walk_once, explain};
 use vsi_lattice::Lattice;
 use vsi_types::Profile;
 
-/// The explanation of a walk: a line for each of its steps, and one for the classes of its ends. It is empty where the
-/// walk isn't a bad walk of the text, judged by the strict profile.
+/// The explanation of a walk: a line for each of its steps, and one for the classes of its ends. It
+/// is empty where the walk isn't a bad walk of the text, judged by the strict profile.
 pub fn explanation_text(
     alloc: Global,
     lattice: &Lattice,
     text: &[u8],
     walk: &Walk,
 ) -> Result<Vec<u8>, AllocError>
-    ensures { IfOk result (λ out. ExplainsWalk lattice.now text.now walk.now.steps.items out.items) }
+    ensures { IfOk result
+        (λ out. ExplainsWalk lattice.now text.now walk.now.steps.items out.items) }
 {
     let resolved = match resolved_program(alloc, lattice, text) {
         Ok(resolved) => resolved,

@@ -12,7 +12,8 @@ use thiserror::Error;
 use vsi_lattice::Lattice;
 use vsi_machine::{Machine, Outcome, StartError};
 
-/// Why a text wasn't run. Want of memory is always `Memory`, and never one that an inner error names.
+/// Why a text wasn't run. Want of memory is always `Memory`, and never one that an inner error
+/// names.
 #[derive(Debug, Drop, Error)]
 pub enum RunError {
     /// The text is refused.
@@ -68,8 +69,8 @@ impl From<StartError> for RunError {
     }
 }
 
-/// Compiles a text, and runs its image from a store of one word per global, for at most `budget` instructions: how the
-/// run ended, and the words of the globals then.
+/// Compiles a text, and runs its image from a store of one word per global, for at most `budget`
+/// instructions: how the run ended, and the words of the globals then.
 ///
 /// # Errors
 ///
@@ -83,7 +84,8 @@ pub fn run_source(
 ) -> Result<(Outcome, Vec<i64>), RunError>
     ensures ran { IfOk result (λ r.
         Ran (class_named lattice.now) (order lattice.now) text.now store.now budget r.0 r.1.items) }
-    ensures refused { IfErr result (RefusesRun (class_named lattice.now) (order lattice.now) text.now store.now) }
+    ensures refused { IfErr result
+        (RefusesRun (class_named lattice.now) (order lattice.now) text.now store.now) }
 {
     let verified = compile(alloc, lattice, text)?;
     let mut machine = Machine::new(alloc, &verified, store)?;

@@ -22,7 +22,8 @@ use vsi_syntax::{Program, lex, parse};
 pub(crate) fn read_program<'a>(alloc: Global, text: &'a [u8]) -> Result<Program<'a>, CompileError>
     ensures reads { IfOk result (λ p. Reads text.now (whole p)) }
     ensures refused { IfErr result (RefusesTree text.now) }
-    ensures exact { (tree : Whole) → Reads text.now tree → MatchResult result (λ p. whole p ≡ tree) (λ e. e ≡ Memory) }
+    ensures exact { (tree : Whole) → Reads text.now tree →
+        MatchResult result (λ p. whole p ≡ tree) (λ e. e ≡ Memory) }
 {
     let tokens = lex(alloc, text)?;
     let program = parse(alloc, &tokens)?;
@@ -37,7 +38,8 @@ pub fn resolved_program<'a>(
 ) -> Result<Resolved<'a>, CompileError>
     ensures stands { IfOk result (Stands (class_named lattice.now) text.now) }
     ensures kept { IfOk result IsResolved }
-    ensures classes { (n : ℕ) → AreBelow n (class_named lattice.now) → IfOk result (HasClassesBelow n) }
+    ensures classes { (n : ℕ) → AreBelow n (class_named lattice.now) →
+        IfOk result (HasClassesBelow n) }
     ensures refused { IfErr result (RefusesProgram (class_named lattice.now) text.now) }
     ensures exact { (tree : Whole) (commands : List Command) → Reads text.now tree
         → IsResolution (class_named lattice.now) tree commands → IfErr result (λ e. e ≡ Memory) }

@@ -64,7 +64,8 @@ fn push_line(
     name: &[u8],
     class: &[u8],
 ) -> Result<(), AllocError>
-    ensures { OnOk result (out.new.items ≡ out.old.items ++ class_line text.now span name.now class.now) }
+    ensures { OnOk result
+        (out.new.items ≡ out.old.items ++ class_line text.now span name.now class.now) }
 {
     push_place(out, text, span.start)?;
     out.extend_from_slice(b" ")?;
@@ -76,7 +77,8 @@ fn push_line(
 
 /// The lines of the globals more.
 fn push_globals(out: &mut Vec<u8>, text: &[u8], globals: &[Declaration]) -> Result<(), AllocError>
-    ensures { OnOk result (out.new.items ≡ out.old.items ++ global_lines text.now (map declared globals.now)) }
+    ensures { OnOk result
+        (out.new.items ≡ out.old.items ++ global_lines text.now (map declared globals.now)) }
 {
     for global in globals {
         push_line(
@@ -109,8 +111,8 @@ fn push_letvars(
     Ok(())
 }
 
-/// A line `LINE:COLUMN NAME : CLASS` for each declaration, globals first and then `letvar`s in the order of the text,
-/// with the least classes that are typable under a profile.
+/// A line `LINE:COLUMN NAME : CLASS` for each declaration, globals first and then `letvar`s in the
+/// order of the text, with the least classes that are typable under a profile.
 ///
 /// # Errors
 ///
@@ -122,8 +124,10 @@ pub fn classes_text_in(
     text: &[u8],
 ) -> Result<Vec<u8>, CompileError>
     ensures lines { IfOk result (λ out.
-        IsClassText (class_named lattice.now) (order lattice.now) profile (names lattice.now) text.now out.items) }
-    ensures refused { IfErr result (Refuses (class_named lattice.now) (order lattice.now) profile text.now) }
+        IsClassText (class_named lattice.now) (order lattice.now) profile (names lattice.now)
+        text.now out.items) }
+    ensures refused { IfErr result
+        (Refuses (class_named lattice.now) (order lattice.now) profile text.now) }
     ensures exact { IsAccepted (class_named lattice.now) (order lattice.now) profile text.now
         → IfErr result (λ e. e ≡ Memory) }
 {
@@ -140,8 +144,10 @@ pub fn classes_text_in(
 /// The class lines under the base profile.
 pub fn classes_text(alloc: Global, lattice: &Lattice, text: &[u8]) -> Result<Vec<u8>, CompileError>
     ensures lines { IfOk result (λ out.
-        IsClassText (class_named lattice.now) (order lattice.now) Base (names lattice.now) text.now out.items) }
-    ensures refused { IfErr result (Refuses (class_named lattice.now) (order lattice.now) Base text.now) }
+        IsClassText (class_named lattice.now) (order lattice.now) Base (names lattice.now) text.now
+        out.items) }
+    ensures refused { IfErr result
+        (Refuses (class_named lattice.now) (order lattice.now) Base text.now) }
     ensures exact { IsAccepted (class_named lattice.now) (order lattice.now) Base text.now
         → IfErr result (λ e. e ≡ Memory) }
 {

@@ -1,12 +1,14 @@
 //! The image of a text whose flows aren't judged.
 
-ghost use Rattle.std.specs.Prelude.{IfOk, IfErr};
+ghost use Rattle.std.specs.Prelude.{◌≡◌, IfOk, IfErr};
 ghost use Rattle.vsi_lattice.specs.LatticeView.{class_named, order};
 ghost use Rattle.vsi_types.specs.declared.rules.Profile.{Profile};
 ghost use Rattle.vsi_compiler.specs.Acceptance.{IsAccepted};
 ghost use Rattle.vsi_compiler.specs.Headline.{HasGlobals, KeepsMeaning, IsImageOf};
 ghost use Rattle.vsi_compiler.specs.Observation.{IsNoninterfering};
+ghost use Rattle.vsi_compiler.specs.Readable.{HasProgram};
 ghost use Rattle.vsi_compiler.specs.Refusal.{RefusesProgram};
+ghost use Rattle.vsi_compiler.specs.declared.error.CompileError.TheVariants.{Memory};
 
 use crate::error::CompileError;
 use crate::source::resolved_program;
@@ -16,8 +18,8 @@ use vsi_image::Verified;
 use vsi_lattice::Lattice;
 use vsi_opt::optimise;
 
-/// The image of a text, whether its flows are in order or not: where `compile` accepts the text, the one that it
-/// answers.
+/// The image of a text, whether its flows are in order or not: where `compile` accepts the text,
+/// the one that it answers.
 ///
 /// # Errors
 ///
@@ -27,11 +29,15 @@ pub fn unjudged_image(
     lattice: &Lattice,
     text: &[u8],
 ) -> Result<Verified, CompileError>
+    ensures found { IfOk result (λ _. HasProgram (class_named lattice.now) text.now) }
     ensures refused { IfErr result (RefusesProgram (class_named lattice.now) text.now) }
+    ensures exact { HasProgram (class_named lattice.now) text.now
+        → IfErr result (λ e. e ≡ Memory) }
     ensures globals { IfOk result (HasGlobals text.now) }
     ensures meaning { IfOk result (KeepsMeaning (class_named lattice.now) text.now) }
     ensures image { IfOk result (IsImageOf (class_named lattice.now) text.now) }
-    ensures accepted { (P : Profile) → IsAccepted (class_named lattice.now) (order lattice.now) P text.now
+    ensures accepted { (P : Profile) →
+        IsAccepted (class_named lattice.now) (order lattice.now) P text.now
         → IfOk result (IsNoninterfering (class_named lattice.now) (order lattice.now)) }
 {
     let resolved = resolved_program(alloc, lattice, text)?;

@@ -3,5 +3,4 @@ pub mod Bytes
 pub mod Traces
 pub mod Outputs
 pub mod Refusals
-pub mod Slots
 pub mod Seen

@@ -1,6 +1,6 @@
 -- What a run's parts write together.
-use Rattle.std.proofs.Common.{◌≡◌, ℕ, List, ◌++◌, Bool, length, take, drop, min, refl, sym, ap, subst, ◌∙◌, append_assoc, Option, Some, arith, take-append-drop, Result, Ok, Err, ◌⊎◌, inr}
-use Rattle.std.specs.Prelude.{ℤ, IfOk}
+use Rattle.std.proofs.Common.{◌≡◌, ℕ, List, ◌++◌, Bool, true, false, length, take, drop, min, refl, sym, ap, subst, ◌∙◌, append_assoc, Option, Some, None, arith, take-append-drop, Result, Ok, Err, ◌⊎◌, inr}
+use Rattle.std.specs.Prelude.{ℤ, IfOk, if◌then◌else◌}
 use Rattle.std.specs.Io.KnownBytes.{Appends, Keeps}
 use Rattle.std.proofs.KnownBytes.{Appends-trans}
 use Rattle.std.proofs.Math.Seq.{take-append_seam}
@@ -9,10 +9,34 @@ use Rattle.vsi_image.specs.declared.instr.Image.{Image}
 use Rattle.vsi_image.specs.Meaning.{State, after, start}
 use Rattle.vsi_image.specs.Valid.{IsValid}
 use Rattle.vsi_machine.specs.declared.interpreter.Outcome.{Outcome}
-use Rattle.vsi_machine.specs.Runs.{outcome_of, run_of}
+use Rattle.vsi_image.specs.Fields.{globals}
+use Rattle.vsi_machine.specs.declared.interpreter.Outcome.TheVariants.{Halted, OutOfBudget}
+use Rattle.vsi_machine.specs.Runs.{globals_of, outcome_of, run_of}
+use Rattle.vsi_store.specs.Text.{store_text_of}
 use Rattle.vsi_machine.proofs.Progress.{never_stuck}
 use Rattle.vsi_devices.specs.declared.error.EngineError.{EngineError}
-use Rattle.vsi_devices.specs.Running.{RunsAndWrites, Runs, Started, Traces, WrittenPartly, WrittenSome, WrittenSteps, WrittenWhole, ending_of, trace_of}
+use Rattle.vsi_devices.specs.Running.{RunsAndWrites, RunsApart, Runs, Started, Traces, WrittenApart, WrittenPartly, WrittenSome, WrittenSteps, WrittenWhole, ending_of, text_at, trace_of}
+
+-- Where the outcome says that a run has halted, its text is that of its store.
+pub halted_text : (image : Image) (t : State) → outcome_of t ≡ Halted →
+    Some (store_text_of (globals image.globals.items) (globals_of image t)) ≡ text_at image t
+halted_text image t h =
+    let told = Some (store_text_of (globals image.globals.items) (globals_of image t)) in
+    elim t.halted as (λ v. ◌≡◌ {A = Outcome} (if v then Halted else OutOfBudget) Halted →
+    ◌≡◌ {A = Option (List ℕ)} told (if v then told else None)) [
+      | true ↦ λ e. refl
+      | false ↦ λ e. absurd (cc)
+    ] h
+
+-- Where it says that a run is out of budget, there is none.
+pub spent_text : (image : Image) (t : State) → outcome_of t ≡ OutOfBudget → None ≡ text_at image t
+spent_text image t h =
+    let told = Some (store_text_of (globals image.globals.items) (globals_of image t)) in
+    elim t.halted as (λ v. ◌≡◌ {A = Outcome} (if v then Halted else OutOfBudget) OutOfBudget →
+    ◌≡◌ {A = Option (List ℕ)} None (if v then told else None)) [
+      | true ↦ λ e. absurd (cc)
+      | false ↦ λ e. refl
+    ] h
 
 -- A prefix of a text is one of every text that begins with it.
 pub longer_text : (a b : Option (List ℕ)) (text rest : List ℕ) → ((n : ℕ) × Appends a b (take n text)) →
@@ -65,6 +89,21 @@ module _ (traced : Bool) (image : Image) (words : List ℤ) (budget : ℕ) where
     },
     Appends-trans a b c _ _ (subst (Appends a b) (begun_is held s same from) trace)
         (subst (λ i. Appends b c (ending_of i t)) same' ending),
+  )
+
+  -- A run whose trace is whole, and whose text is given apart from it.
+  pub all_apart : (a b : Option (List ℕ)) (held : Image) (s t : State) (text : Option (List ℕ)) → held ≡ image →
+      s ≡ start image words → after held.code.items budget s ≡ Some t → text ≡ text_at image t →
+      Appends a b (begun held s) → WrittenApart (RunsApart traced image words budget) a b text
+  all_apart a b held s t text same from reached told trace = (
+    begun image (start image words),
+    record {
+      last = t;
+      reached = run_is held s t same from reached;
+      told = told;
+      written = refl;
+    },
+    subst (Appends a b) (begun_is held s same from) trace,
   )
 
   -- A run whose last lines are cut.

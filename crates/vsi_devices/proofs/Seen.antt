@@ -10,7 +10,7 @@ use Rattle.vsi_store.specs.View.{Known, line_seen, view_text_of}
 use Rattle.vsi_compiler.specs.Observation.{Ends}
 use Rattle.vsi_compiler.proofs.Coded.{coded_valid}
 use Rattle.vsi_devices.specs.Laws.{SameView}
-use Rattle.vsi_devices.proofs.Slots.{words_last}
+use Rattle.vsi_store.proofs.Slots.{words_last}
 
 -- The lines of a global whose words are equal where its class is seen.
 same_line_at : (L : Lattice) (a : ℕ) (g : Global) (w w' : ℤ) (o : Option ℕ) →

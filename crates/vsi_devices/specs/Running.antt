@@ -46,6 +46,24 @@ pub record RunsAndWrites (traced : Bool) (image : Image) (words : List ℤ) (bud
   pub written :
       output ≡ trace_of traced image.code.items budget (start image words) ++ ending_of image last
 
+-- The text of the store in which a run has halted, where it has.
+abbrev pub text_at : Image → State → Option (List ℕ)
+text_at image last =
+    if last.halted then Some (store_text_of (globals image.globals.items) (globals_of image last)) else None
+
+-- A run of the image from a store leaves this text of its store, and its trace is this output.
+pub record RunsApart (traced : Bool) (image : Image) (words : List ℤ) (budget : ℕ) (text : Option (List ℕ))
+    (output : List ℕ) : Type 0 where
+  pub last : State
+  pub reached : run_of image words budget ≡ Some last
+  pub told : text ≡ text_at image last
+  pub written : output ≡ trace_of traced image.code.items budget (start image words)
+
+-- A run that leaves this text has written its whole trace.
+abbrev pub WrittenApart : (Option (List ℕ) → List ℕ → Type 0) → Option (List ℕ) → Option (List ℕ) →
+    Option (List ℕ) → Type 0
+WrittenApart run old new text = (output : List ℕ) × run text output × Appends old new output
+
 -- The image and the store that two texts ask to run.
 pub record Asks (bytes store : List ℕ) (image : Image) (words : List ℤ) : Type 0 where
   pub decoded : image_of bytes ≡ Ok (fields image)

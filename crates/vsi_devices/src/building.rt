@@ -20,13 +20,13 @@ use vsi_image::{EncodeError, encode};
 use vsi_lattice::Lattice;
 use vsi_types::Profile;
 
-/// Compiles the text that a reader gives under a profile, and writes the bytes of its image. Until these are whole
-/// nothing is written.
+/// Compiles the text that a reader gives under a profile, and writes the bytes of its image. Until
+/// these are whole nothing is written.
 ///
 /// # Errors
 ///
-/// `ReadFault` and `Compile`, in this order and before anything is written; `WriteFault` with a prefix of the bytes
-/// written; `Memory` with nothing written.
+/// `ReadFault` and `Compile`, in this order and before anything is written; `WriteFault` with a
+/// prefix of the bytes written; `Memory` with nothing written.
 pub fn build_in<R: Read, W: Write>(
     alloc: Global,
     profile: Profile,
@@ -36,29 +36,36 @@ pub fn build_in<R: Read, W: Write>(
 ) -> Result<(), EngineError>
     requires reads { faults_of reader.old < u64.MAX }
     requires writes { faults_of writer.old < u64.MAX }
-    ensures read_fault { IsErrOf result EngineError.ReadFault ↔ faults_of reader.old < faults_of reader.new }
-    ensures write_fault { IsErrOf result EngineError.WriteFault ↔ faults_of writer.old < faults_of writer.new }
+    ensures read_fault { IsErrOf result EngineError.ReadFault
+        ↔ faults_of reader.old < faults_of reader.new }
+    ensures write_fault { IsErrOf result EngineError.WriteFault
+        ↔ faults_of writer.old < faults_of writer.new }
     ensures read_count { faults_of reader.old ≤ faults_of reader.new }
     ensures write_count { faults_of writer.old ≤ faults_of writer.new }
     ensures read_once { faults_of reader.new ≤ faults_of reader.old + 1 }
     ensures write_once { faults_of writer.new ≤ faults_of writer.old + 1 }
-    ensures bound { TakesFew (R.remaining (device_of reader.old)) (R.remaining (device_of reader.new)) }
+    ensures bound { TakesFew (R.remaining (device_of reader.old))
+        (R.remaining (device_of reader.new)) }
     ensures built { OnOk result (WrittenSome
-        (Builds (class_named lattice.now) (order lattice.now) profile (R.remaining (device_of reader.old)))
+        (Builds (class_named lattice.now) (order lattice.now) profile
+        (R.remaining (device_of reader.old)))
         (W.contents (device_of writer.old)) (W.contents (device_of writer.new))) }
     ensures prefix { IsErrOf result EngineError.WriteFault →
-        WrittenCut (Builds (class_named lattice.now) (order lattice.now) profile (R.remaining (device_of reader.old)))
+        WrittenCut (Builds (class_named lattice.now) (order lattice.now) profile
+        (R.remaining (device_of reader.old)))
         (W.contents (device_of writer.old)) (W.contents (device_of writer.new)) }
     ensures untouched { IfErr result (λ e. e ≢ EngineError.WriteFault
         → Keeps (W.contents (device_of writer.old)) (W.contents (device_of writer.new))) }
-    ensures refused { IfErr result (RefusesRead (RefusesText (class_named lattice.now) (order lattice.now) profile)
+    ensures refused { IfErr result
+        (RefusesRead (RefusesText (class_named lattice.now) (order lattice.now) profile)
         (R.remaining (device_of reader.old))) }
 {
     let image = read_compiled(alloc, profile, lattice, reader)?;
     write_out(&image, writer)
 }
 
-/// Compiles the text that a reader gives, and writes the bytes of its image: `build_in` for the base profile.
+/// Compiles the text that a reader gives, and writes the bytes of its image: `build_in` for the
+/// base profile.
 pub fn build<R: Read, W: Write>(
     alloc: Global,
     lattice: &Lattice,
@@ -67,22 +74,28 @@ pub fn build<R: Read, W: Write>(
 ) -> Result<(), EngineError>
     requires reads { faults_of reader.old < u64.MAX }
     requires writes { faults_of writer.old < u64.MAX }
-    ensures read_fault { IsErrOf result EngineError.ReadFault ↔ faults_of reader.old < faults_of reader.new }
-    ensures write_fault { IsErrOf result EngineError.WriteFault ↔ faults_of writer.old < faults_of writer.new }
+    ensures read_fault { IsErrOf result EngineError.ReadFault
+        ↔ faults_of reader.old < faults_of reader.new }
+    ensures write_fault { IsErrOf result EngineError.WriteFault
+        ↔ faults_of writer.old < faults_of writer.new }
     ensures read_count { faults_of reader.old ≤ faults_of reader.new }
     ensures write_count { faults_of writer.old ≤ faults_of writer.new }
     ensures read_once { faults_of reader.new ≤ faults_of reader.old + 1 }
     ensures write_once { faults_of writer.new ≤ faults_of writer.old + 1 }
-    ensures bound { TakesFew (R.remaining (device_of reader.old)) (R.remaining (device_of reader.new)) }
+    ensures bound { TakesFew (R.remaining (device_of reader.old))
+        (R.remaining (device_of reader.new)) }
     ensures built { OnOk result (WrittenSome
-        (Builds (class_named lattice.now) (order lattice.now) Base (R.remaining (device_of reader.old)))
+        (Builds (class_named lattice.now) (order lattice.now) Base
+        (R.remaining (device_of reader.old)))
         (W.contents (device_of writer.old)) (W.contents (device_of writer.new))) }
     ensures prefix { IsErrOf result EngineError.WriteFault →
-        WrittenCut (Builds (class_named lattice.now) (order lattice.now) Base (R.remaining (device_of reader.old)))
+        WrittenCut (Builds (class_named lattice.now) (order lattice.now) Base
+        (R.remaining (device_of reader.old)))
         (W.contents (device_of writer.old)) (W.contents (device_of writer.new)) }
     ensures untouched { IfErr result (λ e. e ≢ EngineError.WriteFault
         → Keeps (W.contents (device_of writer.old)) (W.contents (device_of writer.new))) }
-    ensures refused { IfErr result (RefusesRead (RefusesText (class_named lattice.now) (order lattice.now) Base)
+    ensures refused { IfErr result
+        (RefusesRead (RefusesText (class_named lattice.now) (order lattice.now) Base)
         (R.remaining (device_of reader.old))) }
 {
     build_in(alloc, Profile::Base, lattice, reader, writer)
@@ -96,22 +109,30 @@ fn read_compiled<R: Read>(
     reader: &mut Counted<R>,
 ) -> Result<Vec<u8>, EngineError>
     requires { faults_of reader.old < u64.MAX }
-    ensures fault { IsErrOf result EngineError.ReadFault ↔ faults_of reader.old < faults_of reader.new }
+    ensures fault { IsErrOf result EngineError.ReadFault
+        ↔ faults_of reader.old < faults_of reader.new }
     ensures count { faults_of reader.old ≤ faults_of reader.new }
     ensures once { faults_of reader.new ≤ faults_of reader.old + 1 }
-    ensures bound { TakesFew (R.remaining (device_of reader.old)) (R.remaining (device_of reader.new)) }
+    ensures bound { TakesFew (R.remaining (device_of reader.old))
+        (R.remaining (device_of reader.new)) }
     ensures only { IfErr result (λ e. e ≢ EngineError.WriteFault) }
-    ensures built { IfOk result (λ bytes. Builds (class_named lattice.now) (order lattice.now) profile
+    ensures built { IfOk result
+        (λ bytes. Builds (class_named lattice.now) (order lattice.now) profile
         (R.remaining (device_of reader.old)) bytes.items) }
-    ensures refused { IfErr result (RefusesRead (RefusesText (class_named lattice.now) (order lattice.now) profile)
+    ensures refused { IfErr result
+        (RefusesRead (RefusesText (class_named lattice.now) (order lattice.now) profile)
         (R.remaining (device_of reader.old))) }
 {
     let text = read_all(alloc, reader)?;
-    compiled(alloc, profile, lattice, &text)
+    image_bytes(alloc, profile, lattice, &text)
 }
 
-/// The bytes of the image of a text.
-fn compiled(
+/// The bytes of the image of a text: `compile_in` and `encode`.
+///
+/// # Errors
+///
+/// `Compile` with the refusal of `compile_in`, or `Memory`.
+pub fn image_bytes(
     alloc: Global,
     profile: Profile,
     lattice: &Lattice,
@@ -119,7 +140,8 @@ fn compiled(
 ) -> Result<Vec<u8>, EngineError>
     ensures built { IfOk result (λ bytes.
         IsBuilt (class_named lattice.now) (order lattice.now) profile text.now bytes.items) }
-    ensures refused { IfErr result (RefusesText (class_named lattice.now) (order lattice.now) profile text.now) }
+    ensures refused { IfErr result
+        (RefusesText (class_named lattice.now) (order lattice.now) profile text.now) }
 {
     let verified = compile_in(alloc, profile, lattice, text)?;
     match encode(alloc, verified.image()) {

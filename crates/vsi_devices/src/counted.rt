@@ -8,7 +8,8 @@ ghost use Rattle.vsi_devices.specs.Counted.{device_of, faults_of, CountsReads, C
 use std::io;
 use std::io::{Read, Write};
 
-/// A reader or a writer, with the number of its calls that failed. At its greatest value the number stays.
+/// A reader or a writer, with the number of its calls that failed. At its greatest value the number
+/// stays.
 #[derive(Drop)]
 pub struct Counted<D> {
     device: D,
@@ -63,7 +64,8 @@ impl<W: Write> Write for Counted<W> {
         ensures bound { WritesAtMost result buf.now }
         ensures bytes { WriteAppends (W.contents (device_of self.old))
             (W.contents (device_of self.new)) result buf.now }
-        ensures counts { CountsWrites result (length buf.now) (faults_of self.old) (faults_of self.new) }
+        ensures counts { CountsWrites result (length buf.now) (faults_of self.old)
+            (faults_of self.new) }
     {
         let result = self.device.write(buf);
         let is_fault = match &result {

@@ -20,19 +20,23 @@ const CHUNK: usize = 4096;
 ///
 /// # Errors
 ///
-/// `ReadFault` at the first call of the reader that fails, which is not tried again; `Memory`. What was read until then
-/// is lost.
+/// `ReadFault` at the first call of the reader that fails, which is not tried again; `Memory`. What
+/// was read until then is lost.
 pub fn read_all<R: Read>(alloc: Global, reader: &mut Counted<R>) -> Result<Vec<u8>, EngineError>
     requires { faults_of reader.old < u64.MAX }
-    ensures fault { IsErrOf result EngineError.ReadFault ↔ faults_of reader.old < faults_of reader.new }
+    ensures fault { IsErrOf result EngineError.ReadFault
+        ↔ faults_of reader.old < faults_of reader.new }
     ensures count { faults_of reader.old ≤ faults_of reader.new }
     ensures once { faults_of reader.new ≤ faults_of reader.old + 1 }
     ensures only { IfErr result IsOfReading }
-    ensures bytes { IfOk result (λ bytes. IsReadFrom (R.remaining (device_of reader.old)) bytes.items) }
+    ensures bytes { IfOk result
+        (λ bytes. IsReadFrom (R.remaining (device_of reader.old)) bytes.items) }
     ensures read { IfOk result (λ bytes.
-        Consumes (R.remaining (device_of reader.old)) (R.remaining (device_of reader.new)) bytes.items) }
+        Consumes (R.remaining (device_of reader.old)) (R.remaining (device_of reader.new))
+        bytes.items) }
     ensures limit { IfOk result (λ bytes. length bytes.items ≤ 1048577) }
-    ensures bound { TakesFew (R.remaining (device_of reader.old)) (R.remaining (device_of reader.new)) }
+    ensures bound { TakesFew (R.remaining (device_of reader.old))
+        (R.remaining (device_of reader.new)) }
 {
     let mut bytes = Vec::new(alloc);
     let mut chunk = [0; CHUNK];
@@ -53,18 +57,20 @@ pub fn read_all<R: Read>(alloc: Global, reader: &mut Counted<R>) -> Result<Vec<u
 ///
 /// # Errors
 ///
-/// `WriteFault` at the first call of the writer that fails or takes no byte, which is not tried again; a prefix of the
-/// text has been written then.
+/// `WriteFault` at the first call of the writer that fails or takes no byte, which is not tried
+/// again; a prefix of the text has been written then.
 pub fn write_out<W: Write>(text: &[u8], writer: &mut Counted<W>) -> Result<(), EngineError>
     requires { faults_of writer.old < u64.MAX }
-    ensures fault { IsErrOf result EngineError.WriteFault ↔ faults_of writer.old < faults_of writer.new }
+    ensures fault { IsErrOf result EngineError.WriteFault
+        ↔ faults_of writer.old < faults_of writer.new }
     ensures count { faults_of writer.old ≤ faults_of writer.new }
     ensures once { faults_of writer.new ≤ faults_of writer.old + 1 }
     ensures only { IfErr result (λ e. e ≡ EngineError.WriteFault) }
     ensures whole { OnOk result
         (Appends (W.contents (device_of writer.old)) (W.contents (device_of writer.new)) text.now) }
     ensures prefix { (n : ℕ)
-        × Appends (W.contents (device_of writer.old)) (W.contents (device_of writer.new)) (take n text.now) }
+        × Appends (W.contents (device_of writer.old)) (W.contents (device_of writer.new))
+        (take n text.now) }
 {
     let mut done = 0;
     while done < text.len() {

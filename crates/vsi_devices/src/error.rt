@@ -9,7 +9,8 @@ use vsi_compiler::CompileError;
 use vsi_image::{DecodeError, VerifyError};
 use vsi_store::StoreError;
 
-/// Why a call over devices ended early. Want of memory is always `Memory`, and never one that an inner error names.
+/// Why a call over devices ended early. Want of memory is always `Memory`, and never one that an
+/// inner error names.
 #[derive(Debug, Drop, Error)]
 pub enum EngineError {
     /// A read of the device failed.

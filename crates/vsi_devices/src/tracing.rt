@@ -21,7 +21,8 @@ use vsi_machine::{Machine, Outcome};
 fn next_line(alloc: Global, machine: &Machine) -> Result<Option<Vec<u8>>, AllocError>
     ensures halted { IfOk result (λ line. IsNone line ↔ IsTrue machine.now.state.halted) }
     ensures line { IfOk result (λ line. option_map (λ text. text.items) line
-        ≡ option_map (λ text. text ++ 10 ∷ []) (trace_line machine.now.image.code.items machine.now.state)) }
+        ≡ option_map (λ text. text ++ 10 ∷ [])
+        (trace_line machine.now.image.code.items machine.now.state)) }
 {
     match machine.trace_line(alloc)? {
         Some(mut line) => {
@@ -40,14 +41,17 @@ pub(crate) fn run_traced<W: Write>(
     writer: &mut Counted<W>,
 ) -> Result<Outcome, EngineError>
     requires { faults_of writer.old < u64.MAX }
-    ensures fault { IsErrOf result EngineError.WriteFault ↔ faults_of writer.old < faults_of writer.new }
+    ensures fault { IsErrOf result EngineError.WriteFault
+        ↔ faults_of writer.old < faults_of writer.new }
     ensures count { faults_of writer.old ≤ faults_of writer.new }
     ensures once { faults_of writer.new ≤ faults_of writer.old + 1 }
     ensures only { IfErr result IsOfWriting }
     ensures image { machine.new.image ≡ machine.old.image }
-    ensures state { OnOk result (after machine.old.image.code.items budget machine.old.state ≡ Some machine.new.state) }
+    ensures state { OnOk result
+        (after machine.old.image.code.items budget machine.old.state ≡ Some machine.new.state) }
     ensures outcome { IfOk result (λ outcome. outcome ≡ outcome_of machine.new.state) }
-    ensures whole { OnOk result (Appends (W.contents (device_of writer.old)) (W.contents (device_of writer.new))
+    ensures whole { OnOk result
+        (Appends (W.contents (device_of writer.old)) (W.contents (device_of writer.new))
         (trace_text machine.old.image.code.items budget machine.old.state)) }
     ensures prefix { IsErrOf result EngineError.WriteFault
         → (n : ℕ) × Appends (W.contents (device_of writer.old)) (W.contents (device_of writer.new))

@@ -1,4 +1,5 @@
-//! The tests of devices and of images near a worked one: `vsi_devices`, `vsi_image` and `vsi_machine`.
+//! The tests of devices and of images near a worked one: `vsi_devices`, `vsi_image` and
+//! `vsi_machine`.
 #![tactic(auto)]
 
 #[cfg(test)]

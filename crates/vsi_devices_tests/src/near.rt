@@ -10,8 +10,9 @@ const STORES: [u8; 31] = [
     3, 0, 0, 10,
 ];
 
-/// What becomes of bytes: no image, one that isn't valid, a run with the word that it leaves in the only global, or
-/// nothing that is known, as without memory or where the image is written otherwise than it was read.
+/// What becomes of bytes: no image, one that isn't valid, a run with the word that it leaves in the
+/// only global, or nothing that is known, as without memory or where the image is written otherwise
+/// than it was read.
 #[derive(Clone, Copy, PartialEq, Eq)]
 enum Fate {
     NoImage,

@@ -20,7 +20,7 @@ use Rattle.vsi_drive.specs.Control.{Control}
 use Rattle.vsi_drive.specs.Settings.{Setting, settings_of, applied}
 use Rattle.vsi_drive.specs.Cycles.{Cycle, cycle, cycle_of, run_to, spent, halted, globals_seen, global_seen, line_seen, text_of}
 use Rattle.vsi_drive.specs.Laws.{AgreeFor, AllHalt, DriveAlike, SameDrives, SameCompiledDrives}
-use Rattle.vsi_drive.proofs.Lengths.{words_last}
+use Rattle.vsi_store.proofs.Slots.{words_last}
 
 -- ---- one line.
 
@@ -52,7 +52,7 @@ same_globals c (g ∷ gs) (w ∷ ws) (w' ∷ ws') same agree =
     ap (λ l. global_seen c g w ++ l) rest ∙ ap (λ l. l ++ globals_seen c gs ws') first
 
 -- Stores that agree give one line.
-same_line : (c : Control) (m m' : List ℤ) → AgreeFor c m m' → line_seen c m ≡ line_seen c m'
+pub same_line : (c : Control) (m m' : List ℤ) → AgreeFor c m m' → line_seen c m ≡ line_seen c m'
 same_line c m m' alike =
     ap (λ seen. take (length seen - 1) seen ++ codes "\n")
     (same_globals c (globals c.image.globals.items) m m' (alike.full ∙ sym alike.full') alike.agree)
@@ -80,15 +80,58 @@ agree_set c m m' i w alike =
     }
 
 -- So do they where the same settings have been made.
-agree_applied : (c : Control) (ss : List Setting) (m m' : List ℤ) → AgreeFor c m m' →
+pub agree_applied : (c : Control) (ss : List Setting) (m m' : List ℤ) → AgreeFor c m m' →
     AgreeFor c (applied ss m) (applied ss m')
 agree_applied c [] m m' alike = alike
 agree_applied c (s ∷ ss) m m' alike = agree_applied c ss _ _ (agree_set c m m' s.0 s.1 alike)
 
 -- Two cycles that write the same and lead to stores that agree.
-record CycleAlike (c : Control) (x y : Cycle) : Type 0 where
+pub record CycleAlike (c : Control) (x y : Cycle) : Type 0 where
   pub line : x.line ≡ y.line
   pub stores : AgreeFor c x.store y.store
+
+-- ---- all cycles.
+
+-- Of lines that fit two first ones that set the same give cycles that are alike, and those behind them fit.
+abbrev pub EachAlike : Control → (List ℤ → List (List ℕ) → Type 0) → Type 0
+EachAlike c Fit =
+    (m m' : List ℤ) (l l' : List ℕ) (ls ls' : List (List ℕ)) → AgreeFor c m m' → settings_of c l ≡ settings_of c l' →
+    Fit m (l ∷ ls) → Fit m' (l' ∷ ls') →
+    CycleAlike c (cycle c m l) (cycle c m' l') × Fit (cycle c m l).store ls × Fit (cycle c m' l').store ls'
+
+-- The first of a list, or another one.
+first_of : Result (List Setting) LineFault → List (Result (List Setting) LineFault) →
+    Result (List Setting) LineFault
+first_of d [] = d
+first_of d (r ∷ rs) = r
+
+-- The others of a list.
+others_of : List (Result (List Setting) LineFault) → List (Result (List Setting) LineFault)
+others_of [] = []
+others_of (r ∷ rs) = rs
+
+-- Lines that fit and set the same give drives that are alike.
+pub drives_alike : (c : Control) (Fit : List ℤ → List (List ℕ) → Type 0) → EachAlike c Fit →
+    (lines lines' : List (List ℕ)) (m m' : List ℤ) → AgreeFor c m m' →
+    map (settings_of c) lines ≡ map (settings_of c) lines' → Fit m lines → Fit m' lines' →
+    DriveAlike c m m' lines lines'
+unfolding first_of others_of
+drives_alike c Fit each [] [] m m' alike same h h' = record { text = refl; stores = alike }
+drives_alike c Fit each [] (l' ∷ ls') m m' alike same h h' = absurd (cc)
+drives_alike c Fit each (l ∷ ls) [] m m' alike same h h' = absurd (cc)
+drives_alike c Fit each (l ∷ ls) (l' ∷ ls') m m' alike same h h' =
+    let sets : settings_of c l ≡ settings_of c l' = ap (first_of (settings_of c l)) same in
+    let one = each m m' l l' ls ls' alike sets h h' in
+    let rest =
+    drives_alike c Fit each ls ls' (cycle c m l).store (cycle c m' l').store one.0.stores (ap others_of same) one.1
+    one.2 in
+    record {
+      text = ap (λ t. (cycle c m l).line ++ t) rest.text
+          ∙ ap (λ t. t ++ text_of c (cycle c m' l').store ls') one.0.line;
+      stores = rest.stores;
+    }
+
+-- ---- cycles of which none is out of budget.
 
 -- A cycle that isn't out of budget has a state that has halted.
 has_halted : (c : Control) (m : List ℤ) (s : State) → (run_to c m (Some s)).ending ≢ OutOfBudget → s.halted ≡ true
@@ -99,7 +142,7 @@ has_halted c m s h =
     ] h
 
 -- Its words are the store.
-halts_with : (c : Control) (m : List ℤ) (s : State) → s.halted ≡ true →
+pub halts_with : (c : Control) (m : List ℤ) (s : State) → s.halted ≡ true →
     run_to c m (Some s) ≡ halted c (globals_of c.image s)
 halts_with c m s h = ap (λ v. if v then halted c (globals_of c.image s) else spent m) h
 
@@ -136,44 +179,20 @@ module _ (c : Control) (class : IsClass c.order c.class) (valid : IsValid c.imag
   cycle_alike (Ok ss) m m' alike h h' =
       run_alike m m' (applied ss m) (applied ss m') _ _ refl refl (agree_applied c ss m m' alike) h h'
 
-  -- ---- all cycles.
-
-  -- The first of a list, or another one.
-  first_of : Result (List Setting) LineFault → List (Result (List Setting) LineFault) →
-      Result (List Setting) LineFault
-  first_of d [] = d
-  first_of d (r ∷ rs) = r
-
-  -- The others of a list.
-  others_of : List (Result (List Setting) LineFault) → List (Result (List Setting) LineFault)
-  others_of [] = []
-  others_of (r ∷ rs) = rs
-
-  -- Lines that set the same give drives that are alike.
-  pub drives_alike : (lines lines' : List (List ℕ)) (m m' : List ℤ) → AgreeFor c m m' →
-      map (settings_of c) lines ≡ map (settings_of c) lines' → AllHalt c m lines → AllHalt c m' lines' →
-      DriveAlike c m m' lines lines'
-  unfolding first_of others_of
-  drives_alike [] [] m m' alike same h h' = record { text = refl; stores = alike }
-  drives_alike [] (l' ∷ ls') m m' alike same h h' = absurd (cc)
-  drives_alike (l ∷ ls) [] m m' alike same h h' = absurd (cc)
-  drives_alike (l ∷ ls) (l' ∷ ls') m m' alike same h h' =
-      let sets : settings_of c l ≡ settings_of c l' = ap (first_of (settings_of c l)) same in
-      let one : CycleAlike c (cycle c m l) (cycle c m' l') =
-      subst (λ r. (cycle_of c m' r).ending ≢ OutOfBudget → CycleAlike c (cycle c m l) (cycle_of c m' r)) sets
-      (cycle_alike (settings_of c l) m m' alike h.0) h'.0 in
-      let rest = drives_alike ls ls' (cycle c m l).store (cycle c m' l').store one.stores (ap others_of same) h.1 h'.1 in
-      record {
-        text = ap (λ t. (cycle c m l).line ++ t) rest.text
-            ∙ ap (λ t. t ++ text_of c (cycle c m' l').store ls') one.line;
-        stores = rest.stores;
-      }
+  -- So are the first cycles of lines of which none is out of budget.
+  pub each_halts : EachAlike c (AllHalt c)
+  each_halts m m' l l' ls ls' alike sets h h' = (
+    subst (λ r. (cycle_of c m' r).ending ≢ OutOfBudget → CycleAlike c (cycle c m l) (cycle_of c m' r)) sets
+        (cycle_alike (settings_of c l) m m' alike h.0) h'.0,
+    h.1,
+    h'.1,
+  )
 
 -- The law of drives.
 pub same_drives : SameDrives
-same_drives c class valid secure = drives_alike c class valid secure
+same_drives c class valid secure = drives_alike c (AllHalt c) (each_halts c class valid secure)
 
 -- The law of drives of a compiled image.
 pub same_compiled_drives : SameCompiledDrives
 same_compiled_drives c P text class compiled =
-    drives_alike c class (coded_valid c.image compiled.coded) compiled.noninterference
+    drives_alike c (AllHalt c) (each_halts c class (coded_valid c.image compiled.coded) compiled.noninterference)

@@ -1,4 +1,6 @@
 pub mod FieldsOf
 pub mod Written
-pub mod Lengths
+pub mod Each
 pub mod Alike
+pub mod Steady
+pub mod Behind

@@ -10,13 +10,13 @@ use Rattle.vsi_drive.specs.Settings as spec
 use Rattle.vsi_drive.specs.Cycles as cycles
 
 -- What stands behind a place is the field there and what stands behind it.
-drop_field : (fs : List (List ℕ)) (at : ℕ) (x : List ℕ) → at < length fs → slice_get fs at ≡ Some x →
+pub drop_field : (fs : List (List ℕ)) (at : ℕ) (x : List ℕ) → at < length fs → slice_get fs at ≡ Some x →
     drop at fs ≡ x ∷ drop (at + 1) fs
 drop_field fs at x within is =
     drop_more fs at [] within ∙ ap (λ f. f ∷ drop (at + 1) fs) (get_or_from_slice_get fs at x [] is)
 
 -- The next three fields are a setting in front of the others.
-pub next_setting : (c : Control) (n at : ℕ) (fs : List (List ℕ)) (x y z : List ℕ) → at + 2 < length fs →
+pub next_setting : (c : spec.Settable) (n at : ℕ) (fs : List (List ℕ)) (x y z : List ℕ) → at + 2 < length fs →
     slice_get fs at ≡ Some x → slice_get fs (at + 1) ≡ Some y → slice_get fs (at + 2) ≡ Some z →
     spec.settings_from c n (drop at fs)
     ≡ spec.in_front (spec.setting c n x y z) (spec.settings_from c (n + 1) (drop (at + 3) fs))
@@ -45,12 +45,12 @@ fault_of (Err e) m fault h = ap (λ x. Err (error_in e x)) h
 fault_of (Ok ss) m fault h = absurd (cc)
 
 -- Fields of which there are none set nothing.
-pub none_left : (c : Control) (n : ℕ) (fs : List (List ℕ)) → length fs ≡ 0 → spec.settings_from c n fs ≡ Ok []
+pub none_left : (c : spec.Settable) (n : ℕ) (fs : List (List ℕ)) → length fs ≡ 0 → spec.settings_from c n fs ≡ Ok []
 none_left c n [] none = refl
 none_left c n (f ∷ fs) none = absurd (omega (arith, none))
 
 -- One field or two are no setting.
-pub few_left : (c : Control) (n : ℕ) (fs : List (List ℕ)) → 0 < length fs → length fs < 3 →
+pub few_left : (c : spec.Settable) (n : ℕ) (fs : List (List ℕ)) → 0 < length fs → length fs < 3 →
     spec.settings_from c n fs ≡ Err (BadSetting n)
 few_left c n [] some few = absurd (omega arith)
 few_left c n (x ∷ []) some few = refl

@@ -1,5 +1,5 @@
 -- Cycles of a controller: a line sets globals, the image runs, and what the class sees is written.
-use Rattle.std.specs.Prelude.{ℕ, ◌-◌, ℤ, List, [], ◌∷◌, ◌++◌, length, take, Option, Some, None, Result, Ok, Err, if◌then◌else◌, codes}
+use Rattle.std.specs.Prelude.{◌≡◌, ℕ, ◌-◌, ◌≤◌, ℤ, List, [], ◌∷◌, ◌++◌, length, take, Option, Some, None, Result, Ok, Err, if◌then◌else◌, codes}
 use Rattle.std.specs.Fmt.{signed_decimal}
 use Rattle.vsi_image.specs.Fields.{Global, globals}
 use Rattle.vsi_image.specs.Meaning.{State}
@@ -63,6 +63,12 @@ cycle c m line = cycle_of c m (settings_of c line)
 abbrev pub store_behind : Control → List ℤ → List (List ℕ) → List ℤ
 store_behind c m [] = m
 store_behind c m (line ∷ lines) = store_behind c (cycle c m line).store lines
+
+-- A store stands behind whole cycles: those of the first of these lines, as many as i.
+pub record StandsBehind (c : Control) (m : List ℤ) (lines : List (List ℕ)) (words : List ℤ) : Type 0 where
+  pub i : ℕ
+  pub within : i ≤ length lines
+  pub is : words ≡ store_behind c m (take i lines)
 
 -- What the cycles of these lines write.
 abbrev pub text_of : Control → List ℤ → List (List ℕ) → List ℕ

@@ -5,6 +5,7 @@ use Rattle.vsi_lattice.specs.Order.{IsClass}
 use Rattle.vsi_types.specs.declared.rules.Profile.{Profile}
 use Rattle.vsi_compiler.specs.Headline.{IsCompiled}
 use Rattle.vsi_compiler.specs.Observation.{AgreeAt, IsNoninterfering, IsStoreOf}
+use Rattle.vsi_steady.specs.Laws.{RunsAlike}
 use Rattle.vsi_drive.specs.declared.controller.CycleEnding.TheVariants.{OutOfBudget}
 use Rattle.vsi_drive.specs.Control.{Control}
 use Rattle.vsi_drive.specs.Settings.{settings_of}
@@ -45,3 +46,14 @@ abbrev pub SameCompiledDrives : Type 0
 SameCompiledDrives =
     (c : Control) (P : Profile) (text : List ℕ) → IsClass c.order c.class →
     IsCompiled c.known c.order P text c.image → DrivesAlike c
+
+-- Lines that set the same do so whatever the budget does: cycles may be out of it.
+abbrev pub AlwaysAlike : Control → Type 0
+AlwaysAlike c =
+    (lines lines' : List (List ℕ)) (m m' : List ℤ) → AgreeFor c m m' →
+    map (settings_of c) lines ≡ map (settings_of c) lines' → DriveAlike c m m' lines lines'
+
+-- Of a valid image whose runs stand alike, as a steady one's do, drives are alike whatever the budget does.
+abbrev pub SameSteadyDrives : Type 0
+SameSteadyDrives =
+    (c : Control) → IsClass c.order c.class → IsValid c.image → RunsAlike c.known c.order c.image → AlwaysAlike c

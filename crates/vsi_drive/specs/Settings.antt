@@ -1,5 +1,6 @@
 -- What a line sets, and what is wrong with one that sets nothing.
-use Rattle.std.specs.Prelude.{ℕ, ◌+◌, nat_lt, ℤ, List, [], ◌∷◌, ◌++◌, length, Option, Some, None, Result, Ok, Err, if◌then◌else◌, bytes_eq, codes, decimal, slice_set}
+use Rattle.std.specs.Prelude.{ℕ, ◌+◌, nat_lt, ℤ, List, [], ◌∷◌, ◌++◌, length, Bool, true, Option, Some, None, Result, Ok, Err, if◌then◌else◌, bytes_eq, codes, decimal, slice_set}
+use Rattle.vsi_image.specs.declared.instr.Image.{Image}
 use Rattle.vsi_image.specs.Fields.{Global, globals}
 use Rattle.vsi_store.specs.View.{is_seen}
 use Rattle.vsi_drive.specs.declared.fault.LineFault.{LineFault}
@@ -11,13 +12,24 @@ use Rattle.vsi_drive.specs.Fields.{fields_of, word_of}
 abbrev pub Setting : Type 0
 Setting = ℕ × ℤ
 
--- The number of the global that a setting names, where these globals have numbers from i on. It is at or below the class.
-abbrev pub target_from : Control → ℕ → ℕ → List Global → List ℕ → Result ℕ LineFault
-target_from c n i [] name = Err (UnknownGlobal n)
-target_from c n i (g ∷ gs) name =
-    if bytes_eq g.0 name
-    then (if is_seen c.known c.order c.class g.1 then Ok i else Err (AboveClass n))
-    else target_from c n (i + 1) gs name
+-- Which globals of an image may be set: those whose class name passes a test.
+pub record Settable : Type 0 where
+  pub may : List ℕ → Bool
+  pub image : Image
+
+-- A class sets what is at or below it.
+abbrev pub at_or_below : Control → Settable
+at_or_below c = record { may = λ name. is_seen c.known c.order c.class name; image = c.image }
+
+-- Who starts a run sets any global.
+abbrev pub any_of : Image → Settable
+any_of image = record { may = λ name. true; image = image }
+
+-- The number of the global that a setting names, where these globals have numbers from i on. It may be set.
+abbrev pub target_from : Settable → ℕ → ℕ → List Global → List ℕ → Result ℕ LineFault
+target_from s n i [] name = Err (UnknownGlobal n)
+target_from s n i (g ∷ gs) name =
+    if bytes_eq g.0 name then (if s.may g.1 then Ok i else Err (AboveClass n)) else target_from s n (i + 1) gs name
 
 -- The setting of a global to the word that a field writes.
 abbrev pub with_word : ℕ → Result ℕ LineFault → Option ℤ → Result Setting LineFault
@@ -26,10 +38,10 @@ with_word n (Ok i) None = Err (NotANumber n)
 with_word n (Ok i) (Some w) = Ok (i, w)
 
 -- The setting that three fields are: the name of a global, `=`, and a number.
-abbrev pub setting : Control → ℕ → List ℕ → List ℕ → List ℕ → Result Setting LineFault
-setting c n name equal number =
+abbrev pub setting : Settable → ℕ → List ℕ → List ℕ → List ℕ → Result Setting LineFault
+setting s n name equal number =
     if bytes_eq equal (codes "=")
-    then with_word n (target_from c n 0 (globals c.image.globals.items) name) (word_of number)
+    then with_word n (target_from s n 0 (globals s.image.globals.items) name) (word_of number)
     else Err (BadSetting n)
 
 -- A setting in front of others; the first fault stands for all.
@@ -39,15 +51,16 @@ in_front (Ok s) (Err fault) = Err fault
 in_front (Ok s) (Ok ss) = Ok (s ∷ ss)
 
 -- The settings that fields are, three by three, of which the first has this number.
-abbrev pub settings_from : Control → ℕ → List (List ℕ) → Result (List Setting) LineFault
-settings_from c n [] = Ok []
-settings_from c n (x ∷ []) = Err (BadSetting n)
-settings_from c n (x ∷ y ∷ []) = Err (BadSetting n)
-settings_from c n (x ∷ y ∷ z ∷ fields) = in_front (setting c n x y z) (settings_from c (n + 1) fields)
+abbrev pub settings_from : Settable → ℕ → List (List ℕ) → Result (List Setting) LineFault
+settings_from s n [] = Ok []
+settings_from s n (x ∷ []) = Err (BadSetting n)
+settings_from s n (x ∷ y ∷ []) = Err (BadSetting n)
+settings_from s n (x ∷ y ∷ z ∷ fields) = in_front (setting s n x y z) (settings_from s (n + 1) fields)
 
 -- The settings of a line of at most 65,536 bytes.
 abbrev pub settings_of : Control → List ℕ → Result (List Setting) LineFault
-settings_of c line = if nat_lt 65536 (length line) then Err TooLong else settings_from c 0 (fields_of line)
+settings_of c line =
+    if nat_lt 65536 (length line) then Err TooLong else settings_from (at_or_below c) 0 (fields_of line)
 
 -- A store in which globals have been set, one after another.
 abbrev pub applied : List Setting → List ℤ → List ℤ

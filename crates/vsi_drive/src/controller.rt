@@ -28,7 +28,8 @@ pub enum CycleEnding {
     Refused(LineFault),
 }
 
-/// An image that is run once a cycle, for at most so many instructions, and the class that sets and sees its globals.
+/// An image that is run once a cycle, for at most so many instructions, and the class that sets and
+/// sees its globals.
 #[derive(Drop)]
 pub struct Controller<'a> {
     lattice: &'a Lattice,
@@ -60,9 +61,11 @@ impl<'a> Controller<'a> {
         ensures image { IfOk result (λ c. (control c).image ≡ verified.now) }
         ensures budget { IfOk result (λ c. (control c).budget ≡ budget) }
         ensures all { OnOk result
-            (first_unknown (class_named lattice.now) 0 (globals verified.now.globals.items) ≡ None) }
+            (first_unknown (class_named lattice.now) 0 (globals verified.now.globals.items)
+            ≡ None) }
         ensures unknown { IfErr result (λ e. (i : ℕ)
-            × (first_unknown (class_named lattice.now) 0 (globals verified.now.globals.items) ≡ Some i)
+            × (first_unknown (class_named lattice.now) 0 (globals verified.now.globals.items)
+            ≡ Some i)
             × (e ≡ ViewError.ClassNotInLattice i)) }
     {
         for (i, variable) in verified.image().globals.as_slice().iter().enumerate() {
@@ -87,7 +90,9 @@ impl<'a> Controller<'a> {
 
     /// Whether the class is at or above the one of this name.
     pub(crate) fn sees(&self, name: &[u8]) -> bool
-        ensures { result ≡ is_seen (control self.now).known (control self.now).order (control self.now).class name.now }
+        ensures { result
+            ≡ is_seen (control self.now).known (control self.now).order (control self.now).class
+            name.now }
     {
         match self.lattice.class_named(name) {
             Some(found) => self.lattice.leq(found, self.class),
@@ -95,8 +100,9 @@ impl<'a> Controller<'a> {
         }
     }
 
-    /// Does a cycle: sets the globals that the line names, runs the image, and gives the line of what the class sees,
-    /// or the one of a faulty line or of a spent budget. The store has a word for each global.
+    /// Does a cycle: sets the globals that the line names, runs the image, and gives the line of
+    /// what the class sees, or the one of a faulty line or of a spent budget. The store has a word
+    /// for each global.
     pub fn cycle(
         &self,
         alloc: Global,
@@ -104,9 +110,12 @@ impl<'a> Controller<'a> {
         store: &mut [i64],
     ) -> Result<(CycleEnding, Vec<u8>), ViewError>
         requires { length store.old ≡ length (control self.now).image.globals.items }
-        ensures ending { IfOk result (λ r. r.0 ≡ (spec.cycle (control self.now) store.old line.now).ending) }
-        ensures line { IfOk result (λ r. r.1.items ≡ (spec.cycle (control self.now) store.old line.now).line) }
-        ensures store { OnOk result (store.new ≡ (spec.cycle (control self.now) store.old line.now).store) }
+        ensures ending { IfOk result
+            (λ r. r.0 ≡ (spec.cycle (control self.now) store.old line.now).ending) }
+        ensures line { IfOk result
+            (λ r. r.1.items ≡ (spec.cycle (control self.now) store.old line.now).line) }
+        ensures store { OnOk result
+            (store.new ≡ (spec.cycle (control self.now) store.old line.now).store) }
         ensures kept { OnErr result (store.new ≡ store.old) }
         ensures only { IfErr result (λ e. e ≡ Memory) }
     {
@@ -128,9 +137,12 @@ impl<'a> Controller<'a> {
     ) -> Result<(CycleEnding, Vec<u8>), ViewError>
         requires words { length words.now ≡ length (control self.now).image.globals.items }
         requires store { length store.old ≡ length (control self.now).image.globals.items }
-        ensures ending { IfOk result (λ r. r.0 ≡ (spec.cycle_from (control self.now) store.old words.now).ending) }
-        ensures line { IfOk result (λ r. r.1.items ≡ (spec.cycle_from (control self.now) store.old words.now).line) }
-        ensures store { OnOk result (store.new ≡ (spec.cycle_from (control self.now) store.old words.now).store) }
+        ensures ending { IfOk result (λ r.
+            r.0 ≡ (spec.cycle_from (control self.now) store.old words.now).ending) }
+        ensures line { IfOk result (λ r.
+            r.1.items ≡ (spec.cycle_from (control self.now) store.old words.now).line) }
+        ensures store { OnOk result
+            (store.new ≡ (spec.cycle_from (control self.now) store.old words.now).store) }
         ensures kept { OnErr result (store.new ≡ store.old) }
         ensures only { IfErr result (λ e. e ≡ Memory) }
     {
@@ -148,7 +160,8 @@ impl<'a> Controller<'a> {
         }
     }
 
-    /// Does a cycle for each line, and gives what they write.
+    /// Does a cycle for each line, and gives what they write. Where memory is wanting the store is
+    /// that behind the last whole cycle: none is left half done, though what they wrote is lost.
     pub fn drive(
         &self,
         alloc: Global,
@@ -156,8 +169,12 @@ impl<'a> Controller<'a> {
         store: &mut [i64],
     ) -> Result<Vec<u8>, ViewError>
         requires { length store.old ≡ length (control self.now).image.globals.items }
-        ensures text { IfOk result (λ text. text.items ≡ spec.text_of (control self.now) store.old (texts lines.now)) }
-        ensures store { OnOk result (store.new ≡ spec.store_behind (control self.now) store.old (texts lines.now)) }
+        ensures text { IfOk result (λ text.
+            text.items ≡ spec.text_of (control self.now) store.old (texts lines.now)) }
+        ensures store { OnOk result
+            (store.new ≡ spec.store_behind (control self.now) store.old (texts lines.now)) }
+        ensures whole { OnErr result
+            (spec.StandsBehind (control self.now) store.old (texts lines.now) store.new) }
         ensures only { IfErr result (λ e. e ≡ Memory) }
     {
         let mut text = Vec::new(alloc);

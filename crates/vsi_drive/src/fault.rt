@@ -11,7 +11,8 @@ pub enum LineFault {
     /// The line has more than `LINE_LIMIT` bytes.
     #[error("the line is too long")]
     TooLong,
-    /// These fields aren't the name of a global, `=` and a number: the second one isn't `=`, or there are too few.
+    /// These fields aren't the name of a global, `=` and a number: the second one isn't `=`, or
+    /// there are too few.
     #[error("setting {0} is not of the form NAME = NUMBER")]
     BadSetting(usize),
     /// The image has no global of this name.

@@ -22,7 +22,8 @@ fn is_blank(byte: u8) -> bool
 
 /// One field more, unless it has no bytes.
 fn push_field<'a>(fields: &mut Vec<&'a [u8]>, field: &'a [u8]) -> Result<(), AllocError>
-    ensures { OnOk result (texts fields.new.items ≡ texts fields.old.items ++ spec.ended field.now []) }
+    ensures { OnOk result
+        (texts fields.new.items ≡ texts fields.old.items ++ spec.ended field.now []) }
 {
     if !field.is_empty() {
         fields.push(field)?;
@@ -30,7 +31,8 @@ fn push_field<'a>(fields: &mut Vec<&'a [u8]>, field: &'a [u8]) -> Result<(), All
     Ok(())
 }
 
-/// Does the byte at a place, where a field goes on from `start`, and answers where a field goes on behind it.
+/// Does the byte at a place, where a field goes on from `start`, and answers where a field goes on
+/// behind it.
 fn push_byte<'a>(
     fields: &mut Vec<&'a [u8]>,
     line: &'a [u8],
@@ -41,8 +43,10 @@ fn push_byte<'a>(
     requires at { at < length line.now }
     ensures start { IfOk result (λ next. next ≤ at + 1) }
     ensures fields { IfOk result (λ next.
-        texts fields.new.items ++ spec.fields_behind (slice_range line.now next (at + 1)) (drop (at + 1) line.now)
-        ≡ texts fields.old.items ++ spec.fields_behind (slice_range line.now start at) (drop at line.now)) }
+        texts fields.new.items
+        ++ spec.fields_behind (slice_range line.now next (at + 1)) (drop (at + 1) line.now)
+        ≡ texts fields.old.items
+        ++ spec.fields_behind (slice_range line.now start at) (drop at line.now)) }
 {
     let byte = line[at];
     if is_blank(byte) {
@@ -87,7 +91,8 @@ fn all_digits(text: &[u8]) -> bool
 /// The value of digits, where it is at most the limit.
 fn value_up_to(digits: &[u8], limit: u64) -> Option<u64>
     requires { every is_digit digits.now ≡ true }
-    ensures value { result ≡ (if nat_le (value_of digits.now) limit then Some (value_of digits.now) else None) }
+    ensures value { result
+        ≡ (if nat_le (value_of digits.now) limit then Some (value_of digits.now) else None) }
     ensures bound { IfSome result (λ n. n ≤ limit) }
 {
     let mut value: u64 = 0;

@@ -5,9 +5,11 @@ ghost use Rattle.vsi_image.specs.Fields.{global, globals};
 ghost use Rattle.vsi_drive.specs.Settings as settings;
 ghost use Rattle.vsi_drive.specs.Control.{control};
 ghost use Rattle.vsi_drive.specs.Cycles as spec;
+ghost use Rattle.vsi_drive.specs.Starts as starts;
 
 use crate::controller::Controller;
 use crate::fault::LineFault;
+use crate::starts::StartFault;
 use itoa::Buffer;
 use std::alloc::{AllocError, Global};
 
@@ -21,17 +23,37 @@ fn push_numbered(text: &mut Vec<u8>, name: &[u8], number: usize) -> Result<(), A
     text.extend_from_slice(buffer.format(number).as_bytes())
 }
 
+/// The number, the name and the field of a fault more.
+fn push_fault(text: &mut Vec<u8>, fault: LineFault) -> Result<(), AllocError>
+    ensures { OnOk result (text.new.items ≡ text.old.items ++ settings.fault_name fault) }
+{
+    match fault {
+        LineFault::TooLong => text.extend_from_slice(b"44 LineTooLong"),
+        LineFault::BadSetting(n) => push_numbered(text, b"45 BadSetting", n),
+        LineFault::UnknownGlobal(n) => push_numbered(text, b"46 NoGlobal", n),
+        LineFault::AboveClass(n) => push_numbered(text, b"47 AboveClass", n),
+        LineFault::NotANumber(n) => push_numbered(text, b"48 NoNumber", n),
+    }
+}
+
 /// The line of a fault.
 pub(crate) fn fault_line(alloc: Global, fault: LineFault) -> Result<Vec<u8>, AllocError>
     ensures { IfOk result (λ text. text.items ≡ settings.fault_line fault) }
 {
     let mut text = Vec::from_slice(alloc, b"refused: ")?;
+    push_fault(&mut text, fault)?;
+    text.extend_from_slice(b"\n")?;
+    Ok(text)
+}
+
+/// The line that tells why a run doesn't begin.
+pub fn start_fault_line(alloc: Global, fault: StartFault) -> Result<Vec<u8>, AllocError>
+    ensures { IfOk result (λ text. text.items ≡ starts.start_fault_line fault) }
+{
+    let mut text = Vec::from_slice(alloc, b"refused: ")?;
     match fault {
-        LineFault::TooLong => text.extend_from_slice(b"44 LineTooLong")?,
-        LineFault::BadSetting(n) => push_numbered(&mut text, b"45 BadSetting", n)?,
-        LineFault::UnknownGlobal(n) => push_numbered(&mut text, b"46 NoGlobal", n)?,
-        LineFault::AboveClass(n) => push_numbered(&mut text, b"47 AboveClass", n)?,
-        LineFault::NotANumber(n) => push_numbered(&mut text, b"48 NoNumber", n)?,
+        StartFault::Setting(fault) => push_fault(&mut text, fault)?,
+        StartFault::Unnamed(i) => push_numbered(&mut text, b"56 GlobalNotNamed", i)?,
     }
     text.extend_from_slice(b"\n")?;
     Ok(text)
@@ -72,7 +94,8 @@ fn globals_seen(
 ) -> Result<Vec<u8>, AllocError>
     requires { length words.now ≡ length (control controller.now).image.globals.items }
     ensures { IfOk result (λ text. text.items
-        ≡ spec.globals_seen (control controller.now) (globals (control controller.now).image.globals.items) words.now) }
+        ≡ spec.globals_seen (control controller.now)
+        (globals (control controller.now).image.globals.items) words.now) }
 {
     let variables = controller.globals();
     let mut text = Vec::new(alloc);

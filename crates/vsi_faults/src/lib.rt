@@ -1,7 +1,8 @@
-//! The texts that are printed for refusals: `refusal_text` for a source text, `fault_text` for any other file.
+//! The texts that are printed for refusals: `refusal_text` for a source text, `fault_text` for any
+//! other file.
 //!
-//! Each is the line `refused: NUMBER NAME FIELDS` of `specs/Line`, whose number, name and fields `specs/Source`,
-//! `specs/Lattice` and `specs/Files` give for each error.
+//! Each is the line `refused: NUMBER NAME FIELDS` of `specs/Line`, whose number, name and fields
+//! `specs/Source`, `specs/Lattice` and `specs/Files` give for each error.
 #![tactic(auto)]
 
 mod files;

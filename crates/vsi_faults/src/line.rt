@@ -37,7 +37,8 @@ fn push_number(text: &mut Vec<u8>, n: usize) -> Result<(), AllocError>
 
 /// A field more, behind a space.
 fn push_field(text: &mut Vec<u8>, field: Field) -> Result<(), AllocError>
-    ensures { OnOk result (text.new.items ≡ text.old.items ++ spec.field_text (field_of field.entry)) }
+    ensures { OnOk result
+        (text.new.items ≡ text.old.items ++ spec.field_text (field_of field.entry)) }
 {
     match field {
         Field::Nothing => Ok(()),

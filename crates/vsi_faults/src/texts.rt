@@ -83,16 +83,18 @@ fn following(
     }
 }
 
-/// The text of the refusal of a source text: the number and the name of the refusal, and the line and the column, both
-/// from 1, where there is a place to tell; for a refused flow the explanation of its walk follows. Places are taken from
-/// the source that is handed in, which is to be the one that was refused; a walk that isn't bad there isn't explained.
+/// The text of the refusal of a source text: the number and the name of the refusal, and the line
+/// and the column, both from 1, where there is a place to tell; for a refused flow the explanation
+/// of its walk follows. Places are taken from the source that is handed in, which is to be the one
+/// that was refused; a walk that isn't bad there isn't explained.
 pub fn refusal_text(
     alloc: Global,
     lattice: &Lattice,
     source: &[u8],
     error: &CompileError,
 ) -> Result<Vec<u8>, AllocError>
-    ensures text { IfOk result (λ text. spec.IsRefusalText lattice.now source.now error.now text.items) }
+    ensures text { IfOk result
+        (λ text. spec.IsRefusalText lattice.now source.now error.now text.items) }
 {
     let mut text = text_of(alloc, refusal_line(source, error))?;
     let more = following(alloc, lattice, source, error)?;
@@ -113,8 +115,8 @@ fn fault_line(fault: &Fault) -> Option<Line>
     }
 }
 
-/// The text of the refusal of a lattice file, an image, a store file or a view: the number and the name of the refusal, and
-/// what it names, in decimal or, for a key of a store file, as it is.
+/// The text of the refusal of a lattice file, an image, a store file or a view: the number and the
+/// name of the refusal, and what it names, in decimal or, for a key of a store file, as it is.
 pub fn fault_text(alloc: Global, fault: &Fault) -> Result<Vec<u8>, AllocError>
     ensures text { IfOk result (λ text. text.items ≡ spec.text_of (spec.fault_line fault.now)) }
 {

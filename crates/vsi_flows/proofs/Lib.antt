@@ -5,3 +5,4 @@ pub mod TwoClasses
 pub mod BaseTargets
 pub mod IndependenceLemmas
 pub mod ImageLemmas
+pub mod WalkLemmas

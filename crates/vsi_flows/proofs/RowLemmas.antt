@@ -1,5 +1,5 @@
 -- Distances of places are distances of variables.
-use Rattle.std.proofs.Common.{◌≡◌, ◌↔◌, ◌⊎◌, ℕ, zero, suc, ◌+◌, ◌<◌, ◌≤◌, Bool, true, List, [], ◌∷◌, ◌++◌, map, length, get_or, Some, refl, sym, ap, ◌∙◌, subst, arith, inl, inr}
+use Rattle.std.proofs.Common.{◌≡◌, ◌⊎◌, ℕ, zero, suc, ◌+◌, ◌<◌, ◌≤◌, Bool, true, List, [], ◌∷◌, ◌++◌, map, length, get_or, Some, refl, sym, ap, ◌∙◌, subst, arith, inl, inr}
 use Rattle.std.specs.Prelude.{Result, Ok, Err, IfOk}
 use Rattle.std.proofs.lemmas.Bool.{cases_lt}
 use Rattle.std.proofs.lemmas.List.{get_or_append_left, get_or_at, map-append, length-map}
@@ -8,29 +8,14 @@ use Rattle.vsi_types.specs.declared.rules.Profile.{Profile}
 use Rattle.vsi_types.specs.declared.rules.Step.{Step}
 use Rattle.vsi_types.specs.Security.{Program, IsWellFormed, steps_of}
 use Rattle.vsi_types.specs.Walks.{declared_class}
-use Rattle.vsi_infer.specs.Distances.{Leads, IsGoal, AreDistances}
+use Rattle.vsi_infer.specs.Distances.{Leads, AreLeast}
 use Rattle.vsi_infer.specs.Flowing.{size_of, variable_at, AreFlowsOf}
 use Rattle.vsi_infer.specs.Inference.{AreClasses}
 use Rattle.vsi_infer.specs.Paths.{IsPath}
 use Rattle.vsi_infer.specs.Shortest.{row_of}
 use Rattle.vsi_infer.proofs.Bridge.{step_there, at_place}
-use Rattle.vsi_infer.proofs.DistanceLemmas.{fewest}
 use Rattle.vsi_infer.proofs.ShortestLemmas.{row_back, step_flow, same_place, source_within}
-use Rattle.vsi_flows.specs.Rows.{AreLeast, AreLeastRows, IsRowTo, AreRows}
-
--- Distances to one goal.
-pub least_of : (flows : ℕ → ℕ → Bool) (goals : List Bool) (row : List ℕ) (count b : ℕ) → length goals ≡ count
-    → count ≤ 1025 → ((v : ℕ) → IsGoal goals v ↔ (v ≡ b))
-    → ((x y : ℕ) → flows x y ≡ true → (x < count) × (y < count))
-    → AreDistances flows goals row → AreLeast flows count b row
-least_of flows goals row count b len small goal within d = record {
-  sound = λ v lt far.
-      let away = d.sound v (omega (arith, lt, d.len, len)) far in
-      subst (λ (x : ℕ). Leads flows (get_or row v 0) v x) ((goal away.0).0 away.1) away.2;
-  least = λ n v w. fewest flows goals row (omega (arith, len, small))
-      (λ x y f. let i = within x y f in (omega (arith, i.0, len), omega (arith, i.1, len))) d n v b w
-      ((goal b).1 refl);
-}
+use Rattle.vsi_flows.specs.Rows.{AreLeastRows, IsRowTo, AreRows, AreRowsOf}
 
 module _ (L : Lattice) (laws : IsLattice L) (P : Profile) (p : Program) (res : IsWellFormed L p)
     (ds : AreClasses L p.declared) (flows : ℕ → ℕ → Bool) (are : AreFlowsOf P p flows) where
@@ -87,8 +72,26 @@ module _ (L : Lattice) (laws : IsLattice L) (P : Profile) (p : Program) (res : I
       row_is b (get_or rows b []) le (subst (λ (n : ℕ). AreLeast flows (n + 1) b (get_or rows b [])) e
       (h b c lb (subst (λ (n : ℕ). declared_class L p (variable_at n b) ≡ Some c) (sym e) d)))
 
-  pub within_last : (last : ℕ) → last ≡ size_of p → (a b : ℕ) → flows a b ≡ true → (a < last + 1) × (b < last + 1)
-  within_last last e a b f = let w = are.within a b f in (omega (arith, w.0, e), omega (arith, w.1, e))
+-- Flows go between places.
+pub within_last : (P : Profile) (p : Program) (flows : ℕ → ℕ → Bool) → AreFlowsOf P p flows → (last : ℕ)
+    → last ≡ size_of p → (a b : ℕ) → flows a b ≡ true → (a < last + 1) × (b < last + 1)
+within_last P p flows are last e a b f = let w = are.within a b f in (omega (arith, w.0, e), omega (arith, w.1, e))
+
+-- The rows of the program's flows.
+pub rows_of_program : {V E : Type 0} (L : Lattice) (P : Profile) (p : Program) (flows : ℕ → ℕ → Bool)
+    → AreFlowsOf P p flows → (last : ℕ) → last ≡ size_of p → (f : V → List (List ℕ)) (o : Result V E)
+    → IfOk o (λ v. AreLeastRows L p flows last (f v)) → IfOk o (λ v. AreRowsOf L P p (f v))
+rows_of_program L P p flows are last e f (Ok v) h = record {
+  flows = flows;
+  same = are;
+  least = subst (λ (n : ℕ). AreLeastRows L p flows n (f v)) e h;
+}
+rows_of_program L P p flows are last e f (Err x) h = tt
+
+-- The rows of flows are rows of variables.
+pub are_rows : (L : Lattice) → IsLattice L → (P : Profile) (p : Program) → IsWellFormed L p
+    → AreClasses L p.declared → (rows : List (List ℕ)) → AreRowsOf L P p rows → AreRows L P p rows
+are_rows L laws P p res ds rows are = rows_are L laws P p res ds are.flows are.same (size_of p) rows refl are.least
 
 -- One row more.
 pub rows_push : {V : Type 0} (f : V → List ℕ) (rows : List V) (row : V) (Q : ℕ → List ℕ → Type 0)
@@ -104,8 +107,3 @@ rows_push f rows row Q h q b lt =
         let e : b ≡ length rows = omega (arith, lt, g) in
         subst (Q b) (sym (get_or_at (map f rows) (f row) [] [] b (omega (arith, e, length-map rows f))))
         (subst (λ (x : ℕ). Q x (f row)) (sym e) q)
-
--- What holds of an answer, weaker.
-pub ok_weaker : {X E : Type 0} (r : Result X E) (P Q : X → Type 0) → ((x : X) → P x → Q x) → IfOk r P → IfOk r Q
-ok_weaker (Ok x) P Q f h = f x h
-ok_weaker (Err e) P Q f h = tt

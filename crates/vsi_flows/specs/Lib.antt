@@ -3,3 +3,4 @@ pub mod Rows
 pub mod Filling
 pub mod Independence
 pub mod Text
+pub mod Walks

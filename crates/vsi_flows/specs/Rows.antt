@@ -5,14 +5,9 @@ use Rattle.vsi_types.specs.declared.rules.Profile.{Profile}
 use Rattle.vsi_types.specs.declared.rules.Step.{Step}
 use Rattle.vsi_types.specs.Security.{Program, steps_of}
 use Rattle.vsi_types.specs.Walks.{declared_class}
-use Rattle.vsi_infer.specs.Distances.{Leads}
-use Rattle.vsi_infer.specs.Flowing.{size_of, variable_at}
+use Rattle.vsi_infer.specs.Distances.{AreLeast}
+use Rattle.vsi_infer.specs.Flowing.{size_of, variable_at, AreFlowsOf}
 use Rattle.vsi_infer.specs.Paths.{IsPath}
-
--- The number at each place is that of the fewest flows that lead from it to place b, or 65535 where none do.
-pub record AreLeast (flows : ℕ → ℕ → Bool) (count b : ℕ) (row : List ℕ) : Type 0 where
-  pub sound : (v : ℕ) → v < count → slice_index row v < 65535 → Leads flows (slice_index row v) v b
-  pub least : (n v : ℕ) → Leads flows n v b → (slice_index row v < 65535) × (slice_index row v ≤ n)
 
 -- There are such numbers for each place whose variable has a declared class.
 abbrev pub AreLeastRows : Lattice → Program → (ℕ → ℕ → Bool) → ℕ → List (List ℕ) → Type 0
@@ -32,3 +27,9 @@ abbrev pub AreRows : Lattice → Profile → Program → List (List ℕ) → Typ
 AreRows L P p rows =
     (b c : ℕ) → b ≤ size_of p → declared_class L p (variable_at (size_of p) b) ≡ Some c →
     IsRowTo P p (variable_at (size_of p) b) (slice_index_or rows b [])
+
+-- The rows are those of the program's flows.
+pub record AreRowsOf (L : Lattice) (P : Profile) (p : Program) (rows : List (List ℕ)) : Type 0 where
+  pub flows : ℕ → ℕ → Bool
+  pub same : AreFlowsOf P p flows
+  pub least : AreLeastRows L p flows (size_of p) rows

@@ -1,12 +1,14 @@
 -- The table as text.
-use Rattle.std.specs.Prelude.{◌≡◌, ℕ, Bool, true, false, List, ◌++◌, codes, decimal}
-use Rattle.std.specs.List.{flat_map}
+use Rattle.std.specs.Prelude.{◌≡◌, ℕ, Bool, true, false, List, ◌++◌, map, length, codes, decimal}
+use Rattle.std.specs.List.{All, flat_map}
 use Rattle.vsi_lattice.specs.declared.lattice.Lattice.{Lattice}
 use Rattle.vsi_lattice.specs.LatticeView.{class_named, order}
 use Rattle.vsi_scope.specs.Program.{Resolved}
 use Rattle.vsi_types.specs.declared.rules.Profile.{Profile}
-use Rattle.vsi_types.specs.Security.{program}
-use Rattle.vsi_infer.specs.Explanation.{variable_text}
+use Rattle.vsi_types.specs.declared.rules.Step.{Step}
+use Rattle.vsi_types.specs.Security.{program, steps_of}
+use Rattle.vsi_infer.specs.Explanation.{variable_text, step_line}
+use Rattle.vsi_infer.specs.Paths.{IsPath}
 use Rattle.vsi_compiler.specs.Stands.{Stands}
 use Rattle.vsi_flows.specs.declared.pair.Pair.{Pair}
 use Rattle.vsi_flows.specs.Table.{IsTable}
@@ -33,3 +35,26 @@ pub record IsTableText (l : Lattice) (P : Profile) (text out : List ℕ) : Type 
   pub pairs : List Pair
   pub table : IsTable (order l) P (program resolved) pairs
   pub lines : out ≡ table_text l resolved pairs
+
+-- A pair and the steps of a walk.
+pub record Walked : Type 0 where
+  pub pair : Pair
+  pub walk : List Step
+
+-- The steps lead from the pair's source to its target, and are as many as it tells.
+pub record IsWalkOf (ss : List Step) (pair : Pair) (walk : List Step) : Type 0 where
+  pub path : IsPath ss pair.source walk pair.target
+  pub count : length walk ≡ pair.steps
+
+-- The line of a pair and, below it, those of the steps of its walk.
+abbrev pub walked_lines : Lattice → List ℕ → Resolved → Walked → List ℕ
+walked_lines l source r w = pair_line l r w.pair ++ flat_map (step_line source r) w.walk
+
+-- The lines are those of the table of the text's program, each pair with a walk of its fewest steps.
+pub record IsWalksText (l : Lattice) (P : Profile) (text out : List ℕ) : Type 0 where
+  pub resolved : Resolved
+  pub stands : Stands (class_named l) text resolved
+  pub walked : List Walked
+  pub table : IsTable (order l) P (program resolved) (map (λ w. w.pair) walked)
+  pub walks : All (λ w. IsWalkOf (steps_of P (program resolved)) w.pair w.walk) walked
+  pub lines : out ≡ flat_map (walked_lines l text resolved) walked

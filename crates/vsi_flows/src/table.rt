@@ -7,15 +7,16 @@ ghost use Rattle.vsi_types.specs.Security.{program as program_of};
 ghost use Rattle.vsi_types.specs.declared.rules.Profile.{Profile};
 ghost use Rattle.vsi_infer.specs.Flowing.{size_of, variable_at as variable_at_of};
 ghost use Rattle.vsi_infer.specs.Inference.{AreClasses};
-ghost use Rattle.vsi_flows.specs.Rows.{AreRows};
-ghost use Rattle.vsi_flows.specs.Table.{IsJoined, IsTold, IsTable, AreAllowed, HasChoice, HasBadWalk};
+ghost use Rattle.vsi_flows.specs.Rows.{AreRows, AreRowsOf};
+ghost use Rattle.vsi_flows.specs.Table.{IsJoined, IsTold, IsTable, AreAllowed};
+ghost use Rattle.vsi_flows.specs.Table.{HasChoice, HasBadWalk};
 ghost use Rattle.vsi_flows.specs.Filling.{IsFilled};
 
 use crate::error::FlowsError;
 use crate::pair::Pair;
-use crate::rows::{declarations, far, rows_of, variable_at};
+use crate::rows::{declarations, far, program_rows, variable_at};
 use std::alloc::{AllocError, Global as Heap};
-use vsi_infer::{InferError, declared_class, flow_rows, infer_in};
+use vsi_infer::{InferError, declared_class, infer_in};
 use vsi_lattice::Classes;
 use vsi_scope::{Resolved, Var};
 use vsi_types::Profile;
@@ -38,9 +39,11 @@ fn pair_at<C: Classes>(
     ensures source { IfSome result (λ r. r.source ≡ source) }
     ensures target { IfSome result (λ r. r.target ≡ variable_at_of last target) }
     ensures told { (P : Profile) → AreRows (C.lattice lattice.now) P (program_of program.now)
-        (map (λ r. r.items) rows.now) → IfSome result (IsTold (C.lattice lattice.now) P (program_of program.now)) }
+        (map (λ r. r.items) rows.now)
+        → IfSome result (IsTold (C.lattice lattice.now) P (program_of program.now)) }
     ensures none { (P : Profile) → AreRows (C.lattice lattice.now) P (program_of program.now)
-        (map (λ r. r.items) rows.now) → IfNone result (IsJoined (C.lattice lattice.now) P (program_of program.now)
+        (map (λ r. r.items) rows.now)
+        → IfNone result (IsJoined (C.lattice lattice.now) P (program_of program.now)
         source (variable_at_of last target) → ⊥) }
 {
     if source == target {
@@ -80,9 +83,11 @@ fn put_pairs<C: Classes>(
     requires last { last ≡ size_of (program_of program.now) }
     requires small { last ≤ 1024 }
     requires source { source < last }
-    ensures { (P : Profile) → AreRows (C.lattice lattice.now) P (program_of program.now) (map (λ r. r.items) rows.now)
+    ensures { (P : Profile) → AreRows (C.lattice lattice.now) P (program_of program.now)
+        (map (λ r. r.items) rows.now)
         → IsFilled (C.lattice lattice.now) P (program_of program.now) source 0 pairs.old.items
-        → OnOk result (IsFilled (C.lattice lattice.now) P (program_of program.now) (source + 1) 0 pairs.new.items) }
+        → OnOk result (IsFilled (C.lattice lattice.now) P (program_of program.now)
+        (source + 1) 0 pairs.new.items) }
 {
     for target in 0..last + 1 {
         let Some(pair) = pair_at(lattice, program, rows, last, source, target) else {
@@ -93,7 +98,30 @@ fn put_pairs<C: Classes>(
     Ok(())
 }
 
-/// The pairs in their order.
+/// The pairs in their order, from the rows of a program.
+pub(crate) fn pairs_of<C: Classes>(
+    alloc: Heap,
+    lattice: &C,
+    program: &Resolved<'_>,
+    rows: &[Vec<u16>],
+) -> Result<Vec<Pair>, AllocError>
+    requires globals { All (IsClass (C.lattice lattice.now)) (program_of program.now).globals }
+    requires declared { AreClasses (C.lattice lattice.now) (program_of program.now).declared }
+    ensures { (P : Profile) → AreRowsOf (C.lattice lattice.now) P (program_of program.now)
+        (map (λ r. r.items) rows.now)
+        → IfOk result (λ t. IsTable (C.lattice lattice.now) P (program_of program.now) t.items) }
+{
+    // What `body` ensures says that the program is resolved, which the proofs ask for.
+    let _body = program.body();
+    let last = declarations(program);
+    let mut pairs = Vec::new(alloc);
+    for source in 0..last {
+        put_pairs(&mut pairs, lattice, program, rows, last, source)?;
+    }
+    Ok(pairs)
+}
+
+/// The pairs of a program in their order.
 fn table_of<C: Classes>(
     alloc: Heap,
     profile: Profile,
@@ -102,17 +130,11 @@ fn table_of<C: Classes>(
 ) -> Result<Vec<Pair>, AllocError>
     requires globals { All (IsClass (C.lattice lattice.now)) (program_of program.now).globals }
     requires declared { AreClasses (C.lattice lattice.now) (program_of program.now).declared }
-    ensures { IfOk result (λ t. IsTable (C.lattice lattice.now) profile (program_of program.now) t.items) }
+    ensures { IfOk result (λ t.
+        IsTable (C.lattice lattice.now) profile (program_of program.now) t.items) }
 {
-    let _body = program.body();
-    let flow = flow_rows(alloc, profile, program)?;
-    let last = declarations(program);
-    let rows = rows_of(alloc, lattice, program, &flow, last)?;
-    let mut pairs = Vec::new(alloc);
-    for source in 0..last {
-        put_pairs(&mut pairs, lattice, program, &rows, last, source)?;
-    }
-    Ok(pairs)
+    let rows = program_rows(alloc, profile, lattice, program)?;
+    pairs_of(alloc, lattice, program, &rows)
 }
 
 /// Sees that some choice of classes is typable or some walk is bad.
@@ -134,8 +156,9 @@ fn decide<C: Classes>(
     }
 }
 
-/// The pairs of declared variables that a chain of flow steps joins, by the source and then by the target, in the order
-/// of declarations, the ending of loops last. A variable beside itself is no pair.
+/// The pairs of declared variables that a chain of flow steps joins, by the source and then by
+/// the target, in the order of declarations, the ending of loops last. A variable beside itself
+/// is no pair.
 ///
 /// # Errors
 ///
@@ -148,10 +171,12 @@ pub fn flows_in<C: Classes>(
 ) -> Result<Vec<Pair>, FlowsError>
     requires globals { All (IsClass (C.lattice lattice.now)) (program_of program.now).globals }
     requires declared { AreClasses (C.lattice lattice.now) (program_of program.now).declared }
-    ensures table { IfOk result (λ t. IsTable (C.lattice lattice.now) profile (program_of program.now) t.items) }
+    ensures table { IfOk result (λ t.
+        IsTable (C.lattice lattice.now) profile (program_of program.now) t.items) }
     ensures verdict { IfOk result (λ t. AreAllowed t.items
         ↔ HasChoice (C.lattice lattice.now) profile (program_of program.now)) }
 {
+    // What `body` ensures says that the program is resolved, which the proofs ask for.
     let _body = program.body();
     let pairs = table_of(alloc, profile, lattice, program)?;
     decide(alloc, profile, lattice, program)?;

@@ -41,7 +41,7 @@ fn put_number(text: &mut Vec<u8>, number: usize) -> Result<(), AllocError>
 }
 
 /// Adds the line of a pair.
-fn put_pair(
+pub(crate) fn put_pair(
     text: &mut Vec<u8>,
     lattice: &Lattice,
     program: &Resolved<'_>,
@@ -49,7 +49,8 @@ fn put_pair(
 ) -> Result<(), AllocError>
     requires globals { All (IsClass (order lattice.now)) (program_of program.now).globals }
     requires declared { AreClasses (order lattice.now) (program_of program.now).declared }
-    ensures { OnOk result (text.new.items ≡ text.old.items ++ spec.pair_line lattice.now program.now pair) }
+    ensures { OnOk result (text.new.items ≡
+        text.old.items ++ spec.pair_line lattice.now program.now pair) }
 {
     put_variable(text, lattice, program, pair.source)?;
     text.extend_from_slice(b" flows to ")?;
@@ -59,7 +60,8 @@ fn put_pair(
     text.extend_from_slice(b"\n")
 }
 
-/// A line for each pair: both variables with their declared classes, `allowed` or `refused`, and the fewest steps.
+/// A line for each pair: both variables with their declared classes, `allowed` or `refused`, and
+/// the fewest steps.
 pub fn table_text(
     alloc: Heap,
     lattice: &Lattice,
@@ -81,7 +83,8 @@ pub fn table_text(
 ///
 /// # Errors
 ///
-/// The refusals of the words, the tree, the scope and the size, as `compile_in`; no flow is refused here.
+/// The refusals of the words, the tree, the scope and the size, as `compile_in`; no flow is refused
+/// here.
 pub fn flows_text_in(
     alloc: Heap,
     profile: Profile,

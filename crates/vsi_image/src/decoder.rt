@@ -1,4 +1,5 @@
-//! From bytes to an image: one reader for each field, each of which answers the value and the bytes behind it.
+//! From bytes to an image: one reader for each field, each of which answers the value and the bytes
+//! behind it.
 //!
 //! `whole` is the number of all bytes, so that a reader knows the place of what it reads.
 
@@ -197,7 +198,8 @@ fn name_at<'a>(
     whole: usize,
     bytes: &'a [u8],
 ) -> Result<(&'a [u8], &'a [u8]), DecodeError>
-    ensures { Gives (λ x. (x.0.now, x.1.now)) result (spec.name_at (globals before.now) whole bytes.now) }
+    ensures { Gives (λ x. (x.0.now, x.1.now)) result
+        (spec.name_at (globals before.now) whole bytes.now) }
 {
     let (len, rest) = byte_at(whole, bytes)?;
     if !(1 <= len && len <= MAX_NAME_LENGTH) {
@@ -219,7 +221,8 @@ fn global_at<'a>(
     whole: usize,
     bytes: &'a [u8],
 ) -> Result<((Vec<u8>, Vec<u8>), &'a [u8]), DecodeError>
-    ensures { Gives (λ x. (global x.0, x.1.now)) result (spec.global_at (globals before.now) whole bytes.now) }
+    ensures { Gives (λ x. (global x.0, x.1.now)) result
+        (spec.global_at (globals before.now) whole bytes.now) }
 {
     let (name, rest) = name_at(before, whole, bytes)?;
     let (class, rest) = name_at(&[], whole, rest)?;
@@ -239,7 +242,8 @@ fn globals_at(
     whole: usize,
     bytes: &[u8],
 ) -> Result<(Vec<(Vec<u8>, Vec<u8>)>, &[u8]), DecodeError>
-    ensures { Gives (λ x. (globals x.0.items, x.1.now)) result (spec.globals_at count [] whole bytes.now) }
+    ensures { Gives (λ x. (globals x.0.items, x.1.now)) result
+        (spec.globals_at count [] whole bytes.now) }
 {
     let mut globals = Vec::new(alloc);
     let mut rest = bytes;
@@ -310,7 +314,8 @@ fn code_at(
     whole: usize,
     bytes: &[u8],
 ) -> Result<(Vec<Instr>, &[u8]), DecodeError>
-    ensures { Gives (λ x. (x.0.items, x.1.now)) result (spec.code_at count version whole bytes.now) }
+    ensures { Gives (λ x. (x.0.items, x.1.now)) result
+        (spec.code_at count version whole bytes.now) }
 {
     let mut code = Vec::new(alloc);
     let mut rest = bytes;
@@ -376,7 +381,8 @@ fn image_at(alloc: Global, whole: usize, bytes: &[u8]) -> Result<Image, DecodeEr
 
 /// The image whose bytes these are, of version 1 or 2, with nothing behind it.
 ///
-/// The error is the first field that is missing or not allowed, or `Trailing` where bytes are left over.
+/// The error is the first field that is missing or not allowed, or `Trailing` where bytes are left
+/// over.
 pub fn decode(alloc: Global, bytes: &[u8]) -> Result<Image, DecodeError>
     // What is read is spelled so.
     ensures found { IfOk result (λ i. Spells bytes.now (fields i)) }

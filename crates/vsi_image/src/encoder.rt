@@ -1,6 +1,6 @@
 //! From an image to its bytes, in version 2.
 
-ghost use Rattle.std.specs.Prelude.{◌≡◌, ◌≢◌, ◌<◌, ◌++◌, length, OnOk, IfOk, IfErr, All, Some, Ok};
+ghost use Rattle.std.specs.Prelude.{◌≡◌, ◌≢◌, ◌<◌, ◌++◌, ◌∷◌, length, OnOk, IfOk, IfErr, All, Some, Ok};
 ghost use Rattle.std.specs.List.{flat_map};
 ghost use Rattle.std.specs.Option.{option_map};
 ghost use Rattle.vsi_image.specs.declared.encoder.EncodeError.TheVariants.{Memory, Unencodable};
@@ -15,13 +15,20 @@ use crate::opcodes::{self, MAGIC, VERSION};
 use std::alloc::{AllocError, Global};
 use thiserror::Error;
 
+/// Adds a byte and the bytes that belong to it.
+fn put_behind(out: &mut Vec<u8>, byte: u8, bytes: &[u8]) -> Result<(), AllocError>
+    ensures { OnOk result (out.new.items ≡ out.old.items ++ (byte ∷ bytes.now)) }
+{
+    out.push(byte)?;
+    out.extend_from_slice(bytes)
+}
+
 /// Adds a name: its length, a byte, and its bytes.
 fn put_string(out: &mut Vec<u8>, text: &[u8]) -> Result<(), AllocError>
     requires { length text.now < 256 }
     ensures { OnOk result (out.new.items ≡ out.old.items ++ string text.now) }
 {
-    out.push(text.len() as u8)?;
-    out.extend_from_slice(text)
+    put_behind(out, text.len() as u8, text)
 }
 
 /// Adds a global's name and the name of its class.
@@ -39,40 +46,25 @@ fn put_instr(out: &mut Vec<u8>, instr: Instr) -> Result<(), AllocError>
     ensures { OnOk result (out.new.items ≡ out.old.items ++ instr_bytes instr) }
 {
     match instr {
-        Instr::Push(n) => {
-            out.push(opcodes::PUSH)?;
-            out.extend_from_slice(&n.to_be_bytes())?;
-        }
-        Instr::Load(s) => {
-            out.push(opcodes::LOAD)?;
-            out.extend_from_slice(&s.to_be_bytes())?;
-        }
-        Instr::Store(s) => {
-            out.push(opcodes::STORE)?;
-            out.extend_from_slice(&s.to_be_bytes())?;
-        }
-        Instr::Add => out.push(opcodes::ADD)?,
-        Instr::Sub => out.push(opcodes::SUB)?,
-        Instr::Eq => out.push(opcodes::EQ)?,
-        Instr::Lt => out.push(opcodes::LT)?,
-        Instr::Jz(t) => {
-            out.push(opcodes::JZ)?;
-            out.extend_from_slice(&t.to_be_bytes())?;
-        }
-        Instr::Jmp(t) => {
-            out.push(opcodes::JMP)?;
-            out.extend_from_slice(&t.to_be_bytes())?;
-        }
-        Instr::Halt => out.push(opcodes::HALT)?,
-        Instr::Mul => out.push(opcodes::MUL)?,
+        Instr::Push(n) => put_behind(out, opcodes::PUSH, &n.to_be_bytes()),
+        Instr::Load(s) => put_behind(out, opcodes::LOAD, &s.to_be_bytes()),
+        Instr::Store(s) => put_behind(out, opcodes::STORE, &s.to_be_bytes()),
+        Instr::Add => put_behind(out, opcodes::ADD, &[]),
+        Instr::Sub => put_behind(out, opcodes::SUB, &[]),
+        Instr::Eq => put_behind(out, opcodes::EQ, &[]),
+        Instr::Lt => put_behind(out, opcodes::LT, &[]),
+        Instr::Jz(t) => put_behind(out, opcodes::JZ, &t.to_be_bytes()),
+        Instr::Jmp(t) => put_behind(out, opcodes::JMP, &t.to_be_bytes()),
+        Instr::Halt => put_behind(out, opcodes::HALT, &[]),
+        Instr::Mul => put_behind(out, opcodes::MUL, &[]),
     }
-    Ok(())
 }
 
 /// Adds the globals.
 fn put_globals(out: &mut Vec<u8>, all: &[(Vec<u8>, Vec<u8>)]) -> Result<(), AllocError>
     requires { All (λ g. (length g.0.items < 256) × (length g.1.items < 256)) all.now }
-    ensures { OnOk result (out.new.items ≡ out.old.items ++ flat_map global_bytes (globals all.now)) }
+    ensures { OnOk result
+        (out.new.items ≡ out.old.items ++ flat_map global_bytes (globals all.now)) }
 {
     for g in all {
         put_global(out, g)?;
@@ -126,7 +118,8 @@ fn put_head(
     stack: u16,
     count: u32,
 ) -> Result<(), AllocError>
-    ensures { OnOk result (out.new.items ≡ out.old.items ++ head_bytes 2 globals slots stack count) }
+    ensures { OnOk result
+        (out.new.items ≡ out.old.items ++ head_bytes 2 globals slots stack count) }
 {
     out.extend_from_slice(&MAGIC)?;
     out.push(VERSION)?;
@@ -183,7 +176,8 @@ pub fn encode(alloc: Global, image: &Image) -> Result<Vec<u8>, EncodeError>
     // An image that has bytes is within its limits.
     ensures allowed { OnOk result (IsAllowed (fields image.now)) }
     // The error is the first limit, unless memory ran out.
-    ensures first { IfErr result (λ e. e ≢ Memory → option_map Unencodable (first_limit (fields image.now)) ≡ Some e) }
+    ensures first { IfErr result
+        (λ e. e ≢ Memory → option_map Unencodable (first_limit (fields image.now)) ≡ Some e) }
     // The bytes spell the image, and are read as this image.
     ensures spelled { IfOk result (λ b. Spells b.items (fields image.now)) }
     ensures read { IfOk result (λ b. image_of b.items ≡ Ok (fields image.now)) }

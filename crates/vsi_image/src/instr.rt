@@ -2,8 +2,8 @@
 
 /// One instruction of the stack machine.
 ///
-/// An instruction that takes two operands has the top of the stack on its right and the word under it on its left.
-/// All but a `Jz` that jumps, a `Jmp` and a `Halt` go on to the next instruction.
+/// An instruction that takes two operands has the top of the stack on its right and the word under
+/// it on its left. All but a `Jz` that jumps, a `Jmp` and a `Halt` go on to the next instruction.
 #[derive(Clone, Copy, PartialEq, Eq, Debug)]
 pub enum Instr {
     /// Pushes this number.
@@ -30,7 +30,8 @@ pub enum Instr {
     Halt,
 }
 
-/// A program of the stack machine. Its numbers may be past their limits: `encode` and `verify` judge them.
+/// A program of the stack machine. Its numbers may be past their limits: `encode` and `verify`
+/// judge them.
 #[derive(PartialEq, Eq, Debug, Drop)]
 pub struct Image {
     /// Each global's name and the name of its class, at most 256 globals.

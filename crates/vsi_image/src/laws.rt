@@ -1,4 +1,5 @@
-//! What the definitions say together. Each function is a law alone: it has no result and does nothing.
+//! What the definitions say together. Each function is a law alone: it has no result and does
+//! nothing.
 
 ghost use Rattle.std.specs.Prelude.{◌≡◌, ◌↔◌, ℕ, List, None, Ok, slice_get};
 ghost use Rattle.vsi_image.specs.Fields.{Fields, IsAllowed, Spells};
@@ -20,5 +21,6 @@ pub fn spelling_laws()
     // No bytes spell two images.
     ensures apart { (bytes : List ℕ) (f g : Fields) → Spells bytes f → Spells bytes g → f ≡ g }
     // Within a version, which byte 3 says, an image has one spelling.
-    ensures one { (f : Fields) (a b : List ℕ) → Spells a f → Spells b f → slice_get a 3 ≡ slice_get b 3 → a ≡ b }
+    ensures one { (f : Fields) (a b : List ℕ) → Spells a f → Spells b f → slice_get a 3
+        ≡ slice_get b 3 → a ≡ b }
 {}

@@ -1,9 +1,11 @@
-//! Images of the stack machine: instructions, the bytes of an image, its text, and which images are valid.
+//! Images of the stack machine: instructions, the bytes of an image, its text, and which images are
+//! valid.
 //!
-//! `encode` writes an image as bytes and `decode` reads it back; their contracts speak of one definition of the
-//! bytes, `specs/Fields`, and of the first field that isn't allowed, `specs/Reading`. `verify` answers the same image
-//! as a `Verified`, exactly where it is valid (`specs/Valid`), else its first fault (`specs/Faults`). `listing` is the
-//! text of an image (`specs/Listing`). `laws` says what the definitions say together.
+//! `encode` writes an image as bytes and `decode` reads it back; their contracts speak of one
+//! definition of the bytes, `specs/Fields`, and of the first field that isn't allowed,
+//! `specs/Reading`. `verify` answers the same image as a `Verified`, exactly where it is valid
+//! (`specs/Valid`), else its first fault (`specs/Faults`). `listing` is the text of an image
+//! (`specs/Listing`). `laws` says what the definitions say together.
 #![tactic(auto)]
 
 mod decoder;

@@ -1,6 +1,7 @@
 //! Instructions and images as text.
 
-ghost use Rattle.std.specs.Prelude.{◌≡◌, ◌++◌, OnOk, IfOk, decimal, if◌then◌else◌, is_ok};
+ghost use Rattle.std.specs.Prelude.{◌≡◌, ◌++◌, OnOk, IfOk, codes, decimal, if◌then◌else◌, is_ok};
+ghost use Rattle.std.specs.Fmt.{signed_decimal};
 ghost use Rattle.std.specs.List.{flat_map};
 ghost use Rattle.vsi_image.specs.Fields.{fields, global, globals};
 ghost use Rattle.vsi_image.specs.Listing as spec;
@@ -19,7 +20,8 @@ fn put_number(out: &mut Vec<u8>, n: usize) -> Result<(), AllocError>
 
 /// Adds a word and its operand, or neither of them.
 fn put_both(out: &mut Vec<u8>, word: &[u8], operand: &[u8]) -> Result<(), AllocError>
-    ensures { out.new.items ≡ (if is_ok result then out.old.items ++ word.now ++ operand.now else out.old.items) }
+    ensures { out.new.items
+        ≡ (if is_ok result then out.old.items ++ word.now ++ operand.now else out.old.items) }
 {
     let before = out.len();
     out.extend_from_slice(word)?;
@@ -30,24 +32,42 @@ fn put_both(out: &mut Vec<u8>, word: &[u8], operand: &[u8]) -> Result<(), AllocE
     added
 }
 
+/// Adds a word and a number in decimal, or neither of them.
+fn put_natural(out: &mut Vec<u8>, word: &[u8], n: u32) -> Result<(), AllocError>
+    ensures { out.new.items
+        ≡ (if is_ok result then out.old.items ++ word.now ++ decimal n else out.old.items) }
+{
+    let mut buffer = Buffer::new();
+    put_both(out, word, buffer.format(n).as_bytes())
+}
+
+/// Adds the text of a push of this word of the machine, or nothing.
+fn put_push(out: &mut Vec<u8>, n: i64) -> Result<(), AllocError>
+    ensures { out.new.items ≡ (if is_ok result
+        then out.old.items ++ codes "PUSH " ++ signed_decimal n else out.old.items) }
+{
+    let mut buffer = Buffer::new();
+    put_both(out, b"PUSH ", buffer.format(n).as_bytes())
+}
+
 impl Instr {
-    /// Adds the text of the instruction at the end: its word, and its operand in decimal, as in `LOAD 0` or `PUSH -5`.
-    /// Where memory is wanting the text stays as it was.
+    /// Adds the text of the instruction at the end: its word, and its operand in decimal, as in
+    /// `LOAD 0` or `PUSH -5`. Where memory is wanting the text stays as it was.
     pub fn write_to(self, out: &mut Vec<u8>) -> Result<(), AllocError>
-        ensures { out.new.items ≡ (if is_ok result then out.old.items ++ spec.instr_text self else out.old.items) }
+        ensures { out.new.items
+            ≡ (if is_ok result then out.old.items ++ spec.instr_text self else out.old.items) }
     {
-        let mut buffer = Buffer::new();
         match self {
-            Instr::Push(n) => put_both(out, b"PUSH ", buffer.format(n).as_bytes()),
-            Instr::Load(s) => put_both(out, b"LOAD ", buffer.format(s).as_bytes()),
-            Instr::Store(s) => put_both(out, b"STORE ", buffer.format(s).as_bytes()),
+            Instr::Push(n) => put_push(out, n),
+            Instr::Load(s) => put_natural(out, b"LOAD ", s as u32),
+            Instr::Store(s) => put_natural(out, b"STORE ", s as u32),
             Instr::Add => out.extend_from_slice(b"ADD"),
             Instr::Sub => out.extend_from_slice(b"SUB"),
             Instr::Mul => out.extend_from_slice(b"MUL"),
             Instr::Eq => out.extend_from_slice(b"EQ"),
             Instr::Lt => out.extend_from_slice(b"LT"),
-            Instr::Jz(t) => put_both(out, b"JZ ", buffer.format(t).as_bytes()),
-            Instr::Jmp(t) => put_both(out, b"JMP ", buffer.format(t).as_bytes()),
+            Instr::Jz(t) => put_natural(out, b"JZ ", t),
+            Instr::Jmp(t) => put_natural(out, b"JMP ", t),
             Instr::Halt => out.extend_from_slice(b"HALT"),
         }
     }
@@ -87,7 +107,8 @@ fn put_global(out: &mut Vec<u8>, g: &(Vec<u8>, Vec<u8>)) -> Result<(), AllocErro
 
 /// Adds the lines of the globals.
 fn put_globals(out: &mut Vec<u8>, all: &[(Vec<u8>, Vec<u8>)]) -> Result<(), AllocError>
-    ensures { OnOk result (out.new.items ≡ out.old.items ++ flat_map spec.global_line (globals all.now)) }
+    ensures { OnOk result
+        (out.new.items ≡ out.old.items ++ flat_map spec.global_line (globals all.now)) }
 {
     for g in all {
         put_global(out, g)?;
@@ -105,8 +126,8 @@ fn put_number_line(out: &mut Vec<u8>, word: &[u8], n: usize) -> Result<(), Alloc
     Ok(())
 }
 
-/// The image as text: a line each for the number of globals, of slots and of operands, then a line per global and a
-/// line per instruction.
+/// The image as text: a line each for the number of globals, of slots and of operands, then a line
+/// per global and a line per instruction.
 pub fn listing(alloc: Global, image: &Image) -> Result<Vec<u8>, AllocError>
     ensures { IfOk result (λ text. text.items ≡ spec.listing (fields image.now)) }
 {

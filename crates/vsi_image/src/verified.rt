@@ -24,7 +24,8 @@ impl Verified {
     ghost use Rattle.std.specs.Prelude.{◌≡◌};
     ghost use Rattle.vsi_image.specs.Valid.{IsValid};
 
-    /// An image that is proved to be valid, as that of a code generator; one from outside goes through `verify`.
+    /// An image that is proved to be valid, as that of a code generator; one from outside goes
+    /// through `verify`.
     pub fn of(image: Image) -> Verified
         requires { IsValid image }
         ensures { result ≡ image }

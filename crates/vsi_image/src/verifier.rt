@@ -1,4 +1,5 @@
-//! The verifier, which takes no memory: it goes once over the code, with a row of marks, and once over the jumps.
+//! The verifier, which takes no memory: it goes once over the code, with a row of marks, and once
+//! over the jumps.
 
 ghost use Rattle.std.specs.Prelude.{◌≡◌, ◌↔◌, ℕ, ◌<◌, ◌≤◌, ◌-◌, length, IfOk, IfErr, IsOk, Some, IsNone, false, true, slice_get};
 ghost use Rattle.std.specs.Option.{option_map_or};
@@ -40,7 +41,8 @@ pub enum VerifyError {
     RunsOff,
 }
 
-/// The first fault of an instruction that is met with this many operands, apart from the depth at its target.
+/// The first fault of an instruction that is met with this many operands, apart from the depth at
+/// its target.
 fn fault_at(image: &Image, pc: usize, depth: usize, instr: Instr) -> Option<VerifyError>
     requires { depth ≤ 65535 }
     ensures { result ≡ spec.fault_at image.now pc depth instr }
@@ -138,8 +140,9 @@ fn fault_of(image: &Image) -> Option<VerifyError>
     check_targets(&image.code, &marks)
 }
 
-/// The same image, known to be valid, or the image back with its first fault: a limit, then the instructions' faults
-/// in turn, then a code that runs off its end, then the jumps to instructions that are met with operands.
+/// The same image, known to be valid, or the image back with its first fault: a limit, then the
+/// instructions' faults in turn, then a code that runs off its end, then the jumps to instructions
+/// that are met with operands.
 pub fn verify(image: Image) -> Result<Verified, (Image, VerifyError)>
     // It is verified exactly where it is valid.
     ensures valid { IsOk result ↔ IsValid image }

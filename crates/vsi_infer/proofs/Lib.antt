@@ -7,6 +7,7 @@ pub mod OrderLemmas
 pub mod RankLemmas
 pub mod WorklistLemmas
 pub mod TargetLemmas
+pub mod ReachLemmas
 pub mod Bridge
 pub mod DistanceLemmas
 pub mod StepSearchLemmas

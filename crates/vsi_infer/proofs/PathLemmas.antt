@@ -1,7 +1,7 @@
 -- Paths and bad walks, and when a step is one of a list.
 use Rattle.std.proofs.Common.{◌≡◌, ℕ, zero, suc, ◌+◌, ◌<◌, ◌==◌, ◌&&◌, ◌||◌, cond, Bool, true, false, not, List, [], ◌∷◌, ◌++◌, take, length, get_or, slice_get, Some, None, refl, sym, ap, ◌∙◌, subst, arith, inl, inr, eq-eqb}
 use Rattle.std.specs.Prelude.{slice_index}
-use Rattle.std.specs.List.{All, Contains, list_any, find}
+use Rattle.std.specs.List.{All, Contains, list_any, find, insert}
 use Rattle.std.proofs.lemmas.List.{take_more}
 use Rattle.std.proofs.lemmas.List.Folds.{list_any_at, list_any-append}
 use Rattle.std.proofs.lemmas.List.Elements.{All-nil, All-cons, All-head, All-tail}
@@ -24,6 +24,10 @@ use Rattle.vsi_types.specs.Walks.{IsChain, last_target, IsBad, declared_class}
 use Rattle.vsi_infer.specs.Leading.{observes_ending}
 use Rattle.vsi_infer.specs.Membership.{same_rule, same_span, read_is, written_is, same_step, reads_pass, ends_pass, passes}
 use Rattle.vsi_infer.specs.Paths.{IsPath}
+
+-- A step before all others.
+pub insert_first : (xs : List Step) (s : Step) → insert xs 0 s ≡ s ∷ xs
+insert_first xs s = refl
 
 module _ (ss : List Step) where
   -- A path goes on with a step.

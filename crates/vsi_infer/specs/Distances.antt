@@ -54,3 +54,9 @@ module _ (flows : ℕ → ℕ → Bool) where
 pub record AtMost (flows : ℕ → ℕ → Bool) (goals : List Bool) (level : ℕ) (far : List ℕ) : Type 0 where
   pub spreads : Spreads flows goals level far
   pub within : (v : ℕ) → v < length far → slice_index far v < none → slice_index far v ≤ level
+
+-- The number at each place is that of the fewest flows that lead from it to place b, or 65535 where none do.
+pub record AreLeast (flows : ℕ → ℕ → Bool) (count b : ℕ) (row : List ℕ) : Type 0 where
+  pub len : length row ≡ count
+  pub sound : (v : ℕ) → v < count → slice_index row v < none → Leads flows (slice_index row v) v b
+  pub least : (n v : ℕ) → Leads flows n v b → (slice_index row v < none) × (slice_index row v ≤ n)

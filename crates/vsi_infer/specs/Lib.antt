@@ -6,6 +6,7 @@ pub mod Choices
 pub mod Ranks
 pub mod Inference
 pub mod Distances
+pub mod Reach
 pub mod StepSearch
 pub mod FirstSteps
 pub mod Membership

@@ -1,11 +1,12 @@
 -- Which steps begin a shortest bad walk, and which go on with it.
 use Rattle.std.specs.Prelude.{◌≡◌, ◌⊎◌, ◌+◌, ℕ, suc, nat_lt, ◌<◌, ◌≤◌, ◌==◌, ◌&&◌, Bool, false, not, cond, Option, Some, None, List, [], map, length, slice_index, slice_index_or, slice_get}
-use Rattle.std.specs.List.{Contains}
+use Rattle.std.specs.List.{All, Contains}
 use Rattle.vsi_lattice.specs.Order.{Lattice}
 use Rattle.vsi_types.specs.declared.rules.Step.{Step}
 use Rattle.vsi_types.specs.Steps.{sink}
 use Rattle.vsi_infer.specs.Distances.{AreDistances}
 use Rattle.vsi_infer.specs.Paths.{IsPath}
+use Rattle.vsi_infer.specs.declared.shortest.WalksTo.{WalksTo}
 
 -- The class is declared, and isn't at or above `low`.
 abbrev pub is_high : (ℕ → ℕ → Bool) → ℕ → Option ℕ → Bool
@@ -65,3 +66,9 @@ pub record IsArrived (ss : List Step) (last : ℕ) (row : List ℕ) (a count : �
   pub path : IsPath ss a steps end
   pub level : slice_index row (row_of last end) ≡ 0
   pub size : length steps ≡ count
+
+-- What finds the walks down a row: the row, and some of the steps of the list.
+pub record FindsWalks (ss : List Step) (last : ℕ) (row : List ℕ) (w : WalksTo) : Type 0 where
+  pub known : All (Contains ss) w.known.steps.items
+  pub same_row : w.row.now ≡ row
+  pub same_last : w.last ≡ last

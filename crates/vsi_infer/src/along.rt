@@ -42,15 +42,16 @@ fn targets_of(alloc: Heap, count: usize, steps: &[Step]) -> Result<Vec<u16>, All
     Ok(targets)
 }
 
-/// For each step of a walk, up to the first one that has none, the program's first step that leads from its source
-/// where the walk leads.
+/// For each step of a walk, up to the first one that has none, the program's first step that leads
+/// from its source where the walk leads.
 pub(crate) fn steps_along(
     alloc: Heap,
     profile: Profile,
     program: &Resolved<'_>,
     walk: &[Step],
 ) -> Result<Vec<Step>, AllocError>
-    ensures { IfOk result (λ v. All (Contains (steps_of profile (program_of program.now))) v.items) }
+    ensures { IfOk result
+        (λ v. All (Contains (steps_of profile (program_of program.now))) v.items) }
 {
     let targets = targets_of(alloc, 1024, walk)?;
     let kept = first_steps(alloc, profile, program, &Along { targets })?;

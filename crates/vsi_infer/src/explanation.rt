@@ -89,7 +89,8 @@ pub fn put_variable(
 ) -> Result<(), AllocError>
     requires globals { All (IsClass (order lattice.now)) (program_of program.now).globals }
     requires declared { AreClasses (order lattice.now) (program_of program.now).declared }
-    ensures { OnOk result (text.new.items ≡ text.old.items ++ spec.variable_text lattice.now program.now variable) }
+    ensures { OnOk result
+        (text.new.items ≡ text.old.items ++ spec.variable_text lattice.now program.now variable) }
 {
     put_name(text, program, variable)?;
     text.extend_from_slice(b" : ")?;
@@ -105,7 +106,8 @@ fn put_step(
     step: &Step,
 ) -> Result<(), AllocError>
     requires { All (IsMarkOf source.now) marks.now }
-    ensures { OnOk result (text.new.items ≡ text.old.items ++ spec.step_line source.now program.now step.now) }
+    ensures { OnOk result
+        (text.new.items ≡ text.old.items ++ spec.step_line source.now program.now step.now) }
 {
     put_place(text, source, marks, step.read.start)?;
     text.extend_from_slice(b" ")?;
@@ -147,7 +149,8 @@ fn put_last(
 ) -> Result<(), AllocError>
     requires globals { All (IsClass (order lattice.now)) (program_of program.now).globals }
     requires declared { AreClasses (order lattice.now) (program_of program.now).declared }
-    ensures { OnOk result (text.new.items ≡ text.old.items ++ spec.last_text lattice.now program.now first last) }
+    ensures { OnOk result
+        (text.new.items ≡ text.old.items ++ spec.last_text lattice.now program.now first last) }
 {
     put_variable(text, lattice, program, first)?;
     text.extend_from_slice(b" may not flow to ")?;
@@ -155,8 +158,9 @@ fn put_last(
     text.extend_from_slice(b"\n")
 }
 
-/// The text of a walk that `check_walk_in` calls bad under the strict profile, which a walk that is bad under the base
-/// profile is too: a line for each step, and a last line with the classes. The places are those of the source text.
+/// The text of a walk that `check_walk_in` calls bad under the strict profile, which a walk that is
+/// bad under the base profile is too: a line for each step, and a last line with the classes. The
+/// places are those of the source text.
 pub fn explain(
     alloc: Heap,
     source: &[u8],
@@ -167,7 +171,8 @@ pub fn explain(
     requires globals { All (IsClass (order lattice.now)) (program_of program.now).globals }
     requires declared { AreClasses (order lattice.now) (program_of program.now).declared }
     requires bad { IsBad (order lattice.now) Strict (program_of program.now) walk.now.steps.items }
-    ensures { IfOk result (λ t. t.items ≡ spec.explanation lattice.now source.now program.now walk.now.steps.items) }
+    ensures { IfOk result
+        (λ t. t.items ≡ spec.explanation lattice.now source.now program.now walk.now.steps.items) }
 {
     let mut text = Vec::new(alloc);
     let steps = walk.steps.as_slice();

@@ -13,7 +13,8 @@ use vsi_scope::{Cmd, Ex, Var};
 use vsi_syntax::Span;
 use vsi_types::Profile;
 
-/// For each variable a row of what flows to it, the variable of each location, and the next declaration's number.
+/// For each variable a row of what flows to it, the variable of each location, and the next
+/// declaration's number.
 #[derive(Drop)]
 pub(crate) struct FlowMatrix {
     pub(crate) rows: Vec<u64>,
@@ -74,7 +75,8 @@ fn note_ending(walk: &mut FlowMatrix, profile: Profile, looping: bool, sink: u16
 fn within(around: &[u64; 16], scope: &[Var], guard: &Ex) -> [u64; 16]
     requires places { HasLocations (length scope.now) (expression guard.now) }
     requires scope { All (λ v. v < 1024) scope.now }
-    ensures { (a : ℕ) → row_reads result a ≡ (row_reads around.now a || reads_it scope.now (expression guard.now) a) }
+    ensures { (a : ℕ) → row_reads result a
+        ≡ (row_reads around.now a || reads_it scope.now (expression guard.now) a) }
 {
     let mut words = *around;
     note_reads(&mut words, 0, scope, guard);
@@ -99,7 +101,7 @@ fn note_assign(
     let target = walk.scope[location as usize];
     let row = target.0 as usize;
     note_reads(&mut walk.rows, row, &walk.scope, value);
-    note_row(&mut walk.rows, row, around);
+    note_row(&mut walk.rows, row, around, 0);
 }
 
 /// Notes a choice, and says whether it loops.
@@ -113,7 +115,8 @@ fn note_if(
     else_branch: &[Cmd],
     guard: &Ex,
 ) -> Result<bool, AllocError>
-    requires { IsReady sink (position_of walk.old) (If (expression guard.now) (sequence then_branch.now)
+    requires { IsReady sink (position_of walk.old)
+        (If (expression guard.now) (sequence then_branch.now)
         (sequence else_branch.now)) }
     ensures { Noted profile sink (row_reads around.now) (position_of walk.old)
         (If (expression guard.now) (sequence then_branch.now) (sequence else_branch.now))
@@ -137,7 +140,8 @@ fn note_while(
     body: &[Cmd],
     guard: &Ex,
 ) -> Result<bool, AllocError>
-    requires { IsReady sink (position_of walk.old) (While (expression guard.now) (sequence body.now)) }
+    requires { IsReady sink (position_of walk.old)
+        (While (expression guard.now) (sequence body.now)) }
     ensures { Noted profile sink (row_reads around.now) (position_of walk.old)
         (While (expression guard.now) (sequence body.now)) (position_of walk.new) result }
 {
@@ -157,7 +161,8 @@ fn note_letvar(
     body: &[Cmd],
     value: &Ex,
 ) -> Result<bool, AllocError>
-    requires { IsReady sink (position_of walk.old) (Letvar (expression value.now) (sequence body.now)) }
+    requires { IsReady sink (position_of walk.old)
+        (Letvar (expression value.now) (sequence body.now)) }
     ensures { Noted profile sink (row_reads around.now) (position_of walk.old)
         (Letvar (expression value.now) (sequence body.now)) (position_of walk.new) result }
 {

@@ -12,10 +12,11 @@ use std::alloc::{AllocError, Global as Heap};
 use vsi_scope::Resolved;
 use vsi_types::{Profile, first_variables};
 
-/// For each variable 16 words, a bit for each variable that flows to it; the last row is that of the loops' ending.
+/// For each variable 16 words, a bit for each variable that flows to it; the last row is that of
+/// the loops' ending.
 #[derive(Drop)]
 pub struct FlowRows {
-    rows: Vec<u64>,
+    pub(crate) rows: Vec<u64>,
     ghost lawful: { length rows.items ≤ 16400 },
 }
 
@@ -35,7 +36,8 @@ pub fn flow_rows(
     profile: Profile,
     program: &Resolved<'_>,
 ) -> Result<FlowRows, AllocError>
-    ensures { IfOk result (λ f. AreFlowsOf profile (program_of program.now) (⟦<FlowRows as Flow>⟧.flows f)) }
+    ensures { IfOk result
+        (λ f. AreFlowsOf profile (program_of program.now) (⟦<FlowRows as Flow>⟧.flows f)) }
 {
     let body = program.body();
     let count = program.globals().len() as u16;

@@ -29,9 +29,12 @@ fn gather_assign<W: Wanted>(
     written: Span,
     value: &Ex,
 ) -> Result<bool, AllocError>
-    requires { HasPlaces (length walk.now.scope.items) (Assign location written (expression value.now)) }
-    ensures { (P : Profile) (names : ℕ → Span) → Gathers P names (walker_place walk.now) log.old.kept.steps.items
-        (Assign location written (expression value.now)) (walker_place walk.now) log.new.kept.steps.items result }
+    requires { HasPlaces (length walk.now.scope.items)
+        (Assign location written (expression value.now)) }
+    ensures { (P : Profile) (names : ℕ → Span) →
+        Gathers P names (walker_place walk.now) log.old.kept.steps.items
+        (Assign location written (expression value.now)) (walker_place walk.now)
+        log.new.kept.steps.items result }
 {
     log.turn = log.turn.wrapping_add(STRIDE);
     let target = walk.scope[location as usize];
@@ -63,8 +66,10 @@ fn gather_if<W: Wanted>(
 ) -> Result<bool, AllocError>
     requires { HasRoom first (length entries.now) (walker_place walk.old)
         (If (expression guard.now) (sequence then_branch.now) (sequence else_branch.now)) }
-    ensures { Gathers profile (name_place entries.now first) (walker_place walk.old) log.old.kept.steps.items
-        (If (expression guard.now) (sequence then_branch.now) (sequence else_branch.now)) (walker_place walk.new)
+    ensures { Gathers profile (name_place entries.now first) (walker_place walk.old)
+        log.old.kept.steps.items
+        (If (expression guard.now) (sequence then_branch.now) (sequence else_branch.now))
+        (walker_place walk.new)
         log.new.kept.steps.items result }
 {
     let turn = log.turn.wrapping_add(STRIDE);
@@ -95,8 +100,10 @@ fn gather_while<W: Wanted>(
 ) -> Result<bool, AllocError>
     requires { HasRoom first (length entries.now) (walker_place walk.old)
         (While (expression guard.now) (sequence body.now)) }
-    ensures { Gathers profile (name_place entries.now first) (walker_place walk.old) log.old.kept.steps.items
-        (While (expression guard.now) (sequence body.now)) (walker_place walk.new) log.new.kept.steps.items result }
+    ensures { Gathers profile (name_place entries.now first) (walker_place walk.old)
+        log.old.kept.steps.items
+        (While (expression guard.now) (sequence body.now)) (walker_place walk.new)
+        log.new.kept.steps.items result }
 {
     let turn = log.turn.wrapping_add(STRIDE);
     log.turn = turn;
@@ -125,8 +132,10 @@ fn gather_letvar<W: Wanted>(
 ) -> Result<bool, AllocError>
     requires { HasRoom first (length entries.now) (walker_place walk.old)
         (Letvar (expression value.now) (sequence body.now)) }
-    ensures { Gathers profile (name_place entries.now first) (walker_place walk.old) log.old.kept.steps.items
-        (Letvar (expression value.now) (sequence body.now)) (walker_place walk.new) log.new.kept.steps.items result }
+    ensures { Gathers profile (name_place entries.now first) (walker_place walk.old)
+        log.old.kept.steps.items
+        (Letvar (expression value.now) (sequence body.now)) (walker_place walk.new)
+        log.new.kept.steps.items result }
 {
     log.turn = log.turn.wrapping_add(STRIDE);
     let variable = Var(walk.next);
@@ -160,7 +169,8 @@ fn gather_commands<W: Wanted>(
     body: &[Cmd],
 ) -> Result<bool, AllocError>
     requires { HasRoom first (length entries.now) (walker_place walk.old) (sequence body.now) }
-    ensures { Gathers profile (name_place entries.now first) (walker_place walk.old) log.old.kept.steps.items
+    ensures { Gathers profile (name_place entries.now first) (walker_place walk.old)
+        log.old.kept.steps.items
         (sequence body.now) (walker_place walk.new) log.new.kept.steps.items result }
 {
     let mut looping = false;
@@ -183,7 +193,8 @@ fn gather_command<W: Wanted>(
     c: &Cmd,
 ) -> Result<bool, AllocError>
     requires { HasRoom first (length entries.now) (walker_place walk.old) (command c.now) }
-    ensures { Gathers profile (name_place entries.now first) (walker_place walk.old) log.old.kept.steps.items
+    ensures { Gathers profile (name_place entries.now first) (walker_place walk.old)
+        log.old.kept.steps.items
         (command c.now) (walker_place walk.new) log.new.kept.steps.items result }
 {
     match c {
@@ -207,7 +218,8 @@ pub(crate) fn first_steps<W: Wanted>(
     program: &Resolved<'_>,
     wanted: &W,
 ) -> Result<FirstSteps, AllocError>
-    ensures { IfOk result (λ f. All (Contains (steps_of profile (program_of program.now))) f.steps.items) }
+    ensures { IfOk result
+        (λ f. All (Contains (steps_of profile (program_of program.now))) f.steps.items) }
 {
     let body = program.body();
     let first = program.globals().len() as u16;

@@ -35,7 +35,8 @@ fn declared_table<C: Classes>(
     Ok(table)
 }
 
-/// The least typable choice of classes under a profile, a class for each `letvar` in text order; else `Refused`.
+/// The least typable choice of classes under a profile, a class for each `letvar` in text order;
+/// else `Refused`.
 pub fn infer_in<C: Classes>(
     alloc: Heap,
     profile: Profile,
@@ -44,8 +45,10 @@ pub fn infer_in<C: Classes>(
 ) -> Result<Vec<Class>, InferError>
     requires globals { All (IsClass (C.lattice lattice.now)) (program_of program.now).globals }
     requires declared { AreClasses (C.lattice lattice.now) (program_of program.now).declared }
-    ensures ok { IfOk result (λ s. IsLeast (C.lattice lattice.now) profile (program_of program.now) s.items) }
-    ensures refused { IfErr result (Refuses (C.lattice lattice.now) profile (program_of program.now)) }
+    ensures ok { IfOk result
+        (λ s. IsLeast (C.lattice lattice.now) profile (program_of program.now) s.items) }
+    ensures refused { IfErr result
+        (Refuses (C.lattice lattice.now) profile (program_of program.now)) }
 {
     let _body = program.body();
     let first = program.globals().len();
@@ -67,7 +70,8 @@ pub fn infer<C: Classes>(
 ) -> Result<Vec<Class>, InferError>
     requires globals { All (IsClass (C.lattice lattice.now)) (program_of program.now).globals }
     requires declared { AreClasses (C.lattice lattice.now) (program_of program.now).declared }
-    ensures ok { IfOk result (λ s. IsLeast (C.lattice lattice.now) Base (program_of program.now) s.items) }
+    ensures ok { IfOk result
+        (λ s. IsLeast (C.lattice lattice.now) Base (program_of program.now) s.items) }
     ensures refused { IfErr result (Refuses (C.lattice lattice.now) Base (program_of program.now)) }
 {
     infer_in(alloc, Profile::Base, lattice, program)

@@ -43,7 +43,8 @@ fn goals<C: Classes>(
 /// As many empty rows.
 fn empty_rows(alloc: Global, count: usize) -> Result<Vec<Vec<u16>>, AllocError>
     ensures count { IfOk result (λ t. length t.items ≡ count) }
-    ensures empty { IfOk result (λ t. (k : ℕ) → slice_index_or (map (λ r. r.items) t.items) k [] ≡ []) }
+    ensures empty { IfOk result
+        (λ t. (k : ℕ) → slice_index_or (map (λ r. r.items) t.items) k [] ≡ []) }
 {
     let mut rows = Vec::with_capacity(alloc, count)?;
     for i in 0..count {
@@ -65,7 +66,8 @@ pub(crate) fn levels<C: Classes, F: Flow>(
     requires within { (a b : ℕ) → F.flows flow.now a b ≡ true → (a < length declared.now)
         × (b < length declared.now) }
     ensures count { IfOk result (λ t. length t.items ≡ (C.lattice lattice.now).count) }
-    ensures levels { IfOk result (λ t. AreLevels (C.lattice lattice.now) (F.flows flow.now) declared.now
+    ensures levels { IfOk result
+        (λ t. AreLevels (C.lattice lattice.now) (F.flows flow.now) declared.now
         (map (λ r. r.items) t.items)) }
 {
     let mut rows = empty_rows(alloc, lattice.count())?;

@@ -1,9 +1,9 @@
 //! The inference of classes.
 //!
-//! A resolved program over a lattice comes in; out come the least classes that are typable, one for each
-//! `letvar` (clause `ok` of `infer_in`), or a bad walk such that no bad walk has fewer steps (clause `refused`).
-//! `check_walk_in` tells bad walks from others without memory, and `explain` writes one as text. The laws of bad
-//! walks stand in `laws`.
+//! A resolved program over a lattice comes in; out come the least classes that are typable, one for
+//! each `letvar` (clause `ok` of `infer_in`), or a bad walk such that no bad walk has fewer steps
+//! (clause `refused`). `check_walk_in` tells bad walks from others without memory, and `explain`
+//! writes one as text. The laws of bad walks stand in `laws`.
 #![tactic(auto)]
 
 mod along;
@@ -20,18 +20,20 @@ mod levels;
 mod lines;
 mod looking;
 mod membership;
+mod reach;
 mod rows;
 mod shortest;
 mod step_search;
 mod walk;
 mod worklist;
 
-pub use distances::distances as fewest_flows;
 pub use error::InferError;
 pub use explanation::{explain, put_steps, put_variable};
 pub use flows::{FlowRows, flow_rows};
 pub use inference::{infer, infer_in};
 pub use lines::{Mark, marks_of};
+pub use reach::fewest_flows;
+pub use shortest::{WalksTo, row_of, walks_to};
 pub use vsi_types::Step;
 pub use walk::{Walk, check_walk, check_walk_in, check_walk_once, declared_class};
 pub use worklist::Flow;

@@ -1,7 +1,7 @@
 //! The lines and columns of many places of one text.
 //!
-//! To count from the start of the text for each place costs the product of both. Here the count starts at the last of
-//! the marks, which stand so close that none is far behind its place.
+//! To count from the start of the text for each place costs the product of both. Here the count
+//! starts at the last of the marks, which stand so close that none is far behind its place.
 
 ghost use Rattle.std.specs.Prelude.{◌≡◌, ◌+◌, ◌≤◌, take, length, IfOk};
 ghost use Rattle.std.specs.List.{All};
@@ -78,7 +78,8 @@ fn count_from(text: &[u8], mark: Mark, at: usize) -> (usize, usize)
     (here.line, here.column)
 }
 
-/// The line and the column of a place, as `line_column` tells them, where the marks are those of the text.
+/// The line and the column of a place, as `line_column` tells them, where the marks are those of
+/// the text.
 pub(crate) fn place_among(text: &[u8], marks: &[Mark], at: usize) -> (usize, usize)
     requires { All (IsMarkOf text.now) marks.now }
     ensures line { result.0 ≡ 1 + spec.breaks (take at text.now) }

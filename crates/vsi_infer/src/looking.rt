@@ -1,10 +1,11 @@
 //! What a walk over a program keeps: the first wanted step from each variable.
 //!
-//! A search for one step goes over all flow steps of a program, of which there are as many as guards times
-//! assignments. Here each pair of variables is looked at once: of the guards in force that read a variable only the
-//! first can give its first step to a target, and a row of bits says which variables they read. What is promised of a
-//! kept step is that it is one of the program's. That it is wanted and the first is left to those who use it: they
-//! test what they need, and search where a test fails.
+//! A search for one step goes over all flow steps of a program, of which there are as many as
+//! guards times assignments. Here each pair of variables is looked at once: of the guards in force
+//! that read a variable only the first can give its first step to a target, and a row of bits says
+//! which variables they read. What is promised of a kept step is that it is one of the program's.
+//! That it is wanted and the first is left to those who use it: they test what they need, and
+//! search where a test fails.
 
 ghost use Rattle.std.specs.Prelude.{◌≡◌, ◌∷◌, [], true, length, OnOk, IfOk, IfSome};
 ghost use Rattle.std.specs.List.{Contains};
@@ -250,7 +251,8 @@ pub(crate) fn look_reads<W: Wanted>(
     e: &Ex,
 ) -> Result<(), AllocError>
     requires { HasLocations (length scope.now) (expression e.now) }
-    ensures { OnOk result (IsFrom (flows target written (guarded rule (reads scope.now (expression e.now))))
+    ensures { OnOk result
+        (IsFrom (flows target written (guarded rule (reads scope.now (expression e.now))))
         log.old.kept.steps.items log.new.kept.steps.items) }
 {
     match e {
@@ -310,7 +312,8 @@ fn look_endings<W: Wanted>(
     }
 }
 
-/// Looks at the flows of a guard's reads to the ending of what loops; they come before what the guard encloses.
+/// Looks at the flows of a guard's reads to the ending of what loops; they come before what the
+/// guard encloses.
 pub(crate) fn look_ending<W: Wanted>(
     wanted: &W,
     profile: Profile,

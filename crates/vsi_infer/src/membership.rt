@@ -104,7 +104,9 @@ fn pass_assign(
 ) -> bool
     requires places { HasLocations (length cursor.now.scope.items) (expression value.now) }
     requires target { location < length cursor.now.scope.items }
-    ensures { result ≡ ((reads_pass_of step.now typing.Assign cursor.now.scope.items (expression value.now) || around)
+    ensures { result
+        ≡ ((reads_pass_of step.now typing.Assign cursor.now.scope.items (expression value.now) ||
+        around)
         && written_is_of step.now (slice_index cursor.now.scope.items location) span) }
 {
     let target = cursor.scope[location as usize];
@@ -128,7 +130,8 @@ fn pass_if(
     requires { IsFor first (length entries.now) (stand_of cursor.old)
         (If (expression guard.now) (sequence then_branch.now) (sequence else_branch.now)) }
     ensures { IsPast step.now profile (name_place entries.now first) around (stand_of cursor.old)
-        (If (expression guard.now) (sequence then_branch.now) (sequence else_branch.now)) (stand_of cursor.new) result }
+        (If (expression guard.now) (sequence then_branch.now) (sequence else_branch.now))
+        (stand_of cursor.new) result }
 {
     let ends = ends_pass(step, &cursor.scope, guard)
         && observes_ending(profile, loops(then_branch) || loops(else_branch));
@@ -225,7 +228,8 @@ fn pass_command(
     c: &Cmd,
 ) -> bool
     requires { IsFor first (length entries.now) (stand_of cursor.old) (command c.now) }
-    ensures { IsPast step.now profile (name_place entries.now first) around (stand_of cursor.old) (command c.now)
+    ensures { IsPast step.now profile (name_place entries.now first) around (stand_of cursor.old)
+        (command c.now)
         (stand_of cursor.new) result }
 {
     match c {

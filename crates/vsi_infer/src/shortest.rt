@@ -9,7 +9,7 @@ ghost use Rattle.vsi_infer.specs.Choices.{HasBadWalk};
 ghost use Rattle.vsi_infer.specs.Flowing.{AreFlowsOf};
 ghost use Rattle.vsi_infer.specs.Inference.{table, AreClasses, IsShortest};
 ghost use Rattle.vsi_infer.specs.Paths.{IsPath};
-ghost use Rattle.vsi_infer.specs.Shortest.{begins as begins_of, goes_on as goes_on_of, nearer as nearer_of, row_of as row_of_variable, LeadsDown, IsArrived};
+ghost use Rattle.vsi_infer.specs.Shortest.{begins as begins_of, goes_on as goes_on_of, nearer as nearer_of, row_of as row_of_variable, LeadsDown, IsArrived, FindsWalks};
 
 use crate::gathering::first_steps;
 use crate::levels::{far_at, fewest, level, levels};
@@ -22,14 +22,15 @@ use vsi_lattice::{Class, Classes};
 use vsi_scope::{Resolved, Var};
 use vsi_types::{LOOP, Profile, Step, Walker, first_variables};
 
-/// The place of a variable in a row: the ending of a loop has the last.
-fn row_of(last: u16, variable: Var) -> u16
+/// The place of a variable in a row: the ending of loops has the last.
+pub fn row_of(last: u16, variable: Var) -> u16
     ensures { result ≡ row_of_variable last variable }
 {
     if variable == LOOP { last } else { variable.0 }
 }
 
-/// The steps that begin a shortest bad walk: from a declared variable that is `now` away to one that is `after` away.
+/// The steps that begin a shortest bad walk: from a declared variable that is `now` away to one
+/// that is `after` away.
 #[derive(Drop)]
 pub(crate) struct Begins<'a> {
     declared: &'a [Option<Class>],
@@ -40,7 +41,8 @@ pub(crate) struct Begins<'a> {
 }
 
 impl<'a> Wanted for Begins<'a> {
-    ghost wants = { λ w s. begins_of w.declared.now (map (λ r. r.items) w.rows.now) w.last w.now w.after s };
+    ghost wants = { λ w s. begins_of w.declared.now (map (λ r. r.items) w.rows.now) w.last w.now
+        w.after s };
 
     fn is_wanted(&self, step: &Step) -> bool {
         let Some(Some(class)) = self.declared.get(step.source.0 as usize) else {
@@ -94,7 +96,8 @@ fn find_step<W: Wanted>(
     program: &Resolved<'_>,
     wanted: &W,
 ) -> Result<Option<Step>, AllocError>
-    ensures { IfOk result (λ o. o ≡ find (W.wants wanted.now) (steps_of profile (program_of program.now))) }
+    ensures { IfOk result
+        (λ o. o ≡ find (W.wants wanted.now) (steps_of profile (program_of program.now))) }
 {
     let body = program.body();
     let first = program.globals().len() as u16;
@@ -106,10 +109,12 @@ fn find_step<W: Wanted>(
     find_commands(wanted, profile, program.letvars(), first, &mut walk, body)
 }
 
-/// A wanted step of a program that has one: the one that is proposed where it is wanted, else the first one.
+/// A wanted step of a program that has one: the one that is proposed where it is wanted, else the
+/// first one.
 ///
-/// Whether a step is wanted depends on its source and its target alone, so that the first wanted step is among those
-/// that one walk over the program kept, and the search isn't needed. It stands in for a proof of that.
+/// Whether a step is wanted depends on its source and its target alone, so that the first wanted
+/// step is among those that one walk over the program kept, and the search isn't needed. It stands
+/// in for a proof of that.
 fn first_wanted<W: Wanted>(
     alloc: Heap,
     profile: Profile,
@@ -141,7 +146,8 @@ fn first_step<W: Wanted>(
     program: &Resolved<'_>,
     wanted: &W,
 ) -> Result<Step, AllocError>
-    requires { (s : Step) × Contains (steps_of profile (program_of program.now)) s × IsTrue (W.wants wanted.now s) }
+    requires { (s : Step) × Contains (steps_of profile (program_of program.now)) s
+        × IsTrue (W.wants wanted.now s) }
     ensures there { IfOk result (λ s. Contains (steps_of profile (program_of program.now)) s) }
     ensures wanted { IfOk result (λ s. IsTrue (W.wants wanted.now s)) }
 {
@@ -149,7 +155,8 @@ fn first_step<W: Wanted>(
     first_wanted(alloc, profile, program, wanted, known.earliest())
 }
 
-/// The first step from this variable to one that is `after` steps away, where the known steps are the program's.
+/// The first step from this variable to one that is `after` steps away, where the known steps are
+/// the program's.
 fn next_step(
     alloc: Heap,
     profile: Profile,
@@ -160,7 +167,8 @@ fn next_step(
     at: Var,
     after: u16,
 ) -> Result<Step, AllocError>
-    requires known { All (Contains (steps_of profile (program_of program.now))) known.now.steps.items }
+    requires known { All (Contains (steps_of profile (program_of program.now)))
+        known.now.steps.items }
     requires some { (s : Step) × Contains (steps_of profile (program_of program.now)) s
         × IsTrue (goes_on_of at row.now last after s) }
     ensures there { IfOk result (λ s. Contains (steps_of profile (program_of program.now)) s) }
@@ -173,6 +181,67 @@ fn next_step(
         after,
     };
     first_wanted(alloc, profile, program, &wanted, known.from_source(at))
+}
+
+/// Shortest walks to where a row of distances is 0: for each variable the first step of the program
+/// that leads nearer is found once, for all walks that pass there.
+#[derive(Drop)]
+pub struct WalksTo<'a> {
+    known: FirstSteps,
+    row: &'a [u16],
+    last: u16,
+}
+
+/// The walks to where a row of distances is 0; the last place of the row is that of the ending of
+/// loops. It takes one walk over the program.
+pub fn walks_to<'a>(
+    alloc: Heap,
+    profile: Profile,
+    program: &Resolved<'_>,
+    row: &'a [u16],
+    last: u16,
+) -> Result<WalksTo<'a>, AllocError>
+    ensures { IfOk result
+        (λ w. FindsWalks (steps_of profile (program_of program.now)) last row.now w) }
+{
+    let known = first_steps(alloc, profile, program, &Nearer { row, last })?;
+    Ok(WalksTo { known, row, last })
+}
+
+impl<'a> WalksTo<'a> {
+    /// The walk from a variable that is so many steps away. Of all shortest ones it is the first in
+    /// the order of the program's steps, step by step.
+    pub fn walk_from(
+        &self,
+        alloc: Heap,
+        profile: Profile,
+        program: &Resolved<'_>,
+        from: Var,
+        count: u16,
+    ) -> Result<Vec<Step>, AllocError>
+        requires known { All (Contains (steps_of profile (program_of program.now)))
+            self.now.known.steps.items }
+        requires down { LeadsDown (steps_of profile (program_of program.now)) self.now.last
+            self.now.row.now }
+        requires at { slice_index self.now.row.now (row_of_variable self.now.last from) ≡ count }
+        requires small { count < 65535 }
+        ensures { IfOk result (λ w. IsArrived (steps_of profile (program_of program.now))
+            self.now.last self.now.row.now from count w.items) }
+    {
+        let mut at = from;
+        let mut steps = Vec::new(alloc);
+        let mut left = count;
+        while left > 0 {
+            left -= 1;
+            let known = &self.known;
+            let step = next_step(
+                alloc, profile, program, known, self.row, self.last, at, left,
+            )?;
+            at = step.target;
+            steps.push(step)?;
+        }
+        Ok(steps)
+    }
 }
 
 /// Goes on with a walk, step by step, to a variable that is no step away.
@@ -190,19 +259,12 @@ fn follow(
     requires at { slice_index row.now (row_of_variable last first.target) ≡ length }
     requires small { length < 65535 }
     ensures { IfOk result (λ w. (rest : List Step) × (w.items ≡ first ∷ rest)
-        × IsArrived (steps_of profile (program_of program.now)) last row.now first.source (length + 1) (first ∷ rest)) }
+        × IsArrived (steps_of profile (program_of program.now)) last row.now first.source
+        (length + 1) (first ∷ rest)) }
 {
-    let known = first_steps(alloc, profile, program, &Nearer { row, last })?;
-    let mut at = first.target;
-    let mut steps = Vec::new(alloc);
-    steps.push(first)?;
-    let mut left = length;
-    while left > 0 {
-        left -= 1;
-        let step = next_step(alloc, profile, program, &known, row, last, at, left)?;
-        at = step.target;
-        steps.push(step)?;
-    }
+    let walks = walks_to(alloc, profile, program, row, last)?;
+    let mut steps = walks.walk_from(alloc, profile, program, first.target, length)?;
+    steps.insert(0, first)?;
     Ok(steps)
 }
 
@@ -239,9 +301,11 @@ pub(crate) fn shortest_walk<C: Classes, F: Flow>(
     requires letvars { AreClasses (C.lattice lattice.now) (program_of program.now).declared }
     requires flows { AreFlowsOf profile (program_of program.now) (F.flows flow.now) }
     requires declared { declared.now ≡ table (C.lattice lattice.now) (program_of program.now) }
-    requires bad { HasBadWalk (C.lattice lattice.now).count (C.lattice lattice.now).leq (F.flows flow.now)
+    requires bad { HasBadWalk (C.lattice lattice.now).count (C.lattice lattice.now).leq
+        (F.flows flow.now)
         (table (C.lattice lattice.now) (program_of program.now)) }
-    ensures { IfOk result (λ w. IsShortest (C.lattice lattice.now) profile (program_of program.now) w.steps.items) }
+    ensures { IfOk result
+        (λ w. IsShortest (C.lattice lattice.now) profile (program_of program.now) w.steps.items) }
 {
     let _body = program.body();
     let rows = levels(alloc, lattice, flow, declared)?;

@@ -84,7 +84,8 @@ fn find_reads<W: Wanted>(
 /// The first wanted flow of what is read to the ending of a loop.
 fn find_endings<W: Wanted>(wanted: &W, scope: &[Var], e: &Ex) -> Option<Step>
     requires { HasLocations (length scope.now) (expression e.now) }
-    ensures { result ≡ find (W.wants wanted.now) (endings Strict true (reads scope.now (expression e.now))) }
+    ensures { result ≡ find (W.wants wanted.now)
+        (endings Strict true (reads scope.now (expression e.now))) }
 {
     match e {
         Ex::Num(_) => None,
@@ -117,7 +118,8 @@ fn find_assign<W: Wanted>(
     written: Span,
     value: &Ex,
 ) -> Option<Step>
-    requires { HasPlaces (length walk.now.scope.items) (Assign location written (expression value.now)) }
+    requires { HasPlaces (length walk.now.scope.items)
+        (Assign location written (expression value.now)) }
     ensures { (P : Profile) (names : ℕ → Span) → result ≡ find (W.wants wanted.now)
         (steps P names walk.now.guards.items walk.now.scope.items walk.now.next
         (Assign location written (expression value.now))) }
@@ -132,7 +134,8 @@ fn find_assign<W: Wanted>(
 /// The first wanted flow of what a loop's guard reads to its ending.
 fn find_ending<W: Wanted>(wanted: &W, profile: Profile, scope: &[Var], guard: &Ex) -> Option<Step>
     requires { HasLocations (length scope.now) (expression guard.now) }
-    ensures { result ≡ find (W.wants wanted.now) (endings profile true (reads scope.now (expression guard.now))) }
+    ensures { result ≡ find (W.wants wanted.now)
+        (endings profile true (reads scope.now (expression guard.now))) }
 {
     match profile {
         Profile::Base => None,
@@ -181,7 +184,8 @@ fn find_if<W: Wanted>(
 ) -> Result<Option<Step>, AllocError>
     requires { HasRoom first (length entries.now) (walker_place walk.old)
         (If (expression guard.now) (sequence then_branch.now) (sequence else_branch.now)) }
-    ensures { Sought profile (name_place entries.now first) (W.wants wanted.now) (walker_place walk.old)
+    ensures { Sought profile (name_place entries.now first) (W.wants wanted.now)
+        (walker_place walk.old)
         (If (expression guard.now) (sequence then_branch.now) (sequence else_branch.now))
         (walker_place walk.new) result }
 {
@@ -220,7 +224,8 @@ fn find_while<W: Wanted>(
 ) -> Result<Option<Step>, AllocError>
     requires { HasRoom first (length entries.now) (walker_place walk.old)
         (While (expression guard.now) (sequence body.now)) }
-    ensures { Sought profile (name_place entries.now first) (W.wants wanted.now) (walker_place walk.old)
+    ensures { Sought profile (name_place entries.now first) (W.wants wanted.now)
+        (walker_place walk.old)
         (While (expression guard.now) (sequence body.now)) (walker_place walk.new) result }
 {
     if let Some(step) = find_ending(wanted, profile, &walk.scope, guard) {
@@ -248,7 +253,8 @@ fn find_letvar<W: Wanted>(
 ) -> Result<Option<Step>, AllocError>
     requires { HasRoom first (length entries.now) (walker_place walk.old)
         (Letvar (expression value.now) (sequence body.now)) }
-    ensures { Sought profile (name_place entries.now first) (W.wants wanted.now) (walker_place walk.old)
+    ensures { Sought profile (name_place entries.now first) (W.wants wanted.now)
+        (walker_place walk.old)
         (Letvar (expression value.now) (sequence body.now)) (walker_place walk.new) result }
 {
     let variable = Var(walk.next);
@@ -277,7 +283,8 @@ pub(crate) fn find_commands<W: Wanted>(
     body: &[Cmd],
 ) -> Result<Option<Step>, AllocError>
     requires { HasRoom first (length entries.now) (walker_place walk.old) (sequence body.now) }
-    ensures { Sought profile (name_place entries.now first) (W.wants wanted.now) (walker_place walk.old)
+    ensures { Sought profile (name_place entries.now first) (W.wants wanted.now)
+        (walker_place walk.old)
         (sequence body.now) (walker_place walk.new) result }
 {
     for c in body {
@@ -299,7 +306,8 @@ fn find_command<W: Wanted>(
     c: &Cmd,
 ) -> Result<Option<Step>, AllocError>
     requires { HasRoom first (length entries.now) (walker_place walk.old) (command c.now) }
-    ensures { Sought profile (name_place entries.now first) (W.wants wanted.now) (walker_place walk.old) (command c.now)
+    ensures { Sought profile (name_place entries.now first) (W.wants wanted.now)
+        (walker_place walk.old) (command c.now)
         (walker_place walk.new) result }
 {
     match c {

@@ -19,8 +19,8 @@ use vsi_lattice::{Class, Classes};
 use vsi_scope::{Resolved, Var};
 use vsi_types::{LOOP, Profile, Step};
 
-/// Flow steps in the order in which they are walked. A walk that `infer` answers is bad; one that is made elsewhere
-/// may be anything, and `check_walk` tells.
+/// Flow steps in the order in which they are walked. A walk that `infer` answers is bad; one that
+/// is made elsewhere may be anything, and `check_walk` tells.
 #[derive(Debug, Drop)]
 pub struct Walk {
     pub steps: Vec<Step>,
@@ -40,7 +40,8 @@ fn first_numbers(count: u16) -> ArrayVec<u16, SCOPE>
 
 /// Whether the step is one of the program's.
 fn is_step(profile: Profile, program: &Resolved<'_>, step: &Step) -> bool
-    ensures { result ≡ list_any (same_step_of step.now) (steps_of profile (program_of program.now)) }
+    ensures { result ≡ list_any (same_step_of step.now)
+        (steps_of profile (program_of program.now)) }
 {
     let body = program.body();
     let first = program.globals().len() as u16;
@@ -72,7 +73,8 @@ fn is_proposed(step: &Step, proposed: Option<Step>) -> bool
 /// Whether the step is one of the program's, where the one that is proposed is.
 fn is_step_or(profile: Profile, program: &Resolved<'_>, proposed: Option<Step>, step: &Step) -> bool
     requires { IfSome proposed (Contains (steps_of profile (program_of program.now))) }
-    ensures { result ≡ list_any (same_step_of step.now) (steps_of profile (program_of program.now)) }
+    ensures { result ≡ list_any (same_step_of step.now)
+        (steps_of profile (program_of program.now)) }
 {
     if is_proposed(step, proposed) {
         return true;
@@ -90,8 +92,8 @@ fn step_at(steps: &[Step], place: usize) -> Option<Step>
     }
 }
 
-/// The variable where the steps lead from this one, where each is the program's and goes on from the one before. Each
-/// is looked for in the program, but where it is the known one at its place.
+/// The variable where the steps lead from this one, where each is the program's and goes on from
+/// the one before. Each is looked for in the program, but where it is the known one at its place.
 fn path_end(
     profile: Profile,
     program: &Resolved<'_>,
@@ -100,8 +102,10 @@ fn path_end(
     from: Var,
 ) -> Option<Var>
     requires { All (Contains (steps_of profile (program_of program.now))) known.now }
-    ensures some { IfSome result (λ b. IsPath (steps_of profile (program_of program.now)) from steps.now b) }
-    ensures none { IfNone result ((b : ℕ) → IsPath (steps_of profile (program_of program.now)) from steps.now b → ⊥) }
+    ensures some { IfSome result
+        (λ b. IsPath (steps_of profile (program_of program.now)) from steps.now b) }
+    ensures none { IfNone result
+        ((b : ℕ) → IsPath (steps_of profile (program_of program.now)) from steps.now b → ⊥) }
 {
     let mut at = from;
     let mut place: usize = 0;
@@ -151,7 +155,8 @@ fn check_known<C: Classes>(
     requires globals { All (IsClass (C.lattice lattice.now)) (program_of program.now).globals }
     requires declared { AreClasses (C.lattice lattice.now) (program_of program.now).declared }
     requires known { All (Contains (steps_of profile (program_of program.now))) known.now }
-    ensures { IsTrue result ↔ IsBad (C.lattice lattice.now) profile (program_of program.now) walk.now.steps.items }
+    ensures { IsTrue result
+        ↔ IsBad (C.lattice lattice.now) profile (program_of program.now) walk.now.steps.items }
 {
     let steps = walk.steps.as_slice();
     let Some(first) = steps.first() else {
@@ -169,8 +174,9 @@ fn check_known<C: Classes>(
     !lattice.leq(low, high)
 }
 
-/// Whether a walk is bad under a profile: its steps are the program's, each goes on where the one before it ended,
-/// and the first source's declared class isn't at or below the last target's. It takes no memory.
+/// Whether a walk is bad under a profile: its steps are the program's, each goes on where the one
+/// before it ended, and the first source's declared class isn't at or below the last target's. It
+/// takes no memory.
 pub fn check_walk_in<C: Classes>(
     profile: Profile,
     lattice: &C,
@@ -179,13 +185,15 @@ pub fn check_walk_in<C: Classes>(
 ) -> bool
     requires globals { All (IsClass (C.lattice lattice.now)) (program_of program.now).globals }
     requires declared { AreClasses (C.lattice lattice.now) (program_of program.now).declared }
-    ensures { IsTrue result ↔ IsBad (C.lattice lattice.now) profile (program_of program.now) walk.now.steps.items }
+    ensures { IsTrue result
+        ↔ IsBad (C.lattice lattice.now) profile (program_of program.now) walk.now.steps.items }
 {
     check_known(profile, lattice, program, &[], walk)
 }
 
-/// The same with memory, and by one walk over the program where each step is the program's first one from its source
-/// to its target and no source comes twice, as in the walks that `infer_in` answers.
+/// The same with memory, and by one walk over the program where each step is the program's first
+/// one from its source to its target and no source comes twice, as in the walks that `infer_in`
+/// answers.
 pub fn check_walk_once<C: Classes>(
     alloc: Heap,
     profile: Profile,
@@ -206,7 +214,8 @@ pub fn check_walk_once<C: Classes>(
 pub fn check_walk<C: Classes>(lattice: &C, program: &Resolved<'_>, walk: &Walk) -> bool
     requires globals { All (IsClass (C.lattice lattice.now)) (program_of program.now).globals }
     requires declared { AreClasses (C.lattice lattice.now) (program_of program.now).declared }
-    ensures { IsTrue result ↔ IsBad (C.lattice lattice.now) Base (program_of program.now) walk.now.steps.items }
+    ensures { IsTrue result
+        ↔ IsBad (C.lattice lattice.now) Base (program_of program.now) walk.now.steps.items }
 {
     check_walk_in(Profile::Base, lattice, program, walk)
 }

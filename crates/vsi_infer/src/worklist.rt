@@ -24,7 +24,8 @@ pub(crate) fn raise_one<C: Classes>(
 ) -> bool
     requires from { from < length choice.old }
     requires to { to < length choice.old }
-    requires within { (v : ℕ) → v < length choice.old → slice_index choice.old v < (C.lattice lattice.now).count }
+    requires within { (v : ℕ) → v < length choice.old →
+        slice_index choice.old v < (C.lattice lattice.now).count }
     ensures quiet { result ≡ false → choice.new ≡ choice.old }
     ensures quiet_order { result ≡ false → (C.lattice lattice.now).leq (slice_index choice.old from)
         (slice_index choice.old to) ≡ true }
@@ -56,15 +57,18 @@ pub(crate) fn spread<C: Classes, F: Flow>(
     requires waits { Waits (C.lattice lattice.now).count (C.lattice lattice.now).leq
         (F.flows flow.now) declared.now choice.old waiting.old.items from 0 }
     requires from { from < length declared.now }
-    ensures choice { OnOk result (KeepsDeclared (C.lattice lattice.now).count (C.lattice lattice.now).leq
+    ensures choice { OnOk result
+        (KeepsDeclared (C.lattice lattice.now).count (C.lattice lattice.now).leq
         (F.flows flow.now) declared.now choice.new) }
-    ensures justified { OnOk result (IsJustified (C.lattice lattice.now).count (C.lattice lattice.now).leq
+    ensures justified { OnOk result
+        (IsJustified (C.lattice lattice.now).count (C.lattice lattice.now).leq
         (F.flows flow.now) declared.now choice.new) }
     ensures waits { OnOk result (Waits (C.lattice lattice.now).count (C.lattice lattice.now).leq
         (F.flows flow.now) declared.now choice.new waiting.new.items from (length declared.now)) }
     ensures smaller { OnOk result (vec_len waiting.new + 2 * distance (C.lattice lattice.now).leq
         (C.lattice lattice.now).count choice.new
-        ≤ vec_len waiting.old + 2 * distance (C.lattice lattice.now).leq (C.lattice lattice.now).count choice.old) }
+        ≤ vec_len waiting.old
+        + 2 * distance (C.lattice lattice.now).leq (C.lattice lattice.now).count choice.old) }
 {
     for to in 0..declared.len() {
         if let Some(_) = declared[to] {
@@ -97,9 +101,11 @@ pub(crate) fn settle<C: Classes, F: Flow>(
         (F.flows flow.now) declared.now choice.old }
     requires waits { Waits (C.lattice lattice.now).count (C.lattice lattice.now).leq
         (F.flows flow.now) declared.now choice.old waiting.old.items 0 (length declared.now) }
-    ensures choice { OnOk result (KeepsDeclared (C.lattice lattice.now).count (C.lattice lattice.now).leq
+    ensures choice { OnOk result
+        (KeepsDeclared (C.lattice lattice.now).count (C.lattice lattice.now).leq
         (F.flows flow.now) declared.now choice.new) }
-    ensures justified { OnOk result (IsJustified (C.lattice lattice.now).count (C.lattice lattice.now).leq
+    ensures justified { OnOk result
+        (IsJustified (C.lattice lattice.now).count (C.lattice lattice.now).leq
         (F.flows flow.now) declared.now choice.new) }
     ensures raised { OnOk result (IsRaised (C.lattice lattice.now).count (C.lattice lattice.now).leq
         (F.flows flow.now) declared.now choice.new) }

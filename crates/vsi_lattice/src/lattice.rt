@@ -37,7 +37,8 @@ impl Lattice {
     pub fn class_named(&self, name: &[u8]) -> Option<Class>
         ensures class { result ≡ spec.class_named self.now name.now }
         ensures within { IfSome result (IsClass (spec.order self.now)) }
-        ensures place { IfSome result (λ class. slice_get (spec.names self.now) class ≡ Some name.now) }
+        ensures place { IfSome result
+            (λ class. slice_get (spec.names self.now) class ≡ Some name.now) }
         ensures named { IfSome result (λ _. IsTrue (is_name name.now)) }
     {
         match key_place(&self.names, name) {

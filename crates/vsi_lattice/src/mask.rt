@@ -24,16 +24,18 @@ pub struct MaskLattice {
 }
 
 impl MaskLattice {
-    /// The lattice of `count` classes, 1 to 64, that the pairs declare, each the lower class and the higher one. The
-    /// order is the reflexive and transitive closure of the pairs.
+    /// The lattice of `count` classes, 1 to 64, that the pairs declare, each the lower class and
+    /// the higher one. The order is the reflexive and transitive closure of the pairs.
     pub fn new(alloc: Global, count: usize, pairs: &[(u8, u8)]) -> Result<MaskLattice, OrderError>
         requires some { 0 < count }
         requires small { count ≤ 64 }
         requires pairs { ArePairsBelow count pairs.now }
         ensures lattice { IfOk result (λ _. MakesLattice count (Leq pairs.now)) }
-        ensures order { IfOk result (λ l. IsDeclared count pairs.now (⟦<MaskLattice as Classes>⟧.lattice l)) }
+        ensures order { IfOk result
+            (λ l. IsDeclared count pairs.now (⟦<MaskLattice as Classes>⟧.lattice l)) }
         ensures refused { IfErr result (NamesFault count pairs.now) }
-        ensures accepted { MakesLattice count (Leq pairs.now) → IfErr result (λ e. e ≡ errors.Memory) }
+        ensures accepted { MakesLattice count (Leq pairs.now) →
+            IfErr result (λ e. e ≡ errors.Memory) }
     {
         let Ok(rows) = closed(alloc, count, pairs) else {
             return Err(OrderError::Memory);

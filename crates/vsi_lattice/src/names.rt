@@ -68,7 +68,8 @@ pub(crate) fn number(names: &[String], low: &str, high: &str) -> Option<(u8, u8)
 
 /// Adds a name that is not there, and says whether it did.
 fn add_name(alloc: Global, set: &mut IndexSet<String>, name: &str) -> Result<bool, LatticeError>
-    ensures added { IfOk result (λ r. r ≡ true → owned set.new.keys ≡ owned set.old.keys ++ name.now ∷ []) }
+    ensures added { IfOk result
+        (λ r. r ≡ true → owned set.new.keys ≡ owned set.old.keys ++ name.now ∷ []) }
     ensures fresh { IfOk result (λ r. r ≡ true → ¬ (StandsIn (owned set.old.keys) name.now)) }
     ensures taken { IfOk result (λ r. r ≡ false → StandsIn (owned set.old.keys) name.now) }
     ensures memory { IfErr result (λ e. e ≡ errors.Memory) }
@@ -101,7 +102,8 @@ pub(crate) fn number_pairs(
     pairs: &[(&str, &str)],
 ) -> Result<Vec<(u8, u8)>, LatticeError>
     requires few { length names.now ≤ 64 }
-    ensures numbers { IfOk result (λ v. v.items ≡ map (number_of (owned names.now)) (text_pairs pairs.now)) }
+    ensures numbers { IfOk result
+        (λ v. v.items ≡ map (number_of (owned names.now)) (text_pairs pairs.now)) }
     ensures below { IfOk result (λ v. ArePairsBelow (length names.now) v.items) }
     ensures known { OnOk result (Never (IsUnknownAt (owned names.now) (text_pairs pairs.now))) }
     ensures unknown { IfErr result (TellsUnknown (owned names.now) (text_pairs pairs.now)) }

@@ -14,7 +14,8 @@ use crate::table::{
 };
 use std::alloc::Global;
 
-/// For each two classes whether the first is at or below the second; joins and meets are searched for.
+/// For each two classes whether the first is at or below the second; joins and meets are searched
+/// for.
 #[derive(Drop)]
 pub struct PairLattice {
     count: usize,
@@ -27,16 +28,18 @@ pub struct PairLattice {
 }
 
 impl PairLattice {
-    /// The lattice of `count` classes, 1 to 64, that the pairs declare, each the lower class and the higher one. The
-    /// order is the reflexive and transitive closure of the pairs.
+    /// The lattice of `count` classes, 1 to 64, that the pairs declare, each the lower class and
+    /// the higher one. The order is the reflexive and transitive closure of the pairs.
     pub fn new(alloc: Global, count: usize, pairs: &[(u8, u8)]) -> Result<PairLattice, OrderError>
         requires some { 0 < count }
         requires small { count ≤ 64 }
         requires pairs { ArePairsBelow count pairs.now }
         ensures lattice { IfOk result (λ _. MakesLattice count (Leq pairs.now)) }
-        ensures order { IfOk result (λ l. IsDeclared count pairs.now (⟦<PairLattice as Classes>⟧.lattice l)) }
+        ensures order { IfOk result
+            (λ l. IsDeclared count pairs.now (⟦<PairLattice as Classes>⟧.lattice l)) }
         ensures refused { IfErr result (NamesFault count pairs.now) }
-        ensures accepted { MakesLattice count (Leq pairs.now) → IfErr result (λ e. e ≡ errors.Memory) }
+        ensures accepted { MakesLattice count (Leq pairs.now) →
+            IfErr result (λ e. e ≡ errors.Memory) }
     {
         let Ok(tables) = closed_tables(alloc, count, pairs) else {
             return Err(OrderError::Memory);
@@ -68,7 +71,8 @@ impl Classes for PairLattice {
 
     ghost use Rattle.vsi_lattice.specs.Laws.{lawful_is_lattice};
 
-    ghost laws = { λ s. lawful_is_lattice (table_lattice s.count s.above.items s.bottom s.top) s.lawful };
+    ghost laws = { λ s. lawful_is_lattice (table_lattice s.count s.above.items s.bottom s.top)
+        s.lawful };
 
     ghost few = { λ s. s.tables.small };
 

@@ -42,13 +42,15 @@ fn lattice_of(
     }
 }
 
-/// The lattice that a TOML text declares: `classes`, an array of 1 to 64 distinct names, and `below`, an array of
-/// pairs of them, the lower first. The order is the reflexive and transitive closure of the pairs. The error tells the
-/// first fault, in the order in which `LatticeError` lists them.
+/// The lattice that a TOML text declares: `classes`, an array of 1 to 64 distinct names, and
+/// `below`, an array of pairs of them, the lower first. The order is the reflexive and transitive
+/// closure of the pairs. The error tells the first fault, in the order in which `LatticeError`
+/// lists them.
 pub fn read_lattice(alloc: Global, text: &[u8]) -> Result<Lattice, LatticeError>
     ensures read { IfOk result (λ l. IsRead text.now (spec.names l) (spec.order l)) }
     ensures refused { IfErr result (ExplainsLattice text.now) }
-    ensures accepted { (f : File) → IsFile text.now f → IsAccepted f → IfErr result (λ e. e ≡ errors.Memory) }
+    ensures accepted { (f : File) → IsFile text.now f → IsAccepted f →
+        IfErr result (λ e. e ≡ errors.Memory) }
 {
     let table = match read_table(alloc, text) {
         Ok(table) => table,

@@ -43,7 +43,8 @@ pub(crate) fn add_pair(rows: &mut [u64], low: u8, high: u8)
 fn own_bits(alloc: Global, count: usize) -> Result<Vec<u64>, AllocError>
     requires { count ≤ 64 }
     ensures len { IfOk result (λ rows. vec_len rows ≡ count) }
-    ensures bits { IfOk result (λ rows. (a b : ℕ) → row_has rows.items a b ≡ (nat_lt a count && (a == b))) }
+    ensures bits { IfOk result
+        (λ rows. (a b : ℕ) → row_has rows.items a b ≡ (nat_lt a count && (a == b))) }
 {
     let mut rows = Vec::with_capacity(alloc, count)?;
     for a in 0..count {
@@ -61,8 +62,10 @@ impl Rows {
         requires high { high < vec_len self.old.above }
         ensures above_len { vec_len self.new.above ≡ vec_len self.old.above }
         ensures below_len { vec_len self.new.below ≡ vec_len self.old.below }
-        ensures above { AddsPair (row_has self.old.above.items) (row_has self.new.above.items) low high }
-        ensures below { AddsPair (row_has self.old.below.items) (row_has self.new.below.items) high low }
+        ensures above { AddsPair (row_has self.old.above.items) (row_has self.new.above.items) low
+            high }
+        ensures below { AddsPair (row_has self.old.below.items) (row_has self.new.below.items) high
+            low }
     {
         add_pair(&mut self.above, low, high);
         add_pair(&mut self.below, high, low);
@@ -72,10 +75,12 @@ impl Rows {
     pub(crate) fn first_tied(&self) -> Option<(u8, u8)>
         requires count { length self.now.above.items ≤ 64 }
         requires len { length self.now.below.items ≡ length self.now.above.items }
-        requires within { (a b : ℕ) → row_has self.now.above.items a b ≡ true → b < length self.now.above.items }
+        requires within { (a b : ℕ) → row_has self.now.above.items a b ≡ true →
+            b < length self.now.above.items }
         ensures some { IfSome result (λ p. IsFirstPair (length self.now.above.items)
             (AreTied self.now.above.items self.now.below.items) p.0 p.1) }
-        ensures none { IfNone result ((a b : ℕ) → a < length self.now.above.items → b < length self.now.above.items
+        ensures none { IfNone result
+            ((a b : ℕ) → a < length self.now.above.items → b < length self.now.above.items
             → ¬ (AreTied self.now.above.items self.now.below.items a b)) }
     {
         first_tied(&self.above, &self.below)
@@ -108,7 +113,8 @@ impl Rows {
         requires order { IsPreorder (length self.now.above.items) (row_has self.now.above.items) }
         requires common { AllHaveCommon self.now.above.items }
         ensures within { result < length self.now.above.items }
-        ensures greatest { (a : ℕ) → a < length self.now.above.items → row_has self.now.above.items a result ≡ true }
+        ensures greatest { (a : ℕ) → a < length self.now.above.items →
+            row_has self.now.above.items a result ≡ true }
     {
         last_class(&self.above)
     }
@@ -120,7 +126,8 @@ impl Rows {
         requires order { IsPreorder (length self.now.below.items) (row_has self.now.below.items) }
         requires common { AllHaveCommon self.now.below.items }
         ensures within { result < length self.now.below.items }
-        ensures least { (a : ℕ) → a < length self.now.below.items → row_has self.now.below.items a result ≡ true }
+        ensures least { (a : ℕ) → a < length self.now.below.items →
+            row_has self.now.below.items a result ≡ true }
     {
         last_class(&self.below)
     }
@@ -146,7 +153,8 @@ pub(crate) fn common_class(rows: &[u64], a: usize, b: usize) -> Option<u8>
 /// The first two classes whose rows have no row as their common part.
 pub(crate) fn first_apart(rows: &[u64]) -> Option<(u8, u8)>
     requires { length rows.now ≤ 64 }
-    ensures some { IfSome result (λ p. IsFirstPair (length rows.now) (LacksCommon rows.now) p.0 p.1) }
+    ensures some { IfSome result
+        (λ p. IsFirstPair (length rows.now) (LacksCommon rows.now) p.0 p.1) }
     ensures none { IfNone result (AllHaveCommon rows.now) }
 {
     for a in 0..rows.len() {
@@ -179,7 +187,8 @@ pub(crate) fn first_tied(above: &[u64], below: &[u64]) -> Option<(u8, u8)>
     requires count { length above.now ≤ 64 }
     requires len { length below.now ≡ length above.now }
     requires within { (a b : ℕ) → row_has above.now a b ≡ true → b < length above.now }
-    ensures some { IfSome result (λ p. IsFirstPair (length above.now) (AreTied above.now below.now) p.0 p.1) }
+    ensures some { IfSome result
+        (λ p. IsFirstPair (length above.now) (AreTied above.now below.now) p.0 p.1) }
     ensures none { IfNone result ((a b : ℕ) → a < length above.now → b < length above.now →
         ¬ (AreTied above.now below.now a b)) }
 {
@@ -217,7 +226,8 @@ pub(crate) fn closed(alloc: Global, count: usize, pairs: &[(u8, u8)]) -> Result<
     ensures above_len { IfOk result (λ rows. vec_len rows.above ≡ count) }
     ensures below_len { IfOk result (λ rows. vec_len rows.below ≡ count) }
     ensures above { IfOk result (λ rows. IsClosureOf count pairs.now (row_has rows.above.items)) }
-    ensures below { IfOk result (λ rows. IsTransposed (row_has rows.above.items) (row_has rows.below.items)) }
+    ensures below { IfOk result
+        (λ rows. IsTransposed (row_has rows.above.items) (row_has rows.below.items)) }
 {
     let mut rows = Rows {
         above: own_bits(alloc, count)?,

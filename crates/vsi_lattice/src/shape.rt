@@ -21,7 +21,8 @@ pub(crate) enum TextError {
 /// The table that the text is.
 pub(crate) fn read_table(alloc: Global, text: &[u8]) -> Result<Table, TextError>
     ensures ok { IfOk result (λ t. IsToml text.now (table_view t)) }
-    ensures not_toml { IfErr result (λ e. e ≡ TextError.NotToml → (ms : Members) → ¬ (IsToml text.now ms)) }
+    ensures not_toml { IfErr result
+        (λ e. e ≡ TextError.NotToml → (ms : Members) → ¬ (IsToml text.now ms)) }
 {
     match toml::table_from_slice(alloc, text) {
         Ok(table) => Ok(table),
@@ -37,7 +38,8 @@ pub(crate) fn read_table(alloc: Global, text: &[u8]) -> Result<Table, TextError>
 
 /// The texts of an array, or nothing where an item is no string.
 fn texts<'t>(alloc: Global, array: &'t [Value]) -> Result<Option<Vec<&'t str>>, AllocError>
-    ensures { IfOk result (λ found. option_map (λ v. texts v.items) found ≡ all_of as_str (items_view array.now)) }
+    ensures { IfOk result
+        (λ found. option_map (λ v. texts v.items) found ≡ all_of as_str (items_view array.now)) }
 {
     let mut found = Vec::new(alloc);
     for value in array {
@@ -138,7 +140,8 @@ pub(crate) fn read_parts<'t>(
     alloc: Global,
     table: &'t Table,
 ) -> Result<Option<FileParts<'t>>, AllocError>
-    ensures { IfOk result (λ found. option_map (λ parts. shown parts.names.items parts.pairs.items) found
+    ensures { IfOk result
+        (λ found. option_map (λ parts. shown parts.names.items parts.pairs.items) found
         ≡ file_of (table_view table.now)) }
 {
     if table.len() != 2 {

@@ -36,7 +36,8 @@ pub(crate) fn has(table: &[bool], a: usize, b: usize) -> bool
 fn own_table(alloc: Global, count: usize) -> Result<Vec<bool>, AllocError>
     requires { count ≤ 64 }
     ensures len { IfOk result (λ table. length table.items ≡ 4096) }
-    ensures cells { IfOk result (λ table. (a b : ℕ) → table_has table.items a b ≡ (nat_lt a count && (a == b))) }
+    ensures cells { IfOk result
+        (λ table. (a b : ℕ) → table_has table.items a b ≡ (nat_lt a count && (a == b))) }
 {
     let mut table = Vec::new(alloc);
     for i in 0..CELLS {
@@ -52,7 +53,8 @@ fn with_pair(alloc: Global, table: &[bool], low: u8, high: u8) -> Result<Vec<boo
     requires low { low < 64 }
     requires high { high < 64 }
     ensures len { IfOk result (λ next. length next.items ≡ 4096) }
-    ensures adds { IfOk result (λ next. AddsPair (table_has table.now) (table_has next.items) low high) }
+    ensures adds { IfOk result
+        (λ next. AddsPair (table_has table.now) (table_has next.items) low high) }
 {
     let mut next = Vec::new(alloc);
     for i in 0..CELLS {
@@ -75,7 +77,8 @@ pub(crate) fn closed_tables(
     requires pairs { ArePairsBelow count pairs.now }
     ensures above_len { IfOk result (λ tables. length tables.above.items ≡ 4096) }
     ensures below_len { IfOk result (λ tables. length tables.below.items ≡ 4096) }
-    ensures above { IfOk result (λ tables. IsClosureOf count pairs.now (table_has tables.above.items)) }
+    ensures above { IfOk result
+        (λ tables. IsClosureOf count pairs.now (table_has tables.above.items)) }
     ensures below { IfOk result (λ tables. IsTransposed (table_has tables.above.items)
         (table_has tables.below.items)) }
 {
@@ -140,7 +143,8 @@ pub(crate) fn least_above(table: &[bool], count: usize, a: usize, b: usize) -> O
 pub(crate) fn first_unjoined(table: &[bool], count: usize) -> Option<(u8, u8)>
     requires len { length table.now ≡ 4096 }
     requires count { count ≤ 64 }
-    ensures some { IfSome result (λ p. IsFirstPair count (λ x y. ¬ (HasJoin count (Says (table_has table.now)) x y))
+    ensures some { IfSome result
+        (λ p. IsFirstPair count (λ x y. ¬ (HasJoin count (Says (table_has table.now)) x y))
         p.0 p.1) }
     ensures none { IfNone result ((x y : ℕ) → x < count → y < count →
         HasJoin count (Says (table_has table.now)) x y) }
@@ -159,7 +163,8 @@ pub(crate) fn first_unjoined(table: &[bool], count: usize) -> Option<(u8, u8)>
 pub(crate) fn first_cycle(table: &[bool], count: usize) -> Option<(u8, u8)>
     requires len { length table.now ≡ 4096 }
     requires count { count ≤ 64 }
-    ensures some { IfSome result (λ p. IsFirstPair count (IsCycle count (Says (table_has table.now))) p.0 p.1) }
+    ensures some { IfSome result
+        (λ p. IsFirstPair count (IsCycle count (Says (table_has table.now))) p.0 p.1) }
     ensures none { IfNone result ((x y : ℕ) → x < count → y < count →
         ¬ (IsCycle count (Says (table_has table.now)) x y)) }
 {
@@ -185,7 +190,8 @@ pub(crate) fn greatest(table: &[bool], count: usize) -> u8
     requires some { 0 < count }
     requires count { count ≤ 64 }
     requires order { IsPreorder count (table_has table.now) }
-    requires joins { (x y : ℕ) → x < count → y < count → HasJoin count (Says (table_has table.now)) x y }
+    requires joins { (x y : ℕ) → x < count → y < count →
+        HasJoin count (Says (table_has table.now)) x y }
     ensures within { result < count }
     ensures greatest { (a : ℕ) → a < count → table_has table.now a result ≡ true }
 {

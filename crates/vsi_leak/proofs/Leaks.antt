@@ -1,5 +1,5 @@
 -- What a leak refutes, and what an accepted text shows.
-use Rattle.std.proofs.Common.{◌≡◌, ◌≢◌, ℕ, sym, subst}
+use Rattle.std.proofs.Common.{ℕ, subst}
 use Rattle.vsi_image.specs.declared.instr.Image.{Image}
 use Rattle.vsi_lattice.specs.Order.{Lattice, IsClass}
 use Rattle.vsi_scope.specs.Meaning.{Store}
@@ -8,11 +8,10 @@ use Rattle.vsi_leak.specs.declared.found.Ending.{Ending}
 use Rattle.vsi_leak.specs.declared.found.Ending.TheVariants.{Halted, OutOfBudget}
 use Rattle.vsi_leak.specs.declared.found.Finding.{Finding}
 use Rattle.vsi_leak.specs.declared.found.Finding.TheVariants as finding
-use Rattle.vsi_leak.specs.declared.found.Leak.{Leak}
 use Rattle.vsi_leak.specs.declared.found.Sign.{Sign}
 use Rattle.vsi_leak.specs.declared.found.Sign.TheVariants.{Words}
 use Rattle.vsi_leak.specs.Laws.{LeakRefutes}
-use Rattle.vsi_leak.specs.Leaks.{IsLeak, IsFinding, EndsSo, TellsApart, TellsNoWords}
+use Rattle.vsi_leak.specs.Leaks.{IsFinding, EndsSo, TellsApart, TellsNoWords}
 
 module _ (known : Known) (L : Lattice) (image : Image) (budget a : ℕ) (within : IsClass L a) (m m' : Store)
     (fits : IsStoreOf image m) (fits' : IsStoreOf image m') (agree : AgreeAt known L image a m m')

@@ -1,5 +1,6 @@
 -- What a leak is: two runs of an image that an observer at a class tells apart, though their stores agreed there.
-use Rattle.std.specs.Prelude.{◌≡◌, ◌≢◌, ℕ, ◌-◌, ◌≤◌, List, Some, false}
+use Rattle.std.specs.Prelude.{◌≡◌, ◌≢◌, ℕ, ◌-◌, ◌<◌, ◌≤◌, pos, List, length, replicate, slice_set, Some, false, IfSome, IsTrue}
+use Rattle.std.specs.List.{Contains}
 use Rattle.vsi_image.specs.declared.instr.Image.{Image}
 use Rattle.vsi_image.specs.Meaning.{State}
 use Rattle.vsi_lattice.specs.Order.{Lattice, IsClass}
@@ -13,6 +14,7 @@ use Rattle.vsi_leak.specs.declared.found.Finding.TheVariants as finding
 use Rattle.vsi_leak.specs.declared.found.Leak.{Leak}
 use Rattle.vsi_leak.specs.declared.found.Sign.{Sign}
 use Rattle.vsi_leak.specs.declared.found.Sign.TheVariants.{Words, Endings, Steps}
+use Rattle.vsi_leak.specs.declared.whole.Wanted.{Wanted}
 
 -- The run from a store with this budget has not halted.
 pub record GoesOn (image : Image) (m : Store) (budget : ℕ) : Type 0 where
@@ -25,6 +27,14 @@ pub record GoesOn (image : Image) (m : Store) (budget : ℕ) : Type 0 where
 pub record Takes (image : Image) (m : Store) (n : ℕ) (m' : Store) : Type 0 where
   pub ends : Ends image m n m'
   pub before : GoesOn image m (n - 1)
+
+-- The run from a store has halted within this many instructions.
+abbrev pub HasHalted : Image → Store → ℕ → Type 0
+HasHalted image m n = (m' : Store) × Ends image m n m'
+
+-- The run from a store takes this many instructions.
+abbrev pub TakesSome : Image → Store → ℕ → Type 0
+TakesSome image m n = (m' : Store) × Takes image m n m'
 
 -- What is told of the end of a run from a store, within a budget, is so.
 abbrev pub EndsSo : Image → Store → ℕ → Ending → Type 0
@@ -62,6 +72,24 @@ pub record IsOf (s : Sign) (a : ℕ) (m m' : Store) (leak : Leak) : Type 0 where
   pub first : leak.first.store.items ≡ m
   pub second : leak.second.store.items ≡ m'
 
+-- Two stores show no leak by this sign at this class: none is one of runs from them.
+abbrev pub ShowNone : Known → Lattice → Image → ℕ → Sign → ℕ → Store → Store → Type 0
+ShowNone known L image budget s a m m' = (leak : Leak) → IsOf s a m m' leak → ¬ (IsLeak known L image budget leak)
+
+-- Two stores show no leak by this sign at this class, in either order.
+abbrev pub ShowNoneEither : Known → Lattice → Image → ℕ → Sign → ℕ → Store → Store → Type 0
+ShowNoneEither known L image budget s a m m' =
+    ShowNone known L image budget s a m m' × ShowNone known L image budget s a m' m
+
+-- The store of zeros.
+abbrev pub zeros : Image → Store
+zeros image = replicate (length image.globals.items) (pos 0)
+
+-- Beside the store of zeros none of these shows a leak: the store with a 1 in the i-th global alone, of the first n.
+abbrev pub NoOneShows : Known → Lattice → Image → ℕ → Sign → ℕ → ℕ → Type 0
+NoOneShows known L image budget s a n =
+    (i : ℕ) → i < n → ShowNoneEither known L image budget s a (zeros image) (slice_set (zeros image) i (pos 1))
+
 -- A leak by this sign at this class.
 pub record IsLeakBy (known : Known) (L : Lattice) (image : Image) (budget : ℕ) (s : Sign) (a : ℕ)
     (leak : Leak) : Type 0 where
@@ -73,6 +101,43 @@ pub record IsLeakBy (known : Known) (L : Lattice) (image : Image) (budget : ℕ)
 abbrev pub IsAsked : Sign → ℕ → Finding → Type 0
 IsAsked s a (finding.Leak leak) = (leak.sign ≡ s) × (leak.class ≡ a)
 IsAsked s a (finding.Nothing pairs) = Unit {0}
+
+-- No more pairs of runs are told of than these.
+abbrev pub TellsAtMost : ℕ → Finding → Type 0
+TellsAtMost tries (finding.Leak leak) = Unit {0}
+TellsAtMost tries (finding.Nothing pairs) = pairs ≤ tries
+
+-- Where none is told and there were as many tries as globals, no 1 in one global alone shows a leak.
+abbrev pub LeavesNoOne : Known → Lattice → Image → ℕ → Sign → ℕ → ℕ → Finding → Type 0
+LeavesNoOne known L image budget s a tries (finding.Leak leak) = Unit {0}
+LeavesNoOne known L image budget s a tries (finding.Nothing pairs) =
+    length image.globals.items ≤ tries → NoOneShows known L image budget s a (length image.globals.items)
+
+-- A text is searched for leaks by this sign: always by words, by what else is asked for.
+abbrev pub IsWantedSign : Wanted → Sign → Type 0
+IsWantedSign wanted Words = Unit {0}
+IsWantedSign wanted Endings = IsTrue wanted.endings
+IsWantedSign wanted Steps = IsTrue wanted.steps
+
+-- What is told is by this sign.
+abbrev pub IsBy : Sign → Finding → Type 0
+IsBy s (finding.Leak leak) = leak.sign ≡ s
+IsBy s (finding.Nothing pairs) = Unit {0}
+
+-- What is told is at one of these classes.
+abbrev pub IsAtOne : List ℕ → Finding → Type 0
+IsAtOne classes (finding.Leak leak) = Contains classes leak.class
+IsAtOne classes (finding.Nothing pairs) = Unit {0}
+
+-- What is told is by a sign that a text is searched for.
+abbrev pub IsByWanted : Wanted → Finding → Type 0
+IsByWanted wanted (finding.Leak leak) = IsWantedSign wanted leak.sign
+IsByWanted wanted (finding.Nothing pairs) = Unit {0}
+
+-- What is told of a text is at the class that is asked for, if one is, and by a sign that it is searched for.
+abbrev pub IsWanted : Wanted → Finding → Type 0
+IsWanted wanted (finding.Leak leak) = IfSome wanted.class (λ a. leak.class ≡ a) × IsWantedSign wanted leak.sign
+IsWanted wanted (finding.Nothing pairs) = Unit {0}
 
 -- What a search ends with is a leak, or tells of none.
 abbrev pub IsFinding : Known → Lattice → Image → ℕ → Finding → Type 0

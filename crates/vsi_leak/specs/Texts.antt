@@ -1,5 +1,5 @@
 -- The text of a leak: both runs side by side, a row for each word.
-use Rattle.std.specs.Prelude.{◌≡◌, ℕ, ◌-◌, ℤ, List, [], ◌∷◌, ◌++◌, length, replicate, Bool, true, if◌then◌else◌, Option, Some, None, codes, decimal, bytes_eq, slice_get}
+use Rattle.std.specs.Prelude.{◌≡◌, ℕ, ◌-◌, ℤ, List, [], ◌∷◌, ◌++◌, length, replicate, Bool, true, if◌then◌else◌, max, Option, Some, None, codes, decimal, bytes_eq, slice_get}
 use Rattle.std.specs.Fmt.{signed_decimal}
 use Rattle.vsi_image.specs.Fields.{Global}
 use Rattle.vsi_lattice.specs.Order.{Lattice}
@@ -45,6 +45,23 @@ word_rows known L to width (g ∷ gs) (w ∷ ws) [] = []
 word_rows known L to width (g ∷ gs) (w ∷ ws) (v ∷ vs) =
     shown_row (is_shown known L to g.1) width g.0 w v ++ word_rows known L to width gs ws vs
 
+-- The left cell of a row, where it is shown.
+abbrev pub shown_cell : Bool → List ℕ → ℤ → List (List ℕ)
+shown_cell shown name w = if shown then word_cell name w ∷ [] else []
+
+-- The left cells of those rows, in order.
+abbrev pub left_cells : Known → Lattice → Option ℕ → List Global → Store → Store → List (List ℕ)
+left_cells known L to [] ws vs = []
+left_cells known L to (g ∷ gs) [] vs = []
+left_cells known L to (g ∷ gs) (w ∷ ws) [] = []
+left_cells known L to (g ∷ gs) (w ∷ ws) (v ∷ vs) =
+    shown_cell (is_shown known L to g.1) g.0 w ++ left_cells known L to gs ws vs
+
+-- The length of the longest cell.
+abbrev pub longest : List (List ℕ) → ℕ
+longest [] = 0
+longest (cell ∷ cells) = max (length cell) (longest cells)
+
 -- After how many instructions a run halts, or that it is out of budget.
 abbrev pub end_cell : Ending → List ℕ
 end_cell (Halted n words) = codes "after " ++ decimal n ++ codes " instructions"
@@ -56,6 +73,19 @@ seen_rows known L a width gs (Halted n ws) (Halted n' vs) = word_rows known L (S
 seen_rows known L a width gs (Halted n ws) OutOfBudget = []
 seen_rows known L a width gs OutOfBudget e = []
 
+-- The left cells of what the class sees, where both runs halt.
+abbrev pub seen_cells : Known → Lattice → ℕ → List Global → Ending → Ending → List (List ℕ)
+seen_cells known L a gs (Halted n ws) (Halted n' vs) = left_cells known L (Some a) gs ws.items vs.items
+seen_cells known L a gs (Halted n ws) OutOfBudget = []
+seen_cells known L a gs OutOfBudget e = []
+
+-- The length of the longest left cell of a leak's text.
+abbrev pub left_width : Known → Lattice → List Global → Leak → ℕ
+left_width known L gs leak =
+    max (max (length (end_cell leak.first.ending))
+    (longest (left_cells known L None gs leak.first.store.items leak.second.store.items)))
+    (longest (seen_cells known L leak.class gs leak.first.ending leak.second.ending))
+
 -- The whole text: the class, both stores at the start, and what the class sees of both runs.
 abbrev pub leak_text_of : Known → Lattice → List ℕ → ℕ → List Global → Leak → List ℕ
 leak_text_of known L name width gs leak =
@@ -65,8 +95,10 @@ leak_text_of known L name width gs leak =
     ++ seen_rows known L leak.class width gs leak.first.ending leak.second.ending
     ++ row width (end_cell leak.first.ending) (end_cell leak.second.ending)
 
--- The text of a leak under a lattice with names, for some width of the left cells.
+-- The text of a leak under a lattice with names, its left side as wide as its longest left cell.
 abbrev pub IsLeakText : named.Lattice → List Global → Leak → List ℕ → Type 0
 IsLeakText l gs leak text =
-    (name : List ℕ) × (width : ℕ) × (slice_get (names l) leak.class ≡ Some name)
-    × (text ≡ leak_text_of (class_named l) (order l) name width gs leak)
+    let known = class_named l in
+    let L = order l in
+    (name : List ℕ) × (slice_get (names l) leak.class ≡ Some name)
+    × (text ≡ leak_text_of known L name (left_width known L gs leak) gs leak)

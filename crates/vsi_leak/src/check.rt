@@ -1,10 +1,9 @@
-//! Whether two stores show a leak: both runs are made, and what they show is judged.
+//! Whether two stores show a leak: both runs are made, and what is told of them is compared.
 
-ghost use Rattle.std.specs.Prelude.{◌≡◌, IfOk, IfSome, IsTrue, length};
+ghost use Rattle.std.specs.Prelude.{◌≡◌, ◌↔◌, IfOk, IfNone, IfSome, IsTrue};
 ghost use Rattle.vsi_lattice.specs.LatticeView.{class_named, order};
 ghost use Rattle.vsi_lattice.specs.Order.{IsClass};
-ghost use Rattle.vsi_compiler.specs.Observation.{IsStoreOf, AgreeAt};
-ghost use Rattle.vsi_leak.specs.Leaks.{IsLeak, IsOf, TellsApart};
+ghost use Rattle.vsi_leak.specs.Leaks.{EndsSo, IsLeak, IsOf, ShowNone, TellsApart};
 
 use crate::found::{Ending, Leak, Run, Sign};
 use crate::observer::agree;
@@ -23,8 +22,8 @@ fn tells_apart(
     second: &Ending,
 ) -> bool
     requires { IsClass (order lattice.now) class }
-    ensures { IsTrue result
-        → TellsApart (class_named lattice.now) (order lattice.now) image.now class sign first.now second.now }
+    ensures { IsTrue result ↔ TellsApart (class_named lattice.now) (order lattice.now) image.now
+        class sign first.now second.now }
 {
     match (first, second) {
         (
@@ -37,29 +36,37 @@ fn tells_apart(
                 words: others,
             },
         ) => match sign {
-            Sign::Words => differ(lattice, class, image, words.as_slice(), others.as_slice()),
+            Sign::Words => !agree(lattice, class, image, words.as_slice(), others.as_slice()),
             Sign::Endings => false,
             Sign::Steps => n != m,
         },
-        (Ending::Halted { .. }, Ending::OutOfBudget) => sign == Sign::Endings,
+        (Ending::Halted { .. }, Ending::OutOfBudget) => match sign {
+            Sign::Words => false,
+            Sign::Endings => true,
+            Sign::Steps => false,
+        },
         (Ending::OutOfBudget, _) => false,
     }
 }
 
-/// Whether the class sees a difference between two stores of the image.
-fn differ(lattice: &Lattice, class: Class, image: &Image, first: &[i64], second: &[i64]) -> bool
-    requires { IsClass (order lattice.now) class }
-    ensures { IsTrue result → ¬ (AgreeAt (class_named lattice.now) (order lattice.now) image.now class first.now second.now) }
+/// The run from a store for at most `budget` instructions.
+fn run_from(
+    alloc: Global,
+    verified: &Verified,
+    store: &[i64],
+    budget: u64,
+) -> Result<Run, AllocError>
+    ensures store { IfOk result (λ run. run.store.items ≡ store.now) }
+    ensures ending { IfOk result (λ run. EndsSo verified.now store.now budget run.ending) }
 {
-    let count = image.globals.len();
-    if first.len() != count || second.len() != count {
-        return false;
-    }
-    !agree(lattice, class, image, first, second)
+    let ending = ending(alloc, verified, store, budget)?;
+    let store = store.to_vec(alloc)?;
+    Ok(Run { store, ending })
 }
 
-/// The leak that two stores show at the class by this sign, where they show one: both are run for at most `budget`
-/// instructions, and the first is the one that is to halt where the sign is `Endings`.
+/// The leak that two stores show at the class by this sign, and `None` exactly where they show
+/// none: both are run for at most `budget` instructions, and the first is the one that is to halt
+/// where the sign is `Endings`.
 pub fn check_leak(
     alloc: Global,
     lattice: &Lattice,
@@ -72,7 +79,11 @@ pub fn check_leak(
     requires { IsClass (order lattice.now) class }
     ensures leak { IfOk result (λ o. IfSome o
         (IsLeak (class_named lattice.now) (order lattice.now) verified.now budget)) }
-    ensures asked { IfOk result (λ o. IfSome o (λ leak. IsOf sign class stores.entry.0.now stores.entry.1.now leak)) }
+    ensures asked { IfOk result (λ o. IfSome o
+        (λ leak. IsOf sign class stores.entry.0.now stores.entry.1.now leak)) }
+    ensures none { IfOk result (λ o. IfNone o
+        (ShowNone (class_named lattice.now) (order lattice.now) verified.now budget
+        sign class stores.entry.0.now stores.entry.1.now)) }
 {
     let image = verified.image();
     let (first, second) = stores;
@@ -83,25 +94,15 @@ pub fn check_leak(
     if !agree(lattice, class, image, first, second) {
         return Ok(None);
     }
-    let Some(one) = ending(alloc, verified, first, budget)? else {
-        return Ok(None);
-    };
-    let Some(other) = ending(alloc, verified, second, budget)? else {
-        return Ok(None);
-    };
-    if !tells_apart(lattice, class, image, sign, &one, &other) {
+    let one = run_from(alloc, verified, first, budget)?;
+    let other = run_from(alloc, verified, second, budget)?;
+    if !tells_apart(lattice, class, image, sign, &one.ending, &other.ending) {
         return Ok(None);
     }
     Ok(Some(Leak {
         class,
         sign,
-        first: Run {
-            store: first.to_vec(alloc)?,
-            ending: one,
-        },
-        second: Run {
-            store: second.to_vec(alloc)?,
-            ending: other,
-        },
+        first: one,
+        second: other,
     }))
 }

@@ -29,7 +29,8 @@ pub struct Run {
     pub ending: Ending,
 }
 
-/// Two runs from stores that agree at and below a class, which an observer at the class tells apart.
+/// Two runs from stores that agree at and below a class, which an observer at the class tells
+/// apart.
 #[derive(Drop)]
 pub struct Leak {
     pub class: Class,
@@ -38,8 +39,8 @@ pub struct Leak {
     pub second: Run,
 }
 
-/// How long is searched: the most instructions of a run, the most pairs of runs for a class and a sign, and the seed of
-/// what is drawn.
+/// How long is searched: the most instructions of a run, the most pairs of runs for a class and a
+/// sign, and the seed of what is drawn.
 #[derive(Clone, Copy)]
 pub struct Effort {
     pub budget: u64,

@@ -1,8 +1,10 @@
-//! Leaks shown: two stores that agree at and below a class, and whose runs an observer at that class tells apart.
+//! Leaks shown: two stores that agree at and below a class, and whose runs an observer at that
+//! class tells apart.
 //!
-//! `find_leak` searches an image for them, `leak_of_text` the image of a source text, accepted or not. What they answer
-//! has been run on the machine by `check_leak`, whose clause `leak` says that it is one (`specs/Leaks`); what proposes
-//! it need not be believed. `leak_text` tells it. The laws of leaks stand in `laws`.
+//! `find_leak` searches an image for them, `leak_of_text` the image of a source text, accepted or
+//! not. What they answer has been run on the machine by `check_leak`, whose clauses `leak` and
+//! `none` say that it answers a leak exactly where two stores show one (`specs/Leaks`); what
+//! proposes them need not be believed. `leak_text` tells it. The laws of leaks stand in `laws`.
 #![tactic(auto)]
 
 mod check;

@@ -1,12 +1,13 @@
 //! What an observer at a class sees of stores.
 
-ghost use Rattle.std.specs.Prelude.{◌≡◌, ◌↔◌, IsTrue, length};
-ghost use Rattle.vsi_image.specs.Fields.{global, globals};
+ghost use Rattle.std.specs.Prelude.{◌≡◌, ◌↔◌, IsTrue};
+ghost use Rattle.vsi_image.specs.Fields.{globals};
 ghost use Rattle.vsi_lattice.specs.LatticeView.{class_named, order};
 ghost use Rattle.vsi_lattice.specs.Order.{IsClass};
 ghost use Rattle.vsi_compiler.specs.Observation.{AgreeAt};
-ghost use Rattle.vsi_leak.specs.Agreement.{is_seen, alike, agree_in};
+ghost use Rattle.vsi_leak.specs.Agreement.{is_seen, AgreeIn};
 
+use crate::values::word_at;
 use vsi_image::Image;
 use vsi_lattice::{Class, Classes, Lattice};
 
@@ -21,24 +22,6 @@ pub(crate) fn sees(lattice: &Lattice, class: Class, name: &[u8]) -> bool
     }
 }
 
-/// Whether the class sees no difference between two words of a global.
-fn are_alike(
-    lattice: &Lattice,
-    class: Class,
-    variable: &(Vec<u8>, Vec<u8>),
-    first: i64,
-    second: i64,
-) -> bool
-    requires { IsClass (order lattice.now) class }
-    ensures { result ≡ alike (class_named lattice.now) (order lattice.now) class (global variable.now) first second }
-{
-    if sees(lattice, class, variable.1.as_slice()) {
-        first == second
-    } else {
-        true
-    }
-}
-
 /// Whether the words agree in all globals that the class sees.
 fn agree_words(
     lattice: &Lattice,
@@ -47,14 +30,15 @@ fn agree_words(
     first: &[i64],
     second: &[i64],
 ) -> bool
-    requires class { IsClass (order lattice.now) class }
-    requires first { length first.now ≡ length variables.now }
-    requires second { length second.now ≡ length variables.now }
-    ensures { result ≡ agree_in (class_named lattice.now) (order lattice.now) class (globals variables.now) first.now second.now }
+    requires { IsClass (order lattice.now) class }
+    ensures { IsTrue result ↔ AgreeIn (class_named lattice.now) (order lattice.now)
+        (globals variables.now) class first.now second.now }
 {
     for (i, variable) in variables.iter().enumerate() {
-        if !are_alike(lattice, class, variable, first[i], second[i]) {
-            return false;
+        if sees(lattice, class, variable.1.as_slice()) {
+            if word_at(first, i) != word_at(second, i) {
+                return false;
+            }
         }
     }
     true
@@ -68,10 +52,9 @@ pub(crate) fn agree(
     first: &[i64],
     second: &[i64],
 ) -> bool
-    requires class { IsClass (order lattice.now) class }
-    requires first { length first.now ≡ length image.now.globals.items }
-    requires second { length second.now ≡ length image.now.globals.items }
-    ensures { IsTrue result ↔ AgreeAt (class_named lattice.now) (order lattice.now) image.now class first.now second.now }
+    requires { IsClass (order lattice.now) class }
+    ensures { IsTrue result ↔ AgreeAt (class_named lattice.now) (order lattice.now)
+        image.now class first.now second.now }
 {
     agree_words(lattice, class, image.globals.as_slice(), first, second)
 }

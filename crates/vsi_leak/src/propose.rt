@@ -3,15 +3,16 @@
 ghost use Rattle.vsi_lattice.specs.LatticeView.{order};
 ghost use Rattle.vsi_lattice.specs.Order.{IsClass};
 
-use crate::found::Sign;
+use crate::found::{Ending, Sign};
 use crate::observer::sees;
-use crate::runs::{instructions_of, started};
+use crate::runs::{ending, started};
 use std::alloc::{AllocError, Global};
 use vsi_image::{Image, Instr, Verified};
 use vsi_lattice::{Class, Lattice};
 use vsi_machine::Outcome;
 
-/// What pairs of runs are tried for: an image, the globals that the class sees, a sign and a budget.
+/// What pairs of runs are tried for: an image, the globals that the class sees, a sign and a
+/// budget.
 #[derive(Drop)]
 pub(crate) struct Probe<'a> {
     pub(crate) alloc: Global,
@@ -37,19 +38,35 @@ pub(crate) fn seen_globals(
     Ok(seen)
 }
 
-/// The globals that the code reads and the class doesn't see.
+/// The globals that the code reads and the class doesn't see, the preferred ones first.
 pub(crate) fn hidden_sources(
     alloc: Global,
     seen: &[bool],
     image: &Image,
+    preferred: &[usize],
 ) -> Result<Vec<usize>, AllocError> {
     let mut sources = Vec::new(alloc);
-    for (place, is_seen) in seen.iter().enumerate() {
-        if !*is_seen && reads(image, place) {
-            sources.push(place)?;
-        }
+    for place in preferred {
+        add_source(&mut sources, seen, image, *place)?;
+    }
+    for place in 0..seen.len() {
+        add_source(&mut sources, seen, image, place)?;
     }
     Ok(sources)
+}
+
+/// Adds a global that the code reads and the class doesn't see, where it isn't there yet.
+fn add_source(
+    sources: &mut Vec<usize>,
+    seen: &[bool],
+    image: &Image,
+    place: usize,
+) -> Result<(), AllocError> {
+    let is_hidden = place < seen.len() && !seen[place];
+    if is_hidden && reads(image, place) && !sources.contains(&place) {
+        sources.push(place)?;
+    }
+    Ok(())
 }
 
 /// Whether the code reads a slot.
@@ -76,7 +93,7 @@ fn differ(seen: &[bool], first: &[i64], second: &[i64]) -> bool {
 
 impl<'a> Probe<'a> {
     /// Whether the runs from two stores seem to be told apart, under `Endings` in either order.
-    pub(crate) fn tells(&self, first: &[i64], second: &[i64]) -> Result<bool, AllocError> {
+    pub(crate) fn distinguishes(&self, first: &[i64], second: &[i64]) -> Result<bool, AllocError> {
         let mut one = started(self.alloc, self.verified, first)?;
         let mut other = started(self.alloc, self.verified, second)?;
         let outcomes = (one.run(self.budget), other.run(self.budget));
@@ -95,8 +112,11 @@ impl<'a> Probe<'a> {
         }
     }
 
-    /// How many instructions a run takes that halts.
+    /// How many instructions a run takes that halts, 0 where it doesn't.
     fn instructions(&self, store: &[i64]) -> Result<u64, AllocError> {
-        instructions_of(self.alloc, self.verified, store, self.budget)
+        match ending(self.alloc, self.verified, store, self.budget)? {
+            Ending::Halted { instructions, .. } => Ok(instructions),
+            Ending::OutOfBudget => Ok(0),
+        }
     }
 }

@@ -1,9 +1,8 @@
 //! Runs of an image, and how many instructions they take.
 
-ghost use Rattle.std.specs.Prelude.{◌≡◌, ◌↔◌, IfOk, IfSome, IsTrue};
+ghost use Rattle.std.specs.Prelude.{◌≡◌, ◌≤◌, false, IfOk, IsTrue};
 ghost use Rattle.vsi_image.specs.Meaning.{start};
-ghost use Rattle.vsi_compiler.specs.Observation.{IsStoreOf};
-ghost use Rattle.vsi_leak.specs.Leaks.{Takes, GoesOn, EndsSo};
+ghost use Rattle.vsi_leak.specs.Leaks.{EndsSo, GoesOn, HasHalted, TakesSome};
 
 use crate::found::Ending;
 use std::alloc::{AllocError, Global};
@@ -25,32 +24,6 @@ pub(crate) fn started<'a>(
     }
 }
 
-/// The words at the end of a run that takes this many instructions; `None` where it takes more or fewer.
-fn taken(
-    alloc: Global,
-    verified: &Verified,
-    store: &[i64],
-    instructions: u64,
-) -> Result<Option<Vec<i64>>, AllocError>
-    ensures { IfOk result (λ o. IfSome o (λ words. Takes verified.now store.now instructions words.items)) }
-{
-    let mut machine = started(alloc, verified, store)?;
-    let Some(before) = instructions.checked_sub(1) else {
-        return Ok(None);
-    };
-    match machine.run(before) {
-        Outcome::Halted => return Ok(None),
-        Outcome::OutOfBudget => {}
-    }
-    match machine.run(1) {
-        Outcome::Halted => {
-            let words = machine.store().to_vec(alloc)?;
-            Ok(Some(words))
-        }
-        Outcome::OutOfBudget => Ok(None),
-    }
-}
-
 /// Whether the run has not halted within the budget.
 fn goes_on(
     alloc: Global,
@@ -58,7 +31,8 @@ fn goes_on(
     store: &[i64],
     budget: u64,
 ) -> Result<bool, AllocError>
-    ensures { IfOk result (λ b. IsTrue b → GoesOn verified.now store.now budget) }
+    ensures going { IfOk result (λ b. IsTrue b → GoesOn verified.now store.now budget) }
+    ensures halted { IfOk result (λ b. b ≡ false → HasHalted verified.now store.now budget) }
 {
     let mut machine = started(alloc, verified, store)?;
     match machine.run(budget) {
@@ -67,61 +41,51 @@ fn goes_on(
     }
 }
 
-/// What becomes of the run within the budget, where the number of its instructions is found.
+/// How many instructions a run takes that halts within the budget: the number that is known to be
+/// too small is doubled while it is, and then halves the way to the one that is known to be large
+/// enough.
+fn instructions_of(
+    alloc: Global,
+    verified: &Verified,
+    store: &[i64],
+    budget: u64,
+) -> Result<u64, AllocError>
+    requires { HasHalted verified.now store.now budget }
+    ensures within { IfOk result (λ n. n ≤ budget) }
+    ensures taken { IfOk result (TakesSome verified.now store.now) }
+{
+    let mut few: u64 = 0;
+    let mut enough = budget;
+    while enough - few > 1 {
+        let middle = few + (few + 1).min((enough - few) / 2);
+        if goes_on(alloc, verified, store, middle)? {
+            few = middle;
+        } else {
+            enough = middle;
+        }
+    }
+    Ok(enough)
+}
+
+/// What becomes of the run within the budget.
 pub(crate) fn ending(
     alloc: Global,
     verified: &Verified,
     store: &[i64],
     budget: u64,
-) -> Result<Option<Ending>, AllocError>
-    ensures { IfOk result (λ o. IfSome o (EndsSo verified.now store.now budget)) }
+) -> Result<Ending, AllocError>
+    ensures { IfOk result (EndsSo verified.now store.now budget) }
 {
-    if goes_on(alloc, verified, store, budget)? {
-        return Ok(Some(Ending::OutOfBudget));
-    }
-    let instructions = instructions_of(alloc, verified, store, budget)?;
-    if instructions > budget {
-        return Ok(None);
-    }
-    match taken(alloc, verified, store, instructions)? {
-        Some(words) => Ok(Some(Ending::Halted {
-            instructions,
-            words,
-        })),
-        None => Ok(None),
-    }
-}
-
-/// How many instructions a run takes that halts within the budget: doubled until it halts, then halved. `taken` judges
-/// the number.
-pub(crate) fn instructions_of(
-    alloc: Global,
-    verified: &Verified,
-    store: &[i64],
-    budget: u64,
-) -> Result<u64, AllocError> {
     let mut machine = started(alloc, verified, store)?;
-    let mut low: u64 = 0;
-    let mut more: u64 = 1;
-    for _ in 0..64 {
-        if low >= budget || machine.run(more) == Outcome::Halted {
-            break;
+    match machine.run(budget) {
+        Outcome::Halted => {
+            let instructions = instructions_of(alloc, verified, store, budget)?;
+            let words = machine.store().to_vec(alloc)?;
+            Ok(Ending::Halted {
+                instructions,
+                words,
+            })
         }
-        low = low.saturating_add(more);
-        more = more.saturating_mul(2);
+        Outcome::OutOfBudget => Ok(Ending::OutOfBudget),
     }
-    let mut high = low.saturating_add(more);
-    for _ in 0..64 {
-        let half = high.saturating_sub(low) / 2;
-        if half == 0 {
-            break;
-        }
-        let middle = low.saturating_add(half);
-        if goes_on(alloc, verified, store, middle)? {
-            low = middle;
-        } else {
-            high = middle;
-        }
-    }
-    Ok(high)
 }

@@ -1,15 +1,17 @@
 //! The search for a leak of an image at a class.
 
-ghost use Rattle.std.specs.Prelude.{IfOk, IfSome};
+ghost use Rattle.std.specs.Prelude.{◌≡◌, ◌≤◌, length, IfOk, IfNone, IfSome};
 ghost use Rattle.vsi_lattice.specs.LatticeView.{class_named, order};
 ghost use Rattle.vsi_lattice.specs.Order.{IsClass};
-ghost use Rattle.vsi_leak.specs.Leaks.{IsFinding, IsAsked, IsLeak, IsLeakBy};
+ghost use Rattle.vsi_leak.specs.Leaks as spec;
+ghost use Rattle.vsi_leak.specs.Leaks.{IsFinding, IsAsked, IsLeakBy, LeavesNoOne, NoOneShows};
+ghost use Rattle.vsi_leak.specs.Leaks.{ShowNoneEither, TellsAtMost};
 
 use crate::check::check_leak;
 use crate::found::{Effort, Finding, Leak, Sign};
 use crate::propose::{Probe, hidden_sources, reads, seen_globals};
 use crate::shrink::Pair;
-use crate::values::{below, drawn, put, values_of};
+use crate::values::{put, random_below, random_word, values_of};
 use rand_core::SeedableRng;
 use rand_xoshiro::SplitMix64;
 use std::alloc::{AllocError, Global};
@@ -36,20 +38,24 @@ fn read_globals(alloc: Global, image: &Image) -> Result<Vec<usize>, AllocError> 
 }
 
 /// A store of zeros.
-fn zeros(alloc: Global, image: &Image) -> Result<Vec<i64>, AllocError> {
+fn zeros(alloc: Global, image: &Image) -> Result<Vec<i64>, AllocError>
+    ensures { IfOk result (λ words. words.items ≡ spec.zeros image.now) }
+{
     let mut words = Vec::new(alloc);
     words.resize(image.globals.len(), 0)?;
     Ok(words)
 }
 
-/// Changes one hidden global at a time, from a store of zeros, to each of the words; answers whether the pair then
-/// seems to show a leak, and how many pairs were tried.
+/// Changes one hidden global at a time, from a store of zeros, to each of the words; answers
+/// whether the pair then seems to show a leak, and how many pairs were tried.
 fn sweep(
     probe: &Probe<'_>,
     plan: &Plan,
     pair: &mut Pair,
     tries: u64,
-) -> Result<(bool, u64), AllocError> {
+) -> Result<(bool, u64), AllocError>
+    ensures { IfOk result (λ r. r.1 ≤ tries) }
+{
     let mut pairs: u64 = 0;
     for value in plan.values.iter() {
         for place in plan.sources.iter() {
@@ -58,7 +64,7 @@ fn sweep(
             }
             pairs = pairs.saturating_add(1);
             put(&mut pair.second, *place, *value);
-            if probe.tells(&pair.first, &pair.second)? {
+            if probe.distinguishes(&pair.first, &pair.second)? {
                 return Ok((true, pairs));
             }
             put(&mut pair.second, *place, 0);
@@ -67,92 +73,128 @@ fn sweep(
     Ok((false, pairs))
 }
 
-/// Draws a store, and changes one hidden global in it, or several.
-fn draw(plan: &Plan, random: &mut SplitMix64, pair: &mut Pair) {
+/// Takes random words for what is read, and changes one hidden global, or several.
+fn randomise(plan: &Plan, random: &mut SplitMix64, pair: &mut Pair) {
     for place in plan.read.iter() {
-        let word = if below(random, 2) == 0 {
+        let word = if random_below(random, 2) == 0 {
             0
         } else {
-            drawn(random, &plan.values)
+            random_word(random, &plan.values)
         };
         put(&mut pair.first, *place, word);
         put(&mut pair.second, *place, word);
     }
-    let chosen = below(random, plan.sources.len());
-    let several = below(random, 4) == 0;
+    let chosen = random_below(random, plan.sources.len());
+    let several = random_below(random, 4) == 0;
     for (number, place) in plan.sources.iter().enumerate() {
-        if number == chosen || (several && below(random, 2) == 0) {
-            put(&mut pair.second, *place, drawn(random, &plan.values));
+        if number == chosen || (several && random_below(random, 2) == 0) {
+            put(&mut pair.second, *place, random_word(random, &plan.values));
         }
     }
 }
 
 /// Tries pairs until one seems to show a leak; answers whether one does, and how many were tried.
-fn go(
+fn propose(
     probe: &Probe<'_>,
     plan: &Plan,
     pair: &mut Pair,
     effort: Effort,
-) -> Result<(bool, u64), AllocError> {
+) -> Result<(bool, u64), AllocError>
+    ensures { IfOk result (λ r. r.1 ≤ effort.tries) }
+{
     if plan.sources.is_empty() {
         return Ok((false, 0));
     }
-    let (told, swept) = sweep(probe, plan, pair, effort.tries)?;
-    if told {
+    let (found, swept) = sweep(probe, plan, pair, effort.tries)?;
+    if found {
         return Ok((true, swept));
     }
     let mut random = SplitMix64::seed_from_u64(effort.seed);
-    let mut pairs = swept;
-    for _ in swept..effort.tries {
-        pairs = pairs.saturating_add(1);
-        draw(plan, &mut random, pair);
-        if probe.tells(&pair.first, &pair.second)? {
-            return Ok((true, pairs));
+    for pairs in swept..effort.tries {
+        randomise(plan, &mut random, pair);
+        if probe.distinguishes(&pair.first, &pair.second)? {
+            return Ok((true, pairs + 1));
         }
     }
-    Ok((false, pairs))
+    Ok((false, effort.tries))
 }
 
-/// The leak that two stores show, under `Endings` in either order.
-fn judged(
+/// The leak that two stores show, in either order.
+fn leak_of(
     alloc: Global,
     lattice: &Lattice,
     verified: &Verified,
     sign: Sign,
     class: Class,
-    pair: &Pair,
+    stores: (&[i64], &[i64]),
     budget: u64,
 ) -> Result<Option<Leak>, AllocError>
     requires { IsClass (order lattice.now) class }
-    ensures { IfOk result (λ o. IfSome o
+    ensures leak { IfOk result (λ o. IfSome o
         (IsLeakBy (class_named lattice.now) (order lattice.now) verified.now budget sign class)) }
+    ensures none { IfOk result (λ o. IfNone o
+        (ShowNoneEither (class_named lattice.now) (order lattice.now) verified.now budget
+        sign class stores.entry.0.now stores.entry.1.now)) }
 {
-    let (one, other) = (pair.first.as_slice(), pair.second.as_slice());
+    let (one, other) = stores;
     match check_leak(alloc, lattice, verified, sign, class, (one, other), budget)? {
         Some(leak) => Ok(Some(leak)),
         None => check_leak(alloc, lattice, verified, sign, class, (other, one), budget),
     }
 }
 
-/// Searches an image for a leak at the class by this sign: first each hidden global alone is changed in a store of
-/// zeros, to words of the program and their neighbours; then stores are drawn from the seed. A leak is made small
-/// before it is answered: few globals that differ, and small numbers. Equal arguments give equal answers.
-pub fn find_leak(
+/// The leak that a 1 in one global alone shows beside a store of zeros. A search has tried these
+/// pairs, which are the smallest; that none of them shows one is said by the check made here.
+fn leak_of_ones(
     alloc: Global,
     lattice: &Lattice,
     verified: &Verified,
     sign: Sign,
     class: Class,
-    effort: Effort,
-) -> Result<Finding, AllocError>
+    budget: u64,
+) -> Result<Option<Leak>, AllocError>
     requires { IsClass (order lattice.now) class }
-    ensures leak { IfOk result (IsFinding (class_named lattice.now) (order lattice.now) verified.now effort.budget) }
-    ensures asked { IfOk result (IsAsked sign class) }
+    ensures leak { IfOk result (λ o. IfSome o
+        (IsLeakBy (class_named lattice.now) (order lattice.now) verified.now budget sign class)) }
+    ensures none { IfOk result (λ o. IfNone o
+        (NoOneShows (class_named lattice.now) (order lattice.now) verified.now budget
+        sign class (length verified.now.globals.items))) }
+{
+    let image = verified.image();
+    let first = zeros(alloc, image)?;
+    for place in 0..image.globals.len() {
+        let mut second = zeros(alloc, image)?;
+        second[place] = 1;
+        let stores = (first.as_slice(), second.as_slice());
+        match leak_of(alloc, lattice, verified, sign, class, stores, budget)? {
+            Some(leak) => return Ok(Some(leak)),
+            None => {}
+        }
+    }
+    Ok(None)
+}
+
+/// Two stores that seem to show a leak, made small, and how many pairs were tried for them; `None`
+/// where none were met.
+fn proposed(
+    alloc: Global,
+    lattice: &Lattice,
+    verified: &Verified,
+    sign: Sign,
+    class: Class,
+    preferred: &[usize],
+    effort: Effort,
+) -> Result<(Option<Pair>, u64), AllocError>
+    requires { IsClass (order lattice.now) class }
+    ensures { IfOk result (λ r. r.1 ≤ effort.tries) }
 {
     let image = verified.image();
     let seen = seen_globals(alloc, lattice, class, image)?;
+    if matches!(sign, Sign::Words) && !seen.contains(&true) {
+        return Ok((None, 0));
+    }
     let plan = Plan {
-        sources: hidden_sources(alloc, &seen, image)?,
+        sources: hidden_sources(alloc, &seen, image, preferred)?,
         read: read_globals(alloc, image)?,
         values: values_of(alloc, image)?,
     };
@@ -167,13 +209,68 @@ pub fn find_leak(
         sign,
         budget: effort.budget,
     };
-    let (told, pairs) = go(&probe, &plan, &mut pair, effort)?;
-    if !told {
-        return Ok(Finding::Nothing { pairs });
+    let (found, pairs) = propose(&probe, &plan, &mut pair, effort)?;
+    if !found {
+        return Ok((None, pairs));
     }
     pair.shrink(&probe)?;
-    match judged(alloc, lattice, verified, sign, class, &pair, effort.budget)? {
+    Ok((Some(pair), pairs))
+}
+
+/// `find_leak`, for which the hidden globals at these places are changed before others.
+pub(crate) fn find_leak_from(
+    alloc: Global,
+    lattice: &Lattice,
+    verified: &Verified,
+    sign: Sign,
+    class: Class,
+    preferred: &[usize],
+    effort: Effort,
+) -> Result<Finding, AllocError>
+    requires { IsClass (order lattice.now) class }
+    ensures leak { IfOk result
+        (IsFinding (class_named lattice.now) (order lattice.now) verified.now effort.budget) }
+    ensures asked { IfOk result (IsAsked sign class) }
+    ensures tried { IfOk result (TellsAtMost effort.tries) }
+    ensures ones { IfOk result (LeavesNoOne (class_named lattice.now) (order lattice.now)
+        verified.now effort.budget sign class effort.tries) }
+{
+    let (proposal, pairs) = proposed(alloc, lattice, verified, sign, class, preferred, effort)?;
+    if let Some(pair) = proposal {
+        let stores = (pair.first.as_slice(), pair.second.as_slice());
+        let checked = leak_of(alloc, lattice, verified, sign, class, stores, effort.budget)?;
+        if let Some(leak) = checked {
+            return Ok(Finding::Leak(leak));
+        }
+    }
+    if effort.tries < verified.image().globals.len() as u64 {
+        return Ok(Finding::Nothing { pairs });
+    }
+    match leak_of_ones(alloc, lattice, verified, sign, class, effort.budget)? {
         Some(leak) => Ok(Finding::Leak(leak)),
         None => Ok(Finding::Nothing { pairs }),
     }
+}
+
+/// Searches an image for a leak at the class by this sign: first each hidden global alone is
+/// changed in a store of zeros, to words of the program and their neighbours; then stores are drawn
+/// from the seed. A leak is made small before it is answered: few globals that differ, and small
+/// numbers. Equal arguments give equal answers.
+pub fn find_leak(
+    alloc: Global,
+    lattice: &Lattice,
+    verified: &Verified,
+    sign: Sign,
+    class: Class,
+    effort: Effort,
+) -> Result<Finding, AllocError>
+    requires { IsClass (order lattice.now) class }
+    ensures leak { IfOk result
+        (IsFinding (class_named lattice.now) (order lattice.now) verified.now effort.budget) }
+    ensures asked { IfOk result (IsAsked sign class) }
+    ensures tried { IfOk result (TellsAtMost effort.tries) }
+    ensures ones { IfOk result (LeavesNoOne (class_named lattice.now) (order lattice.now)
+        verified.now effort.budget sign class effort.tries) }
+{
+    find_leak_from(alloc, lattice, verified, sign, class, &[], effort)
 }

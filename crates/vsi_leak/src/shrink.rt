@@ -15,7 +15,8 @@ pub(crate) struct Pair {
 }
 
 impl Pair {
-    /// Tries other words at a place, keeps them where the runs still seem to be told apart, and answers whether it did.
+    /// Tries other words at a place, keeps them where the runs still seem to be told apart, and
+    /// answers whether it did.
     fn attempt(
         &mut self,
         probe: &Probe<'_>,
@@ -28,7 +29,7 @@ impl Pair {
         }
         put(&mut self.first, place, words.0);
         put(&mut self.second, place, words.1);
-        if probe.tells(&self.first, &self.second)? {
+        if probe.distinguishes(&self.first, &self.second)? {
             return Ok(true);
         }
         put(&mut self.first, place, before.0);
@@ -48,8 +49,8 @@ impl Pair {
         self.attempt(probe, place, (other, other))
     }
 
-    /// Tries the first store's word at a place without a part of it, all of it first, and the second's with it where the
-    /// two are equal.
+    /// Tries the first store's word at a place without a part of it, all of it first, and the
+    /// second's with it where the two are equal.
     fn lessen_first(&mut self, probe: &Probe<'_>, place: usize) -> Result<bool, AllocError> {
         let (one, other) = (word_at(&self.first, place), word_at(&self.second, place));
         let mut part = one;
@@ -67,7 +68,8 @@ impl Pair {
         Ok(false)
     }
 
-    /// Tries the second store's word at a place without a part of it, where it differs from the first's.
+    /// Tries the second store's word at a place without a part of it, where it differs from the
+    /// first's.
     fn lessen_second(&mut self, probe: &Probe<'_>, place: usize) -> Result<bool, AllocError> {
         let (one, other) = (word_at(&self.first, place), word_at(&self.second, place));
         let mut part = other;
@@ -83,8 +85,8 @@ impl Pair {
         Ok(false)
     }
 
-    /// Tries what is as far above 0 in place of what is below it.
-    fn turn(&mut self, probe: &Probe<'_>, place: usize) -> Result<bool, AllocError> {
+    /// Tries absolute values in place of words below 0.
+    fn take_absolute(&mut self, probe: &Probe<'_>, place: usize) -> Result<bool, AllocError> {
         let (one, other) = (word_at(&self.first, place), word_at(&self.second, place));
         if one >= 0 && other >= 0 {
             return Ok(false);
@@ -103,7 +105,7 @@ impl Pair {
             if self.lessen_first(probe, place)? || self.lessen_second(probe, place)? {
                 changed = true;
             }
-            if self.turn(probe, place)? {
+            if self.take_absolute(probe, place)? {
                 changed = true;
             }
         }

@@ -1,6 +1,6 @@
 //! The text of a leak: both runs side by side, a row for each word.
 
-ghost use Rattle.std.specs.Prelude.{◌≡◌, ◌++◌, IfOk, IfSome, OnOk};
+ghost use Rattle.std.specs.Prelude.{◌≡◌, ◌++◌, max, IfOk, IfSome, OnOk};
 ghost use Rattle.vsi_image.specs.Fields.{global, globals};
 ghost use Rattle.vsi_lattice.specs.LatticeView.{class_named, order};
 ghost use Rattle.vsi_lattice.specs.Order.{IsClass};
@@ -110,7 +110,8 @@ fn put_rows(
 ) -> Result<(), AllocError>
     requires { IfSome to.now (IsClass (order lattice.now)) }
     ensures { OnOk result (text.new.items ≡ text.old.items
-        ++ spec.word_rows (class_named lattice.now) (order lattice.now) to.now width (globals variables.now)
+        ++ spec.word_rows (class_named lattice.now) (order lattice.now) to.now width
+        (globals variables.now)
         words.entry.0.now words.entry.1.now) }
 {
     let (first, second) = words;
@@ -138,7 +139,8 @@ fn put_seen(
 ) -> Result<(), AllocError>
     requires { IsClass (order lattice.now) leak.now.class }
     ensures { OnOk result (text.new.items ≡ text.old.items
-        ++ spec.seen_rows (class_named lattice.now) (order lattice.now) leak.now.class width (globals variables.now)
+        ++ spec.seen_rows (class_named lattice.now) (order lattice.now) leak.now.class width
+        (globals variables.now)
         leak.now.first.ending leak.now.second.ending) }
 {
     match (&leak.first.ending, &leak.second.ending) {
@@ -156,22 +158,77 @@ fn put_seen(
     }
 }
 
-/// The greatest length of a left cell.
-fn widest(alloc: Global, image: &Image, leak: &Leak) -> Result<usize, AllocError> {
-    let mut width = end_cell(alloc, &leak.first.ending)?.len();
-    for (variable, word) in image.globals.iter().zip(leak.first.store.iter()) {
-        width = width.max(word_cell(alloc, variable.0.as_slice(), *word)?.len());
+/// The greater of a width and the length of a global's left cell, where its row is shown.
+fn wider(
+    alloc: Global,
+    width: usize,
+    shown: bool,
+    name: &[u8],
+    word: i64,
+) -> Result<usize, AllocError>
+    ensures { IfOk result (λ n.
+        n ≡ max width (spec.longest (spec.shown_cell shown name.now word))) }
+{
+    if shown {
+        let cell = word_cell(alloc, name, word)?;
+        Ok(width.max(cell.len()))
+    } else {
+        Ok(width)
     }
-    if let Ending::Halted { words, .. } = &leak.first.ending {
-        for (variable, word) in image.globals.iter().zip(words.iter()) {
-            width = width.max(word_cell(alloc, variable.0.as_slice(), *word)?.len());
-        }
-    }
-    Ok(width)
 }
 
-/// The text of a leak: both stores side by side, then what the class sees of both runs and after how many instructions
-/// they halt. A star stands before each row whose sides differ.
+/// The greater of a width and the length of the longest left cell of these rows.
+fn widened(
+    alloc: Global,
+    lattice: &Lattice,
+    to: &Option<Class>,
+    width: usize,
+    variables: &[(Vec<u8>, Vec<u8>)],
+    words: (&[i64], &[i64]),
+) -> Result<usize, AllocError>
+    requires { IfSome to.now (IsClass (order lattice.now)) }
+    ensures { IfOk result (λ n. n ≡ max width (spec.longest
+        (spec.left_cells (class_named lattice.now) (order lattice.now) to.now
+        (globals variables.now) words.entry.0.now words.entry.1.now))) }
+{
+    let (first, second) = words;
+    let mut widest = width;
+    for (i, variable) in variables.iter().enumerate() {
+        let (Some(word), Some(_)) = (first.get(i), second.get(i)) else {
+            break;
+        };
+        let shown = is_shown(lattice, to, variable.1.as_slice());
+        widest = wider(alloc, widest, shown, variable.0.as_slice(), *word)?;
+    }
+    Ok(widest)
+}
+
+/// The length of the longest left cell of a leak's text.
+fn left_width(
+    alloc: Global,
+    lattice: &Lattice,
+    variables: &[(Vec<u8>, Vec<u8>)],
+    leak: &Leak,
+) -> Result<usize, AllocError>
+    requires { IsClass (order lattice.now) leak.now.class }
+    ensures { IfOk result (λ n. n ≡ spec.left_width (class_named lattice.now) (order lattice.now)
+        (globals variables.now) leak.now) }
+{
+    let width = end_cell(alloc, &leak.first.ending)?.len();
+    let stores = (leak.first.store.as_slice(), leak.second.store.as_slice());
+    let width = widened(alloc, lattice, &None, width, variables, stores)?;
+    match (&leak.first.ending, &leak.second.ending) {
+        (Ending::Halted { words, .. }, Ending::Halted { words: others, .. }) => {
+            let ends = (words.as_slice(), others.as_slice());
+            widened(alloc, lattice, &Some(leak.class), width, variables, ends)
+        }
+        (Ending::Halted { .. }, Ending::OutOfBudget) => Ok(width),
+        (Ending::OutOfBudget, _) => Ok(width),
+    }
+}
+
+/// The text of a leak: both stores side by side, then what the class sees of both runs and after
+/// how many instructions they halt. A star stands before each row whose sides differ.
 pub fn leak_text(
     alloc: Global,
     lattice: &Lattice,
@@ -184,7 +241,7 @@ pub fn leak_text(
 {
     let name = lattice.name(leak.class);
     let variables = image.globals.as_slice();
-    let width = widest(alloc, image, leak)?;
+    let width = left_width(alloc, lattice, variables, leak)?;
     let mut text = Vec::from_slice(alloc, b"leak at ")?;
     text.extend_from_slice(name)?;
     text.push(b'\n')?;

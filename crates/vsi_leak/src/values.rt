@@ -1,4 +1,7 @@
-//! The words that a search tries: those of the program and their neighbours, small ones, the extremes, and drawn ones.
+//! The words that a search tries: those of the program and their neighbours, small ones, the
+//! extremes, and drawn ones.
+
+ghost use Rattle.std.specs.Prelude.{◌≡◌, pos, slice_index_or};
 
 use rand_core::Rng;
 use rand_xoshiro::SplitMix64;
@@ -33,7 +36,7 @@ pub(crate) fn values_of(alloc: Global, image: &Image) -> Result<Vec<i64>, AllocE
 }
 
 /// A number below a bound that isn't 0; 0 where it is.
-pub(crate) fn below(random: &mut SplitMix64, bound: usize) -> usize {
+pub(crate) fn random_below(random: &mut SplitMix64, bound: usize) -> usize {
     match random.next_u64().checked_rem(bound as u64) {
         Some(number) => number as usize,
         None => 0,
@@ -41,20 +44,19 @@ pub(crate) fn below(random: &mut SplitMix64, bound: usize) -> usize {
 }
 
 /// A word: mostly one of the values, seldom any.
-pub(crate) fn drawn(random: &mut SplitMix64, values: &[i64]) -> i64 {
-    if below(random, 8) == 0 {
+pub(crate) fn random_word(random: &mut SplitMix64, values: &[i64]) -> i64 {
+    if random_below(random, 8) == 0 {
         return random.next_u64().cast_signed();
     }
-    let place = below(random, values.len());
+    let place = random_below(random, values.len());
     word_at(values, place)
 }
 
 /// The word at a place, 0 where there is none.
-pub(crate) fn word_at(words: &[i64], place: usize) -> i64 {
-    match words.get(place) {
-        Some(word) => *word,
-        None => 0,
-    }
+pub(crate) fn word_at(words: &[i64], place: usize) -> i64
+    ensures { result ≡ slice_index_or words.now place (pos 0) }
+{
+    if place < words.len() { words[place] } else { 0 }
 }
 
 /// Puts a word at a place, where there is one.

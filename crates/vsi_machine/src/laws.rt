@@ -17,9 +17,9 @@ pub fn one_ending()
     ensures { OneEnding }
 {}
 
-/// Every run of a valid image has a state: no instruction lacks an operand or a slot. In each state that a run reaches
-/// the next instruction is in the code, finds the operands that it takes, its slot and its target, and leaves no more
-/// operands than the image's stack has room for.
+/// Every run of a valid image has a state: no instruction lacks an operand or a slot. In each state
+/// that a run reaches the next instruction is in the code, finds the operands that it takes, its
+/// slot and its target, and leaves no more operands than the image's stack has room for.
 pub fn never_stuck()
     ensures { NeverStuck }
 {}

@@ -1,10 +1,12 @@
-//! The stack machine. A `Machine` runs a verified image from a word for each global, one instruction at a time or for
-//! a budget of them. It answers the words of its globals, and the trace line of its next instruction.
+//! The stack machine. A `Machine` runs a verified image from a word for each global, one
+//! instruction at a time or for a budget of them. It answers the words of its globals, and the
+//! trace line of its next instruction.
 //!
-//! The clauses of `run` and `step` say that the machine's state is the one that the instructions' meaning gives. That
-//! there is one is part of them: the meaning gives none where an operand, a slot or the instruction is missing. The law
-//! `never_stuck` says of every run of a valid image that it has a state, and that its operands have room on the image's
-//! stack. So the loop has no test for any of these.
+//! The clauses of `run` and `step` say that the machine's state is the one that the instructions'
+//! meaning gives. That there is one is part of them: the meaning gives none where an operand, a
+//! slot or the instruction is missing. The law `never_stuck` says of every run of a valid image
+//! that it has a state, and that its operands have room on the image's stack. So the loop has no
+//! test for any of these.
 #![tactic(auto)]
 
 mod action;

@@ -78,11 +78,13 @@ fn pass_one(c: &Cmd, next: &mut usize)
     }
 }
 
-/// Adds the numbers of the letvars that remain of commands, the first of which has the number `next`.
+/// Adds the numbers of the letvars that remain of commands, the first of which has the number
+/// `next`.
 #[cycle(picking)]
 fn pick_all(body: &[Cmd], next: &mut usize, out: &mut Vec<usize>) -> Result<(), AllocError>
     requires { next.now + letvars (sequence body.now) ≤ 1024 }
-    ensures { OnOk result (Picks (sequence body.now) next.old next.new out.old.items out.new.items) }
+    ensures { OnOk result
+        (Picks (sequence body.now) next.old next.new out.old.items out.new.items) }
 {
     for c in body {
         pick_one(c, next, out)?;
@@ -99,7 +101,8 @@ fn pick_if(
     out: &mut Vec<usize>,
 ) -> Result<(), AllocError>
     requires { next.now + letvars (sequence body.now) ≤ 1024 }
-    ensures { OnOk result (PicksIf remains (sequence body.now) next.old next.new out.old.items out.new.items) }
+    ensures { OnOk result
+        (PicksIf remains (sequence body.now) next.old next.new out.old.items out.new.items) }
 {
     if remains {
         pick_all(body, next, out)

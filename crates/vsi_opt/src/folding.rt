@@ -51,7 +51,8 @@ fn operate(op: Op, left: Ex, right: Ex, alloc: Global) -> Result<Ex, AllocError>
 
 /// The operator on two expressions, or the number that it gives.
 fn fold_operands(op: Op, left: Ex, right: Ex, alloc: Global) -> Result<Ex, AllocError>
-    ensures { IfOk result (λ x. expression x ≡ fold_operator op (expression left) (expression right)) }
+    ensures { IfOk result
+        (λ x. expression x ≡ fold_operator op (expression left) (expression right)) }
 {
     match literal(&left) {
         Some(a) => match literal(&right) {
@@ -80,7 +81,8 @@ pub(crate) fn fold_expression(e: &Ex, alloc: Global) -> Result<Ex, AllocError>
 /// Adds a sequence, folded.
 #[cycle(folding)]
 pub(crate) fn fold_all(body: &[Cmd], out: &mut Vec<Cmd>, alloc: Global) -> Result<(), AllocError>
-    ensures { OnOk result (sequence out.new.items ≡ append (sequence out.old.items) (fold (sequence body.now))) }
+    ensures { OnOk result
+        (sequence out.new.items ≡ append (sequence out.old.items) (fold (sequence body.now))) }
 {
     for c in body {
         fold_one(c, out, alloc)?;
@@ -101,7 +103,8 @@ fn fold_list(body: &[Cmd], alloc: Global) -> Result<Vec<Cmd>, AllocError>
 /// Adds a command, folded.
 #[cycle(folding)]
 fn fold_one(c: &Cmd, out: &mut Vec<Cmd>, alloc: Global) -> Result<(), AllocError>
-    ensures { OnOk result (sequence out.new.items ≡ append (sequence out.old.items) (fold (command c.now))) }
+    ensures { OnOk result
+        (sequence out.new.items ≡ append (sequence out.old.items) (fold (command c.now))) }
 {
     match c {
         Cmd::Assign { loc, span, value } => {

@@ -1,7 +1,8 @@
 //! Live variables, and the assignments that go.
 //!
-//! A set of live variables holds their locations. Two variables that share a location are never in scope together, and
-//! a location is taken out of the set at both ends of its variable's scope, so that it stands for one declaration.
+//! A set of live variables holds their locations. Two variables that share a location are never in
+//! scope together, and a location is taken out of the set at both ends of its variable's scope, so
+//! that it stands for one declaration.
 
 ghost use Rattle.std.specs.Prelude.{◌≡◌, ◌+◌, ◌<◌, ◌≤◌, IfOk, OnOk, reverse};
 ghost use Rattle.vsi_scope.specs.Language.{HasLocations, Assign, letvars};
@@ -64,8 +65,8 @@ fn take_out(live: &mut SmallSet, globals: u16, l: u16)
     }
 }
 
-/// Adds what the expressions of a loop's commands read, and notes of each letvar, by its number, whether its scope
-/// reads its variable. `next` is the number of the commands' first letvar.
+/// Adds what the expressions of a loop's commands read, and notes of each letvar, by its number,
+/// whether its scope reads its variable. `next` is the number of the commands' first letvar.
 #[cycle(adding)]
 fn add_all(body: &[Cmd], scope: u16, live: &mut SmallSet, own: &mut SmallSet, next: &mut u16)
     requires { AddFits scope next.now (sequence body.now) }
@@ -107,8 +108,9 @@ fn add_one(c: &Cmd, scope: u16, live: &mut SmallSet, own: &mut SmallSet, next: &
     }
 }
 
-/// Commands of a loop, without the assignments to what isn't live there. `own` tells of each letvar, by its number,
-/// whether its scope reads its variable, and `next` is the number of the commands' first letvar.
+/// Commands of a loop, without the assignments to what isn't live there. `own` tells of each
+/// letvar, by its number, whether its scope reads its variable, and `next` is the number of the
+/// commands' first letvar.
 #[cycle(kept_in_loop)]
 fn kept_in_loop_all(
     body: &[Cmd],
@@ -216,7 +218,8 @@ fn kept_live_one(
     requires { Fits scope (command c.now) }
     ensures { OnOk result
         ((sequence (reverse out.new.items) ≡
-        append (kept_live globals scope (command c.now) (bits live.old)) (sequence (reverse out.old.items))) ×
+        append (kept_live globals scope (command c.now) (bits live.old))
+        (sequence (reverse out.old.items))) ×
         (bits live.new ≡ before globals scope (command c.now) (bits live.old))) }
 {
     match c {

@@ -26,19 +26,23 @@ fn optimise_body(alloc: Global, body: &[Cmd], globals: u16) -> Result<Vec<Cmd>, 
     kept_live_all(&folded, globals, globals, &mut live, alloc)
 }
 
-/// A program that does what the given one does, with the same globals and the entries of the letvars that remain.
+/// A program that does what the given one does, with the same globals and the entries of the
+/// letvars that remain.
 ///
-/// First operators on two literals, `if`s on a literal and loops on literal 0 are folded, from the leaves up. Then
-/// each assignment to the variable of a letvar goes that isn't live behind it. A branch, or the body of a loop or a
-/// letvar, may become empty. The one error is want of memory.
+/// First operators on two literals, `if`s on a literal and loops on literal 0 are folded, from the
+/// leaves up. Then each assignment to the variable of a letvar goes that isn't live behind it. A
+/// branch, or the body of a loop or a letvar, may become empty. The one error is want of memory.
 pub fn optimise<'a>(alloc: Global, program: &Resolved<'a>) -> Result<Resolved<'a>, AllocError>
-    ensures same { IfOk result (λ r. RunsAlike (length r.globals) (sequence r.body) (sequence program.now.body)) }
+    ensures same { IfOk result
+        (λ r. RunsAlike (length r.globals) (sequence r.body) (sequence program.now.body)) }
     ensures globals { IfOk result (λ r. r.globals ≡ program.now.globals) }
     ensures entries { IfOk result (λ r. KeepsEntries program.now r) }
     ensures remains { IfOk result (λ r. IsRemainder program.now r) }
-    ensures not_larger { IfOk result (λ r. size (sequence r.body) ≤ size (sequence program.now.body)) }
+    ensures not_larger { IfOk result
+        (λ r. size (sequence r.body) ≤ size (sequence program.now.body)) }
     ensures folded { IfOk result (λ r. IsFolded (sequence r.body)) }
-    ensures live { IfOk result (λ r. sequence r.body ≡ optimised (length r.globals) (sequence program.now.body)) }
+    ensures live { IfOk result
+        (λ r. sequence r.body ≡ optimised (length r.globals) (sequence program.now.body)) }
 {
     let source = program.body();
     let globals = program.globals().len() as u16;

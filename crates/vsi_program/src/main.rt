@@ -2,9 +2,9 @@
 #![tactic(auto)]
 
 use std::fs::File;
-use std::io::ErrorKind;
+use std::io::{ErrorKind, Write};
 use std::process::ExitCode;
-use std::{env, io};
+use std::{env, fs, io};
 use vsi::{Counted, Files, command};
 
 /// The status of a mistake in the words.
@@ -32,7 +32,35 @@ impl Files for Disk<'_> {
         File::create(self.rt, path).ok()
     }
 
+    fn replace_file(&mut self, path: &str, fresh: &str, bytes: &[u8]) -> Option<()> {
+        if !self.may_replace(path) || !self.may_replace(fresh) {
+            return None;
+        }
+        if self.fill(fresh, bytes).is_err() || fs::rename(self.rt, fresh, path).is_err() {
+            let _ = fs::remove_file(self.rt, fresh);
+            return None;
+        }
+        Some(())
+    }
+
     fn close_file(&mut self, _output: File) {}
+}
+
+impl Disk<'_> {
+    /// Whether there is a file of its own at the path, or nothing.
+    fn may_replace(&self, path: &str) -> bool {
+        match fs::symlink_metadata(self.rt, path) {
+            Ok(found) => found.is_file(),
+            Err(error) => error.kind() == ErrorKind::NotFound,
+        }
+    }
+
+    /// Writes a file whose bytes are on the disk afterwards.
+    fn fill(&self, path: &str, bytes: &[u8]) -> io::Result<()> {
+        let mut file = File::create(self.rt, path)?;
+        file.write_all(bytes)?;
+        file.sync_all()
+    }
 }
 
 /// The words of the command line without the program's name.

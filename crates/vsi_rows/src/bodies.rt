@@ -1,5 +1,5 @@
-//! Programs over locations as texts: operators and commands before their parts, `@K` for location `K`, and behind it,
-//! where places are told, that of the name.
+//! Programs over locations as texts: operators and commands before their parts, `@K` for location
+//! `K`, and behind it, where places are told, that of the name.
 
 use crate::row::Row;
 use crate::trees::opened;

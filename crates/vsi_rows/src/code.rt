@@ -68,8 +68,8 @@ fn put_image(alloc: Global, row: &mut Row<'_>, image: Image) {
     }
 }
 
-/// `decode BYTES`: the listing of the image of the bytes, and then its first fault where it isn't valid; or the fault
-/// of the bytes.
+/// `decode BYTES`: the listing of the image of the bytes, and then its first fault where it isn't
+/// valid; or the fault of the bytes.
 pub(crate) fn decoded(alloc: Global, row: &mut Row<'_>) {
     let bytes = bytes(alloc, row);
     match decode(alloc, &bytes) {

@@ -46,8 +46,8 @@ fn put_image(alloc: Global, row: &mut Row<'_>, shown: Shown, verified: &Verified
     }
 }
 
-/// `judge`, `sizes`, `compile` or `build`, then `PROFILE LATTICE TEXT`: that the text is accepted, how large its code
-/// is and how it ends, the listing, or the bytes of the image; or the fault.
+/// `judge`, `sizes`, `compile` or `build`, then `PROFILE LATTICE TEXT`: that the text is accepted,
+/// how large its code is and how it ends, the listing, or the bytes of the image; or the fault.
 pub(crate) fn image(
     alloc: Global,
     row: &mut Row<'_>,
@@ -84,7 +84,8 @@ pub(crate) fn classes(alloc: Global, row: &mut Row<'_>, profile: Profile, lattic
     }
 }
 
-/// Adds what a text tells of an error: the whole text of the refusal, or the lines of the walk alone.
+/// Adds what a text tells of an error: the whole text of the refusal, or the lines of the walk
+/// alone.
 fn put_told(
     alloc: Global,
     row: &mut Row<'_>,
@@ -113,8 +114,8 @@ fn put_error(
     put_told(alloc, row, lattice, &text, error, is_whole);
 }
 
-/// `refusal` or `explain`, then `PROFILE LATTICE TEXT | OTHER`: what the other text tells of the refusal of the text, or
-/// of its walk alone; where there is no other, what the text itself tells.
+/// `refusal` or `explain`, then `PROFILE LATTICE TEXT | OTHER`: what the other text tells of the
+/// refusal of the text, or of its walk alone; where there is no other, what the text itself tells.
 pub(crate) fn refusal(
     alloc: Global,
     row: &mut Row<'_>,
@@ -129,7 +130,8 @@ pub(crate) fn refusal(
     }
 }
 
-/// `run LATTICE STORE BUDGET TEXT`: how a run of the text ends, and the words of the globals then; or the fault.
+/// `run LATTICE STORE BUDGET TEXT`: how a run of the text ends, and the words of the globals then;
+/// or the fault.
 pub(crate) fn ran(alloc: Global, row: &mut Row<'_>, lattice: &Lattice) {
     let store = row.numbers(alloc);
     let budget = row.number();

@@ -1,8 +1,9 @@
 //! How the texts of rows are written.
 //!
-//! In a text `\n` is a line feed, `\t` a tab and `\xNN` the byte of two hexadecimal digits. `\[FROM TO PART\]` is the
-//! part once for each number from `FROM` to `TO`, upwards or downwards. In a part `%` is the number in decimal, `~` the
-//! number below it, and `@` the number in two capital letters, `AA` for 0.
+//! In a text `\n` is a line feed, `\t` a tab and `\xNN` the byte of two hexadecimal digits. `\[FROM
+//! TO PART\]` is the part once for each number from `FROM` to `TO`, upwards or downwards. In a part
+//! `%` is the number in decimal, `~` the number below it, and `@` the number in two capital
+//! letters, `AA` for 0.
 
 use crate::wrong::Wrong;
 use std::alloc::{AllocError, Global};

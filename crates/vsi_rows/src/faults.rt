@@ -94,8 +94,8 @@ fn fault(kind: &str, name: &str, first: usize, second: usize) -> Option<Fault> {
     }
 }
 
-/// `fault KIND NAME FIRST SECOND`: the text of a fault of a lattice file, bytes, an image, a store or a view, by its name
-/// and the numbers that it tells, 0 for each that it doesn't.
+/// `fault KIND NAME FIRST SECOND`: the text of a fault of a lattice file, bytes, an image, a store
+/// or a view, by its name and the numbers that it tells, 0 for each that it doesn't.
 pub(crate) fn told(alloc: Global, row: &mut Row<'_>) {
     let kind = row.field();
     let name = row.field();

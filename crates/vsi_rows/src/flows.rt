@@ -41,7 +41,8 @@ fn put_checked(
     }
 }
 
-/// The program of the same globals that is an `if` with two empty branches and a loop without a body.
+/// The program of the same globals that is an `if` with two empty branches and a loop without a
+/// body.
 fn emptied<'a>(alloc: Heap, program: &Resolved<'a>) -> Option<Resolved<'a>> {
     let _facts = program.body();
     if program.globals().len() == 0 {
@@ -104,7 +105,8 @@ fn put_form(
     }
 }
 
-/// Adds the line of what the check answers on a form of a text's program, with classes of its `letvar`s.
+/// Adds the line of what the check answers on a form of a text's program, with classes of its
+/// `letvar`s.
 fn put_text(
     alloc: Heap,
     row: &mut Row<'_>,
@@ -120,10 +122,11 @@ fn put_text(
     }
 }
 
-/// `check`, `check_optimised` or `check_emptied`, then `PROFILE LATTICE CLASSES TEXT`: whether the program is typable with
-/// these classes of its `letvar`s, or the first flow that isn't in order: its rule, the variable that is read and where,
-/// and the variable that is written. The program is the text's, what the optimiser leaves of it, or an `if` with two empty
-/// branches and a loop without a body, whose guards read the first global at byte 14.
+/// `check`, `check_optimised` or `check_emptied`, then `PROFILE LATTICE CLASSES TEXT`: whether the
+/// program is typable with these classes of its `letvar`s, or the first flow that isn't in order:
+/// its rule, the variable that is read and where, and the variable that is written. The program is
+/// the text's, what the optimiser leaves of it, or an `if` with two empty branches and a loop
+/// without a body, whose guards read the first global at byte 14.
 pub(crate) fn typed(
     alloc: Heap,
     row: &mut Row<'_>,

@@ -81,7 +81,8 @@ fn made(alloc: Global, count: u8, pairs: &[(u8, u8)]) -> Agreement
     }
 }
 
-/// Adds how many of the first orders of `count` classes both forms accept alike, refuse alike, and don't answer alike.
+/// Adds how many of the first orders of `count` classes both forms accept alike, refuse alike, and
+/// don't answer alike.
 fn put_tally(alloc: Global, row: &mut Row<'_>, count: u8, orders: u16)
     requires some { 0 < count }
     requires small { count ≤ 64 }
@@ -103,8 +104,8 @@ fn put_tally(alloc: Global, row: &mut Row<'_>, count: u8, orders: u16)
     row.put("\n");
 }
 
-/// `forms COUNT`: how many of the orders of 1, 2 or 3 classes both forms of a lattice accept with the same answers,
-/// refuse for the same fault, and answer differently.
+/// `forms COUNT`: how many of the orders of 1, 2 or 3 classes both forms of a lattice accept with
+/// the same answers, refuse for the same fault, and answer differently.
 pub(crate) fn forms(alloc: Global, row: &mut Row<'_>) {
     match row.small() {
         1 => put_tally(alloc, row, 1, 2),

@@ -1,5 +1,6 @@
-//! Images as rows write them: `GLOBALS SLOTS STACK CODE`. A global is `NAME:CLASS`, with commas between them and `-`
-//! for none; an instruction is written as in a listing, and each but the last ends with `;`.
+//! Images as rows write them: `GLOBALS SLOTS STACK CODE`. A global is `NAME:CLASS`, with commas
+//! between them and `-` for none; an instruction is written as in a listing, and each but the last
+//! ends with `;`.
 
 use crate::escapes::byte_of;
 use crate::row::Row;

@@ -1,5 +1,5 @@
-//! Calls that ask for classes of the lattice. Each tests that first, and then makes the call; there is no answer where it
-//! isn't so.
+//! Calls that ask for classes of the lattice. Each tests that first, and then makes the call; there
+//! is no answer where it isn't so.
 
 ghost use Rattle.std.specs.Prelude.{◌≡◌, true, map, IfSome};
 ghost use Rattle.std.specs.List.{All};
@@ -16,7 +16,8 @@ use vsi_types::{CheckError, Profile, check, check_in};
 
 /// Whether each class of the globals is one of the lattice.
 fn are_classes<C: Classes>(lattice: &C, globals: &[Global<'_>]) -> bool
-    ensures { result ≡ true → All (IsClass (C.lattice lattice.now)) (map (λ g. g.class) globals.now) }
+    ensures { result ≡ true →
+        All (IsClass (C.lattice lattice.now)) (map (λ g. g.class) globals.now) }
 {
     for g in globals {
         if g.class.index() >= lattice.count() {
@@ -93,7 +94,8 @@ pub(crate) fn inferred(
     })
 }
 
-/// Whether a walk is bad, by `check_walk` for the base profile; none where `check_walk_once` says otherwise.
+/// Whether a walk is bad, by `check_walk` for the base profile; none where `check_walk_once` says
+/// otherwise.
 pub(crate) fn is_bad(
     alloc: Heap,
     profile: Profile,

@@ -136,7 +136,8 @@ fn class_number(text: &str) -> u8 {
     text.parse::<u8>().unwrap_or(u8::MAX)
 }
 
-/// The pairs `LOW<HIGH` of a field, with commas between them, without those that aren't of numbers below a count.
+/// The pairs `LOW<HIGH` of a field, with commas between them, without those that aren't of numbers
+/// below a count.
 fn pairs_below(alloc: Global, row: &mut Row<'_>, count: u8) -> Vec<(u8, u8)>
     ensures below { ArePairsBelow count result.items }
 {
@@ -153,8 +154,8 @@ fn pairs_below(alloc: Global, row: &mut Row<'_>, count: u8) -> Vec<(u8, u8)>
     pairs
 }
 
-/// `mask COUNT PAIRS` and `pair COUNT PAIRS`: the order of so many classes that pairs `LOW<HIGH` of their numbers declare,
-/// or its fault, by either form.
+/// `mask COUNT PAIRS` and `pair COUNT PAIRS`: the order of so many classes that pairs `LOW<HIGH` of
+/// their numbers declare, or its fault, by either form.
 pub(crate) fn order(alloc: Global, row: &mut Row<'_>, is_mask: bool) {
     let count = u8::try_from(row.small()).unwrap_or(0);
     if count == 0 || count > 64 {

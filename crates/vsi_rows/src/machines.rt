@@ -50,8 +50,9 @@ fn put_runs(alloc: Global, row: &mut Row<'_>, verified: &Verified, store: &[i64]
     }
 }
 
-/// `machine STORE PARTS IMAGE`: what the parts of one run show, in turn, with commas between them, and then the words
-/// that are left. A number is a run with this budget, and `t` one step with its trace line.
+/// `machine STORE PARTS IMAGE`: what the parts of one run show, in turn, with commas between them,
+/// and then the words that are left. A number is a run with this budget, and `t` one step with its
+/// trace line.
 pub(crate) fn machine(alloc: Global, row: &mut Row<'_>) {
     let store = row.numbers(alloc);
     let parts = row.field();

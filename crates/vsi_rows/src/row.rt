@@ -9,8 +9,8 @@ use vsi_lattice::{Class, Lattice, read_lattice};
 use vsi_syntax::Span;
 use vsi_types::Profile;
 
-/// A row whose first fields are read and whose answer is written bit by bit. Where something goes wrong, that is noted,
-/// and the row goes on with a 0, an empty text or what is there already.
+/// A row whose first fields are read and whose answer is written bit by bit. Where something goes
+/// wrong, that is noted, and the row goes on with a 0, an empty text or what is there already.
 #[derive(Drop)]
 pub(crate) struct Row<'a> {
     /// The fields that aren't read yet, and the text.
@@ -96,7 +96,8 @@ impl<'a> Row<'a> {
         }
     }
 
-    /// The next field as the name of a profile. A row without one, whose next field names a lattice, has the base profile.
+    /// The next field as the name of a profile. A row without one, whose next field names a
+    /// lattice, has the base profile.
     pub(crate) fn profile(&mut self) -> Profile {
         match self.rest.split_once(' ') {
             Some(("base", rest)) => {
@@ -155,8 +156,8 @@ impl<'a> Row<'a> {
         classes
     }
 
-    /// What is left up to ` | `, as the bytes that it stands for; then what stands behind that is left. Where there is
-    /// no ` | `, the whole text stands for both.
+    /// What is left up to ` | `, as the bytes that it stands for; then what stands behind that is
+    /// left. Where there is no ` | `, the whole text stands for both.
     pub(crate) fn first_text(&mut self, alloc: Global) -> Vec<u8> {
         match self.rest.split_once(" | ") {
             Some((first, other)) => {

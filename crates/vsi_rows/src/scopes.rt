@@ -36,7 +36,8 @@ fn put_globals(row: &mut Row<'_>, globals: &[Global<'_>]) {
     }
 }
 
-/// Adds a line for each `letvar`: its name, its place, and the number of its class where it has one.
+/// Adds a line for each `letvar`: its name, its place, and the number of its class where it has
+/// one.
 fn put_letvars(row: &mut Row<'_>, letvars: &[Entry<'_>]) {
     for entry in letvars {
         row.put("letvar ");
@@ -128,9 +129,10 @@ fn put_form(alloc: Heap, row: &mut Row<'_>, form: Form, program: &Resolved<'_>) 
     }
 }
 
-/// `resolve`, `size`, `rebuilt`, `optimise`, `generate` or `generate_sizes`, then `LATTICE TEXT`: the program over
-/// locations, its size, the program of the same globals without a command, what the optimiser leaves, the listing of the
-/// code of the program as it is written, or how large that is and how it ends; or the fault.
+/// `resolve`, `size`, `rebuilt`, `optimise`, `generate` or `generate_sizes`, then `LATTICE TEXT`:
+/// the program over locations, its size, the program of the same globals without a command, what
+/// the optimiser leaves, the listing of the code of the program as it is written, or how large that
+/// is and how it ends; or the fault.
 pub(crate) fn program(alloc: Heap, row: &mut Row<'_>, lattice: &Lattice, form: Form) {
     let text = row.text(alloc);
     match resolved(alloc, lattice, &text) {

@@ -63,7 +63,8 @@ fn put_view(
     }
 }
 
-/// `view LATTICE CLASS STORE BUDGET IMAGE`: what the class of the name sees of a run, or the line of the refusal.
+/// `view LATTICE CLASS STORE BUDGET IMAGE`: what the class of the name sees of a run, or the line
+/// of the refusal.
 pub(crate) fn viewed(alloc: Global, row: &mut Row<'_>, lattice: &Lattice) {
     let class = row.field();
     let words = row.numbers(alloc);

@@ -57,8 +57,8 @@ fn put_tree(alloc: Global, row: &mut Row<'_>, form: Form, program: &Program<'_>)
     }
 }
 
-/// `parse TEXT`, `tree TEXT` or `print TEXT`: that the text is a program, its tree, or the canonical text of the tree; or
-/// the fault.
+/// `parse TEXT`, `tree TEXT` or `print TEXT`: that the text is a program, its tree, or the
+/// canonical text of the tree; or the fault.
 pub(crate) fn parsed(alloc: Global, row: &mut Row<'_>, form: Form) {
     let text = row.text(alloc);
     match tree_of(alloc, &text) {

@@ -61,7 +61,8 @@ fn put_inferred(
     }
 }
 
-/// `infer PROFILE LATTICE TEXT`: the numbers of the least classes of the `letvar`s, or the lines of the walk.
+/// `infer PROFILE LATTICE TEXT`: the numbers of the least classes of the `letvar`s, or the lines of
+/// the walk.
 pub(crate) fn least_classes(alloc: Heap, row: &mut Row<'_>, profile: Profile, lattice: &Lattice) {
     let text = row.text(alloc);
     match resolved(alloc, lattice, &text) {
@@ -129,8 +130,9 @@ fn put_judged(alloc: Heap, row: &mut Row<'_>, profile: Profile, lattice: &Lattic
     }
 }
 
-/// `walk PROFILE LATTICE COUNT STEPS TEXT`: whether so many steps are a bad walk. A step is `RULE SOURCE TARGET READ
-/// WRITTEN` by the numbers of variables and the first bytes of names of one byte.
+/// `walk PROFILE LATTICE COUNT STEPS TEXT`: whether so many steps are a bad walk. A step is `RULE
+/// SOURCE TARGET READ WRITTEN` by the numbers of variables and the first bytes of names of one
+/// byte.
 pub(crate) fn walked(alloc: Heap, row: &mut Row<'_>, profile: Profile, lattice: &Lattice) {
     let walk = walk(alloc, row);
     put_judged(alloc, row, profile, lattice, &walk);

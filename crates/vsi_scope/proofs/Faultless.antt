@@ -1,7 +1,6 @@
 -- A program without a fault has a body over locations.
-use Rattle.std.proofs.Common.{◌≡◌, ◌≤◌, ◌+◌, List, [], length, arith, None}
-use Rattle.vsi_syntax.specs.Tree as tree
-use Rattle.vsi_scope.specs.Faults.{Known, all_marks, global_marks, global_names, program_marks, first_fault}
+use Rattle.std.proofs.Common.{◌≡◌, ◌≤◌, [], length, arith, None}
+use Rattle.vsi_scope.specs.Faults.{all_marks, global_marks, global_names, first_fault}
 use Rattle.vsi_scope.specs.Places.{all_commands}
 use Rattle.vsi_scope.specs.Laws.{FaultlessResolves}
 use Rattle.vsi_scope.proofs.Meaning.{does_all, left_of, right_of}

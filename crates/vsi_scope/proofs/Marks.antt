@@ -4,7 +4,7 @@ use Rattle.std.proofs.lemmas.List.{map-append, append-nil}
 use Rattle.vsi_syntax.specs.declared.token.Kind.TheVariants as kind
 use Rattle.vsi_syntax.specs.Tree as tree
 use Rattle.vsi_scope.specs.Scopes.{Scope}
-use Rattle.vsi_scope.specs.Faults.{Mark, class_marks, uses, marks, all_marks, locals, global_marks, global_names, program_marks}
+use Rattle.vsi_scope.specs.Faults.{Mark, class_marks, uses, marks, all_marks, locals, global_marks, global_names}
 use Rattle.vsi_scope.specs.Laws.{called, name_at, MarksFollowText}
 
 -- The names of two lists, one behind another, are those of the first and then those of the second.

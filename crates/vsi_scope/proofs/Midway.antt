@@ -1,10 +1,10 @@
 -- A walk amid a sequence.
-use Rattle.std.proofs.Common.{◌≡◌, ℕ, ◌+◌, List, ◌++◌, map, sym, ap, ◌∙◌, None, Bor}
+use Rattle.std.proofs.Common.{◌≡◌, ◌+◌, List, ◌++◌, map, sym, ap, ◌∙◌, None}
 use Rattle.std.proofs.lemmas.List.{append_assoc}
 use Rattle.vsi_syntax.specs.Tree as tree
 use Rattle.vsi_scope.specs.declared.resolution.ScopeError.{ScopeError}
 use Rattle.vsi_scope.proofs.Faulty.{fault_behind, refuses_first, refuses_as}
-use Rattle.vsi_scope.proofs.Walks.{declared_after}
+use Rattle.vsi_scope.proofs.Walks.{same_names, declared_after}
 use Rattle.vsi_syntax.specs.declared.tree.Stmt.{Stmt}
 use Rattle.vsi_syntax.specs.CommandView as syntax
 use Rattle.vsi_scope.specs.declared.program.Cmd.{Cmd}
@@ -18,8 +18,8 @@ use Rattle.vsi_scope.specs.Resolver.{Walked, IsWithin, scope_of, declared}
 -- A walk has gone over the first commands of a sequence.
 pub record Midway (known : Known) (old now : Resolver) (before out : List Cmd) (all rest : List Stmt) : Type 0 where
   pub within : IsWithin now
-  pub names : now.names.items ≡ old.names.items
-  pub globals : now.globals ≡ old.globals
+  pub globals : now.names.globals.keys ≡ old.names.globals.keys
+  pub locals : now.names.locals.items ≡ old.names.locals.items
   pub letvars : map variable old.letvars.items ++ all_variables known (syntax.body_of all)
       ≡ map variable now.letvars.items ++ all_variables known (syntax.body_of rest)
   pub body : map command before ++ all_commands (scope_of old) (syntax.body_of all) ≡ map command out ++ all_commands
@@ -33,11 +33,11 @@ pub midway_more : (known : Known) (old mid new : Resolver) (before b a : List Cm
     Midway known old mid before b all rest → Walked mid new b a (variables known c) (commands_of (scope_of mid) c) →
     first_fault known (marks (scope_of mid) (declared mid) c) ≡ None → Midway known old new before a all after
 midway_more known old mid new before b a all rest after c r m w none =
-    let s : scope_of mid ≡ scope_of old = ap (map (λ (x : Bor (List ℕ)). x.now)) m.names in
+    let s : scope_of mid ≡ scope_of old = same_names old.names mid.names m.globals m.locals in
     record {
       within = w.within;
-      names = w.names ∙ m.names;
       globals = w.globals ∙ m.globals;
+      locals = w.locals ∙ m.locals;
       letvars =
           m.letvars ∙ ap (λ x. map variable mid.letvars.items ++ all_variables known x) r
           ∙ sym (append_assoc (map variable mid.letvars.items) (variables known c)
@@ -62,7 +62,7 @@ pub midway_refuses : (known : Known) (old mid : Resolver) (before b : List Cmd) 
     Midway known old mid before b all rest → Refuses e (first_fault known (marks (scope_of mid) (declared mid) c)) →
     Refuses e (first_fault known (all_marks (scope_of old) (declared old) (syntax.body_of all)))
 midway_refuses known old mid before b all rest after c e r m p =
-    let s : scope_of mid ≡ scope_of old = ap (map (λ (x : Bor (List ℕ)). x.now)) m.names in
+    let s : scope_of mid ≡ scope_of old = same_names old.names mid.names m.globals m.locals in
     let q : Refuses e (first_fault known (marks (scope_of old) (declared mid) c)) = rw (← s) p in
     refuses_as e _ _ (λ x f. m.faults ∙ ap (λ y. first_fault known (all_marks (scope_of old) (declared mid) y)) r ∙ f)
     (refuses_first e known (marks (scope_of old) (declared mid) c) (all_marks (scope_of old)

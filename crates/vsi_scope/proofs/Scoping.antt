@@ -1,5 +1,9 @@
 -- The last place of a name.
-use Rattle.std.proofs.Common.{◌≡◌, ℕ, suc, ◌+◌, ◌-◌, ◌<◌, ◌≤◌, List, [], ◌∷◌, ◌++◌, length, map, take, get_or, Bor, refl, ap, ◌∙◌, arith, Option, Some, None, bytes_eq, if◌then◌else◌, Bool, true, false}
+use Rattle.std.proofs.Common.{◌≡◌, ℕ, suc, ◌+◌, ◌-◌, ◌<◌, ◌≤◌, List, [], ◌∷◌, ◌++◌, length, map, take, get_or, Bor, refl, ap, ◌∙◌, arith, Option, Some, None, bytes_eq, if◌then◌else◌, Bool, true, false, ◌||◌, zero, sym, true≢false, is_some}
+use Rattle.std.specs.List.{IsDistinct, AllByRecursion, list_any, position}
+use Rattle.std.proofs.lemmas.List.Quantifiers.{position-Some}
+use Rattle.std.proofs.lemmas.Map.Keys.{IsDistinct-head, IsDistinct-tail}
+use Rattle.std.proofs.lemmas.Slice.Eq.{bytes_eq-Decides}
 use Rattle.std.proofs.lemmas.List.{take_more, map-append, length-map, length-take-le}
 use Rattle.vsi_scope.specs.Scopes.{Text, Scope}
 use Rattle.vsi_scope.specs.Places.{place_of, next_place}
@@ -65,3 +69,153 @@ pub not_at : (ns : List (Bor (List ℕ))) (n : ℕ) (d : Bor (List ℕ)) (x : Te
 not_at ns n d x some le e =
     ap (λ s. place_of s x) (names_up_to ns n d some le) ∙ place_before (map (λ x. x.now) (take (n - 1) ns))
     (get_or ns (n - 1) d).now x e
+
+-- ---- the place of a name among globals and letvars.
+
+-- The place in two lists, the first of n names: in the second one where it is there.
+abbrev pub in_both : ℕ → Option ℕ → Option ℕ → Option ℕ
+in_both n (Some l) o = Some (n + l)
+in_both n None o = o
+
+-- One name before two lists.
+next_both : (n : ℕ) (o p h : Option ℕ) → next_place (in_both n o p) h ≡ in_both (suc n) o (next_place p h)
+next_both n (Some l) p h = ap Some (omega arith)
+next_both n None p h = refl
+
+-- No names before a list.
+none_before : (o : Option ℕ) → o ≡ in_both 0 o None
+none_before (Some l) = ap Some (omega arith)
+none_before None = refl
+
+-- A name has its last place in the second of two lists, else that in the first.
+pub place_append : (xs ys : Scope) (x : Text) →
+    place_of (xs ++ ys) x ≡ in_both (length xs) (place_of ys x) (place_of xs x)
+place_append [] ys x = none_before (place_of ys x)
+place_append (z ∷ zs) ys x =
+    ap (λ o. next_place o (if bytes_eq z x then Some 0 else None)) (place_append zs ys x)
+    ∙ next_both (length zs) (place_of ys x) (place_of zs x) (if bytes_eq z x then Some 0 else None)
+
+-- ---- the place of a name by key.
+
+-- A look-up goes by the bytes of the names.
+abbrev pub same_name : Bor (List ℕ) → Bor (List ℕ) → Bool
+same_name a b = bytes_eq a.now b.now
+
+-- A comparison that holds doesn't fail.
+both_ways : (b : Bool) → b ≡ true → b ≡ false → ⊥
+both_ways b t f = true≢false (sym t ∙ f)
+
+-- A comparison that can't hold fails.
+fails : (b : Bool) → (b ≡ true → ⊥) → b ≡ false
+fails true n = absurd (n refl)
+fails false n = refl
+
+-- Texts that differ do so in either order.
+turned : (x y : Text) → bytes_eq x y ≡ false → bytes_eq y x ≡ false
+turned x y e =
+    fails (bytes_eq y x) (λ t. both_ways (bytes_eq x y)
+    ((bytes_eq-Decides x y).1 (sym ((bytes_eq-Decides y x).0 t))) e)
+
+-- Where one of two holds nowhere, the first doesn't.
+left_fails : (a b : Bool) → (a || b) ≡ false → a ≡ false
+left_fails true b e = e
+left_fails false b e = refl
+
+-- Where one of two holds nowhere, the second doesn't.
+right_fails : (a b : Bool) → (a || b) ≡ false → b ≡ false
+right_fails true b e = absurd (true≢false e)
+right_fails false b e = e
+
+-- A place is there.
+some_none : {l : ℕ} → Some l ≡ None → ⊥
+some_none e = true≢false (ap is_some e)
+
+-- The first place where a test succeeds.
+abbrev first_if : Bool → Option ℕ
+first_if b = if b then Some 0 else None
+
+-- What is at no place fails its test.
+not_here : (b : Bool) → first_if b ≡ None → b ≡ false
+not_here true e = absurd (some_none e)
+not_here false e = refl
+
+-- A place that isn't there is none of the others.
+next_none : (o h : Option ℕ) → next_place o h ≡ None → (o ≡ None) × (h ≡ None)
+next_none (Some l) h e = absurd (some_none e)
+next_none None h e = (refl, e)
+
+-- A name that differs from the first and has no place behind it has no place.
+none_more : (ks : Scope) (y x : Text) → bytes_eq y x ≡ false → place_of ks x ≡ None → place_of (y ∷ ks) x ≡ None
+none_more ks y x d e =
+    ap (λ o. next_place o (if bytes_eq y x then Some 0 else None)) e ∙ ap (λ b. if b then Some 0 else None) d
+
+-- A name that no key finds has no place.
+pub none_found : (ks : List (Bor (List ℕ))) (x : Text) → list_any (λ k. bytes_eq x k.now) ks ≡ false →
+    place_of (map (λ k. k.now) ks) x ≡ None
+none_found [] x e = refl
+none_found (k ∷ ks) x e =
+    none_more (map (λ k. k.now) ks) k.now x (turned x k.now (left_fails (bytes_eq x k.now) _ e))
+    (none_found ks x (right_fails (bytes_eq x k.now) _ e))
+
+-- A name that has no place is found by no key.
+pub none_there : (ks : List (Bor (List ℕ))) (x : Text) → place_of (map (λ k. k.now) ks) x ≡ None →
+    list_any (λ k. bytes_eq x k.now) ks ≡ false
+none_there [] x e = refl
+none_there (k ∷ ks) x e =
+    let first = next_none (place_of (map (λ k. k.now) ks) x) _ e in
+    ap (λ b. b || list_any (λ k. bytes_eq x k.now) ks) (turned k.now x (not_here (bytes_eq k.now x) first.1))
+    ∙ none_there ks x first.0
+
+-- A key that differs from those behind it has no place there.
+none_behind : (k : Bor (List ℕ)) (ks : List (Bor (List ℕ))) (x : Text) → x ≡ k.now →
+    AllByRecursion (λ z. same_name k z ≡ false) ks → place_of (map (λ k. k.now) ks) x ≡ None
+none_behind k [] x e a = refl
+none_behind k (z ∷ zs) x e a =
+    none_more (map (λ k. k.now) zs) z.now x (turned x z.now (ap (λ y. bytes_eq y z.now) e ∙ a.0))
+    (none_behind k zs x e a.1)
+
+-- Of keys that differ, the one that a name finds is at its last place.
+pub found_by_key : (ks : List (Bor (List ℕ))) (i : ℕ) (d : Bor (List ℕ)) (x : Text) → IsDistinct same_name ks →
+    i < length ks → bytes_eq x (get_or ks i d).now ≡ true → place_of (map (λ k. k.now) ks) x ≡ Some i
+found_by_key [] i d x u lt e = absurd (omega (arith, lt))
+found_by_key (k ∷ ks) zero d x u lt e =
+    let same : x ≡ k.now = (bytes_eq-Decides x k.now).0 e in
+    ap (λ o. next_place o (if bytes_eq k.now x then Some 0 else None))
+    (none_behind k ks x same (IsDistinct-head same_name k ks u))
+    ∙ ap (λ b. if b then Some 0 else None) ((bytes_eq-Decides k.now x).1 (sym same))
+found_by_key (k ∷ ks) (suc i) d x u lt e =
+    ap (λ o. next_place o (if bytes_eq k.now x then Some 0 else None))
+    (found_by_key ks i d x (IsDistinct-tail same_name k ks u) (omega (arith, lt)) e)
+
+-- ---- the two together.
+
+-- A name among the letvars has its place behind the globals.
+pub place_local : (gs ls : List (Bor (List ℕ))) (x : Text) (n l : ℕ) → n ≡ length gs →
+    Some l ≡ place_of (map (λ k. k.now) ls) x →
+    Some (n + l) ≡ place_of (map (λ k. k.now) gs ++ map (λ k. k.now) ls) x
+place_local gs ls x n l e p =
+    let globals = map (λ (k : Bor (List ℕ)). k.now) gs in
+    ap (λ m. Some (m + l)) (e ∙ sym (length-map gs (λ (k : Bor (List ℕ)). k.now)))
+    ∙ ap (λ o. in_both (length globals) o (place_of globals x)) p
+    ∙ sym (place_append globals (map (λ k. k.now) ls) x)
+
+-- A name that isn't among the letvars has the place of the global.
+place_outer : (gs ls : List (Bor (List ℕ))) (x : Text) → None ≡ place_of (map (λ k. k.now) ls) x →
+    place_of (map (λ k. k.now) gs) x ≡ place_of (map (λ k. k.now) gs ++ map (λ k. k.now) ls) x
+place_outer gs ls x none =
+    let globals = map (λ (k : Bor (List ℕ)). k.now) gs in
+    ap (λ o. in_both (length globals) o (place_of globals x)) none
+    ∙ sym (place_append globals (map (λ k. k.now) ls) x)
+
+-- A name that isn't among the letvars, and that a key finds, has the place of the key.
+pub place_by_key : (gs ls : List (Bor (List ℕ))) (x : Bor (List ℕ)) (i : ℕ) →
+    None ≡ place_of (map (λ k. k.now) ls) x.now → IsDistinct same_name gs → Some i ≡ position (same_name x) gs →
+    Some i ≡ place_of (map (λ k. k.now) gs ++ map (λ k. k.now) ls) x.now
+place_by_key gs ls x i none u e =
+    let at = position-Some (same_name x) gs i x (sym e) in
+    sym (found_by_key gs i x x.now u at.0 at.1) ∙ place_outer gs ls x.now none
+
+-- A name that isn't among the letvars, and that no key finds, has no place.
+pub no_place : (gs ls : List (Bor (List ℕ))) (x : Bor (List ℕ)) → None ≡ place_of (map (λ k. k.now) ls) x.now →
+    list_any (same_name x) gs ≡ false → None ≡ place_of (map (λ k. k.now) gs ++ map (λ k. k.now) ls) x.now
+no_place gs ls x none e = sym (none_found gs x.now e) ∙ place_outer gs ls x.now none

@@ -1,5 +1,5 @@
 -- A whole program.
-use Rattle.std.proofs.Common.{◌≡◌, ℕ, ◌+◌, ◌<◌, ◌≤◌, nat_lt, List, [], ◌∷◌, ◌++◌, length, map, refl, sym, ap, subst, ◌∙◌, arith, Option, Some, None, Result, Ok, Err, IfErr, Bool, true, false, bytes_eq, if◌then◌else◌}
+use Rattle.std.proofs.Common.{Bor, length-append, ◌≡◌, ℕ, ◌+◌, ◌<◌, ◌≤◌, nat_lt, List, [], ◌∷◌, ◌++◌, length, map, refl, sym, ap, subst, ◌∙◌, arith, Option, Some, None, Result, Ok, Err, IfErr, Bool, true, false, bytes_eq, if◌then◌else◌}
 use Rattle.std.specs.List.{All, IsDistinct}
 use Rattle.std.proofs.lemmas.List.{length-map}
 use Rattle.std.proofs.lemmas.List.Elements.{All-nil, All-cons}
@@ -19,7 +19,7 @@ use Rattle.vsi_scope.specs.Places.{place_of, all_commands}
 use Rattle.vsi_scope.specs.Faults.{Known, Mark, Local, Class, Use, marks, all_marks, all_locals, global_marks, global_names, program_marks, fault_at, first_fault, or_else, if_absent, if_there, Refuses}
 use Rattle.vsi_scope.specs.Faults as marked
 use Rattle.vsi_scope.specs.Resolving.{Shown, shown, global_of, variable, all_variables, IsResolution, Resolves, IsTooLarge, ExplainsScope}
-use Rattle.vsi_scope.specs.Resolver.{WalkedAll, scope_of, declared, fault_in_all}
+use Rattle.vsi_scope.specs.Resolver.{WalkedAll, IsWithin, scope_of, declared, fault_in_all}
 use Rattle.vsi_scope.proofs.Faulty.{refuses_first, refuses_behind, none_in_both}
 use Rattle.vsi_scope.proofs.Views.{sequence_in}
 use Rattle.vsi_scope.proofs.Walks.{all_counted}
@@ -165,10 +165,9 @@ globals_refuse k p e r =
 
 -- The globals are read, and the walk begins.
 pub record Begun (k : Known) (p : tree.Whole) (list : List Global) (w : Resolver) : Type 0 where
-  pub few : length w.names.items ≤ 256
-  pub named : map (λ x. x.now) w.names.items ≡ global_names p.globals
+  pub outer : w.names.locals.items ≡ []
+  pub named : scope_of w ≡ global_names p.globals
   pub listed : map shown list ≡ map (global_of k) p.globals
-  pub globals : w.globals ≡ length list
   pub letvars : w.letvars.items ≡ []
   -- The program has no fault.
   pub faultless : first_fault k (global_marks [] p.globals) ≡ None
@@ -180,9 +179,23 @@ module _ (k : Known) (p : tree.Whole) (list : List Global) (w : Resolver) (b : B
   globals_counted : length list ≡ length p.globals
   globals_counted = sym (length-map list shown) ∙ ap length b.listed ∙ length-map p.globals (global_of k)
 
+  -- There are as many names of globals as globals.
+  named_counted : length w.names.globals.keys ≡ length p.globals
+  named_counted =
+      let names = map (λ (x : Bor (List ℕ)). x.now) w.names.globals.keys in
+      omega (
+        arith,
+        ap length b.named,
+        length-append names (map (λ x. x.now) w.names.locals.items),
+        length-map w.names.globals.keys (λ (x : Bor (List ℕ)). x.now),
+        length-map w.names.locals.items (λ (x : Bor (List ℕ)). x.now),
+        ap length b.outer,
+        length-map p.globals (λ g. g.name.text),
+      )
+
   -- At the beginning the globals are declared.
   begun_declared : declared w ≡ length p.globals
-  begun_declared = omega (arith, globals_counted, b.globals, ap length b.letvars)
+  begun_declared = omega (arith, named_counted, ap length b.letvars)
 
   -- There are as many names as globals.
   begun_names : length (global_names p.globals) ≡ length p.globals
@@ -191,6 +204,13 @@ module _ (k : Known) (p : tree.Whole) (list : List Global) (w : Resolver) (b : B
   -- The globals are not too many.
   few_globals : length p.globals ≤ 256
   few_globals = omega (arith, globals_few k [] p.globals (omega arith) b.faultless)
+
+  -- The walk begins within the limits.
+  pub begun_within : IsWithin w
+  begun_within = record {
+    locals = omega (arith, ap length b.outer);
+    few = omega (arith, begun_declared, few_globals);
+  }
 
   -- A fault of the body explains the refusal.
   pub body_refuses : (e : ScopeError) → Refuses e (fault_in_all k w p.body) → ExplainsScope k p e

@@ -1,5 +1,5 @@
 -- What a walk over each form of command has done.
-use Rattle.std.proofs.Common.{◌≡◌, ℕ, suc, ◌+◌, ◌-◌, ◌<◌, List, [], ◌∷◌, ◌++◌, length, map, take, Vec, Global, Bor, refl, ap, ◌∙◌, arith, Option, length-append}
+use Rattle.std.proofs.Common.{◌≡◌, ℕ, suc, ◌+◌, ◌-◌, ◌<◌, List, [], ◌∷◌, ◌++◌, length, map, take, Vec, Global, Bor, refl, sym, ap, ◌∙◌, arith, Option, length-append}
 use Rattle.std.proofs.lemmas.List.{map-append, length-map, append_assoc}
 use Rattle.std.proofs.Math.Seq.{take-append_seam}
 use Rattle.vsi_syntax.specs.Tree as tree
@@ -7,6 +7,7 @@ use Rattle.vsi_scope.specs.declared.program.Ex.{Ex}
 use Rattle.vsi_scope.specs.declared.program.Cmd.{Cmd}
 use Rattle.vsi_scope.specs.declared.program.Cmd.TheViews as view
 use Rattle.vsi_scope.specs.declared.resolved.Entry.{Entry}
+use Rattle.vsi_scope.specs.declared.resolution.scope.Names.{Names}
 use Rattle.vsi_scope.specs.declared.resolution.command.Resolver.{Resolver}
 use Rattle.vsi_scope.specs.Language.{Command, If, While, Letvar}
 use Rattle.vsi_scope.specs.View.{expression, command, sequence}
@@ -14,7 +15,7 @@ use Rattle.vsi_scope.specs.Scopes.{in_sequence}
 use Rattle.vsi_scope.specs.Places.{expression_of, commands_of}
 use Rattle.vsi_scope.specs.Faults.{Known, locals, all_locals}
 use Rattle.vsi_scope.specs.Resolving.{Variable, variable, variables, all_variables, class_of, letvar}
-use Rattle.vsi_scope.specs.Resolver.{Walked, IsWithin, scope_of, declared}
+use Rattle.vsi_scope.specs.Resolver.{Walked, IsWithin, names_of, scope_of, declared}
 use Rattle.vsi_scope.proofs.Views.{command_If, command_While, command_Letvar, sequence_in}
 
 -- A branch that has begun empty.
@@ -43,10 +44,17 @@ mutual
         all_counted known rest,
       )
 
+-- The same globals and letvars are the same names in scope.
+pub same_names : (old new : Names) → new.globals.keys ≡ old.globals.keys → new.locals.items ≡ old.locals.items →
+    names_of new ≡ names_of old
+same_names old new g l =
+    ap (λ ns. map (λ (x : Bor (List ℕ)). x.now) ns ++ map (λ x. x.now) new.locals.items) g
+    ∙ ap (λ ns. map (λ (x : Bor (List ℕ)). x.now) old.globals.keys ++ map (λ (x : Bor (List ℕ)). x.now) ns) l
+
 -- A walk leaves the names in scope as they were.
 pub scope_after : (old new : Resolver) {b a : List Cmd} {vs : List Variable} {cs : List Command} →
     Walked old new b a vs cs → scope_of new ≡ scope_of old
-scope_after old new w = ap (map (λ (x : Bor (List ℕ)). x.now)) w.names
+scope_after old new w = same_names old.names new.names w.globals w.locals
 
 -- A walk over a command has declared its letvars.
 pub declared_after : (known : Known) (c : tree.Command) (old new : Resolver) {b a : List Cmd} {cs : List Command} →
@@ -54,7 +62,7 @@ pub declared_after : (known : Known) (c : tree.Command) (old new : Resolver) {b 
 declared_after known c old new w =
     omega (
       arith,
-      w.globals,
+      ap length w.globals,
       ap length w.letvars,
       length-map new.letvars.items variable,
       length-map old.letvars.items variable,
@@ -78,8 +86,8 @@ pub chosen : (known : Known) (old w₁ w₂ : Resolver) (guard : Ex) (e : tree.T
     Walked old w₂ before after (variables known (tree.If e c d)) (commands_of (scope_of old) (tree.If e c d))
 chosen known old w₁ w₂ guard e c d b₁ b₂ firsts others before after g e₁ e₂ first second pushed = record {
   within = second.within;
-  names = second.names ∙ first.names;
   globals = second.globals ∙ first.globals;
+  locals = second.locals ∙ first.locals;
   letvars =
       second.letvars ∙ ap (λ l. l ++ variables known d) first.letvars ∙ append_assoc (map variable old.letvars.items)
       (variables known c) (variables known d);
@@ -101,8 +109,8 @@ pub looped : (known : Known) (old w : Resolver) (guard : Ex) (e : tree.Tree) (c 
     Walked old w before after (variables known (tree.While e c)) (commands_of (scope_of old) (tree.While e c))
 looped known old w guard e c b body before after g e₁ inner pushed = record {
   within = inner.within;
-  names = inner.names;
   globals = inner.globals;
+  locals = inner.locals;
   letvars = inner.letvars;
   body = put before after (view.While guard body) _ pushed
       (command_While guard body
@@ -112,15 +120,19 @@ looped known old w guard e c b body before after g e₁ inner pushed = record {
 
 -- A variable has come into scope.
 pub record Entered (old new : Resolver) (x : Bor (List ℕ)) (v : Variable) : Type 0 where
-  pub names : new.names.items ≡ old.names.items ++ x ∷ []
-  pub globals : new.globals ≡ old.globals
+  pub globals : new.names.globals.keys ≡ old.names.globals.keys
+  pub locals : new.names.locals.items ≡ old.names.locals.items ++ x ∷ []
   pub letvars : map variable new.letvars.items ≡ map variable old.letvars.items ++ v ∷ []
 
 -- The name that came into scope is the last.
 pub entered_scope : (old new : Resolver) (x : Bor (List ℕ)) (v : Variable) → Entered old new x v →
     scope_of new ≡ scope_of old ++ x.now ∷ []
 entered_scope old new x v w =
-    ap (map (λ (y : Bor (List ℕ)). y.now)) w.names ∙ map-append (λ (y : Bor (List ℕ)). y.now) old.names.items (x ∷ [])
+    let globals = map (λ (y : Bor (List ℕ)). y.now) old.names.globals.keys in
+    ap (λ ns. map (λ (y : Bor (List ℕ)). y.now) ns ++ map (λ y. y.now) new.names.locals.items) w.globals
+    ∙ ap (λ ns. globals ++ ns) (ap (map (λ (y : Bor (List ℕ)). y.now)) w.locals
+    ∙ map-append (λ (y : Bor (List ℕ)). y.now) old.names.locals.items (x ∷ []))
+    ∙ sym (append_assoc globals (map (λ y. y.now) old.names.locals.items) (x.now ∷ []))
 
 -- One variable more is declared.
 pub entered_declared : (old new : Resolver) (x : Bor (List ℕ)) (v : Variable) → Entered old new x v →
@@ -128,7 +140,7 @@ pub entered_declared : (old new : Resolver) (x : Bor (List ℕ)) (v : Variable) 
 entered_declared old new x v w =
     omega (
       arith,
-      w.globals,
+      ap length w.globals,
       ap length w.letvars,
       length-map new.letvars.items variable,
       length-map old.letvars.items variable,
@@ -139,13 +151,14 @@ entered_declared old new x v w =
 pub entered_within : (old new : Resolver) (x : Bor (List ℕ)) (v : Variable) → Entered old new x v → IsWithin old →
     declared old < 1024 → IsWithin new
 entered_within old new x v w i lt = record {
-  names =
+  locals =
       omega (
         arith,
         entered_declared old new x v w,
-        ap length w.names,
-        length-append old.names.items (x ∷ []),
-        i.names,
+        ap length w.globals,
+        ap length w.locals,
+        length-append old.names.locals.items (x ∷ []),
+        i.locals,
       );
   few = omega (arith, entered_declared old new x v w, lt);
 }
@@ -159,33 +172,31 @@ pub localled : (known : Known) (old w₁ w₂ new : Resolver) (x : Bor (List ℕ
     → x.now ≡ named.text
     → expression initial ≡ expression_of (scope_of old) e → b ≡ []
     → Walked w₁ w₂ b body.items (variables known c) (commands_of (scope_of w₁) c)
-    → new.names.items ≡ take (length w₂.names.items - 1) w₂.names.items → new.globals ≡ w₂.globals → new.letvars
-    ≡ w₂.letvars
+    → new.names.locals.items ≡ take (length w₂.names.locals.items - 1) w₂.names.locals.items
+    → new.names.globals.keys ≡ w₂.names.globals.keys → new.letvars ≡ w₂.letvars
     → after ≡ before ++ view.Letvar initial body ∷ []
     → Walked old new before after (variables known (tree.Letvar named class e c)) (commands_of (scope_of old)
     (tree.Letvar named class e c))
-localled known old w₁ w₂ new x named class initial e c b body before after i entered text g e₁ inner names globals
+localled known old w₁ w₂ new x named class initial e c b body before after i entered text g e₁ inner locals globals
     letvars pushed =
-    let all : w₂.names.items ≡ old.names.items ++ x ∷ [] = inner.names ∙ entered.names in
-    let n : length w₂.names.items - 1 ≡ length old.names.items = omega (
+    let all : w₂.names.locals.items ≡ old.names.locals.items ++ x ∷ [] = inner.locals ∙ entered.locals in
+    let n : length w₂.names.locals.items - 1 ≡ length old.names.locals.items = omega (
       arith,
       ap length all,
-      length-append old.names.items (x ∷ []),
+      length-append old.names.locals.items (x ∷ []),
     ) in
-    let same : new.names.items ≡ old.names.items = names ∙ ap (λ k. take k w₂.names.items) n
-    ∙ ap (take (length old.names.items)) all ∙ take-append_seam old.names.items (x ∷ []) in
+    let same : new.names.locals.items ≡ old.names.locals.items = locals
+    ∙ ap (λ k. take k w₂.names.locals.items) n ∙ ap (take (length old.names.locals.items)) all
+    ∙ take-append_seam old.names.locals.items (x ∷ []) in
     let scope : scope_of w₁ ≡ scope_of old ++ named.text ∷ [] = entered_scope old w₁ x _ entered
     ∙ ap (λ t. scope_of old ++ t ∷ []) text in
     record {
       within = record {
-        names =
+        locals =
             omega (
               arith,
               ap length same,
-              i.names,
-              globals,
-              inner.globals,
-              entered.globals,
+              i.locals,
               ap (λ (v : Vec Entry Global). length v.items) letvars,
               ap length inner.letvars,
               ap length entered.letvars,
@@ -195,10 +206,10 @@ localled known old w₁ w₂ new x named class initial e c b body before after i
               length-append (map variable w₁.letvars.items) (variables known c),
               length-append (map variable old.letvars.items) (letvar named (class_of known class) ∷ []),
             );
-        few = omega (arith, globals, ap (λ (v : Vec Entry Global). length v.items) letvars, inner.within.few);
+        few = omega (arith, ap length globals, ap (λ (v : Vec Entry Global). length v.items) letvars, inner.within.few);
       };
-      names = same;
       globals = globals ∙ inner.globals ∙ entered.globals;
+      locals = same;
       letvars =
           ap (λ (v : Vec Entry Global). map variable v.items) letvars ∙ inner.letvars
           ∙ ap (λ l. l ++ variables known c) entered.letvars ∙ append_assoc (map variable old.letvars.items) _

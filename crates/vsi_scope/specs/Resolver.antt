@@ -1,27 +1,45 @@
 -- What a walk through the text has done.
-use Rattle.std.specs.Prelude.{◌≡◌, ℕ, ◌+◌, ◌≤◌, List, ◌++◌, length, map, Option}
+use Rattle.std.specs.Prelude.{◌≡◌, ℕ, ◌+◌, ◌≤◌, List, [], ◌++◌, length, map, Option}
 use Rattle.vsi_syntax.specs.Tree as tree
 use Rattle.vsi_scope.specs.declared.program.Cmd.{Cmd}
+use Rattle.vsi_scope.specs.declared.resolution.scope.Names.{Names}
+use Rattle.vsi_scope.specs.declared.resolution.declare.Globals.{Globals}
 use Rattle.vsi_scope.specs.declared.resolution.command.Resolver.{Resolver}
 use Rattle.vsi_scope.specs.declared.resolution.ScopeError.{ScopeError}
 use Rattle.vsi_scope.specs.Language.{Command}
 use Rattle.vsi_scope.specs.View.{command}
 use Rattle.vsi_scope.specs.Scopes.{Scope}
 use Rattle.vsi_scope.specs.Places.{commands_of, all_commands}
-use Rattle.vsi_scope.specs.Faults.{Known, marks, all_marks, first_fault}
-use Rattle.vsi_scope.specs.Resolving.{Variable, variable, variables, all_variables}
+use Rattle.vsi_scope.specs.Faults.{Known, marks, all_marks, global_names, first_fault}
+use Rattle.vsi_scope.specs.Resolving.{Variable, variable, variables, all_variables, shown, global_of}
 
--- The names in scope.
+-- The names in scope: those of globals, then those of letvars.
+abbrev pub names_of : Names → Scope
+names_of ns = map (λ x. x.now) ns.globals.keys ++ map (λ x. x.now) ns.locals.items
+
+-- No global is read, and no letvar is in scope.
+pub record HasNone (read : Globals) : Type 0 where
+  pub list : read.list.items ≡ []
+  pub globals : read.names.globals.keys ≡ []
+  pub outer : read.names.locals.items ≡ []
+
+-- The globals of these declarations are read, and no letvar is in scope.
+pub record HasRead (known : Known) (gs : List tree.Declared) (read : Globals) : Type 0 where
+  pub outer : read.names.locals.items ≡ []
+  pub names : names_of read.names ≡ global_names gs
+  pub list : map shown read.list.items ≡ map (global_of known) gs
+
+-- The names in scope where the walk is.
 abbrev pub scope_of : Resolver → Scope
-scope_of w = map (λ x. x.now) w.names.items
+scope_of w = names_of w.names
 
 -- The number of declarations so far.
 abbrev pub declared : Resolver → ℕ
-declared w = w.globals + length w.letvars.items
+declared w = length w.names.globals.keys + length w.letvars.items
 
--- The names in scope are declared, and not too many are.
+-- The letvars in scope are declared, and not too many declarations are.
 pub record IsWithin (w : Resolver) : Type 0 where
-  pub names : length w.names.items ≤ declared w
+  pub locals : length w.names.locals.items ≤ length w.letvars.items
   pub few : declared w ≤ 1024
 
 -- The walk has gone over these letvars and has left these commands.
@@ -29,8 +47,8 @@ pub record Walked
     (old new : Resolver) (before after : List Cmd) (variables : List Variable) (commands : List Command)
     : Type 0 where
   pub within : IsWithin new
-  pub names : new.names.items ≡ old.names.items
-  pub globals : new.globals ≡ old.globals
+  pub globals : new.names.globals.keys ≡ old.names.globals.keys
+  pub locals : new.names.locals.items ≡ old.names.locals.items
   pub letvars : map variable new.letvars.items ≡ map variable old.letvars.items ++ variables
   pub body : map command after ≡ map command before ++ commands
 

@@ -1,4 +1,5 @@
-//! The laws of resolution and of evaluation. Each function's contract is a law, and its body does nothing.
+//! The laws of resolution and of evaluation. Each function's contract is a law, and its body does
+//! nothing.
 
 ghost use Rattle.vsi_scope.specs.Scopes.{OneResolution};
 ghost use Rattle.vsi_scope.specs.Laws.{MarksFollowText, ResolvesFaultless, FaultlessResolves};
@@ -29,7 +30,8 @@ pub fn one_resolution()
     ensures { OneResolution }
 {}
 
-/// The marks by which a program is judged stand at the names that its text writes, in the order of the text.
+/// The marks by which a program is judged stand at the names that its text writes, in the order of
+/// the text.
 pub fn marks_follow_text()
     ensures { MarksFollowText }
 {}
@@ -39,7 +41,8 @@ pub fn resolves_faultless()
     ensures { ResolvesFaultless }
 {}
 
-/// A program without a fault has a body over locations, which is its resolution where it isn't too large.
+/// A program without a fault has a body over locations, which is its resolution where it isn't too
+/// large.
 pub fn faultless_resolves()
     ensures { FaultlessResolves }
 {}

@@ -1,9 +1,10 @@
-//! The resolved program: names replaced by locations, and what the commands over locations do to a store.
+//! The resolved program: names replaced by locations, and what the commands over locations do to a
+//! store.
 //!
-//! In comes the tree of a program and a lattice of classes; out goes a [`Resolved`], or the first fault of the text.
-//! `resolve` carries the promise: its clause `resolved` says what the program is, `refused` what each fault means,
-//! and `exact` that a program without fault is refused for want of memory alone. The laws of evaluation are the
-//! contracts of the functions in [`laws`].
+//! In comes the tree of a program and a lattice of classes; out goes a [`Resolved`], or the first
+//! fault of the text. `resolve` carries the promise: its clause `resolved` says what the program
+//! is, `refused` what each fault means, and `exact` that a program without fault is refused for
+//! want of memory alone. The laws of evaluation are the contracts of the functions in [`laws`].
 #![tactic(auto)]
 
 pub mod laws;

@@ -2,8 +2,8 @@
 
 use vsi_syntax::{Op, Span};
 
-/// An expression over locations: location `k` below the number of globals is global `k`, and a `letvar` has the next
-/// location above those in scope.
+/// An expression over locations: location `k` below the number of globals is global `k`, and a
+/// `letvar` has the next location above those in scope.
 #[derive(Drop)]
 pub enum Ex {
     /// A word.
@@ -14,7 +14,8 @@ pub enum Ex {
     Op(Op, Box<Ex>, Box<Ex>),
 }
 
-/// A command over locations. Brackets and blocks leave nothing; a block in a sequence is joined to it.
+/// A command over locations. Brackets and blocks leave nothing; a block in a sequence is joined to
+/// it.
 #[derive(Drop)]
 pub enum Cmd {
     /// The value is put at the location; the span is that of the name.

@@ -36,9 +36,10 @@ pub struct Entry<'a> {
     pub span: Span,
 }
 
-/// A program over locations. It has at most 256 globals of distinct names, at most 1,024 declarations, one entry for
-/// each `letvar`, and a body of size 65,534 at most whose locations exist and which is 200 deep at most, an `if`, a
-/// `while`, a `letvar` and an operator each a level. So what follows its commands goes no deeper than that.
+/// A program over locations. It has at most 256 globals of distinct names, at most 1,024
+/// declarations, one entry for each `letvar`, and a body of size 65,534 at most whose locations
+/// exist and which is 200 deep at most, an `if`, a `while`, a `letvar` and an operator each a
+/// level. So what follows its commands goes no deeper than that.
 #[derive(Drop)]
 pub struct Resolved<'a> {
     globals: Vec<Global<'a>>,
@@ -58,7 +59,8 @@ impl<'a> Model for Resolved<'a> {
 
     ghost view = { λ r. resolved_of r.globals.items r.letvars.items r.body.items };
 
-    ghost invariant = { λ r. IsResolved (resolved_of r.globals.items r.letvars.items r.body.items) };
+    ghost invariant = { λ r. IsResolved
+        (resolved_of r.globals.items r.letvars.items r.body.items) };
 }
 
 impl<'a> Resolved<'a> {
@@ -94,7 +96,8 @@ impl<'a> Resolved<'a> {
         &self.letvars
     }
 
-    /// A program with the same globals, and these entries and this body. Want of memory hands both back.
+    /// A program with the same globals, and these entries and this body. Want of memory hands both
+    /// back.
     pub fn rebuilt(
         &self,
         alloc: Heap,
@@ -102,7 +105,8 @@ impl<'a> Resolved<'a> {
         body: Vec<Cmd>,
     ) -> Result<Resolved<'a>, (AllocError, Vec<Entry<'a>>, Vec<Cmd>)>
         requires { IsResolved (resolved_of self.now.globals letvars.items body.items) }
-        ensures rebuilt { IfOk result (λ r. r ≡ resolved_of self.now.globals letvars.entry.items body.items) }
+        ensures rebuilt { IfOk result
+            (λ r. r ≡ resolved_of self.now.globals letvars.entry.items body.items) }
         ensures back { IfErr result (λ e. (e.1 ≡ letvars.entry) × (e.2 ≡ body)) }
     {
         match self.globals.as_slice().to_vec(alloc) {

@@ -1,5 +1,5 @@
 -- What a store file says of the globals, and what is wrong with one that says nothing.
-use Rattle.std.specs.Prelude.{◌≡◌, ℕ, ℤ, pos, List, map, Bool, if◌then◌else◌, Option, Some, None, unwrap_or, is_some}
+use Rattle.std.specs.Prelude.{◌≡◌, ℕ, ℤ, pos, List, map, Bool, false, ◌||◌, if◌then◌else◌, Option, Some, None, unwrap_or, is_some}
 use Rattle.std.specs.List.{list_any}
 use Rattle.std.specs.Str.{IsUtf8, bytes_eq}
 use Rattle.toml.specs.Data.{Data, Members, no_members, member, as_integer}
@@ -76,3 +76,12 @@ IsRefusal globals text NotToml = IsNoDocument text
 IsRefusal globals text (NotANumber name) = HasFault globals text (no_number name.items)
 IsRefusal globals text (UnknownGlobal name) = HasFault globals text (no_global name.items)
 IsRefusal globals text Memory = Unit {0}
+
+-- A table has this key.
+abbrev pub has_key : Members → List ℕ → Bool
+has_key no_members name = false
+has_key (member key d ms) name = bytes_eq key name || has_key ms name
+
+-- The text is a document, and this tells of each global, in their order, whether it has a key there.
+abbrev pub Names : List ℕ → List Global → List Bool → Type 0
+Names text globals named = (ms : Members) × IsDocument text ms × (named ≡ map (λ g. has_key ms g.0) globals)

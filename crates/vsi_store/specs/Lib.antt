@@ -1,3 +1,4 @@
 pub mod Text
 pub mod File
 pub mod View
+pub mod Compare

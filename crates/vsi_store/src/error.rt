@@ -6,7 +6,8 @@ ghost use Rattle.vsi_store.specs.declared.error.StoreError.TheVariants.{Memory};
 use std::alloc::{AllocError, AllocFailed};
 use thiserror::Error;
 
-/// Why a store file is refused: it is no TOML, or the first faulty key in byte order has no number or is no global.
+/// Why a store file is refused: it is no TOML, or the first faulty key in byte order has no number
+/// or is no global.
 #[derive(Debug, Drop, Error)]
 pub enum StoreError {
     /// The text is no TOML document.

@@ -14,8 +14,8 @@ use vsi_image::{Image, Verified};
 use vsi_lattice::{Class, Classes, Lattice};
 use vsi_machine::{Machine, Outcome, StartError};
 
-/// What a class sees of the image's run from a store, for at most `budget` instructions: the lines of `store_text` for
-/// the globals whose class is at or below it, where the run halts.
+/// What a class sees of the image's run from a store, for at most `budget` instructions: the lines
+/// of `store_text` for the globals whose class is at or below it, where the run halts.
 ///
 /// # Errors
 ///
@@ -29,12 +29,15 @@ pub fn view(
     budget: u64,
 ) -> Result<View, ViewError>
     requires { IsClass (order lattice.now) class }
-    ensures unknown { (i : ℕ) → first_unknown (class_named lattice.now) 0 (globals verified.now.globals.items) ≡ Some i
+    ensures unknown { (i : ℕ) →
+        first_unknown (class_named lattice.now) 0 (globals verified.now.globals.items) ≡ Some i
         → result ≡ Err (ViewError.ClassNotInLattice i) }
-    ensures wrong { first_unknown (class_named lattice.now) 0 (globals verified.now.globals.items) ≡ None
+    ensures wrong { first_unknown (class_named lattice.now) 0 (globals verified.now.globals.items)
+        ≡ None
         → length words.now ≢ length verified.now.globals.items
         → result ≡ Err (ViewError.WrongStore (length words.now)) }
-    ensures seen { first_unknown (class_named lattice.now) 0 (globals verified.now.globals.items) ≡ None
+    ensures seen { first_unknown (class_named lattice.now) 0 (globals verified.now.globals.items)
+        ≡ None
         → length words.now ≡ length verified.now.globals.items
         → MatchResult result
         (Views (class_named lattice.now) (order lattice.now) class verified.now words.now budget)
@@ -59,7 +62,7 @@ pub fn view(
 }
 
 /// The first global whose class name is no class.
-fn unknown_in(lattice: &Lattice, variables: &[(Vec<u8>, Vec<u8>)]) -> Option<usize>
+pub(crate) fn unknown_in(lattice: &Lattice, variables: &[(Vec<u8>, Vec<u8>)]) -> Option<usize>
     ensures { result ≡ first_unknown (class_named lattice.now) 0 (globals variables.now) }
 {
     for (i, variable) in variables.iter().enumerate() {
@@ -71,7 +74,7 @@ fn unknown_in(lattice: &Lattice, variables: &[(Vec<u8>, Vec<u8>)]) -> Option<usi
 }
 
 /// Whether the class sees what has this class name.
-fn sees(lattice: &Lattice, class: Class, name: &[u8]) -> bool
+pub(crate) fn sees(lattice: &Lattice, class: Class, name: &[u8]) -> bool
     requires { IsClass (order lattice.now) class }
     ensures { result ≡ is_seen (class_named lattice.now) (order lattice.now) class name.now }
 {
@@ -91,7 +94,8 @@ fn push_seen(
 ) -> Result<(), AllocError>
     requires { IsClass (order lattice.now) class }
     ensures { OnOk result (text.new.items ≡ text.old.items
-        ++ line_seen (class_named lattice.now) (order lattice.now) class (global variable.now) word) }
+        ++ line_seen (class_named lattice.now) (order lattice.now) class (global variable.now)
+        word) }
 {
     if sees(lattice, class, variable.1.as_slice()) {
         push_line(text, variable.0.as_slice(), word)?;

@@ -3,7 +3,8 @@
 ghost use Rattle.std.specs.Prelude.{◌≡◌, IfOk, IfErr, MatchResult, None};
 ghost use Rattle.toml.specs.View.{table_view, view};
 ghost use Rattle.vsi_image.specs.Fields.{globals};
-ghost use Rattle.vsi_store.specs.File.{Tells, IsDocument, IsNameless, IsRefusal, IsEntryRefusal, entry_fault, has_name, number_in};
+ghost use Rattle.vsi_store.specs.File.{Tells, Names, IsDocument, IsNameless, IsRefusal, IsEntryRefusal, entry_fault, has_name, number_in};
+ghost use Rattle.vsi_store.specs.File as spec;
 
 use crate::error::StoreError;
 use std::alloc::Global;
@@ -13,17 +14,19 @@ use vsi_image::Image;
 /// The number of a global that a store file doesn't name.
 const UNNAMED: i64 = 0;
 
-/// The words of the globals that a store file gives, in the order of the globals; a global without a key is 0.
+/// The words of the globals that a store file gives, in the order of the globals; a global without
+/// a key is 0.
 ///
-/// The file is a TOML document whose keys are globals and whose values are integers. A dotted key counts as its first
-/// part, whose value is no integer.
+/// The file is a TOML document whose keys are globals and whose values are integers. A dotted key
+/// counts as its first part, whose value is no integer.
 ///
 /// # Errors
 ///
-/// `NotToml` where the text is no document, no UTF-8, or has an integer beyond 64 bits; else the fault of the first
-/// faulty key in byte order, `NotANumber` before `UnknownGlobal` at one key.
+/// `NotToml` where the text is no document, no UTF-8, or has an integer beyond 64 bits; else the
+/// fault of the first faulty key in byte order, `NotANumber` before `UnknownGlobal` at one key.
 pub fn read_store(alloc: Global, image: &Image, text: &[u8]) -> Result<Vec<i64>, StoreError>
-    ensures words { IfOk result (λ words. Tells text.now (globals image.now.globals.items) words.items) }
+    ensures words { IfOk result
+        (λ words. Tells text.now (globals image.now.globals.items) words.items) }
     ensures refused { IfErr result (IsRefusal (globals image.now.globals.items) text.now) }
 {
     let variables = image.globals.as_slice();
@@ -96,4 +99,35 @@ fn number_of(table: &Table, name: &[u8]) -> i64
         }
     }
     UNNAMED
+}
+
+/// Whether each global, in their order, has a key in a store file. What the keys hold isn't judged.
+///
+/// # Errors
+///
+/// `NotToml` where the text is no document, no UTF-8, or has an integer beyond 64 bits; `Memory`.
+pub fn named_globals(alloc: Global, image: &Image, text: &[u8]) -> Result<Vec<bool>, StoreError>
+    ensures named { IfOk result
+        (λ named. Names text.now (globals image.now.globals.items) named.items) }
+    ensures refused { IfErr result (IsNameless text.now) }
+{
+    let variables = image.globals.as_slice();
+    let table = table_in(alloc, text)?;
+    let mut named = Vec::new(alloc);
+    for variable in variables {
+        named.push(has_key(&table, variable.0.as_slice()))?;
+    }
+    Ok(named)
+}
+
+/// Whether the table has a key.
+fn has_key(table: &Table, name: &[u8]) -> bool
+    ensures { result ≡ spec.has_key (table_view table.now) name.now }
+{
+    for (key, _value) in table {
+        if key.as_bytes() == name {
+            return true;
+        }
+    }
+    false
 }

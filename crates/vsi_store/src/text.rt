@@ -11,7 +11,8 @@ use vsi_image::Image;
 /// A line `name = number` for each global, in order, each ending with a line feed.
 pub fn store_text(alloc: Global, image: &Image, words: &[i64]) -> Result<Vec<u8>, AllocError>
     requires { length words.now ≡ length image.now.globals.items }
-    ensures { IfOk result (λ text. text.items ≡ store_text_of (globals image.now.globals.items) words.now) }
+    ensures { IfOk result
+        (λ text. text.items ≡ store_text_of (globals image.now.globals.items) words.now) }
 {
     let variables = image.globals.as_slice();
     let mut text = Vec::new(alloc);

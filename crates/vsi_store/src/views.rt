@@ -18,7 +18,8 @@ pub enum View {
 /// Why nothing is seen.
 #[derive(Debug, PartialEq, Eq, Drop, Error)]
 pub enum ViewError {
-    /// The class name of the global of this number, from 0, is no class of the lattice; it is the first such global.
+    /// The class name of the global of this number, from 0, is no class of the lattice; it is the
+    /// first such global.
     #[error("a global has a class that the lattice lacks")]
     ClassNotInLattice(usize),
     /// The store has this many words, and not one for each global.

@@ -1,5 +1,5 @@
 -- A text has at most one first fault.
-use Rattle.std.proofs.Common.{◌≡◌, ℕ, ◌+◌, Bool, true, false, List, [], ◌∷◌, ◌++◌, length, refl, sym, ap, subst, ◌∙◌}
+use Rattle.std.proofs.Common.{◌≡◌, ℕ, ◌+◌, List, [], ◌∷◌, length, sym, ap, subst, ◌∙◌}
 use Rattle.vsi_syntax.specs.declared.token.Span.{Span}
 use Rattle.vsi_syntax.specs.declared.lexer.LexError.{LexError}
 use Rattle.vsi_syntax.specs.declared.lexer.LexError.TheVariants as errors

@@ -12,3 +12,4 @@ pub mod Spelling
 pub mod Apart
 pub mod Lines
 pub mod Operators
+pub mod FaultPlaces

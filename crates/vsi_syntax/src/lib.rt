@@ -1,10 +1,10 @@
-//! Tokens and trees of the language: a text goes in, `lex` gives its tokens, `parse` the program that writes them, and
-//! `print` the canonical text of a program.
+//! Tokens and trees of the language: a text goes in, `lex` gives its tokens, `parse` the program
+//! that writes them, and `print` the canonical text of a program.
 //!
-//! `lex` promises the cut of the text or its first fault, `parse` the one program that writes the tokens, `print`
-//! exactly the canonical text. `laws` states what follows from the definitions alone: one text has one cut and one
-//! program, and what is printed reads back as the same program. `Op::apply` is the meaning of the operators for all
-//! layers above.
+//! `lex` promises the cut of the text or its first fault, `parse` the one program that writes the
+//! tokens, `print` exactly the canonical text. `laws` states what follows from the definitions
+//! alone: one text has one cut and one program, and what is printed reads back as the same program.
+//! `Op::apply` is the meaning of the operators for all layers above.
 #![tactic(auto)]
 
 pub mod laws;

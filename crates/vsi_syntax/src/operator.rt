@@ -19,7 +19,8 @@ pub enum Op {
 }
 
 impl Op {
-    /// The word that the operator gives: sums, differences and products wrap, `Eq` and the signed `Lt` give 1 or 0.
+    /// The word that the operator gives: sums, differences and products wrap, `Eq` and the signed
+    /// `Lt` give 1 or 0.
     #[inline]
     pub fn apply(self, left: i64, right: i64) -> i64
         ensures { result ≡ apply self left right }

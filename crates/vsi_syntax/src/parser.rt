@@ -1,7 +1,7 @@
 //! Finds the program that writes the tokens, or the first token where there can be none.
 //!
-//! Commands and expressions are read from the left. `room` is how many levels a tree may still have below the place
-//! where reading stands, and `end` is where the last token stops.
+//! Commands and expressions are read from the left. `room` is how many levels a tree may still have
+//! below the place where reading stands, and `end` is where the last token stops.
 
 ghost use Rattle.std.specs.Prelude.{◌≡◌};
 ghost use Rattle.vsi_syntax.specs.declared.parser.ParseError.TheVariants.{Memory};
@@ -18,8 +18,8 @@ pub enum ParseError {
     /// Memory ran out.
     #[error("out of memory")]
     Memory,
-    /// No program of any depth begins with the tokens up to and with this one. Where the tokens end too early this is
-    /// the empty span behind the last token, at 0 where there is none.
+    /// No program of any depth begins with the tokens up to and with this one. Where the tokens end
+    /// too early this is the empty span behind the last token, at 0 where there is none.
     #[error("no program goes on as the text does at byte {start}", start = .0.start)]
     Unexpected(Span),
     /// Only programs deeper than `MAX_DEPTH` begin with the tokens up to and with this one.

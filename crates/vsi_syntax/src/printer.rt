@@ -16,9 +16,10 @@ use std::alloc::{AllocError, Global};
 
 /// The canonical text of a program, which reads back as the same program, spans apart.
 ///
-/// Each global has a line `var NAME : CLASS;`. Each command of a sequence has lines of its own, two spaces deeper in
-/// each block, and the text ends with a line feed. An operator has one space on each side. The text of a long program
-/// may be longer than `MAX_TEXT_LENGTH`, and is then not read again.
+/// Each global has a line `var NAME : CLASS;`. Each command of a sequence has lines of its own, two
+/// spaces deeper in each block, and the text ends with a line feed. An operator has one space on
+/// each side. The text of a long program may be longer than `MAX_TEXT_LENGTH`, and is then not read
+/// again.
 pub fn print(alloc: Global, program: &Program) -> Result<Vec<u8>, AllocError>
     // What is printed is the canonical text.
     ensures canonical { IfOk result (λ text. text.items ≡ spec.canon (whole program.now)) }
@@ -43,7 +44,8 @@ fn print_global(out: &mut Vec<u8>, g: &Declaration) -> Result<(), AllocError>
 
 /// The lines of the globals.
 fn print_globals(out: &mut Vec<u8>, globals: &[Declaration]) -> Result<(), AllocError>
-    ensures { OnOk result (out.new.items ≡ out.old.items ++ spec.canon_globals (map declared globals.now)) }
+    ensures { OnOk result
+        (out.new.items ≡ out.old.items ++ spec.canon_globals (map declared globals.now)) }
 {
     for g in globals {
         print_global(out, g)?;
@@ -94,7 +96,8 @@ fn print_expression(out: &mut Vec<u8>, e: &Expr) -> Result<(), AllocError>
 
 /// A class behind a colon, or nothing.
 fn print_class(out: &mut Vec<u8>, class: Option<Name>) -> Result<(), AllocError>
-    ensures { OnOk result (out.new.items ≡ out.old.items ++ spec.canon_class (option_map named class.entry)) }
+    ensures { OnOk result
+        (out.new.items ≡ out.old.items ++ spec.canon_class (option_map named class.entry)) }
 {
     match class {
         None => Ok(()),
@@ -119,7 +122,8 @@ fn print_spaces(out: &mut Vec<u8>, indent: u16) -> Result<(), AllocError>
 #[cycle(printing)]
 fn print_body(out: &mut Vec<u8>, body: &[Stmt], indent: u16) -> Result<(), AllocError>
     requires { indent + body_depth (body_of body.now) ≤ 200 }
-    ensures { OnOk result (out.new.items ≡ out.old.items ++ spec.canon_body indent (body_of body.now)) }
+    ensures { OnOk result
+        (out.new.items ≡ out.old.items ++ spec.canon_body indent (body_of body.now)) }
 {
     let mut first = true;
     for c in body {
@@ -137,7 +141,8 @@ fn print_body(out: &mut Vec<u8>, body: &[Stmt], indent: u16) -> Result<(), Alloc
 #[cycle(printing)]
 fn print_command(out: &mut Vec<u8>, c: &Stmt, indent: u16) -> Result<(), AllocError>
     requires { indent + command_depth (command c.now) ≤ 200 }
-    ensures { OnOk result (out.new.items ≡ out.old.items ++ spec.canon_command indent (command c.now)) }
+    ensures { OnOk result
+        (out.new.items ≡ out.old.items ++ spec.canon_command indent (command c.now)) }
 {
     match c {
         Stmt::Assign(x, e) => {

@@ -28,7 +28,8 @@ fn check_flows<C: Classes>(
     requires globals { All (IsClass (C.lattice lattice.now)) (program_of program.now).globals }
     requires choice { All (IsClass (C.lattice lattice.now)) choice.now }
     requires kept { IsChoice (program_of program.now) choice.now }
-    ensures typable { OnOk result (IsTypable (C.lattice lattice.now) profile (program_of program.now) choice.now) }
+    ensures typable { OnOk result
+        (IsTypable (C.lattice lattice.now) profile (program_of program.now) choice.now) }
     ensures complete { let p = program_of program.now in
         IsTypable (C.lattice lattice.now) profile p choice.now → IfErr result (λ e. e ≡ Memory) }
     ensures refused { let p = program_of program.now in
@@ -49,8 +50,8 @@ fn check_flows<C: Classes>(
 
 /// Checks a program under a profile, where the `letvar`s have the given classes, in text order.
 ///
-/// The answer is `WrongChoice` for another number of classes than there are `letvar`s, or where a declared
-/// class is changed; else `Flow` for the first flow step that isn't in order; else Ok.
+/// The answer is `WrongChoice` for another number of classes than there are `letvar`s, or where a
+/// declared class is changed; else `Flow` for the first flow step that isn't in order; else Ok.
 pub fn check_in<C: Classes>(
     alloc: Heap,
     profile: Profile,
@@ -60,11 +61,13 @@ pub fn check_in<C: Classes>(
 ) -> Result<(), CheckError>
     requires globals { All (IsClass (C.lattice lattice.now)) (program_of program.now).globals }
     requires choice { All (IsClass (C.lattice lattice.now)) choice.now }
-    ensures typable { OnOk result (IsTypable (C.lattice lattice.now) profile (program_of program.now) choice.now) }
+    ensures typable { OnOk result
+        (IsTypable (C.lattice lattice.now) profile (program_of program.now) choice.now) }
     ensures complete { let p = program_of program.now in
         IsTypable (C.lattice lattice.now) profile p choice.now → IfErr result (λ e. e ≡ Memory) }
     ensures wrong { (IsChoice (program_of program.now) choice.now → ⊥) → result ≡ Err WrongChoice }
-    ensures refused { IfErr result (TellsWhy (C.lattice lattice.now) profile (program_of program.now) choice.now) }
+    ensures refused { IfErr result
+        (TellsWhy (C.lattice lattice.now) profile (program_of program.now) choice.now) }
 {
     if !is_choice(program.letvars(), choice) {
         return Err(CheckError::WrongChoice);
@@ -81,11 +84,13 @@ pub fn check<C: Classes>(
 ) -> Result<(), CheckError>
     requires globals { All (IsClass (C.lattice lattice.now)) (program_of program.now).globals }
     requires choice { All (IsClass (C.lattice lattice.now)) choice.now }
-    ensures typable { OnOk result (IsTypable (C.lattice lattice.now) Base (program_of program.now) choice.now) }
+    ensures typable { OnOk result
+        (IsTypable (C.lattice lattice.now) Base (program_of program.now) choice.now) }
     ensures complete { let p = program_of program.now in
         IsTypable (C.lattice lattice.now) Base p choice.now → IfErr result (λ e. e ≡ Memory) }
     ensures wrong { (IsChoice (program_of program.now) choice.now → ⊥) → result ≡ Err WrongChoice }
-    ensures refused { IfErr result (TellsWhy (C.lattice lattice.now) Base (program_of program.now) choice.now) }
+    ensures refused { IfErr result
+        (TellsWhy (C.lattice lattice.now) Base (program_of program.now) choice.now) }
 {
     check_in(alloc, Profile::Base, lattice, program, choice)
 }

@@ -22,7 +22,8 @@ fn keeps(declared: Option<Class>, class: Class) -> bool
 /// Whether there is one class for each entry, and each declared class is kept.
 pub(crate) fn is_choice(entries: &[Entry<'_>], choice: &[Class]) -> bool
     ensures chosen { result ≡ true → AllZip Keeps (map (λ e. e.class) entries.now) choice.now }
-    ensures changed { result ≡ false → AllZip Keeps (map (λ e. e.class) entries.now) choice.now → ⊥ }
+    ensures changed { result ≡ false → AllZip Keeps (map (λ e. e.class) entries.now) choice.now →
+        ⊥ }
 {
     if entries.len() != choice.len() {
         return false;

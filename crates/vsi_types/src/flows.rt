@@ -76,7 +76,8 @@ pub(crate) fn check_reads<C: Classes>(
     requires classes { All (IsClass (C.lattice lattice.now)) table.now }
     requires places { HasLocations (length scope.now) (expression e.now) }
     ensures { let classes = class_of (C.lattice lattice.now) table.now in
-        FlowsJudged (C.lattice lattice.now) classes target (guarded rule (reads scope.now (expression e.now))) result }
+        FlowsJudged (C.lattice lattice.now) classes target
+        (guarded rule (reads scope.now (expression e.now))) result }
 {
     match e {
         Ex::Num(_) => Ok(()),
@@ -132,7 +133,8 @@ pub(crate) fn check_choice<C: Classes>(
 ) -> Result<(), FlowFault>
     requires classes { All (IsClass (C.lattice lattice.now)) table.now }
     requires places { HasLocations (length scope.now) (expression guard.now) }
-    ensures { let looping = has_loop (sequence then_branch.now) || has_loop (sequence else_branch.now) in
+    ensures { let looping = has_loop (sequence then_branch.now) || has_loop
+        (sequence else_branch.now) in
         StepsJudged (C.lattice lattice.now) (class_of (C.lattice lattice.now) table.now)
         (endings profile looping (reads scope.now (expression guard.now))) result }
 {

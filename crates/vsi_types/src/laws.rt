@@ -2,7 +2,8 @@
 
 ghost use Rattle.vsi_types.specs.Security.{StepsDecide, SimpleSecurity, Confinement, Noninterference, SameEnding};
 
-/// A program is typable exactly where the choice is one and all flow steps are in order, under each profile.
+/// A program is typable exactly where the choice is one and all flow steps are in order, under each
+/// profile.
 pub fn steps_decide()
     ensures { StepsDecide }
 {}
@@ -12,7 +13,8 @@ pub fn simple_security()
     ensures { SimpleSecurity }
 {}
 
-/// A command changes only locations of classes at or above its type, apart from those that it allocates itself.
+/// A command changes only locations of classes at or above its type, apart from those that it
+/// allocates itself.
 pub fn confinement()
     ensures { Confinement }
 {}
@@ -22,7 +24,8 @@ pub fn noninterference()
     ensures { Noninterference }
 {}
 
-/// Under the strict profile a program ends from both of two stores that agree on the bottom class, or from none.
+/// Under the strict profile a program ends from both of two stores that agree on the bottom class,
+/// or from none.
 pub fn same_ending()
     ensures { SameEnding }
 {}

@@ -1,11 +1,14 @@
-//! The types of Volpano, Smith and Irvine over a lattice of classes, and the check of a program's flows.
+//! The types of Volpano, Smith and Irvine over a lattice of classes, and the check of a program's
+//! flows.
 //!
-//! A resolved program, one class for each of its `letvar`s and a profile come in. `check_in` answers Ok exactly
-//! where the body has a derivation by the typing rules (its clauses `typable` and `complete`), and otherwise
-//! names the first flow step that isn't in order. The laws of the type system stand in `laws`.
+//! A resolved program, one class for each of its `letvar`s and a profile come in. `check_in`
+//! answers Ok exactly where the body has a derivation by the typing rules (its clauses `typable`
+//! and `complete`), and otherwise names the first flow step that isn't in order. The laws of the
+//! type system stand in `laws`.
 //!
-//! A walk of another crate over the same flow steps stands at a [`Walker`]: its scope begins as `first_variables`,
-//! `push_reads` adds what a guard reads, and `loops` says whether a loop stands under one.
+//! A walk of another crate over the same flow steps stands at a [`Walker`]: its scope begins as
+//! `first_variables`, `push_reads` adds what a guard reads, and `loops` says whether a loop stands
+//! under one.
 #![tactic(auto)]
 
 mod checker;

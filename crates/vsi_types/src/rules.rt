@@ -3,7 +3,8 @@
 use vsi_scope::Var;
 use vsi_syntax::Span;
 
-/// The sink of flows into the ending of loops. Its class is the bottom one, and no declaration has its number.
+/// The sink of flows into the ending of loops. Its class is the bottom one, and no declaration has
+/// its number.
 pub const LOOP: Var = Var(65535);
 
 /// Which flows are judged.

@@ -28,7 +28,8 @@ fn check_assign<C: Classes>(
     value: &Ex,
 ) -> Result<(), CheckError>
     requires classes { All (IsClass (C.lattice lattice.now)) table.now }
-    requires places { HasPlaces (length walk.old.scope.items) (Assign location span (expression value.now)) }
+    requires places { HasPlaces (length walk.old.scope.items)
+        (Assign location span (expression value.now)) }
     requires limit { walk.old.next + letvars (Assign location span (expression value.now)) ≤ 1024 }
     ensures { Judged (C.lattice lattice.now) profile (class_of (C.lattice lattice.now) table.now)
         (walker_place walk.old)
@@ -90,8 +91,10 @@ fn check_while<C: Classes>(
     guard: &Ex,
 ) -> Result<(), CheckError>
     requires classes { All (IsClass (C.lattice lattice.now)) table.now }
-    requires places { HasPlaces (length walk.old.scope.items) (While (expression guard.now) (sequence body.now)) }
-    requires limit { walk.old.next + letvars (While (expression guard.now) (sequence body.now)) ≤ 1024 }
+    requires places { HasPlaces (length walk.old.scope.items)
+        (While (expression guard.now) (sequence body.now)) }
+    requires limit { walk.old.next
+        + letvars (While (expression guard.now) (sequence body.now)) ≤ 1024 }
     ensures { Judged (C.lattice lattice.now) profile (class_of (C.lattice lattice.now) table.now)
         (walker_place walk.old)
         (While (expression guard.now) (sequence body.now)) (walker_place walk.new) result }
@@ -115,8 +118,10 @@ fn check_letvar<C: Classes>(
     value: &Ex,
 ) -> Result<(), CheckError>
     requires classes { All (IsClass (C.lattice lattice.now)) table.now }
-    requires places { HasPlaces (length walk.old.scope.items) (Letvar (expression value.now) (sequence body.now)) }
-    requires limit { walk.old.next + letvars (Letvar (expression value.now) (sequence body.now)) ≤ 1024 }
+    requires places { HasPlaces (length walk.old.scope.items)
+        (Letvar (expression value.now) (sequence body.now)) }
+    requires limit { walk.old.next
+        + letvars (Letvar (expression value.now) (sequence body.now)) ≤ 1024 }
     ensures { Judged (C.lattice lattice.now) profile (class_of (C.lattice lattice.now) table.now)
         (walker_place walk.old)
         (Letvar (expression value.now) (sequence body.now)) (walker_place walk.new) result }

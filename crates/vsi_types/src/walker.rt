@@ -1,4 +1,5 @@
-//! What walks over a program share: where one stands, what it reads there, and whether a loop stands further on.
+//! What walks over a program share: where one stands, what it reads there, and whether a loop
+//! stands further on.
 
 ghost use Rattle.std.specs.Prelude.{◌≡◌, ◌++◌, length, IfOk, if◌then◌else◌, is_ok};
 ghost use Rattle.vsi_scope.specs.Language.{has_loop, HasLocations};
@@ -32,8 +33,8 @@ pub fn first_variables(alloc: Heap, count: u16) -> Result<Vec<Var>, AllocError>
     Ok(scope)
 }
 
-/// Adds what an expression reads, in text order, to the guards under a rule; the scope gives its variables. Where memory
-/// is wanting the guards stay as they were.
+/// Adds what an expression reads, in text order, to the guards under a rule; the scope gives its
+/// variables. Where memory is wanting the guards stay as they were.
 pub fn push_reads(
     guards: &mut Vec<Guard>,
     scope: &[Var],
@@ -42,7 +43,8 @@ pub fn push_reads(
 ) -> Result<(), AllocError>
     requires { HasLocations (length scope.now) (expression e.now) }
     ensures { guards.new.items ≡ (if is_ok result
-        then guards.old.items ++ guarded rule (reads scope.now (expression e.now)) else guards.old.items) }
+        then guards.old.items
+        ++ guarded rule (reads scope.now (expression e.now)) else guards.old.items) }
 {
     match e {
         Ex::Num(_) => Ok(()),

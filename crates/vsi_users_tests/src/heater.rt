@@ -1,15 +1,15 @@
-//! A heater over a day, faulty lines, and cycles that are out of budget.
+//! A heater that its owner and everyone drive over one store, and how its cycles end. A whole day
+//! of it is told by the transcript `cases/faulty-lines.txt`.
 
-ghost use Rattle.std.specs.Prelude.{◌≡◌, ◌≤◌, IfSome, length};
+ghost use Rattle.std.specs.Prelude.{◌≡◌, IfSome, length};
 ghost use Rattle.vsi_drive.specs.Control.{control};
 
 use std::alloc::{AllocError, Global};
 use vsi_compiler::compile;
-use vsi_drive::laws::{same_compiled_drives, same_drives};
-use vsi_drive::{Controller, CycleEnding, LINE_LIMIT, LineFault};
+use vsi_drive::laws::{same_compiled_drives, same_drives, same_steady_drives};
+use vsi_drive::{Controller, CycleEnding, LineFault};
 use vsi_image::Verified;
-use vsi_lattice::{Class, Classes, Lattice, read_lattice};
-use vsi_store::ViewError;
+use vsi_lattice::{Lattice, read_lattice};
 
 /// Everyone sees the heater glow, operators read the meter, and the key is secret.
 const HOUSE: &[u8] = b"classes = [\"Public\", \"Operator\", \"Secret\"]
@@ -24,65 +24,6 @@ letvar missing := target - temperature in
 used := used + heater;
 seal := (seal + temperature) * 31 + key
 ";
-
-/// The lines of a day with faulty ones between them, and what stands in the place of each. Behind the faulty lines the
-/// temperature, the target and the meter are those before them.
-const DAY: [(&[u8], &[u8]); 24] = [
-    (
-        b"temperature = 17 target = 20",
-        b"temperature = 17 target = 20 heater = 1\n",
-    ),
-    (
-        b"temperature = 14",
-        b"temperature = 14 target = 20 heater = 2\n",
-    ),
-    (b"", b"temperature = 14 target = 20 heater = 2\n"),
-    (
-        b"temperature=20",
-        b"temperature = 20 target = 20 heater = 0\n",
-    ),
-    (
-        b"\ttemperature  =  -3 \r",
-        b"temperature = -3 target = 20 heater = 2\n",
-    ),
-    (
-        b"target = 1 target = 20",
-        b"temperature = -3 target = 20 heater = 2\n",
-    ),
-    (b"temperature", b"refused: 45 BadSetting 0\n"),
-    (b"temperature =", b"refused: 45 BadSetting 0\n"),
-    (b"temperature = 21 target", b"refused: 45 BadSetting 1\n"),
-    (b"temperature = 21 target =", b"refused: 45 BadSetting 1\n"),
-    (b"temperature 21 =", b"refused: 45 BadSetting 0\n"),
-    (b"temperature == 21", b"refused: 48 NoNumber 0\n"),
-    (
-        b"temperature = 21 humidity = 4",
-        b"refused: 46 NoGlobal 1\n",
-    ),
-    (b"temperature = 21 Target = 4", b"refused: 46 NoGlobal 1\n"),
-    (b"temperature = 21 used = 0", b"refused: 47 AboveClass 1\n"),
-    (b"key = 6", b"refused: 47 AboveClass 0\n"),
-    (b"temperature = x", b"refused: 48 NoNumber 0\n"),
-    (b"temperature = +5", b"refused: 48 NoNumber 0\n"),
-    (b"temperature = -", b"refused: 48 NoNumber 0\n"),
-    (
-        b"temperature = 9223372036854775808",
-        b"refused: 48 NoNumber 0\n",
-    ),
-    (
-        b"temperature = -9223372036854775809",
-        b"refused: 48 NoNumber 0\n",
-    ),
-    (b"", b"temperature = -3 target = 20 heater = 2\n"),
-    (
-        b"temperature = 9223372036854775807 target = 007",
-        b"temperature = 9223372036854775807 target = 7 heater = 0\n",
-    ),
-    (
-        b"temperature = -9223372036854775808 target = -0",
-        b"temperature = -9223372036854775808 target = 0 heater = 0\n",
-    ),
-];
 
 /// The lattice and the image of the heater.
 fn house(alloc: Global) -> Option<(Lattice, Verified)> {
@@ -109,18 +50,18 @@ fn controller<'a>(
     }
 }
 
-/// Whether a cycle of the line writes the text.
+/// Whether lines of a class write the text.
 fn writes(
     alloc: Global,
     controller: &Controller,
     store: &mut [i64],
-    line: &[u8],
+    lines: &[&[u8]],
     want: &[u8],
 ) -> bool
     requires { length store.old ≡ length (control controller.now).image.globals.items }
 {
-    match controller.cycle(alloc, line, store) {
-        Ok((_ending, text)) => text.as_slice() == want,
+    match controller.drive(alloc, lines, store) {
+        Ok(text) => text.as_slice() == want,
         Err(_) => false,
     }
 }
@@ -141,7 +82,17 @@ fn ends(
     }
 }
 
-/// Whether the owner's line and those of the day write what they should.
+/// What the owner's line writes.
+const KEYED: &[u8] = b"temperature = 0 target = 0 heater = 0 used = 0 key = 5 seal = 5\n";
+
+/// What four lines of everyone write behind it.
+const FOUR: &[u8] = b"temperature = 17 target = 20 heater = 1
+refused: 47 AboveClass 1
+refused: 47 AboveClass 0
+temperature = 17 target = 20 heater = 1
+";
+
+/// Whether the owner's line and those of everyone write what they should.
 fn heats(alloc: Global, lattice: &Lattice, verified: &Verified, store: &mut [i64]) -> bool
     requires { length store.old ≡ length verified.now.globals.items }
 {
@@ -151,77 +102,36 @@ fn heats(alloc: Global, lattice: &Lattice, verified: &Verified, store: &mut [i64
     let Some(everyone) = controller(lattice, verified, b"Public", 100) else {
         return false;
     };
-    let first = b"temperature = 0 target = 0 heater = 0 used = 0 key = 5 seal = 5\n";
-    if !writes(alloc, &owner, store, b"key = 5", first) {
-        return false;
-    }
-    for (line, want) in &DAY {
-        if !writes(alloc, &everyone, store, line, want) {
-            return false;
-        }
-    }
-    true
+    let lines: [&[u8]; 4] = [
+        b"temperature = 17 target = 20",
+        b"temperature = 21 used = 0",
+        b"key = 6",
+        b"",
+    ];
+    writes(alloc, &owner, store, &[b"key = 5"], KEYED)
+        && writes(alloc, &everyone, store, &lines, FOUR)
 }
 
-/// Whether a budget of five instructions ends cycles out of it.
-fn is_spent(alloc: Global, lattice: &Lattice, verified: &Verified, store: &mut [i64]) -> bool
+/// Whether cycles end out of their budget, refused and halted.
+fn is_ended(alloc: Global, lattice: &Lattice, verified: &Verified, store: &mut [i64]) -> bool
     requires { length store.old ≡ length verified.now.globals.items }
 {
     let Some(slow) = controller(lattice, verified, b"Public", 5) else {
         return false;
     };
-    let line = b"temperature = 3";
-    ends(alloc, &slow, store, line, CycleEnding::OutOfBudget)
-        && writes(alloc, &slow, store, line, b"out of budget\n")
-}
-
-/// Whether lines of an operator end as they should, the longest one and one that is longer among them.
-fn is_judged(
-    alloc: Global,
-    lattice: &Lattice,
-    verified: &Verified,
-    blanks: &[u8],
-    store: &mut [i64],
-) -> bool
-    requires store { length store.old ≡ length verified.now.globals.items }
-    requires blanks { 1 ≤ length blanks.now }
-{
     let Some(operator) = controller(lattice, verified, b"Operator", 100) else {
         return false;
     };
     let above = CycleEnding::Refused(LineFault::AboveClass(0));
-    ends(alloc, &operator, store, b"key = 1", above)
-        && writes(
-            alloc,
-            &operator,
-            store,
-            blanks,
-            b"refused: 44 LineTooLong\n",
-        )
-        && ends(alloc, &operator, store, &blanks[1..], CycleEnding::Halted)
+    ends(
+        alloc,
+        &slow,
+        store,
+        b"temperature = 3",
+        CycleEnding::OutOfBudget,
+    ) && ends(alloc, &operator, store, b"key = 1", above)
+        && ends(alloc, &operator, store, b"", CycleEnding::Halted)
 }
-
-/// What three lines of an operator write.
-fn driven(
-    alloc: Global,
-    lattice: &Lattice,
-    verified: &Verified,
-    store: &mut [i64],
-) -> Option<Vec<u8>>
-    requires { length store.old ≡ length verified.now.globals.items }
-{
-    let Some(operator) = controller(lattice, verified, b"Operator", 100) else {
-        return None;
-    };
-    let lines: [&[u8]; 3] = [b"target = 9", b"target", b"temperature = 9 used = 70"];
-    operator.drive(alloc, &lines, store).ok()
-}
-
-/// What they should write.
-const THREE: &[u8] = b"temperature = 0 target = 9 heater = 2 used = 2
-refused: 45 BadSetting 0
-temperature = 9 target = 9 heater = 0 used = 70
-";
 
 #[test]
 fn heats_a_house(rt: HostRuntime) -> Result<(), AllocError> {
@@ -230,34 +140,10 @@ fn heats_a_house(rt: HostRuntime) -> Result<(), AllocError> {
     let mut store = vec![in alloc; 0i64; verified.image().globals.len()]?;
     let words = store.as_mut_slice();
     assert!(rt; heats(alloc, &lattice, &verified, words));
-    assert!(rt; words.get(3) == Some(&11));
-    assert!(rt; words.get(4) == Some(&5));
-    Ok(())
-}
-
-#[test]
-fn ends_cycles(rt: HostRuntime) -> Result<(), AllocError> {
-    let alloc = rt.alloc();
-    let (lattice, verified) = house(alloc).expect(&rt, "the heater is accepted");
-    let mut store = vec![in alloc; 0i64; verified.image().globals.len()]?;
-    let blanks = vec![in alloc; b' '; LINE_LIMIT + 1]?;
-    let words = store.as_mut_slice();
-    assert!(rt; is_spent(alloc, &lattice, &verified, words));
-    assert!(rt; is_judged(alloc, &lattice, &verified, blanks.as_slice(), words));
-    let text = driven(alloc, &lattice, &verified, words).expect(&rt, "memory");
-    assert!(rt; text.as_slice() == THREE);
-    Ok(())
-}
-
-#[test]
-fn knows_its_classes(rt: HostRuntime) {
-    let alloc = rt.alloc();
-    let (_lattice, verified) = house(alloc).expect(&rt, "the heater is accepted");
-    let small = b"classes = [\"Public\", \"Secret\"]\nbelow = [[\"Public\", \"Secret\"]]\n";
-    let other = read_lattice(alloc, small).expect(&rt, "a lattice");
-    let class = other.class_named(b"Public").expect(&rt, "a class");
-    let answer = Controller::new(&other, &verified, class, 100);
-    assert!(rt; matches!(answer, Err(ViewError::ClassNotInLattice(3))));
+    assert!(rt; words.get(3) == Some(&2) && words.get(4) == Some(&5));
+    assert!(rt; is_ended(alloc, &lattice, &verified, words));
     same_drives();
     same_compiled_drives();
+    same_steady_drives();
+    Ok(())
 }

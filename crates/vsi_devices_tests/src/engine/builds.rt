@@ -120,7 +120,8 @@ fn is_whole_before_faults(alloc: Global, failure: Failure) -> Result<bool, Fail>
     Ok(matches!(ending, Ending::Built) && given.is(22, 0) && taken.is_whole(31))
 }
 
-/// The 21 bytes are read in 22 calls, the last of which gives nothing, and the image's 31 are written in as many.
+/// The 21 bytes are read in 22 calls, the last of which gives nothing, and the image's 31 are
+/// written in as many.
 #[test]
 fn a_fault_behind_the_last_call_is_not_met(rt: HostRuntime) -> Result<(), Fail> {
     assert!(rt; is_whole_before_faults(rt.alloc(), Failure::Refuses)?);
@@ -136,7 +137,8 @@ fn refuses_a_flow(rt: HostRuntime) -> Result<(), Fail> {
     Ok(())
 }
 
-/// Whether a loop on a class above the least is refused under a profile, and nothing is written, or else neither.
+/// Whether a loop on a class above the least is refused under a profile, and nothing is written, or
+/// else neither.
 fn judges_a_loop(alloc: Global, profile: Profile, is_refused: bool) -> Result<bool, Fail> {
     let mut writer = scant_of(alloc, 0, Failure::Refuses)?;
     let mut reader = drip_of(b"var h : H; while h do h := h", 0);

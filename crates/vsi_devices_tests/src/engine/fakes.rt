@@ -83,7 +83,8 @@ impl Write for Scant {
     }
 }
 
-/// The calls, counted from 1, at which a reader and a writer fail, and what the writer does there; at 0 none fails.
+/// The calls, counted from 1, at which a reader and a writer fail, and what the writer does there;
+/// at 0 none fails.
 #[derive(Clone, Copy)]
 pub(crate) struct Faults {
     pub(crate) read: u64,

@@ -142,7 +142,8 @@ fn is_whole_before_faults(alloc: Global, failure: Failure) -> Result<bool, Alloc
     Ok(matches!(ending, Ending::Halted) && given.is(32, 0) && taken.is_whole(43))
 }
 
-/// All is read in 32 calls, the last of which gives nothing, and the 43 bytes are written in as many.
+/// All is read in 32 calls, the last of which gives nothing, and the 43 bytes are written in as
+/// many.
 #[test]
 fn a_fault_behind_the_last_call_is_not_met(rt: HostRuntime) -> Result<(), Fail> {
     assert!(rt; is_whole_before_faults(rt.alloc(), Failure::Refuses)?);

@@ -66,7 +66,8 @@ impl Taken {
             && self.is_start
     }
 
-    /// Whether it took all that was wanted, in so many calls of which none failed, and was never flushed.
+    /// Whether it took all that was wanted, in so many calls of which none failed, and was never
+    /// flushed.
     pub(crate) fn is_whole(self, calls: u64) -> bool {
         self.calls == calls && self.faults == 0 && self.flushes == 0 && self.is_all
     }

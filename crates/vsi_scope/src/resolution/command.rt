@@ -1,4 +1,5 @@
-//! Commands: one walk through the text, with the names in scope and the entries of the letvars so far.
+//! Commands: one walk through the text, with the names in scope and the entries of the letvars so
+//! far.
 
 ghost use Rattle.std.specs.Prelude.{◌≡◌, ◌<◌, length, map, [], option_map, IfOk, IfErr};
 ghost use Rattle.vsi_scope.specs.declared.resolution.ScopeError.TheVariants.{Memory};
@@ -12,7 +13,7 @@ ghost use Rattle.vsi_scope.specs.Resolving.{class_of};
 ghost use Rattle.vsi_scope.specs.Resolver.{Walked, WalkedOne, WalkedAll, IsWithin, scope_of, fault_in, fault_in_all};
 
 use super::expression::expression;
-use super::scope::find;
+use super::scope::Names;
 use super::{MAX_DECLARATIONS, ScopeError};
 use crate::program::Cmd;
 use crate::resolved::Entry;
@@ -23,22 +24,29 @@ use vsi_syntax::{Expr, Name, Stmt};
 /// Where the resolution of a text is.
 #[derive(Drop)]
 pub(crate) struct Resolver<'a> {
-    /// The names in scope, globals first.
-    pub(crate) names: Vec<&'a [u8]>,
+    /// The names in scope.
+    pub(crate) names: Names<'a>,
     /// The entries of the letvars so far, in text order.
     pub(crate) letvars: Vec<Entry<'a>>,
-    /// The number of globals.
-    pub(crate) globals: usize,
 }
 
 impl<'a> Resolver<'a> {
     ghost use Rattle.std.specs.Prelude.{◌++◌, ◌∷◌, OnOk, take, ◌-◌};
+    ghost use Rattle.vsi_scope.specs.Resolver.{declared};
     ghost use Rattle.vsi_scope.specs.Resolving.{variable, letvar};
+
+    /// The number of declarations so far.
+    fn declared(&self) -> usize
+        ensures { result ≡ declared self.now }
+    {
+        self.names.globals.len() + self.letvars.len()
+    }
 
     /// A letvar's name comes into scope, and its entry is the last.
     fn enter(&mut self, x: Name<'a>, class: Option<Class>) -> Result<(), ScopeError>
-        ensures names { OnOk result (self.new.names.items ≡ self.old.names.items ++ x.entry.text ∷ []) }
-        ensures globals { OnOk result (self.new.globals ≡ self.old.globals) }
+        ensures locals { OnOk result
+            (self.new.names.locals.items ≡ self.old.names.locals.items ++ x.entry.text ∷ []) }
+        ensures globals { OnOk result (self.new.names.globals.keys ≡ self.old.names.globals.keys) }
         ensures letvars { OnOk result
             (map variable self.new.letvars.items ≡
             map variable self.old.letvars.items ++ letvar (named x.entry) class ∷ []) }
@@ -52,25 +60,27 @@ impl<'a> Resolver<'a> {
         let Ok(()) = self.letvars.push(entry) else {
             return Err(ScopeError::Memory);
         };
-        self.names.push(x.text)?;
+        self.names.locals.push(x.text)?;
         Ok(())
     }
 
-    /// The last name in scope goes out of it.
+    /// The innermost letvar's name goes out of scope.
     fn leave(&mut self)
-        requires { 0 < length self.old.names.items }
-        ensures names { self.new.names.items ≡ take (length self.old.names.items - 1) self.old.names.items }
-        ensures globals { self.new.globals ≡ self.old.globals }
+        requires { 0 < length self.old.names.locals.items }
+        ensures locals { self.new.names.locals.items ≡
+            take (length self.old.names.locals.items - 1) self.old.names.locals.items }
+        ensures globals { self.new.names.globals.keys ≡ self.old.names.globals.keys }
         ensures letvars { self.new.letvars ≡ self.old.letvars }
     {
-        let before = self.names.len() - 1;
-        self.names.truncate(before);
+        let before = self.names.locals.len() - 1;
+        self.names.locals.truncate(before);
     }
 }
 
 /// The class that is written.
 fn class<'a>(lattice: &Lattice, class: Option<Name<'a>>) -> Result<Option<Class>, ScopeError>
-    ensures value { IfOk result (λ x. x ≡ class_of (class_named lattice.now) (option_map named class.entry)) }
+    ensures value { IfOk result
+        (λ x. x ≡ class_of (class_named lattice.now) (option_map named class.entry)) }
     ensures fault { Judged result
         (first_fault (class_named lattice.now) (class_marks (option_map named class.entry))) }
 {
@@ -98,7 +108,7 @@ fn assign<'a>(
     ensures fault { (known : Known) → Judged result
         (fault_in known resolver.old (Assign (named x.entry) (tree e.now))) }
 {
-    let Some(loc) = find(&resolver.names, x.text) else {
+    let Some(loc) = resolver.names.find(x.text) else {
         return Err(ScopeError::Unbound(x.span));
     };
     let value = expression(alloc, &resolver.names, e)?;
@@ -123,7 +133,8 @@ fn choose<'a>(
 ) -> Result<(), ScopeError>
     requires { IsWithin resolver.old }
     ensures value { IfOk result
-        (λ _. WalkedOne (class_named lattice.now) resolver.old resolver.new out.old.items out.new.items
+        (λ _. WalkedOne (class_named lattice.now) resolver.old resolver.new out.old.items
+        out.new.items
         (If (tree guard.now) (syntax.command then_branch.now) (syntax.command else_branch.now))) }
     ensures fault { Judged result
         (fault_in (class_named lattice.now) resolver.old
@@ -150,10 +161,12 @@ fn repeat<'a>(
 ) -> Result<(), ScopeError>
     requires { IsWithin resolver.old }
     ensures value { IfOk result
-        (λ _. WalkedOne (class_named lattice.now) resolver.old resolver.new out.old.items out.new.items
+        (λ _. WalkedOne (class_named lattice.now) resolver.old resolver.new out.old.items
+        out.new.items
         (While (tree guard.now) (syntax.command c.now))) }
     ensures fault { Judged result
-        (fault_in (class_named lattice.now) resolver.old (While (tree guard.now) (syntax.command c.now))) }
+        (fault_in (class_named lattice.now) resolver.old
+        (While (tree guard.now) (syntax.command c.now))) }
 {
     let guard = expression(alloc, &resolver.names, guard)?;
     let mut body = Vec::new(alloc);
@@ -176,13 +189,16 @@ fn local<'a>(
 ) -> Result<(), ScopeError>
     requires { IsWithin resolver.old }
     ensures value { IfOk result
-        (λ _. WalkedOne (class_named lattice.now) resolver.old resolver.new out.old.items out.new.items
-        (Letvar (named x.entry) (option_map named written.entry) (tree e.now) (syntax.command c.now))) }
+        (λ _. WalkedOne (class_named lattice.now) resolver.old resolver.new out.old.items
+        out.new.items
+        (Letvar (named x.entry) (option_map named written.entry) (tree e.now)
+        (syntax.command c.now))) }
     ensures fault { Judged result
         (fault_in (class_named lattice.now) resolver.old
-        (Letvar (named x.entry) (option_map named written.entry) (tree e.now) (syntax.command c.now))) }
+        (Letvar (named x.entry) (option_map named written.entry) (tree e.now)
+        (syntax.command c.now))) }
 {
-    if resolver.globals + resolver.letvars.len() >= MAX_DECLARATIONS {
+    if resolver.declared() >= MAX_DECLARATIONS {
         return Err(ScopeError::TooManyDeclarations(x.span));
     }
     let class = class(lattice, written)?;
@@ -206,9 +222,11 @@ pub(crate) fn sequence<'a>(
 ) -> Result<(), ScopeError>
     requires { IsWithin resolver.old }
     ensures value { IfOk result
-        (λ _. WalkedAll (class_named lattice.now) resolver.old resolver.new out.old.items out.new.items
+        (λ _. WalkedAll (class_named lattice.now) resolver.old resolver.new out.old.items
+        out.new.items
         (syntax.body_of body.now)) }
-    ensures fault { Judged result (fault_in_all (class_named lattice.now) resolver.old (syntax.body_of body.now)) }
+    ensures fault { Judged result
+        (fault_in_all (class_named lattice.now) resolver.old (syntax.body_of body.now)) }
 {
     for c in body {
         statement(alloc, lattice, resolver, out, c)?;
@@ -227,9 +245,11 @@ fn statement<'a>(
 ) -> Result<(), ScopeError>
     requires { IsWithin resolver.old }
     ensures value { IfOk result
-        (λ _. WalkedOne (class_named lattice.now) resolver.old resolver.new out.old.items out.new.items
+        (λ _. WalkedOne (class_named lattice.now) resolver.old resolver.new out.old.items
+        out.new.items
         (syntax.command c.now)) }
-    ensures fault { Judged result (fault_in (class_named lattice.now) resolver.old (syntax.command c.now)) }
+    ensures fault { Judged result
+        (fault_in (class_named lattice.now) resolver.old (syntax.command c.now)) }
 {
     match c {
         Stmt::Assign(x, e) => assign(alloc, resolver, out, *x, e),

@@ -1,61 +1,96 @@
 //! The globals, with the faults of their names and classes.
 
-ghost use Rattle.std.specs.Prelude.{◌≡◌, ◌≤◌, length, map, [], IfOk};
+ghost use Rattle.std.specs.Prelude.{◌≡◌, ◌<◌, ◌≤◌, length, map, [], ◌∷◌, Some, None, IfOk, OnOk};
 ghost use Rattle.vsi_syntax.specs.CommandView as syntax;
 ghost use Rattle.vsi_lattice.specs.LatticeView.{class_named};
-ghost use Rattle.vsi_scope.specs.Faults.{global_marks, global_names, first_fault, Judged};
-ghost use Rattle.vsi_scope.specs.Resolving.{shown, global_of};
+ghost use Rattle.vsi_scope.specs.Places.{place_of};
+ghost use Rattle.vsi_scope.specs.Faults.{global_marks, first_fault, Judged};
+ghost use Rattle.vsi_scope.specs.Resolver.{names_of, HasNone, HasRead};
 
-use super::scope::find;
+use super::scope::Names;
 use super::{MAX_GLOBALS, ScopeError};
 use crate::resolved;
 use std::alloc::Global;
-use vsi_lattice::Lattice;
+use vsi_lattice::{Class, Lattice};
 use vsi_syntax::Declaration;
 
 /// The globals, and their names.
 #[derive(Drop)]
 pub(crate) struct Globals<'a> {
     pub(crate) list: Vec<resolved::Global<'a>>,
-    pub(crate) names: Vec<&'a [u8]>,
+    pub(crate) names: Names<'a>,
 }
 
-/// The globals in order; each name is judged before its class.
-pub(crate) fn read_globals<'a>(
-    alloc: Global,
+/// The class of a declaration below these names. The name is judged before the class.
+fn class_below<'a>(
     lattice: &Lattice,
-    declarations: &[Declaration<'a>],
-) -> Result<Globals<'a>, ScopeError>
-    ensures few { IfOk result (λ g. length g.names.items ≤ 256) }
-    ensures names { IfOk result
-        (λ g. map (λ x. x.now) g.names.items ≡ global_names (map syntax.declared declarations.now)) }
-    ensures list { IfOk result
-        (λ g. map shown g.list.items ≡
-        map (global_of (class_named lattice.now)) (map syntax.declared declarations.now)) }
-    ensures fault { Judged result
-        (first_fault (class_named lattice.now) (global_marks [] (map syntax.declared declarations.now))) }
+    names: &Names<'a>,
+    d: &Declaration<'a>,
+) -> Result<Class, ScopeError>
+    requires outer { names.now.locals.items ≡ [] }
+    requires few { length names.now.globals.keys ≤ 256 }
+    ensures class { IfOk result (λ c. class_named lattice.now d.now.class.text.now ≡ Some c) }
+    ensures fresh { IfOk result (λ _. place_of (names_of names.now) d.now.name.text.now ≡ None) }
+    ensures few { IfOk result (λ _. length names.now.globals.keys < 256) }
+    ensures fault { Judged result (first_fault (class_named lattice.now)
+        (global_marks (names_of names.now) (syntax.declared d.now ∷ []))) }
 {
-    let mut list = Vec::new(alloc);
-    let mut names = Vec::new(alloc);
+    let None = names.find(d.name.text) else {
+        return Err(ScopeError::Duplicate(d.name.span));
+    };
+    if names.globals.len() >= MAX_GLOBALS {
+        return Err(ScopeError::TooManyGlobals(d.name.span));
+    }
+    match lattice.class_named(d.class.text) {
+        Some(class) => Ok(class),
+        None => Err(ScopeError::UnknownClass(d.class.span)),
+    }
+}
+
+/// Reads the globals in order, where none is read yet.
+fn read_into<'a>(
+    lattice: &Lattice,
+    globals: &mut Globals<'a>,
+    declarations: &[Declaration<'a>],
+) -> Result<(), ScopeError>
+    requires { HasNone globals.old }
+    ensures read { OnOk result
+        (HasRead (class_named lattice.now) (map syntax.declared declarations.now) globals.new) }
+    ensures fault { Judged result
+        (first_fault (class_named lattice.now)
+        (global_marks [] (map syntax.declared declarations.now))) }
+{
     for d in declarations {
-        let None = find(&names, d.name.text) else {
-            return Err(ScopeError::Duplicate(d.name.span));
-        };
-        if names.len() >= MAX_GLOBALS {
-            return Err(ScopeError::TooManyGlobals(d.name.span));
-        }
-        let Some(class) = lattice.class_named(d.class.text) else {
-            return Err(ScopeError::UnknownClass(d.class.span));
-        };
+        let class = class_below(lattice, &globals.names, d)?;
         let global = resolved::Global {
             name: d.name.text,
             class,
             class_name: d.class.text,
         };
-        let Ok(()) = list.push(global) else {
+        let Ok(()) = globals.list.push(global) else {
             return Err(ScopeError::Memory);
         };
-        names.push(d.name.text)?;
+        globals.names.declare(d.name.text)?;
     }
-    Ok(Globals { list, names })
+    Ok(())
+}
+
+/// The globals in order.
+pub(crate) fn read_globals<'a>(
+    alloc: Global,
+    lattice: &Lattice,
+    declarations: &[Declaration<'a>],
+) -> Result<Globals<'a>, ScopeError>
+    ensures read { IfOk result
+        (HasRead (class_named lattice.now) (map syntax.declared declarations.now)) }
+    ensures fault { Judged result
+        (first_fault (class_named lattice.now)
+        (global_marks [] (map syntax.declared declarations.now))) }
+{
+    let mut globals = Globals {
+        list: Vec::new(alloc),
+        names: Names::new(alloc),
+    };
+    read_into(lattice, &mut globals, declarations)?;
+    Ok(globals)
 }

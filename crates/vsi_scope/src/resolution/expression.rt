@@ -1,13 +1,14 @@
 //! Expressions over locations.
 
-ghost use Rattle.std.specs.Prelude.{◌≡◌, ◌≤◌, length, map, IfOk};
+ghost use Rattle.std.specs.Prelude.{◌≡◌, ◌+◌, ◌≤◌, length, IfOk};
 ghost use Rattle.vsi_syntax.specs.View.{tree};
 ghost use Rattle.vsi_scope.specs.View.{expression};
 ghost use Rattle.vsi_scope.specs.Places.{expression_of};
 ghost use Rattle.vsi_scope.specs.Faults.{Known, uses, first_fault, Judged};
+ghost use Rattle.vsi_scope.specs.Resolver.{names_of};
 
 use super::ScopeError;
-use super::scope::find;
+use super::scope::Names;
 use crate::program::Ex;
 use std::alloc::Global;
 use vsi_syntax::Expr;
@@ -15,17 +16,18 @@ use vsi_syntax::Expr;
 /// The expression with a location for each name; brackets leave nothing.
 pub(crate) fn expression<'a>(
     alloc: Global,
-    names: &[&'a [u8]],
+    names: &Names<'a>,
     e: &Expr<'a>,
 ) -> Result<Ex, ScopeError>
-    requires { length names.now ≤ 1024 }
-    ensures value { IfOk result (λ x. expression x ≡ expression_of (map (λ x. x.now) names.now) (tree e.now)) }
+    requires { length names.now.globals.keys + length names.now.locals.items ≤ 1024 }
+    ensures value { IfOk result
+        (λ x. expression x ≡ expression_of (names_of names.now) (tree e.now)) }
     ensures fault { (classes : Known) →
-        Judged result (first_fault classes (uses (map (λ x. x.now) names.now) (tree e.now))) }
+        Judged result (first_fault classes (uses (names_of names.now) (tree e.now))) }
 {
     match e {
         Expr::Number(n) => Ok(Ex::Num(*n)),
-        Expr::Name(x) => match find(names, x.text) {
+        Expr::Name(x) => match names.find(x.text) {
             Some(l) => Ok(Ex::Loc(l, x.span)),
             None => Err(ScopeError::Unbound(x.span)),
         },

@@ -20,9 +20,10 @@ use vsi_syntax::Program;
 ///
 /// # Errors
 ///
-/// The first fault in text order; of two at one place the one that stands first in [`ScopeError`]. A `letvar` is
-/// judged by its name (`TooManyDeclarations`), then its class (`UnknownClass`), then its initial value (`Unbound`).
-/// Without a fault `TooLarge`, where the size is above 65,534. `Memory` may stand in place of any answer.
+/// The first fault in text order; of two at one place the one that stands first in [`ScopeError`].
+/// A `letvar` is judged by its name (`TooManyDeclarations`), then its class (`UnknownClass`), then
+/// its initial value (`Unbound`). Without a fault `TooLarge`, where the size is above 65,534.
+/// `Memory` may stand in place of any answer.
 pub fn resolve<'a>(
     alloc: Global,
     program: &Program<'a>,
@@ -31,13 +32,14 @@ pub fn resolve<'a>(
     ensures resolved { IfOk result (λ r. Resolves (class_named lattice.now) (whole program.now) r) }
     ensures classes { (n : ℕ) → AreBelow n (class_named lattice.now) →
         IfOk result (λ r. HasClassesBelow n r) }
-    ensures refused { IfErr result (λ e. ExplainsScope (class_named lattice.now) (whole program.now) e) }
-    ensures exact { (cs : List Command) → IsResolution (class_named lattice.now) (whole program.now) cs →
+    ensures refused { IfErr result
+        (λ e. ExplainsScope (class_named lattice.now) (whole program.now) e) }
+    ensures exact { (cs : List Command) →
+        IsResolution (class_named lattice.now) (whole program.now) cs →
         IfErr result (λ e. e ≡ Memory) }
 {
     let Globals { list, names } = read_globals(alloc, lattice, program.globals())?;
     let mut resolver = Resolver {
-        globals: list.len(),
         names,
         letvars: Vec::new(alloc),
     };

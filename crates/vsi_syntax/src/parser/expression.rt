@@ -1,4 +1,5 @@
-//! Reads expressions. Levels are 0 for a comparison, 1 for a sum, 2 for a product and 3 for an atom.
+//! Reads expressions. Levels are 0 for a comparison, 1 for a sum, 2 for a product and 3 for an
+//! atom.
 
 ghost use Rattle.std.specs.Prelude.{◌≡◌, ◌≤◌, ◌<◌, IfOk, Some, None, option_map, ◌+◌, max};
 ghost use Rattle.vsi_syntax.specs.Tree.{level, left_level, right_level, depth, Binary};
@@ -69,7 +70,8 @@ fn right_level_of(op: Op) -> u8
 /// The operator that goes on at this level with what is on its left, and what is behind it.
 #[tactic(auto, unfolding(crate::specs::Parsing::next))]
 fn next<'t, 'a>(least: u8, left: u8, tokens: &'t [Token<'a>]) -> Option<(Op, &'t [Token<'a>])>
-    ensures { option_map (λ x. (x.0, lexemes x.1.now)) result ≡ spec.next least left (lexemes tokens.now) }
+    ensures { option_map (λ x. (x.0, lexemes x.1.now)) result
+        ≡ spec.next least left (lexemes tokens.now) }
 {
     let [token, rest @ ..] = tokens else {
         return None;
@@ -172,7 +174,8 @@ fn join<'a>(
 ) -> Result<Measured<'a>, ParseError>
     requires left_room { left.depth < 200 }
     requires right_room { right.depth < 200 }
-    ensures expr { Gives (λ x. tree x.expr) result (Some (Binary op (tree left.entry.expr) (tree right.entry.expr))) }
+    ensures expr { Gives (λ x. tree x.expr) result
+        (Some (Binary op (tree left.entry.expr) (tree right.entry.expr))) }
     ensures depth { IfOk result (λ x. x.depth ≡ 1 + max left.entry.depth right.entry.depth) }
     ensures level { IfOk result (λ x. x.level ≡ level op) }
 {
@@ -199,7 +202,8 @@ pub(crate) fn expression<'t, 'a>(
     end: usize,
 ) -> Result<(Measured<'a>, &'t [Token<'a>]), ParseError>
     requires { room ≤ 200 }
-    ensures value { Gives (λ x. (tree x.0.expr, lexemes x.1.now)) result (spec.parse room least (lexemes tokens.now)) }
+    ensures value { Gives (λ x. (tree x.0.expr, lexemes x.1.now)) result
+        (spec.parse room least (lexemes tokens.now)) }
     ensures measured { IfOk result (λ x. IsMeasured room x.0) }
 {
     let (mut left, mut rest) = atom(alloc, tokens, room, end)?;

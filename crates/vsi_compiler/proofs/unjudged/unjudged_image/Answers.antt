@@ -1,11 +1,22 @@
-use Rattle.std.proofs.Common.{ap, ◌∙◌}
+use Rattle.std.proofs.Common.{ap, map, ◌∙◌}
 use Rattle.vsi_lattice.specs.LatticeView.{class_named, order}
+use Rattle.vsi_scope.specs.View.{command}
 use Rattle.vsi_code.specs.Names.{all_named}
 use Rattle.vsi_compiler.proofs.Compiled.{known_below, lawful, globals_kept, meaning_kept, image_kept}
 use Rattle.vsi_compiler.proofs.Programs.{typing_ready, have_classes}
 use Rattle.vsi_compiler.proofs.Security.{behaves_source, noninterfering}
 use Rattle.vsi_compiler.proofs.Typed.{typed_resolved}
 use Rattle.vsi_compiler.proofs.unjudged.unjudged_image.Goals as goal
+
+pub returns-clause-found : goal.returns-clause-found
+returns-clause-found c =
+    let stands = c.in_ok-resolved.ensures.stands in
+    record {
+      tree = stands.tree;
+      commands = map command c.in_ok-resolved.resolved.body;
+      reads = stands.reads;
+      resolution = stands.resolves.resolution;
+    }
 
 pub returns-clause-globals : goal.returns-clause-globals
 returns-clause-globals c =

@@ -2,13 +2,13 @@ use Rattle.std.proofs.Common.{◌≡◌, Err, ◌*◌, ◌/◌, ap, sym, ◌∙�
 use Rattle.std.proofs.lemmas.List.{length-map, length-drop}
 use Rattle.vsi_lattice.specs.NamePlaces.{texts}
 use Rattle.vsi_drive.specs.declared.fault.LineFault.TheVariants.{BadSetting}
-use Rattle.vsi_drive.specs.Control.{control}
+use Rattle.vsi_drive.specs.Reaches.{settable}
 use Rattle.vsi_drive.proofs.Written.{few_left, fault_of, written_fault}
 use Rattle.vsi_drive.proofs.settings.set_fields.Goals as goal
 
 pub returns-then-fields-count-clause-set : goal.returns-then-fields-count-clause-set
 returns-then-fields-count-clause-set c =
-    let d = control c.args.controller.now in
+    let d = settable c.args.reach.now in
     let fs = texts c.args.fields.now in
     let whole = length-map c.args.fields.now (λ r. r.now) in
     let n = c.loop-number.number in

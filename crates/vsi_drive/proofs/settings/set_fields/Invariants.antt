@@ -1,14 +1,14 @@
 use Rattle.std.proofs.Common.{◌≡◌, ◌*◌, length, drop}
 use Rattle.vsi_lattice.specs.NamePlaces.{texts}
-use Rattle.vsi_drive.specs.Control.{control}
+use Rattle.vsi_drive.specs.Reaches.{settable}
 use Rattle.vsi_drive.specs.Settings as spec
 use Rattle.vsi_drive.proofs.settings.set_fields.Given as goal
 
 -- What the fields that are left set in the words is what all fields set in the first ones.
 abbrev pub invariant-loop-number : goal.invariant-loop-number
 invariant-loop-number l = record {
-  words : length l.words.items ≡ length (control l.controller).image.globals.items;
-  written : spec.written (spec.settings_from (control l.controller) l.number (drop (3 * l.number) (texts l.fields)))
+  words : length l.words.items ≡ length (settable l.reach).image.globals.items;
+  written : spec.written (spec.settings_from (settable l.reach) l.number (drop (3 * l.number) (texts l.fields)))
       l.words.items
-      ≡ spec.written (spec.settings_from (control l.controller) 0 (texts l.fields)) l.initial.words.items;
+      ≡ spec.written (spec.settings_from (settable l.reach) 0 (texts l.fields)) l.initial.words.items;
 }

@@ -3,14 +3,14 @@ use Rattle.std.proofs.lemmas.Int.{to_z-of_z}
 use Rattle.std.proofs.lemmas.List.{length-map}
 use Rattle.std.proofs.lemmas.Result.{err_from_is_err_and}
 use Rattle.vsi_lattice.specs.NamePlaces.{texts}
-use Rattle.vsi_drive.specs.Control.{control}
+use Rattle.vsi_drive.specs.Reaches.{settable}
 use Rattle.vsi_drive.specs.Settings as spec
 use Rattle.vsi_drive.proofs.Written.{next_setting, made, faulty}
 use Rattle.vsi_drive.proofs.settings.set_next.Goals as goal
 
 pub returns-in_err-place-clause-set : goal.returns-in_err-place-clause-set
 returns-in_err-place-clause-set c =
-    let d = control c.args.controller.now in
+    let d = settable c.args.reach.now in
     let fs = texts c.args.fields.now in
     let p = err_from_is_err_and c.from_residual.result c.from_residual.ensures.1 in
     rw (p.1, p.2) (next_setting d c.args.number (3 * c.args.number) fs _ _ _
@@ -20,7 +20,7 @@ returns-in_err-place-clause-set c =
 
 pub returns-clause-set : goal.returns-clause-set
 returns-clause-set c =
-    let d = control c.args.controller.now in
+    let d = settable c.args.reach.now in
     let fs = texts c.args.fields.now in
     rw (to_z-of_z w64 c.in_ok-place.word (search rules))
     (ap (λ r. spec.written r c.args.words.now.items)

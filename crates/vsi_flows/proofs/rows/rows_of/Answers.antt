@@ -3,7 +3,8 @@ use Rattle.std.proofs.lemmas.List.{length_push}
 use Rattle.vsi_types.specs.Security.{program}
 use Rattle.vsi_types.specs.Walks.{declared_class}
 use Rattle.vsi_infer.specs.Flowing.{variable_at}
-use Rattle.vsi_flows.specs.Rows.{AreLeast}
+use Rattle.vsi_infer.specs.FlowRows.{flow_has}
+use Rattle.vsi_infer.specs.Distances.{AreLeast}
 use Rattle.vsi_flows.proofs.RowLemmas.{rows_push}
 use Rattle.vsi_flows.proofs.rows.rows_of.Goals as goal
 
@@ -15,7 +16,7 @@ loop-place-preserved g c =
     let row = c.in_ok-row.row in
     let items = c.in_ok-push.ensures.items in
     let Q : ℕ → List ℕ → Type 0 = λ b r. (d : ℕ) → declared_class L p (variable_at c.args.last b) ≡ Some d
-    → AreLeast (g.F.Flow.flows c.args.flow.now) (c.args.last + 1) b r in
+    → AreLeast (λ x y. flow_has c.args.flow.now.rows.items y x) (c.args.last + 1) b r in
     let here : Q (length rows) row.items = subst (λ (b : ℕ). Q b row.items) (sym c.loop-place.invariant.count)
     c.in_ok-row.ensures in
     record {

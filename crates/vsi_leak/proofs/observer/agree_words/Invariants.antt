@@ -1,13 +1,9 @@
-use Rattle.std.proofs.Common.{◌≡◌, drop}
 use Rattle.vsi_image.specs.Fields.{globals}
 use Rattle.vsi_lattice.specs.LatticeView.{class_named, order}
-use Rattle.vsi_leak.specs.Agreement.{agree_in}
+use Rattle.vsi_leak.proofs.Agreement.{AgreeBefore}
 use Rattle.vsi_leak.proofs.observer.agree_words.Given as goal
 
--- Where all before are alike, the globals that are left decide.
+-- The globals so far agree.
 abbrev pub invariant-loop-i : goal.invariant-loop-i
 invariant-loop-i l =
-    let known = class_named l.lattice in
-    let L = order l.lattice in
-    agree_in known L l.class (globals (drop l.i l.variables)) (drop l.i l.first) (drop l.i l.second)
-    ≡ agree_in known L l.class (globals l.variables) l.first l.second
+    AgreeBefore (class_named l.lattice) (order l.lattice) (globals l.variables) l.class l.first l.second l.i

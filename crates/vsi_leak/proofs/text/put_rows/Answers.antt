@@ -1,4 +1,4 @@
-use Rattle.std.proofs.Common.{rules, ◌≡◌, ◌++◌, ◌+◌, List, ℕ, drop, length, refl, ap, sym, ◌∙◌, Some, slice_get}
+use Rattle.std.proofs.Common.{rules, ◌≡◌, ◌++◌, ◌+◌, drop, length, refl, ap, sym, ◌∙◌}
 use Rattle.std.proofs.lemmas.List.{append_assoc}
 use Rattle.std.proofs.lemmas.Option.{slice_get_read}
 use Rattle.vsi_image.specs.Fields.{globals}

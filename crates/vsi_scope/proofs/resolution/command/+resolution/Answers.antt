@@ -75,7 +75,7 @@ pub choose-returns-clause-value : goal.choose-returns-clause-value
 choose-returns-clause-value u c =
     chosen (class_named c.args.lattice.now) c.args.resolver.now c.statement.new.resolver c.statement-2.new.resolver
     c.in_ok-guard.guard (tree c.args.guard.now) (syntax.command c.args.then_branch.now)
-    (syntax.command c.args.else_branch.now) _ _ _ _ _ _ (rw (c.deref.ensures.value) at c.in_ok-guard.ensures.value)
+    (syntax.command c.args.else_branch.now) _ _ _ _ _ _ c.in_ok-guard.ensures.value
     c.new-yes.ensures.items c.new-no.ensures.items c.in_ok-statement.ensures.value
     c.in_ok-statement-2.ensures.value c.in_ok-push.ensures.items
 
@@ -83,7 +83,7 @@ pub repeat-returns-clause-value : goal.repeat-returns-clause-value
 repeat-returns-clause-value u c =
     looped (class_named c.args.lattice.now) c.args.resolver.now c.statement.new.resolver c.in_ok-guard.guard
     (tree c.args.guard.now) (syntax.command c.args.c.now) _ _ _ _
-    (rw (c.deref.ensures.value) at c.in_ok-guard.ensures.value) c.new-body.ensures.items
+    c.in_ok-guard.ensures.value c.new-body.ensures.items
     c.in_ok-statement.ensures.value c.in_ok-push.ensures.items
 
 pub choose-returns-in_err-guard-clause-fault : goal.choose-returns-in_err-guard-clause-fault
@@ -93,7 +93,7 @@ choose-returns-in_err-guard-clause-fault u c =
     rw (p.1, p.2) (choose_guard known (scope_of c.args.resolver.now) (declared c.args.resolver.now)
     (tree c.args.guard.now)
     (syntax.command c.args.then_branch.now) (syntax.command c.args.else_branch.now) c.in_err-guard.field-0.0
-    (rw (c.deref.ensures.value) at c.in_err-guard.ensures.fault known))
+    (c.in_err-guard.ensures.fault known))
 
 pub choose-returns-in_err-statement-clause-fault : goal.choose-returns-in_err-statement-clause-fault
 choose-returns-in_err-statement-clause-fault u c =
@@ -102,7 +102,7 @@ choose-returns-in_err-statement-clause-fault u c =
     rw (p.1, p.2) (choose_first known (scope_of c.args.resolver.now) (declared c.args.resolver.now)
     (tree c.args.guard.now)
     (syntax.command c.args.then_branch.now) (syntax.command c.args.else_branch.now) c.in_err-statement.field-0.0
-    (rw (c.deref.ensures.value) at c.in_ok-guard.ensures.fault known) c.in_err-statement.ensures.fault)
+    (c.in_ok-guard.ensures.fault known) c.in_err-statement.ensures.fault)
 
 pub choose-returns-in_err-statement-2-clause-fault : goal.choose-returns-in_err-statement-2-clause-fault
 choose-returns-in_err-statement-2-clause-fault u c =
@@ -116,7 +116,7 @@ choose-returns-in_err-statement-2-clause-fault u c =
     rw (p.1, p.2) (choose_second known (scope_of c.args.resolver.now) (declared c.args.resolver.now)
     (tree c.args.guard.now)
     (syntax.command c.args.then_branch.now) (syntax.command c.args.else_branch.now) c.in_err-statement-2.field-0.0
-    (rw (c.deref.ensures.value) at c.in_ok-guard.ensures.fault known) c.in_ok-statement.ensures.fault
+    (c.in_ok-guard.ensures.fault known) c.in_ok-statement.ensures.fault
     (rw (s, n) at c.in_err-statement-2.ensures.fault))
 
 pub choose-returns-clause-fault : goal.choose-returns-clause-fault
@@ -128,7 +128,7 @@ choose-returns-clause-fault u c =
     first in
     choose_none known (scope_of c.args.resolver.now) (declared c.args.resolver.now) (tree c.args.guard.now)
     (syntax.command c.args.then_branch.now) (syntax.command c.args.else_branch.now)
-    (rw (c.deref.ensures.value) at c.in_ok-guard.ensures.fault known) c.in_ok-statement.ensures.fault
+    (c.in_ok-guard.ensures.fault known) c.in_ok-statement.ensures.fault
     (rw (s, n) at c.in_ok-statement-2.ensures.fault)
 
 pub repeat-returns-in_err-guard-clause-fault : goal.repeat-returns-in_err-guard-clause-fault
@@ -138,7 +138,7 @@ repeat-returns-in_err-guard-clause-fault u c =
     rw (p.1, p.2) (loop_guard known (scope_of c.args.resolver.now) (declared c.args.resolver.now)
     (tree c.args.guard.now)
     (syntax.command c.args.c.now) c.in_err-guard.field-0.0
-    (rw (c.deref.ensures.value) at c.in_err-guard.ensures.fault known))
+    (c.in_err-guard.ensures.fault known))
 
 pub repeat-returns-in_err-statement-clause-fault : goal.repeat-returns-in_err-statement-clause-fault
 repeat-returns-in_err-statement-clause-fault u c =
@@ -146,13 +146,13 @@ repeat-returns-in_err-statement-clause-fault u c =
     let p = err_from_is_err_and c.from_residual-in_err-statement.result c.from_residual-in_err-statement.ensures.1 in
     rw (p.1, p.2) (loop_body known (scope_of c.args.resolver.now) (declared c.args.resolver.now) (tree c.args.guard.now)
     (syntax.command c.args.c.now) c.in_err-statement.field-0.0
-    (rw (c.deref.ensures.value) at c.in_ok-guard.ensures.fault known) c.in_err-statement.ensures.fault)
+    (c.in_ok-guard.ensures.fault known) c.in_err-statement.ensures.fault)
 
 pub repeat-returns-clause-fault : goal.repeat-returns-clause-fault
 repeat-returns-clause-fault u c =
     let known = class_named c.args.lattice.now in
     loop_none known (scope_of c.args.resolver.now) (declared c.args.resolver.now) (tree c.args.guard.now)
-    (syntax.command c.args.c.now) (rw (c.deref.ensures.value) at c.in_ok-guard.ensures.fault known)
+    (syntax.command c.args.c.now) (c.in_ok-guard.ensures.fault known)
     c.in_ok-statement.ensures.fault
 
 pub local-statement-requires : goal.local-statement-requires
@@ -160,15 +160,14 @@ local-statement-requires u c =
     let known = class_named c.args.lattice.now in
     let few : declared c.args.resolver.now < 1024 = omega (
       arith,
-      c.if-resolver-len-ge-MAX_DECLARATIONS.false,
-      c.len.ensures,
-      c.args.resolver.now.letvars.ok.0,
+      c.if-declared-ge-MAX_DECLARATIONS.false,
+      c.declared.ensures,
     ) in
     let entered : Entered c.args.resolver.now c.enter.new.self c.args.x.text
     (letvar (named c.args.x) (class_of known (option_map named c.args.written))) =
     record {
-      names = c.in_ok-enter.ensures.names;
       globals = c.in_ok-enter.ensures.globals;
+      locals = c.in_ok-enter.ensures.locals;
       letvars = rw
           (c.in_ok-class.ensures.value) at c.in_ok-enter.ensures.letvars;
     } in
@@ -179,29 +178,27 @@ local-returns-in_err-value-clause-fault u c =
     let known = class_named c.args.lattice.now in
     let few : declared c.args.resolver.now < 1024 = omega (
       arith,
-      c.if-resolver-len-ge-MAX_DECLARATIONS.false,
-      c.len.ensures,
-      c.args.resolver.now.letvars.ok.0,
+      c.if-declared-ge-MAX_DECLARATIONS.false,
+      c.declared.ensures,
     ) in
     let p = err_from_is_err_and c.from_residual-in_err-value.result c.from_residual-in_err-value.ensures.1 in
     rw (p.1, p.2) (local_value known (scope_of c.args.resolver.now) (declared c.args.resolver.now) (tree c.args.e.now)
     (syntax.command c.args.c.now) (named c.args.x) (option_map named c.args.written) c.in_err-value.field-0.0 few
-    c.in_ok-class.ensures.fault (rw (c.deref.ensures.value) at c.in_err-value.ensures.fault known))
+    c.in_ok-class.ensures.fault (c.in_err-value.ensures.fault known))
 
 pub local-returns-in_err-statement-clause-fault : goal.local-returns-in_err-statement-clause-fault
 local-returns-in_err-statement-clause-fault u c =
     let known = class_named c.args.lattice.now in
     let few : declared c.args.resolver.now < 1024 = omega (
       arith,
-      c.if-resolver-len-ge-MAX_DECLARATIONS.false,
-      c.len.ensures,
-      c.args.resolver.now.letvars.ok.0,
+      c.if-declared-ge-MAX_DECLARATIONS.false,
+      c.declared.ensures,
     ) in
     let entered : Entered c.args.resolver.now c.enter.new.self c.args.x.text
     (letvar (named c.args.x) (class_of known (option_map named c.args.written))) =
     record {
-      names = c.in_ok-enter.ensures.names;
       globals = c.in_ok-enter.ensures.globals;
+      locals = c.in_ok-enter.ensures.locals;
       letvars = rw
           (c.in_ok-class.ensures.value) at c.in_ok-enter.ensures.letvars;
     } in
@@ -210,7 +207,7 @@ local-returns-in_err-statement-clause-fault u c =
     let p = err_from_is_err_and c.from_residual-in_err-statement.result c.from_residual-in_err-statement.ensures.1 in
     rw (p.1, p.2) (local_body known (scope_of c.args.resolver.now) (declared c.args.resolver.now) (tree c.args.e.now)
     (syntax.command c.args.c.now) (named c.args.x) (option_map named c.args.written) c.in_err-statement.field-0.0
-    few c.in_ok-class.ensures.fault (rw (c.deref.ensures.value) at c.in_ok-value.ensures.fault known)
+    few c.in_ok-class.ensures.fault (c.in_ok-value.ensures.fault known)
     (rw (s, n) at c.in_err-statement.ensures.fault))
 
 pub local-returns-clause-fault : goal.local-returns-clause-fault
@@ -218,15 +215,14 @@ local-returns-clause-fault u c =
     let known = class_named c.args.lattice.now in
     let few : declared c.args.resolver.now < 1024 = omega (
       arith,
-      c.if-resolver-len-ge-MAX_DECLARATIONS.false,
-      c.len.ensures,
-      c.args.resolver.now.letvars.ok.0,
+      c.if-declared-ge-MAX_DECLARATIONS.false,
+      c.declared.ensures,
     ) in
     let entered : Entered c.args.resolver.now c.enter.new.self c.args.x.text
     (letvar (named c.args.x) (class_of known (option_map named c.args.written))) =
     record {
-      names = c.in_ok-enter.ensures.names;
       globals = c.in_ok-enter.ensures.globals;
+      locals = c.in_ok-enter.ensures.locals;
       letvars = rw
           (c.in_ok-class.ensures.value) at c.in_ok-enter.ensures.letvars;
     } in
@@ -235,7 +231,7 @@ local-returns-clause-fault u c =
     local_none known (scope_of c.args.resolver.now) (declared c.args.resolver.now) (tree c.args.e.now)
     (syntax.command c.args.c.now) (named c.args.x)
     (option_map named c.args.written) few c.in_ok-class.ensures.fault
-    (rw (c.deref.ensures.value) at c.in_ok-value.ensures.fault known)
+    (c.in_ok-value.ensures.fault known)
     (rw (s, n) at c.in_ok-statement.ensures.fault)
 
 pub local-returns-clause-value : goal.local-returns-clause-value
@@ -243,21 +239,20 @@ local-returns-clause-value u c =
     let known = class_named c.args.lattice.now in
     let few : declared c.args.resolver.now < 1024 = omega (
       arith,
-      c.if-resolver-len-ge-MAX_DECLARATIONS.false,
-      c.len.ensures,
-      c.args.resolver.now.letvars.ok.0,
+      c.if-declared-ge-MAX_DECLARATIONS.false,
+      c.declared.ensures,
     ) in
     let entered : Entered c.args.resolver.now c.enter.new.self c.args.x.text
     (letvar (named c.args.x) (class_of known (option_map named c.args.written))) =
     record {
-      names = c.in_ok-enter.ensures.names;
       globals = c.in_ok-enter.ensures.globals;
+      locals = c.in_ok-enter.ensures.locals;
       letvars = rw
           (c.in_ok-class.ensures.value) at c.in_ok-enter.ensures.letvars;
     } in
     localled known c.args.resolver.now c.enter.new.self c.statement.new.resolver c.leave.new.self c.args.x.text
     (named c.args.x) (option_map named c.args.written) c.in_ok-value.value (tree c.args.e.now)
     (syntax.command c.args.c.now) _ _ _ _ c.requires entered refl
-    (rw (c.deref.ensures.value) at c.in_ok-value.ensures.value) c.new-body.ensures.items
-    c.in_ok-statement.ensures.value c.leave.ensures.names c.leave.ensures.globals c.leave.ensures.letvars
+    c.in_ok-value.ensures.value c.new-body.ensures.items
+    c.in_ok-statement.ensures.value c.leave.ensures.locals c.leave.ensures.globals c.leave.ensures.letvars
     c.in_ok-push.ensures.items

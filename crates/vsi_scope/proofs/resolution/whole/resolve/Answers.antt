@@ -5,7 +5,7 @@ use Rattle.vsi_lattice.specs.LatticeView.{class_named}
 use Rattle.vsi_scope.specs.declared.resolution.command.Resolver.{Resolver}
 use Rattle.vsi_scope.specs.Language.{size}
 use Rattle.vsi_scope.specs.View.{sequence}
-use Rattle.vsi_scope.proofs.Top.{Begun, body_refuses, globals_refuse, too_large, is_resolved, resolves, exact, resolution_small}
+use Rattle.vsi_scope.proofs.Top.{Begun, begun_within, body_refuses, globals_refuse, too_large, is_resolved, resolves, exact, resolution_small}
 use Rattle.vsi_scope.proofs.Classes.{classes_below}
 use Rattle.vsi_scope.proofs.resolution.whole.resolve.Goals as goal
 
@@ -20,20 +20,37 @@ pub returns-in_err-list-clause-exact : goal.returns-in_err-list-clause-exact
 returns-in_err-list-clause-exact c =
     exact (class_named c.args.lattice.now) (whole c.args.program.now) _ (returns-in_err-list-clause-refused c)
 
+pub sequence-requires : goal.sequence-requires
+sequence-requires c =
+    let known = class_named c.args.lattice.now in
+    let p = whole c.args.program.now in
+    let w : Resolver = record { names = c.in_ok-list.field-0.names; letvars = c.new.result } in
+    let l = c.in_ok-list.field-0.list.items in
+    let g = c.in_ok-list.ensures.read in
+    let b : Begun known p l w = record {
+      outer = g.outer;
+      named = rw (c.globals.ensures.globals) at g.names;
+      listed = rw (c.globals.ensures.globals) at g.list;
+      letvars = c.new.ensures.items;
+      faultless = rw (c.globals.ensures.globals) at c.in_ok-list.ensures.fault;
+      spelled = rw (c.globals.ensures.globals) at c.globals.ensures.spelled;
+      shallow = rw (c.body.ensures.body) at c.body.ensures.keeps.1;
+    } in
+    begun_within known p l w b
+
 pub returns-in_err-sequence-clause-refused : goal.returns-in_err-sequence-clause-refused
 returns-in_err-sequence-clause-refused c =
     let known = class_named c.args.lattice.now in
     let p = whole c.args.program.now in
-    let w : Resolver = record { names = c.in_ok-list.field-0.names; letvars = c.new.result; globals = c.len.result } in
+    let w : Resolver = record { names = c.in_ok-list.field-0.names; letvars = c.new.result } in
     let l = c.in_ok-list.field-0.list.items in
-    let g = c.in_ok-list.ensures in
+    let g = c.in_ok-list.ensures.read in
     let b : Begun known p l w = record {
-      few = g.few;
+      outer = g.outer;
       named = rw (c.globals.ensures.globals) at g.names;
       listed = rw (c.globals.ensures.globals) at g.list;
-      globals = omega (arith, c.len.ensures, c.in_ok-list.field-0.list.ok.0);
       letvars = c.new.ensures.items;
-      faultless = rw (c.globals.ensures.globals) at g.fault;
+      faultless = rw (c.globals.ensures.globals) at c.in_ok-list.ensures.fault;
       spelled = rw (c.globals.ensures.globals) at c.globals.ensures.spelled;
       shallow = rw (c.body.ensures.body) at c.body.ensures.keeps.1;
     } in
@@ -49,16 +66,15 @@ pub returns-then-size-gt-MAX_SIZE-clause-refused : goal.returns-then-size-gt-MAX
 returns-then-size-gt-MAX_SIZE-clause-refused c =
     let known = class_named c.args.lattice.now in
     let p = whole c.args.program.now in
-    let w : Resolver = record { names = c.in_ok-list.field-0.names; letvars = c.new.result; globals = c.len.result } in
+    let w : Resolver = record { names = c.in_ok-list.field-0.names; letvars = c.new.result } in
     let l = c.in_ok-list.field-0.list.items in
-    let g = c.in_ok-list.ensures in
+    let g = c.in_ok-list.ensures.read in
     let b : Begun known p l w = record {
-      few = g.few;
+      outer = g.outer;
       named = rw (c.globals.ensures.globals) at g.names;
       listed = rw (c.globals.ensures.globals) at g.list;
-      globals = omega (arith, c.len.ensures, c.in_ok-list.field-0.list.ok.0);
       letvars = c.new.ensures.items;
-      faultless = rw (c.globals.ensures.globals) at g.fault;
+      faultless = rw (c.globals.ensures.globals) at c.in_ok-list.ensures.fault;
       spelled = rw (c.globals.ensures.globals) at c.globals.ensures.spelled;
       shallow = rw (c.body.ensures.body) at c.body.ensures.keeps.1;
     } in
@@ -81,16 +97,15 @@ pub new-requires-2 : goal.new-requires-2
 new-requires-2 c =
     let known = class_named c.args.lattice.now in
     let p = whole c.args.program.now in
-    let w : Resolver = record { names = c.in_ok-list.field-0.names; letvars = c.new.result; globals = c.len.result } in
+    let w : Resolver = record { names = c.in_ok-list.field-0.names; letvars = c.new.result } in
     let l = c.in_ok-list.field-0.list.items in
-    let g = c.in_ok-list.ensures in
+    let g = c.in_ok-list.ensures.read in
     let b : Begun known p l w = record {
-      few = g.few;
+      outer = g.outer;
       named = rw (c.globals.ensures.globals) at g.names;
       listed = rw (c.globals.ensures.globals) at g.list;
-      globals = omega (arith, c.len.ensures, c.in_ok-list.field-0.list.ok.0);
       letvars = c.new.ensures.items;
-      faultless = rw (c.globals.ensures.globals) at g.fault;
+      faultless = rw (c.globals.ensures.globals) at c.in_ok-list.ensures.fault;
       spelled = rw (c.globals.ensures.globals) at c.globals.ensures.spelled;
       shallow = rw (c.body.ensures.body) at c.body.ensures.keeps.1;
     } in
@@ -108,16 +123,15 @@ pub returns-clause-resolved : goal.returns-clause-resolved
 returns-clause-resolved c =
     let known = class_named c.args.lattice.now in
     let p = whole c.args.program.now in
-    let w : Resolver = record { names = c.in_ok-list.field-0.names; letvars = c.new.result; globals = c.len.result } in
+    let w : Resolver = record { names = c.in_ok-list.field-0.names; letvars = c.new.result } in
     let l = c.in_ok-list.field-0.list.items in
-    let g = c.in_ok-list.ensures in
+    let g = c.in_ok-list.ensures.read in
     let b : Begun known p l w = record {
-      few = g.few;
+      outer = g.outer;
       named = rw (c.globals.ensures.globals) at g.names;
       listed = rw (c.globals.ensures.globals) at g.list;
-      globals = omega (arith, c.len.ensures, c.in_ok-list.field-0.list.ok.0);
       letvars = c.new.ensures.items;
-      faultless = rw (c.globals.ensures.globals) at g.fault;
+      faultless = rw (c.globals.ensures.globals) at c.in_ok-list.ensures.fault;
       spelled = rw (c.globals.ensures.globals) at c.globals.ensures.spelled;
       shallow = rw (c.body.ensures.body) at c.body.ensures.keeps.1;
     } in

@@ -1,0 +1,59 @@
+//! Two runs side by side.
+
+ghost use Rattle.std.specs.Prelude.{◌<◌};
+ghost use Rattle.vsi.specs.Stops.{TellsFault};
+ghost use Rattle.vsi_devices.specs.Counted.{faults_of};
+
+use crate::driving::stored_words;
+use crate::files::Files;
+use crate::reading::{class_in, faulty, image_in, lattice_in};
+use crate::stop::{Stop, write};
+use std::alloc::Global;
+use std::io::Write;
+use vsi_arguments::Comparison;
+use vsi_devices::Counted;
+use vsi_faults::Fault;
+
+/// Runs an image file from two store files, and says what a class sees of both.
+fn compared<'a, F: Files>(
+    alloc: Global,
+    asked: Comparison<'a>,
+    files: &mut F,
+) -> Result<vsi_store::Comparison, Stop<'a>> {
+    let classes = lattice_in(alloc, asked.lattice, files)?;
+    let class = class_in(&classes, asked.class)?;
+    let verified = image_in(alloc, asked.image, files)?;
+    let first = stored_words(alloc, &verified, Some(asked.stores.0), files)?;
+    let second = stored_words(alloc, &verified, Some(asked.stores.1), files)?;
+    match vsi_store::compare(
+        alloc,
+        &classes,
+        &verified,
+        class,
+        &first,
+        &second,
+        asked.budget,
+    ) {
+        Ok(found) => Ok(found),
+        Err(error) => Err(faulty(alloc, &Fault::View(error))),
+    }
+}
+
+/// Writes what a class sees of runs of an image file from two store files.
+pub(crate) fn compare<'a, F: Files, W: Write>(
+    alloc: Global,
+    asked: Comparison<'a>,
+    files: &mut F,
+    output: &mut Counted<W>,
+) -> Result<(), Stop<'a>>
+    requires { faults_of output.old < u64.MAX }
+    ensures fault { TellsFault (faults_of output.old) (faults_of output.new) result }
+{
+    let found = compared(alloc, asked, files)?;
+    write(&found.text, output)?;
+    if found.is_same {
+        Ok(())
+    } else {
+        Err(Stop::Differs)
+    }
+}

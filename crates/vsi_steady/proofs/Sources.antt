@@ -1,0 +1,151 @@
+-- What the layers promise of a text together.
+use Rattle.std.proofs.Common.{◌≡◌, ℕ, List, map, length, sym, ap, subst, ◌∙◌}
+use Rattle.std.specs.List.{All}
+use Rattle.vsi_lattice.specs.Order.{Lattice, IsLattice, IsClass}
+use Rattle.vsi_scope.specs.declared.resolved.Global.{Global}
+use Rattle.vsi_scope.specs.declared.resolved.Entry.{Entry}
+use Rattle.vsi_scope.specs.Faults.{Known}
+use Rattle.vsi_scope.specs.Language.{Command}
+use Rattle.vsi_scope.specs.Program.{Resolved, IsResolved}
+use Rattle.vsi_scope.specs.Resolving.{HasClassesBelow}
+use Rattle.vsi_scope.specs.View.{command, sequence}
+use Rattle.vsi_types.specs.declared.rules.Profile.TheVariants.{Strict}
+use Rattle.vsi_types.specs.Security.{Program, program, name_place, IsTypable}
+use Rattle.vsi_infer.specs.declared.error.InferError.{InferError}
+use Rattle.vsi_infer.specs.declared.error.InferError.TheVariants as infer
+use Rattle.vsi_infer.specs.Inference.{IsShortest, AreClasses}
+use Rattle.vsi_infer.specs.Inference as inference
+use Rattle.vsi_image.specs.declared.instr.Image.{Image}
+use Rattle.vsi_compiler.specs.declared.error.CompileError.{CompileError}
+use Rattle.vsi_compiler.specs.declared.error.CompileError.TheVariants as compiler
+use Rattle.vsi_compiler.specs.Acceptance.{IsAccepted, program_of}
+use Rattle.vsi_compiler.specs.Headline.{HasGlobals, KeepsMeaning, IsCoded, IsImageOf, IsNoLarger, IsCompiled}
+use Rattle.vsi_compiler.specs.Observation.{IsNoninterfering, EndsAlike}
+use Rattle.vsi_compiler.specs.Refusal.{RefusesProgram}
+use Rattle.vsi_compiler.specs.Stands.{Stands}
+use Rattle.vsi_compiler.proofs.Compiled.{accepted, one_program}
+use Rattle.vsi_compiler.proofs.Programs.{program_is, typing_ready, global_classes, declared_classes}
+use Rattle.vsi_steady.specs.declared.error.SteadyError.{SteadyError}
+use Rattle.vsi_steady.specs.declared.error.SteadyError.TheVariants as steady
+use Rattle.vsi_steady.specs.Refusal.{Refuses}
+use Rattle.vsi_steady.specs.Source.{HasSteadyFlows, RefusesSteady, compiling, flowing, judging}
+use Rattle.vsi_steady.specs.Watched.{watched_program, IsWatched}
+use Rattle.vsi_steady.proofs.Guards.{unwatched_typable}
+
+-- A program of these parts.
+parts : List Global → List Entry → Command → Program
+parts gs ls c =
+    record {
+      globals = map (λ (g : Global). g.class) gs;
+      declared = map (λ (e : Entry). e.class) ls;
+      names = name_place ls (length gs);
+      body = c;
+    }
+
+-- The program of the resolved one with loops is the program with loops.
+pub program_watched : (p r : Resolved) → IsWatched p r → program r ≡ watched_program (program p)
+unfolding parts
+program_watched p r w =
+    ap (λ gs. parts gs r.letvars (sequence r.body)) w.globals
+    ∙ ap (λ ls. parts p.globals ls (sequence r.body)) w.letvars
+    ∙ ap (parts p.globals p.letvars) w.body
+
+-- The classes of its globals are classes.
+pub watched_globals : (L : Lattice) (p r : Resolved) → IsWatched p r → HasClassesBelow L.count p →
+    All (IsClass L) (program r).globals
+watched_globals L p r w below =
+    subst (λ q. All (IsClass L) q.globals) (sym (program_watched p r w)) (global_classes L p below)
+
+-- The declared classes of its letvars are classes.
+pub watched_declared : (L : Lattice) (p r : Resolved) → IsWatched p r → HasClassesBelow L.count p →
+    AreClasses L (program r).declared
+watched_declared L p r w below =
+    subst (λ q. AreClasses L q.declared) (sym (program_watched p r w)) (declared_classes L p below)
+
+-- A refusal of a text that isn't one of a flow is told as it is.
+pub text_refused : (known : Known) (L : Lattice) (text : List ℕ) (e : CompileError) → RefusesProgram known text e →
+    RefusesSteady known L text (compiling e)
+text_refused known L text compiler.Memory h = tt
+text_refused known L text (compiler.Lex e) h = h
+text_refused known L text (compiler.Parse e) h = h
+text_refused known L text (compiler.Scope e) h = h
+text_refused known L text (compiler.Flow walk) h = absurd h
+
+-- What the compiler promises of an image under the strict profile.
+pub strictly_compiled : (known : Known) (L : Lattice) (text : List ℕ) (im : Image) → IsAccepted known L Strict text →
+    HasGlobals text im → KeepsMeaning known text im → IsNoninterfering known L im →
+    (Strict ≡ Strict → EndsAlike known L im) → IsCoded im → IsImageOf known text im → IsNoLarger known text im →
+    IsCompiled known L Strict text im
+strictly_compiled known L text im accepted globals meaning noninterference endings coded image small =
+    record {
+      accepted = accepted;
+      globals = globals;
+      meaning = meaning;
+      noninterference = noninterference;
+      endings = endings;
+      coded = coded;
+      image = image;
+      size = small;
+    }
+
+-- Want of memory is told as such.
+pub memory_refused : (known : Known) (L : Lattice) (text : List ℕ) (e : CompileError) → e ≡ compiler.Memory →
+    RefusesSteady known L text (compiling e)
+memory_refused known L text e is = subst (λ x. RefusesSteady known L text (compiling x)) (sym is) tt
+
+-- A refusal of an image of a text whose flows are steady.
+pub image_refused : (known : Known) (L : Lattice) (text : List ℕ) (im : Image) → HasSteadyFlows known L text →
+    IsCompiled known L Strict text im → (e : SteadyError) → Refuses known im e →
+    RefusesSteady known L text (judging e)
+image_refused known L text im flows compiled steady.Memory h = tt
+image_refused known L text im flows compiled (steady.UnknownClass i) h =
+    record { flows = flows; image = im; compiled = compiled; told = h }
+image_refused known L text im flows compiled (steady.Flow place) h =
+    record { flows = flows; image = im; compiled = compiled; told = h }
+
+module _ (known : Known) (text : List ℕ) (p : Resolved) (stands : Stands known text p) (r : Resolved)
+    (w : IsWatched p r) where
+  -- The program with loops is that of the tree.
+  watched_tree : program r ≡ watched_program (program_of known stands.tree (map command p.body))
+  watched_tree = program_watched p r w ∙ ap watched_program (program_is known stands.tree p stands.resolves)
+
+  -- A text whose program with loops is typable has steady flows.
+  pub steady_flows : (L : Lattice) (s : List ℕ) → IsTypable L Strict (program r) s → HasSteadyFlows known L text
+  steady_flows L s typed =
+      record {
+        tree = stands.tree;
+        commands = map command p.body;
+        reads = stands.reads;
+        resolution = stands.resolves.resolution;
+        choice = s;
+        typable = subst (λ q. IsTypable L Strict q s) watched_tree typed;
+      }
+
+  -- It is accepted under the strict profile.
+  pub steady_accepted : (L : Lattice) (s : List ℕ) → IsLattice L → IsResolved p → HasClassesBelow L.count p →
+      IsTypable L Strict (program r) s → IsAccepted known L Strict text
+  steady_accepted L s laws kept below typed =
+      accepted known text p stands L Strict s
+      (unwatched_typable L (program p) s laws (typing_ready L p kept below)
+      (subst (λ q. IsTypable L Strict q s) (program_watched p r w) typed))
+
+  -- A refusal of the inference is one of the text.
+  pub flow_refused : (L : Lattice) (e : InferError) → inference.Refuses L Strict (program r) e →
+      RefusesSteady known L text (flowing e)
+  flow_refused L infer.Memory h = tt
+  flow_refused L (infer.Refused walk) h =
+      record {
+        tree = stands.tree;
+        commands = map command p.body;
+        reads = stands.reads;
+        resolution = stands.resolves.resolution;
+        shortest = subst (λ q. IsShortest L Strict q walk.steps.items) watched_tree h;
+      }
+
+-- Two resolved programs with loops of a text are one program for typing.
+pub one_watched : (known : Known) (text : List ℕ) (p q r s : Resolved) → Stands known text p → Stands known text q →
+    IsWatched p r → IsWatched q s → program s ≡ program r
+one_watched known text p q r s stands others w v =
+    program_watched q s v
+    ∙ ap watched_program (one_program known text p q stands others)
+    ∙ sym (program_watched p r w)

@@ -1,0 +1,173 @@
+-- What a loop in place of each choice leaves as it is.
+use Rattle.std.proofs.Common.{◌≡◌, ℕ, ◌+◌, ◌<◌, ◌≤◌, max, List, [], ◌∷◌, ◌++◌, length, get_or, drop, Vec, Global, refl, sym, ap, ◌∙◌, subst, arith}
+use Rattle.std.proofs.lemmas.List.{drop_more, drop_all}
+use Rattle.vsi_scope.specs.declared.program.Ex.{Ex}
+use Rattle.vsi_scope.specs.declared.program.Cmd.{Cmd}
+use Rattle.vsi_scope.specs.declared.program.Cmd.TheViews as view
+use Rattle.vsi_scope.specs.declared.resolved.Entry.{Entry}
+use Rattle.vsi_scope.specs.Language.{Command, Skip, Assign, Sequence, If, While, Letvar, letvars, HasPlaces, size, nesting, depth}
+use Rattle.vsi_scope.specs.Program.{Resolved, IsResolved, resolved_of}
+use Rattle.vsi_scope.specs.View.{expression, command, sequence}
+use Rattle.vsi_scope.proofs.Views.{command_If, command_While, command_Letvar}
+use Rattle.vsi_opt.specs.Folding.{one, append}
+use Rattle.vsi_opt.proofs.Kept.{append_letvars}
+use Rattle.vsi_opt.proofs.Sequences.{append_append, append_nothing, pushed}
+use Rattle.vsi_steady.specs.Watched.{watched, IsWatched}
+
+-- Two sequences joined are as large as both.
+append_size : (a b : Command) → size (append a b) ≡ size a + size b
+append_size Skip b = omega arith
+append_size (Assign l s e) b = refl
+append_size (Sequence a c) b = omega (arith, append_size c b)
+append_size (If e a c) b = refl
+append_size (While e c) b = refl
+append_size (Letvar e c) b = refl
+
+-- They are nested no deeper than the deeper one.
+append_nesting : (a b : Command) → nesting (append a b) ≤ max (nesting a) (nesting b)
+append_nesting Skip b = omega arith
+append_nesting (Assign l s e) b = omega arith
+append_nesting (Sequence a c) b = omega (arith, append_nesting c b)
+append_nesting (If e a c) b = omega arith
+append_nesting (While e c) b = omega arith
+append_nesting (Letvar e c) b = omega arith
+
+-- They are no deeper than the deeper one.
+append_depth : (a b : Command) → depth (append a b) ≤ max (depth a) (depth b)
+append_depth Skip b = omega arith
+append_depth (Assign l s e) b = omega arith
+append_depth (Sequence a c) b = omega (arith, append_depth c b)
+append_depth (If e a c) b = omega arith
+append_depth (While e c) b = omega arith
+append_depth (Letvar e c) b = omega arith
+
+-- They use the locations of both.
+append_places : (k : ℕ) (a b : Command) → HasPlaces k a → HasPlaces k b → HasPlaces k (append a b)
+append_places k Skip b x y = y
+append_places k (Assign l s e) b x y = (x, y)
+append_places k (Sequence a c) b x y = (x.0, append_places k c b x.1 y)
+append_places k (If e a c) b x y = (x, y)
+append_places k (While e c) b x y = (x, y)
+append_places k (Letvar e c) b x y = (x, y)
+
+-- There are as many letvars.
+pub watched_letvars : (c : Command) → letvars (watched c) ≡ letvars c
+watched_letvars Skip = refl
+watched_letvars (Assign l s e) = refl
+watched_letvars (Sequence a b) = omega (arith, watched_letvars a, watched_letvars b)
+watched_letvars (If e a b) =
+    omega (arith, append_letvars (watched a) (watched b), watched_letvars a, watched_letvars b)
+watched_letvars (While e c) = watched_letvars c
+watched_letvars (Letvar e c) = omega (arith, watched_letvars c)
+
+-- The size is the same.
+watched_size : (c : Command) → size (watched c) ≡ size c
+watched_size Skip = refl
+watched_size (Assign l s e) = refl
+watched_size (Sequence a b) = omega (arith, watched_size a, watched_size b)
+watched_size (If e a b) = omega (arith, append_size (watched a) (watched b), watched_size a, watched_size b)
+watched_size (While e c) = omega (arith, watched_size c)
+watched_size (Letvar e c) = omega (arith, watched_size c)
+
+-- Letvars are nested no deeper.
+watched_nesting : (c : Command) → nesting (watched c) ≤ nesting c
+watched_nesting Skip = omega arith
+watched_nesting (Assign l s e) = omega arith
+watched_nesting (Sequence a b) = omega (arith, watched_nesting a, watched_nesting b)
+watched_nesting (If e a b) =
+    omega (arith, append_nesting (watched a) (watched b), watched_nesting a, watched_nesting b)
+watched_nesting (While e c) = omega (arith, watched_nesting c)
+watched_nesting (Letvar e c) = omega (arith, watched_nesting c)
+
+-- The command is no deeper.
+watched_depth : (c : Command) → depth (watched c) ≤ depth c
+watched_depth Skip = omega arith
+watched_depth (Assign l s e) = omega arith
+watched_depth (Sequence a b) = omega (arith, watched_depth a, watched_depth b)
+watched_depth (If e a b) = omega (arith, append_depth (watched a) (watched b), watched_depth a, watched_depth b)
+watched_depth (While e c) = omega (arith, watched_depth c)
+watched_depth (Letvar e c) = omega (arith, watched_depth c)
+
+-- The locations that are used exist.
+pub watched_places : (c : Command) (k : ℕ) → HasPlaces k c → HasPlaces k (watched c)
+watched_places Skip k x = tt
+watched_places (Assign l s e) k x = x
+watched_places (Sequence a b) k x = (watched_places a k x.0, watched_places b k x.1)
+watched_places (If e a b) k x =
+    (x.0, append_places k (watched a) (watched b) (watched_places a k x.1) (watched_places b k x.2))
+watched_places (While e c) k x = (x.0, watched_places c k x.1)
+watched_places (Letvar e c) k x = (x.0, watched_places c (k + 1) x.1)
+
+-- A program with such a body keeps what a resolved program keeps.
+pub watched_resolved : (p : Resolved) (cs : List Cmd) → IsResolved p → sequence cs ≡ watched (sequence p.body) →
+    IsResolved (resolved_of p.globals p.letvars cs)
+watched_resolved p cs r is =
+    let c = sequence p.body in
+    record {
+      entries = omega (arith, r.entries, watched_letvars c, ap letvars is);
+      places = subst (HasPlaces (length p.globals)) (sym is) (watched_places c (length p.globals) r.places);
+      few_globals = r.few_globals;
+      few_declarations = omega (arith, r.few_declarations, watched_letvars c, ap letvars is);
+      small = omega (arith, r.small, watched_size c, ap size is);
+      nested = omega (arith, r.nested, watched_nesting c, ap nesting is);
+      shallow = omega (arith, r.shallow, watched_depth c, ap depth is);
+      distinct = r.distinct;
+      named = r.named;
+    }
+
+-- A program rebuilt with such a body is the watched one.
+pub watched_rebuilt : (p r : Resolved) (ls : List Entry) (cs : List Cmd) → r ≡ resolved_of p.globals ls cs →
+    ls ≡ p.letvars → sequence cs ≡ watched (sequence p.body) → IsWatched p r
+watched_rebuilt p r ls cs is same body =
+    record {
+      globals = ap (λ x. x.globals) is;
+      letvars = ap (λ x. x.letvars) is ∙ same;
+      body = ap (λ x. sequence x.body) is ∙ body;
+    }
+
+-- A loop over both branches stands for a choice.
+pub watched_if : (c : Cmd) (e v : Ex) (y n b : Vec Cmd Global) → c ≡ view.If e y n → expression v ≡ expression e →
+    sequence b.items ≡ append (watched (sequence y.items)) (watched (sequence n.items)) →
+    command (view.While v b) ≡ watched (command c)
+watched_if c e v y n b is p f =
+    command_While v b
+    ∙ ap (λ x. While x (sequence b.items)) p
+    ∙ ap (While (expression e)) f
+    ∙ sym (ap (λ x. watched (command x)) is ∙ ap watched (command_If e y n))
+
+-- A loop stays one.
+pub watched_while : (c : Cmd) (e v : Ex) (d b : Vec Cmd Global) → c ≡ view.While e d → expression v ≡ expression e →
+    sequence b.items ≡ watched (sequence d.items) → command (view.While v b) ≡ watched (command c)
+watched_while c e v d b is p f =
+    command_While v b
+    ∙ ap (λ x. While x (sequence b.items)) p
+    ∙ ap (While (expression e)) f
+    ∙ sym (ap (λ x. watched (command x)) is ∙ ap watched (command_While e d))
+
+-- A letvar stays one.
+pub watched_letvar : (c : Cmd) (e v : Ex) (d b : Vec Cmd Global) → c ≡ view.Letvar e d →
+    expression v ≡ expression e → sequence b.items ≡ watched (sequence d.items) →
+    command (view.Letvar v b) ≡ watched (command c)
+watched_letvar c e v d b is p f =
+    command_Letvar v b
+    ∙ ap (λ x. Letvar x (sequence b.items)) p
+    ∙ ap (Letvar (expression e)) f
+    ∙ sym (ap (λ x. watched (command x)) is ∙ ap watched (command_Letvar e d))
+
+-- One command more.
+pub watched_more : (cs out out' : List Cmd) (i : ℕ) (c d : Cmd) → i < length cs → c ≡ get_or cs i c →
+    out' ≡ out ++ d ∷ [] → command d ≡ watched (command c) →
+    append (sequence out') (watched (sequence (drop (i + 1) cs)))
+    ≡ append (sequence out) (watched (sequence (drop i cs)))
+watched_more cs out out' i c d lt is push e =
+    ap (λ x. append x (watched (sequence (drop (i + 1) cs))))
+    (pushed out out' d (one (watched (command c))) push (ap one e))
+    ∙ append_append (sequence out) (one (watched (command c))) (watched (sequence (drop (i + 1) cs)))
+    ∙ ap (λ x. append (sequence out) (Sequence (watched (command x)) (watched (sequence (drop (i + 1) cs))))) is
+    ∙ ap (λ l. append (sequence out) (watched (sequence l))) (sym (drop_more cs i c lt))
+
+-- At the end of a list there is nothing more.
+pub watched_end : (cs out : List Cmd) (i : ℕ) → length cs ≤ i →
+    append (sequence out) (watched (sequence (drop i cs))) ≡ sequence out
+watched_end cs out i le =
+    ap (λ l. append (sequence out) (watched (sequence l))) (drop_all i cs le) ∙ append_nothing out

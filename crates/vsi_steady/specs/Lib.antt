@@ -1,0 +1,5 @@
+pub mod Steady
+pub mod Laws
+pub mod Refusal
+pub mod Watched
+pub mod Source

@@ -1,0 +1,108 @@
+-- What is promised of a text that is compiled to a steady image, and what a refusal says of it.
+use Rattle.std.specs.Prelude.{◌≡◌, ℕ, List, [], ◌⊎◌}
+use Rattle.vsi_lattice.specs.Order.{Lattice}
+use Rattle.vsi_lattice.specs.declared.lattice.Lattice as declared
+use Rattle.vsi_lattice.specs.LatticeView.{class_named, order}
+use Rattle.vsi_syntax.specs.Tree.{Whole}
+use Rattle.vsi_scope.specs.Faults.{Known}
+use Rattle.vsi_scope.specs.Language.{Command}
+use Rattle.vsi_scope.specs.Program.{Resolved}
+use Rattle.vsi_scope.specs.Resolving.{IsResolution}
+use Rattle.vsi_types.specs.declared.rules.Profile.TheVariants.{Strict}
+use Rattle.vsi_types.specs.declared.rules.Step.{Step}
+use Rattle.vsi_types.specs.Security.{program, IsTypable}
+use Rattle.vsi_types.specs.Walks.{IsBad}
+use Rattle.vsi_infer.specs.Explanation.{explanation}
+use Rattle.vsi_infer.specs.Inference.{IsShortest}
+use Rattle.vsi_infer.specs.declared.error.InferError.{InferError}
+use Rattle.vsi_infer.specs.declared.error.InferError.TheVariants as infer
+use Rattle.vsi_image.specs.declared.instr.Image.{Image}
+use Rattle.vsi_compiler.specs.declared.error.CompileError.{CompileError}
+use Rattle.vsi_compiler.specs.declared.error.CompileError.TheVariants as compiler
+use Rattle.vsi_compiler.specs.Acceptance.{program_of}
+use Rattle.vsi_compiler.specs.Headline.{IsCompiled}
+use Rattle.vsi_compiler.specs.Refusal.{RefusesProgram}
+use Rattle.vsi_compiler.specs.Source.{Reads}
+use Rattle.vsi_compiler.specs.Stands.{Stands}
+use Rattle.vsi_steady.specs.declared.error.SteadyError.{SteadyError}
+use Rattle.vsi_steady.specs.declared.error.SteadyError.TheVariants as steady
+use Rattle.vsi_steady.specs.declared.unsteady.UnsteadyError.{UnsteadyError}
+use Rattle.vsi_steady.specs.declared.unsteady.UnsteadyError.TheVariants as unsteady
+use Rattle.vsi_steady.specs.Refusal.{Refuses}
+use Rattle.vsi_steady.specs.Watched.{watched_program, IsWatched}
+
+-- A tree reads the text, these commands are its resolution, and some choice of classes types the program strictly where
+-- each choice is a loop.
+pub record HasSteadyFlows (known : Known) (L : Lattice) (text : List ℕ) : Type 0 where
+  pub tree : Whole
+  pub commands : List Command
+  pub reads : Reads text tree
+  pub resolution : IsResolution known tree commands
+  pub choice : List ℕ
+  pub typable : IsTypable L Strict (watched_program (program_of known tree commands)) choice
+
+-- The text has a tree and its resolution. Where each choice is a loop, these steps are a strictly bad walk, and no such
+-- walk has fewer.
+pub record HasShortestWatchedWalk (known : Known) (L : Lattice) (text : List ℕ) (steps : List Step) : Type 0 where
+  pub tree : Whole
+  pub commands : List Command
+  pub reads : Reads text tree
+  pub resolution : IsResolution known tree commands
+  pub shortest : IsShortest L Strict (watched_program (program_of known tree commands)) steps
+
+-- The flows of the text are steady, and its image is refused. That the image isn't steady isn't claimed.
+pub record HasRefusedImage (known : Known) (L : Lattice) (text : List ℕ) (e : SteadyError) : Type 0 where
+  pub flows : HasSteadyFlows known L text
+  pub image : Image
+  pub compiled : IsCompiled known L Strict text image
+  pub told : Refuses known image e
+
+-- An error of the compiler.
+abbrev pub compiling : CompileError → UnsteadyError
+compiling compiler.Memory = unsteady.Memory
+compiling e = unsteady.Compile e
+
+-- An error of the inference.
+abbrev pub flowing : InferError → UnsteadyError
+flowing infer.Memory = unsteady.Memory
+flowing (infer.Refused walk) = unsteady.Compile (compiler.Flow walk)
+
+-- An error of the judgement of an image.
+abbrev pub judging : SteadyError → UnsteadyError
+judging steady.Memory = unsteady.Memory
+judging e = unsteady.Image e
+
+-- A refusal: the first in the order text, words, tree, scopes, size, flow, image.
+abbrev pub RefusesSteady : Known → Lattice → List ℕ → UnsteadyError → Type 0
+RefusesSteady known L text unsteady.Memory = Unit {0}
+RefusesSteady known L text (unsteady.Compile compiler.Memory) = ⊥
+RefusesSteady known L text (unsteady.Compile (compiler.Lex e)) = RefusesProgram known text (compiler.Lex e)
+RefusesSteady known L text (unsteady.Compile (compiler.Parse e)) = RefusesProgram known text (compiler.Parse e)
+RefusesSteady known L text (unsteady.Compile (compiler.Scope e)) = RefusesProgram known text (compiler.Scope e)
+RefusesSteady known L text (unsteady.Compile (compiler.Flow walk)) =
+    HasShortestWatchedWalk known L text walk.steps.items
+RefusesSteady known L text (unsteady.Image steady.Memory) = ⊥
+RefusesSteady known L text (unsteady.Image (steady.UnknownClass i)) =
+    HasRefusedImage known L text (steady.UnknownClass i)
+RefusesSteady known L text (unsteady.Image (steady.Flow place)) = HasRefusedImage known L text (steady.Flow place)
+
+-- The steps are a strictly bad walk where each choice is a loop, and this is their explanation.
+pub record IsWatchedExplained (l : declared.Lattice) (text : List ℕ) (steps : List Step) (out : List ℕ) : Type 0 where
+  pub resolved : Resolved
+  pub stands : Stands (class_named l) text resolved
+  pub watched : Resolved
+  pub loops : IsWatched resolved watched
+  pub bad : IsBad (order l) Strict (program watched) steps
+  pub lines : out ≡ explanation l text watched steps
+
+-- The steps are no such walk of the text, and nothing is told.
+pub record IsWatchedUnexplained (l : declared.Lattice) (text : List ℕ) (steps : List Step) (out : List ℕ)
+    : Type 0 where
+  pub harmless : (r watched : Resolved) → Stands (class_named l) text r → IsWatched r watched →
+      ¬ (IsBad (order l) Strict (program watched) steps)
+  pub nothing : out ≡ []
+
+-- A bad walk is explained, and no other.
+abbrev pub ExplainsWatchedWalk : declared.Lattice → List ℕ → List Step → List ℕ → Type 0
+ExplainsWatchedWalk l text steps out =
+    IsWatchedExplained l text steps out ⊎ IsWatchedUnexplained l text steps out

@@ -1,0 +1,203 @@
+//! The chain of flows that brings something to an instruction.
+
+ghost use Rattle.std.specs.Prelude.{IfSome};
+ghost use Rattle.vsi_lattice.specs.LatticeView.{order};
+ghost use Rattle.vsi_lattice.specs.Order.{IsClass};
+
+use std::alloc::{AllocError, Global};
+use vsi_image::{Image, Instr};
+use vsi_lattice::{Class, Classes, Lattice};
+
+/// What a LOAD reads flows into what a STORE or a JZ takes. The target is a slot, or none for a
+/// jump.
+#[derive(Clone, Copy)]
+pub(crate) struct Step {
+    pub(crate) source: u16,
+    pub(crate) read: usize,
+    pub(crate) target: Option<u16>,
+    pub(crate) written: usize,
+}
+
+/// A LOAD whose word is part of an operand.
+#[derive(Clone, Copy)]
+struct Pending {
+    slot: u16,
+    place: usize,
+}
+
+/// The steps of the top operand, which is taken.
+fn take_top(
+    steps: &mut Vec<Step>,
+    pending: &mut Vec<Pending>,
+    starts: &mut Vec<usize>,
+    target: Option<u16>,
+    written: usize,
+) -> Result<(), AllocError> {
+    let start = match starts.pop() {
+        Some(start) => start,
+        None => 0,
+    };
+    for i in start..pending.len() {
+        steps.push(Step {
+            source: pending[i].slot,
+            read: pending[i].place,
+            target,
+            written,
+        })?;
+    }
+    pending.truncate(start);
+    Ok(())
+}
+
+/// All steps of a code, in the order of the STOREs and JZs, and at one of these of the LOADs.
+fn steps_of(alloc: Global, code: &[Instr]) -> Result<Vec<Step>, AllocError> {
+    let mut steps = Vec::new(alloc);
+    let mut pending = Vec::new(alloc);
+    // How many pending LOADs stand before each operand's own.
+    let mut starts = Vec::new(alloc);
+    for place in 0..code.len() {
+        match code[place] {
+            Instr::Push(_) => starts.push(pending.len())?,
+            Instr::Load(slot) => {
+                starts.push(pending.len())?;
+                pending.push(Pending { slot, place })?;
+            }
+            Instr::Store(slot) => {
+                take_top(&mut steps, &mut pending, &mut starts, Some(slot), place)?;
+            }
+            Instr::Jz(_) => take_top(&mut steps, &mut pending, &mut starts, None, place)?,
+            Instr::Jmp(_) => {}
+            Instr::Halt => {}
+            _ => {
+                let _right = starts.pop();
+            }
+        }
+    }
+    Ok(steps)
+}
+
+/// The class of a slot's class name, where it is a global that the lattice has a class for.
+pub(crate) fn class_of(lattice: &Lattice, image: &Image, slot: u16) -> Option<Class>
+    ensures { IfSome result (IsClass (order lattice.now)) }
+{
+    match image.globals.get(slot as usize) {
+        Some(global) => lattice.class_named(global.1.as_slice()),
+        None => None,
+    }
+}
+
+/// Whether what a global holds may not flow into a target.
+fn is_bad(lattice: &Lattice, image: &Image, source: u16, target: Option<u16>) -> bool {
+    let low = match target {
+        Some(slot) => class_of(lattice, image, slot),
+        None => Some(lattice.bottom()),
+    };
+    let high = class_of(lattice, image, source);
+    match (high, low) {
+        (Some(high), Some(low)) => !lattice.leq(high, low),
+        _ => false,
+    }
+}
+
+/// The steps that lead from this one on to an instruction, by the step that each slot leads on by.
+fn path(
+    alloc: Global,
+    steps: &[Step],
+    onward: &[Option<usize>],
+    first: Step,
+    place: usize,
+) -> Result<Vec<Step>, AllocError> {
+    let mut chain = Vec::new(alloc);
+    let mut step = first;
+    for _ in 0..=onward.len() {
+        chain.push(step)?;
+        if step.written == place {
+            return Ok(chain);
+        }
+        let Some(slot) = step.target else {
+            return Ok(chain);
+        };
+        let Some(Some(next)) = onward.get(slot as usize) else {
+            return Ok(chain);
+        };
+        let Some(found) = steps.get(*next) else {
+            return Ok(chain);
+        };
+        step = *found;
+    }
+    Ok(chain)
+}
+
+/// A chain of steps from a global to the STORE or JZ at a place, where what the global holds may
+/// not flow, through slots above the globals: one of the fewest steps, and of these the first in
+/// dictionary order. It is empty where there is none.
+pub(crate) fn chain_to(
+    alloc: Global,
+    lattice: &Lattice,
+    image: &Image,
+    place: usize,
+) -> Result<Vec<Step>, AllocError> {
+    let steps = steps_of(alloc, &image.code)?;
+    let target = match image.code.get(place) {
+        Some(Instr::Store(slot)) => Some(*slot),
+        _ => None,
+    };
+    let count = image.slots as usize;
+    let mut onward: Vec<Option<usize>> = Vec::new(alloc);
+    onward.resize(count, None)?;
+    let mut rounds: Vec<usize> = Vec::new(alloc);
+    rounds.resize(count, 0)?;
+    for round in 1..=count + 1 {
+        for i in 0..steps.len() {
+            let step = steps[i];
+            if !leads_on(&step, round, &rounds, image.globals.len(), place) {
+                continue;
+            }
+            let source = usize::from(step.source);
+            if source < image.globals.len() {
+                if is_bad(lattice, image, step.source, target) {
+                    return path(alloc, &steps, &onward, step, place);
+                }
+            } else {
+                reach(&mut rounds, &mut onward, source, round, i);
+            }
+        }
+    }
+    Ok(Vec::new(alloc))
+}
+
+/// Whether a step leads to the place in a round: to the place itself in the first one, else to a
+/// slot that was reached in the round before.
+fn leads_on(step: &Step, round: usize, rounds: &[usize], globals: usize, place: usize) -> bool {
+    if round == 1 {
+        return step.written == place;
+    }
+    match step.target {
+        None => false,
+        Some(slot) => {
+            if (slot as usize) < globals {
+                return false;
+            }
+            match rounds.get(slot as usize) {
+                Some(reached) => reached.saturating_add(1) == round,
+                None => false,
+            }
+        }
+    }
+}
+
+/// Marks a slot as reached in a round, by a step, where it wasn't reached before.
+fn reach(
+    rounds: &mut [usize],
+    onward: &mut [Option<usize>],
+    slot: usize,
+    round: usize,
+    step: usize,
+) {
+    if slot < rounds.len() && slot < onward.len() {
+        if rounds[slot] == 0 {
+            rounds[slot] = round;
+            onward[slot] = Some(step);
+        }
+    }
+}

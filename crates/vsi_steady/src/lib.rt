@@ -1,0 +1,28 @@
+//! Images, and texts, whose jumps depend on nothing above the bottom class.
+//!
+//! A verified image comes in, with or without structure, whoever made it. `steady_in` gives each
+//! slot a class for the whole code and checks that the code can be gone through with these: what it
+//! accepts does the same instructions in any two runs whose stores agree at the bottom class, and
+//! shows nothing from above a class to it. `laws` says the same of the definition.
+//!
+//! `compile_steady` makes such an image of a source text, or tells a shortest walk from a secret to
+//! a guard, the lines of which `steady_explanation` writes.
+#![tactic(auto)]
+
+mod chain;
+mod check;
+mod classes;
+mod error;
+mod held;
+pub mod laws;
+mod source;
+mod steady;
+mod text;
+mod unsteady;
+mod watched;
+
+pub use error::SteadyError;
+pub use source::{compile_steady, steady_explanation};
+pub use steady::steady_in;
+pub use text::steady_text;
+pub use unsteady::UnsteadyError;
