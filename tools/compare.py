@@ -25,11 +25,11 @@ sys.path.insert(1, os.path.join(os.path.dirname(os.path.abspath(__file__)), "sec
 import program as second  # noqa: E402
 from compare_inputs import Case  # noqa: E402
 from soak import Answer, Runner  # noqa: E402
-from soak_inputs import Input  # noqa: E402
+from soak_inputs import COMPILING, Input  # noqa: E402
 from workers import gathered, option_parser, read_options  # noqa: E402
 
 SHOWN_BYTES = 1500
-NO_FILES = {"source": b"", "lattice": b"", "image": b"", "store": b""}
+NO_FILES = {"source": b"", "lattice": b"", "image": b"", "store": b"", "other": b""}
 MISTAKE = b"error: a mistake in the words\n"
 
 
@@ -104,7 +104,7 @@ class Worker:
             self.compare(f"program {number}", words, {**files, "store": store})
 
     def try_input(self, number):
-        given = Input(random.Random(f"{self.options.seed}/{number}"))
+        given = Input(random.Random(f"{self.options.seed}/{number}"), COMPILING)
         self.compare(f"input {number}", given.words, given.files)
         self.figures["inputs"] += 1
 

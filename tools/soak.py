@@ -24,7 +24,7 @@ import time
 
 sys.dont_write_bytecode = True
 
-from soak_inputs import Input  # noqa: E402
+from soak_inputs import ALL, Input  # noqa: E402
 from workers import gathered, option_parser, read_options  # noqa: E402
 
 SLOW_SECONDS = 0.5
@@ -35,28 +35,50 @@ COMPILER_REFUSALS = {*range(11, 23), 25}
 LATTICE_REFUSALS = set(range(1, 11))
 IMAGE_REFUSALS = set(range(27, 39))
 STORE_REFUSALS = {40, 41, 42}
+TEXT_REFUSALS = set(range(11, 23))
 REFUSALS = {"": COMPILER_REFUSALS, "fmt": set(range(11, 17)), "list": IMAGE_REFUSALS,
             "check": LATTICE_REFUSALS | COMPILER_REFUSALS, "classes": LATTICE_REFUSALS | COMPILER_REFUSALS,
             "build": LATTICE_REFUSALS | COMPILER_REFUSALS, "run": IMAGE_REFUSALS | STORE_REFUSALS,
-            "view": LATTICE_REFUSALS | IMAGE_REFUSALS | STORE_REFUSALS | {43}}
+            "view": LATTICE_REFUSALS | IMAGE_REFUSALS | STORE_REFUSALS | {43},
+            "compare": LATTICE_REFUSALS | IMAGE_REFUSALS | STORE_REFUSALS | {43},
+            "drive": LATTICE_REFUSALS | IMAGE_REFUSALS | STORE_REFUSALS | {43},
+            "audit": LATTICE_REFUSALS | IMAGE_REFUSALS | {25, 43, 49, 50}, "source": IMAGE_REFUSALS | {49, 51},
+            "flows": LATTICE_REFUSALS | TEXT_REFUSALS, "leak": LATTICE_REFUSALS | TEXT_REFUSALS,
+            "draw": LATTICE_REFUSALS | TEXT_REFUSALS, "report": LATTICE_REFUSALS, "conform": LATTICE_REFUSALS}
 
 PLACES = rb"1[234] Bad(?:Byte|Word|Number)|15 Unexpected|16 TooDeep|17 Duplicate|18 UnknownClass|19 Unbound" \
     rb"|2[01] TooMany(?:Globals|Declarations)"
 NUMBERS = rb"5 BadName|6 DuplicateName|7 UnknownName|29 BadField|30 BadOpcode|31 Truncated|32 Trailing|33 BadSlot" \
-    rb"|34 BadTarget|35 Underflow|36 Overflow|37 NotEmpty|43 ClassNotInLattice"
+    rb"|34 BadTarget|35 Underflow|36 Overflow|37 NotEmpty|43 ClassNotInLattice|49 NoCommands"
 ALONE = rb"1 NotToml|2 BadShape|3 NoClass|4 TooManyClasses|11 TooLong|22 TooLarge|27 BadMagic|28 BadVersion" \
-    rb"|38 RunsOff|40 NotToml"
-WALK = rb"(?:\d+:\d+ \w+ flows to (?:\w+|\(loop\)) by (?:ASSIGN|LETVAR|IF|WHILE|LOOP) at \d+:\d+\n)+" \
-    rb"\w+ : \w+ may not flow to (?:\w+|\(loop\)) : \w+\n"
+    rb"|38 RunsOff|40 NotToml|50 WrongFields|51 NoText"
+STEP = rb"\d+:\d+ \w+ flows to (?:\w+|\(loop\)) by (?:ASSIGN|LETVAR|IF|WHILE|LOOP) at \d+:\d+\n"
+WALK = rb"(?:" + STEP + rb")+\w+ : \w+ may not flow to (?:\w+|\(loop\)) : \w+\n"
+CODE_WALK = rb"(?:\d+ (?:slot )?\w+ flows to (?:(?:slot )?\w+|\(loop\)|\(jump\)) by [A-Z]+ at \d+\n)+" \
+    rb"\w+ : \w+ may not flow to (?:\w+|\(loop\)|\(jump\)) : \w+\n"
 REFUSAL = re.compile(
     rb"refused: (?:(?:" + ALONE + rb")\n|(?:" + NUMBERS + rb") \d+\n|(?:8 Cycle|9 NoJoin|10 NoMeet) \d+ \d+\n|(?:"
-    + PLACES + rb") \d+:\d+\n|(?s:(?:41 NotANumber|42 UnknownGlobal) .*\n)|25 Refused\n" + WALK + rb")")
+    + PLACES + rb") \d+:\d+\n|(?s:(?:41 NotANumber|42 UnknownGlobal) .*\n)|25 Refused\n(?:" + WALK
+    + rb"|" + CODE_WALK + rb"))")
 
 STORE_TEXT = rb"(?:\w+ = -?\d+\n)*"
+ROWS = rb"(?:(?:  |\* ).*\n)*"
+LEAK = re.compile(rb"leak at \w+\n" + ROWS + rb"\w+ sees\n" + ROWS)
+COMPARED = rb"\w+ sees before\n" + ROWS + rb"\w+ sees after\n" + ROWS
+INTERFACE_REFUSAL = re.compile(rb"refused interface: (?s:.*)\n")
+# What a subcommand that tells its answer on standard output writes at status 1.
+TOLD = {"compare": re.compile(COMPARED),
+        "conform": re.compile(rb'\{"conforms":false,"points":\[.*\]\}\n|(?:[^{\n].*\n)+')}
 TRACE = rb"(?:\d+: [A-Z]+(?: -?\d+)? \|(?: -?\d+)*\n)*"
 DONE = {command: re.compile(form) for command, form in {
     "": STORE_TEXT, "view": STORE_TEXT, "run": TRACE + STORE_TEXT, "check": rb"accepted\n", "build": rb"",
     "classes": rb"(?:\d+:\d+ \w+ : \w+\n)+", "fmt": rb"[ -~\n]+\n", "?": rb"(?s:.*)",
+    "flows": rb"(?:\w+ : \w+ flows to (?:\w+|\(loop\)) : \w+ (?:allowed|refused) \d+\n(?:" + STEP + rb")*)*",
+    "leak": rb"no leak in \d+ pairs of runs\n", "source": rb"[ -~\n]+\n", "compare": COMPARED,
+    "drive": rb"(?:(?:\w+ = -?\d+(?: \w+ = -?\d+)*)?\n|refused: 4[4-8] \w+(?: \d+)?\n|out of budget\n)*",
+    "conform": rb'conforms\n|\{"conforms":true,"points":\[\]\}\n', "audit": rb"accepted\n",
+    "report": rb"<!DOCTYPE html>(?s:.*)</html>\n", "explain": rb"\d+ \w+(?s:.*)\n",
+    "draw": rb"digraph lattice \{\n(?:  .*\n)*\}\n(?:digraph flows \{\n(?:  .*\n)*\}\n)?",
     "list": rb"globals \d+\nslots \d+\nstack \d+\n(?:\w+ : \w+\n)*(?:\d+: [A-Z]+(?: -?\d+)?\n)+"}.items()}
 UNFINISHED = re.compile(TRACE)
 
@@ -71,7 +93,8 @@ class Runner:
         self.program = program
         self.child = None
         self.longest, self.most_memory, self.is_stopped = 0.0, 0, False
-        self.files = {name: os.open(name, os.O_RDWR | os.O_CREAT) for name in ("source", "lattice", "image", "store")}
+        self.files = {name: os.open(name, os.O_RDWR | os.O_CREAT)
+                      for name in ("source", "lattice", "image", "store", "other")}
         self.streams = [os.open(name, os.O_RDWR | os.O_CREAT) for name in ("output", "error")]
         self.kept = set(os.listdir("."))
         signal.signal(signal.SIGALRM, self.stop)
@@ -120,6 +143,12 @@ def error_fault(given, answer):
     """What is wrong with the text on standard error, or None."""
     status, error = answer.status, answer.error
     if status == 1:
+        if not error and given.command in (*TOLD, "?"):
+            return None
+        if given.command in ("leak", "?") and LEAK.fullmatch(error):
+            return None
+        if given.command in ("conform", "?") and INTERFACE_REFUSAL.fullmatch(error):
+            return None
         if not REFUSAL.fullmatch(error):
             return "a refusal of another form"
         number = int(error.split(b" ")[1])
@@ -128,7 +157,8 @@ def error_fault(given, answer):
         return None if error else "no text on the words"
     if status == 4:
         paths = {b"file fault: " + word.encode() + b"\n" for word in given.words}
-        return None if error in paths else "a file fault of another form"
+        names_another = given.command == "conform" and error.startswith(b"file fault: ")
+        return None if error in paths or names_another else "a file fault of another form"
     wanted = {0: b"", 3: b"out of budget\n", 5: b"out of memory\n"}[status]
     return None if error == wanted else "another text on standard error"
 
@@ -139,6 +169,10 @@ def faults_of(given, answer):
         return [f"status {answer.status}"]
     faults = [error_fault(given, answer)]
     form = DONE[given.command] if answer.status == 0 else None
+    if answer.status == 1 and not answer.error:
+        form = TOLD.get(given.command, form)
+    if given.command == "?":
+        form = DONE["?"]
     if answer.status == 3 and "--trace" in given.words:
         form = UNFINISHED
     if not form.fullmatch(answer.output) if form else answer.output:
@@ -171,7 +205,7 @@ class Worker:
 
     def try_input(self, number):
         """Runs an input twice, and reports what isn't as documented."""
-        given = Input(random.Random(f"{self.options.seed}/{number}"))
+        given = Input(random.Random(f"{self.options.seed}/{number}"), ALL)
         self.runner.put(given.files)
         faults, answers = [], []
         for _ in range(2):

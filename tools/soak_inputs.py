@@ -1,4 +1,4 @@
-"""The inputs of tools/soak.py: command lines with their files, drawn from a generator of numbers."""
+"""The inputs of tools/soak.py and tools/compare.py: command lines with files, drawn from a generator of numbers."""
 
 import random
 import re
@@ -317,17 +317,89 @@ def some_image(rng):
     return changed(rng, image, IMAGE) if rng.random() < 0.4 else image
 
 
-class Input:
-    """A command line and the files that it names, or what it reads from standard input."""
+LINES = [b"x = 1\n", b"h = 7 l=1\n", b"\n", b"l = -9223372036854775808\r\n", b"x=1 x=2 y = 3", b"z = 1\n", b"x 1\n",
+         b"x = one\n", b"l = 9223372036854775808\n", b"x = 1 h\n"]
 
-    def __init__(self, rng):
-        self.command = rng.choice(("", "", "check", "check", "classes", "fmt", "build", "list", "run", "run", "view"))
-        self.files = {"source": b"", "lattice": b"", "image": b"", "store": b""}
+INTERFACES = [text.encode() for text in (
+    'lattice = "lattice"\nprofile = "base"\nglobals = [["x", "L"]]\n'
+    '[[runs]]\nbudget = 100\nexpect = { x = 3 }\n[[runs]]\nstore = { x = 5 }\nbudget = 3\nhalts = true\n',
+    'lattice = "lattice"\nprofile = "strict"\norder = "set"\nglobals = [["l", "L"], ["h", "H"]]\n'
+    '[[runs]]\nstore = { h = 7, l = 1 }\nbudget = 100\nexpect = { l = 2, h = 2 }\n',
+    'classes = ["L", "H"]\nbelow = [["L", "H"]]\nprofile = "steady"\nglobals = []\n',
+    'classes = ["L"]\nbelow = []\nprofile = "base"\nglobals = [["x", "L"], ["y", "L"]]\n',
+)]
+
+# What the second implementation does too; and all, with those more often.
+COMPILING = ("", "", "check", "check", "classes", "fmt", "build", "list", "run", "run", "view")
+ALL = COMPILING * 2 + ("flows", "flows", "leak", "audit", "audit", "source", "compare", "drive", "conform", "conform",
+                       "report", "draw", "explain")
+
+# How the words behind a subcommand are made, where not by its own name.
+FORMS = {"": "source_alone", "fmt": "source_alone", "list": "image_alone", "source": "image_alone",
+         "check": "compilation", "classes": "compilation", "build": "compilation", "flows": "compilation",
+         "report": "compilation"}
+
+
+def a_class(rng):
+    return rng.choice(("L", "L", "L", "H", "H", "H", "A", "c1", "Q"))
+
+
+def a_budget(rng):
+    return str(rng.choice((1000, 1000, 1000, 1000, 1000, 0, 1, 3, 50)))
+
+
+class Input:
+    """A command line and the files that it names, or what it reads from standard input, of these subcommands."""
+
+    def __init__(self, rng, subcommands):
+        self.command = rng.choice(subcommands)
+        self.options = {"check": ["--steady"], "flows": ["--walks"]} if subcommands is ALL else {}
+        self.files = {"source": b"", "lattice": b"", "image": b"", "store": b"", "other": b""}
         self.words = [self.command] if self.command else []
-        getattr(self, "with_" + {"": "source_alone", "fmt": "source_alone", "list": "image_alone"}.get(
-            self.command, self.command if self.command in ("run", "view") else "compilation"))(rng)
+        getattr(self, "with_" + FORMS.get(self.command, self.command))(rng)
         if self.words and rng.random() < 0.02:
             self.spoil_words(rng)
+
+    def with_leak(self, rng):
+        self.files["source"], self.files["lattice"] = a_source(rng), a_lattice(rng)
+        self.words += ["lattice", "source", "--budget", a_budget(rng), "--tries", str(rng.choice((0, 1, 20, 50)))]
+        self.words += ["--class", a_class(rng)] if rng.random() < 0.3 else []
+        self.words += ["--seed", str(rng.randrange(9))] if rng.random() < 0.3 else []
+        self.words += [word for word in ("--endings", "--steps") if rng.random() < 0.3]
+
+    def with_audit(self, rng):
+        self.files["image"], self.files["lattice"] = some_image(rng), a_lattice(rng)
+        self.words += ["lattice", "image"] + [word for word in ("--strict", "--steady") if rng.random() < 0.3]
+
+    def with_compare(self, rng):
+        self.files["image"], self.files["lattice"] = some_image(rng), a_lattice(rng)
+        self.files["store"], self.files["other"] = a_store(rng), a_store(rng)
+        self.words += ["lattice", "image", "--class", a_class(rng), "--budget", a_budget(rng), "--store", "store",
+                       "--store", "other"]
+
+    def with_drive(self, rng):
+        """Its lines are standard input, which is the file `source`."""
+        self.files["image"], self.files["lattice"] = some_image(rng), a_lattice(rng)
+        lines = b"".join(rng.choice(LINES) for _ in range(rng.choice((0, 1, 3, 10))))
+        self.files["source"] = changed(rng, lines, SOURCE) if lines and rng.random() < 0.4 else lines
+        self.words += ["image", "lattice", "--class", a_class(rng), "--budget", a_budget(rng)]
+        if rng.random() < 0.35:
+            self.files["store"] = a_store(rng)
+            self.words += ["--store", "store"]
+
+    def with_conform(self, rng):
+        self.files["source"], self.files["lattice"] = a_source(rng), a_lattice(rng)
+        text = rng.choice(INTERFACES)
+        self.files["other"] = changed(rng, text, TOML) if rng.random() < 0.4 else text
+        self.words += ["other", "source"] + (["--json"] if rng.random() < 0.4 else [])
+
+    def with_draw(self, rng):
+        self.files["source"], self.files["lattice"] = a_source(rng), a_lattice(rng)
+        self.words += ["lattice"] + (["source"] if rng.random() < 0.7 else [])
+        self.words += ["--strict"] if rng.random() < 0.3 else []
+
+    def with_explain(self, rng):
+        self.words.append(str(rng.choice((rng.randrange(60), rng.randrange(2 ** 65)))))
 
     def with_source_alone(self, rng):
         self.files["source"] = a_source(rng)
@@ -344,12 +416,13 @@ class Input:
         else:
             self.files["source"], self.files["lattice"] = a_source(rng), a_lattice(rng)
         self.words += ["lattice", "source"] + (["written"] if self.command == "build" else [])
-        if rng.random() < 0.3:
-            self.words.insert(rng.randrange(1, len(self.words) + 1), "--strict")
+        for option in ["--strict"] + self.options.get(self.command, []):
+            if rng.random() < 0.3:
+                self.words.insert(rng.randrange(1, len(self.words) + 1), option)
 
     def with_run(self, rng):
         self.files["image"] = some_image(rng)
-        self.words += ["image", "--budget", str(rng.choice((1000, 1000, 1000, 1000, 1000, 0, 1, 3, 50)))]
+        self.words += ["image", "--budget", a_budget(rng)]
         self.words += ["--trace"] if rng.random() < 0.5 else []
         if rng.random() < 0.35:
             self.files["store"] = a_store(rng)
@@ -360,7 +433,7 @@ class Input:
         self.words.append("lattice")
         self.with_run(rng)
         self.words = [word for word in self.words if word != "--trace"]
-        self.words += ["--class", rng.choice(("L", "L", "L", "H", "H", "H", "A", "c1", "Q"))]
+        self.words += ["--class", a_class(rng)]
 
     def spoil_words(self, rng):
         at = rng.randrange(len(self.words))

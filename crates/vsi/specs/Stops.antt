@@ -1,7 +1,7 @@
 -- What the program ends with where it stops early.
 use Rattle.std.specs.Prelude.{◌≡◌, ◌<◌, ℕ, Result, IsErrAnd}
 use Rattle.vsi.specs.declared.stop.Stop.{Stop}
-use Rattle.vsi.specs.declared.stop.Stop.TheVariants.{Refused, Differs, Usage, NoClass, OutOfBudget, FileFault, Memory}
+use Rattle.vsi.specs.declared.stop.Stop.TheVariants.{Refused, Differs, Usage, NoClass, OutOfBudget, FileFault, LostFile, Memory}
 
 -- The status of the program.
 abbrev pub status_of : Stop → ℕ
@@ -11,6 +11,7 @@ status_of (Usage text) = 2
 status_of (NoClass name) = 2
 status_of OutOfBudget = 3
 status_of (FileFault path) = 4
+status_of (LostFile path) = 4
 status_of Memory = 5
 
 -- Where a stream's count of faults rose, the answer is a file fault.

@@ -8,6 +8,8 @@ ghost use Rattle.vsi_devices.specs.Counted.{device_of, faults_of};
 
 use crate::auditing::{audit, source};
 use crate::comparing::compare;
+use crate::conformance::conform;
+use crate::drawing::{draw, report};
 use crate::driving::drive;
 use crate::files::Files;
 use crate::leaking::leak;
@@ -188,6 +190,7 @@ fn perform<'a, F: Files, R: Read, W: Write>(
             compilation,
             is_steady: false,
         } => accept(check(alloc, compilation, files), output),
+        Request::Conform(asked) => conform(alloc, asked, files, output),
         Request::Classes(compilation) => put(classes(alloc, compilation, files), output),
         Request::Flows {
             compilation,
@@ -211,6 +214,9 @@ fn perform<'a, F: Files, R: Read, W: Write>(
         Request::Drive(driving) => drive(alloc, driving, files, input, output),
         Request::Compare(comparison) => compare(alloc, comparison, files, output),
         Request::Leak(search) => put(leak(alloc, search, files), output),
+        Request::Report(compilation) => put(report(alloc, compilation, files), output),
+        Request::Draw(drawing) => put(draw(alloc, drawing, files), output),
         Request::Format(source) => put(format(alloc, source, files), output),
+        Request::Explain(page) => write(page.as_bytes(), output),
     }
 }

@@ -11,6 +11,8 @@
 mod auditing;
 mod command_line;
 mod comparing;
+mod conformance;
+mod drawing;
 mod driving;
 mod files;
 mod leaking;
@@ -21,36 +23,115 @@ mod subcommands;
 
 pub use command_line::command;
 pub use files::Files;
-pub use vsi_audit::{AuditError, audit_in, audit_text, source_text};
-pub use vsi_compiler::{
-    CompileError, RunError, classes_text, classes_text_in, compile, compile_in, explanation_text,
-    format_text, run_source,
-};
-pub use vsi_devices::{
-    Counted, EngineError, READ_LIMIT, build, build_in, image_bytes, read_all, run_image, run_words,
-    verified_image, write_out,
-};
-pub use vsi_drive::{
-    Controller, CycleEnding, LINE_LIMIT, LineFault, StartFault, first_words, start_fault_line,
-};
-pub use vsi_faults::{Fault, fault_text, refusal_text};
-pub use vsi_flows::{FlowsError, Pair, flows_in, flows_text_in, table_text, walks_text_in};
-pub use vsi_image::{
-    DecodeError, EncodeError, Image, Instr, Limit, Verified, VerifyError, decode, encode, listing,
-    verify,
-};
+pub use vsi_audit::AuditError;
+pub use vsi_audit::audit_in;
+pub use vsi_audit::audit_text;
+pub use vsi_audit::source_text;
+pub use vsi_compiler::CompileError;
+pub use vsi_compiler::RunError;
+pub use vsi_compiler::classes_text;
+pub use vsi_compiler::classes_text_in;
+pub use vsi_compiler::compile;
+pub use vsi_compiler::compile_in;
+pub use vsi_compiler::explanation_text;
+pub use vsi_compiler::format_text;
+pub use vsi_compiler::run_source;
+pub use vsi_conform::Answer;
+pub use vsi_conform::Asked;
+pub use vsi_conform::Interface;
+pub use vsi_conform::InterfaceError;
+pub use vsi_conform::Judgement;
+pub use vsi_conform::Point;
+pub use vsi_conform::Policy;
+pub use vsi_conform::Trial;
+pub use vsi_conform::conform;
+pub use vsi_conform::interface_text;
+pub use vsi_conform::path_beside;
+pub use vsi_conform::points_json;
+pub use vsi_conform::points_text;
+pub use vsi_conform::read_interface;
+pub use vsi_conform::unknown_class;
+pub use vsi_devices::Counted;
+pub use vsi_devices::EngineError;
+pub use vsi_devices::READ_LIMIT;
+pub use vsi_devices::build;
+pub use vsi_devices::build_in;
+pub use vsi_devices::image_bytes;
+pub use vsi_devices::read_all;
+pub use vsi_devices::run_image;
+pub use vsi_devices::run_words;
+pub use vsi_devices::verified_image;
+pub use vsi_devices::write_out;
+pub use vsi_drive::Controller;
+pub use vsi_drive::CycleEnding;
+pub use vsi_drive::LINE_LIMIT;
+pub use vsi_drive::LineFault;
+pub use vsi_drive::StartFault;
+pub use vsi_drive::first_words;
+pub use vsi_drive::start_fault_line;
+pub use vsi_faults::Fault;
+pub use vsi_faults::fault_text;
+pub use vsi_faults::refusal_text;
+pub use vsi_flows::FlowsError;
+pub use vsi_flows::Pair;
+pub use vsi_flows::flows_in;
+pub use vsi_flows::flows_text_in;
+pub use vsi_flows::table_text;
+pub use vsi_flows::walks_text_in;
+pub use vsi_image::DecodeError;
+pub use vsi_image::EncodeError;
+pub use vsi_image::Image;
+pub use vsi_image::Instr;
+pub use vsi_image::Limit;
+pub use vsi_image::Verified;
+pub use vsi_image::VerifyError;
+pub use vsi_image::decode;
+pub use vsi_image::encode;
+pub use vsi_image::listing;
+pub use vsi_image::verify;
 pub use vsi_infer::Walk;
-pub use vsi_lattice::{Class, Classes, Lattice, LatticeError, read_lattice};
-pub use vsi_leak::{
-    Effort, Ending, Finding, Leak, Run, Sign, Wanted, check_leak, find_leak, leak_of_text,
-    leak_text,
-};
-pub use vsi_machine::{Machine, Outcome, StartError};
-pub use vsi_scope::{ScopeError, Var};
-pub use vsi_steady::{SteadyError, steady_in, steady_text};
-pub use vsi_store::{
-    Comparison, RunEnding, StoreError, View, ViewError, compare, named_globals, read_store,
-    store_text, view,
-};
-pub use vsi_syntax::{LexError, ParseError, Span};
-pub use vsi_types::{LOOP, Profile, Rule, Step};
+pub use vsi_lattice::Class;
+pub use vsi_lattice::Classes;
+pub use vsi_lattice::Lattice;
+pub use vsi_lattice::LatticeError;
+pub use vsi_lattice::read_lattice;
+pub use vsi_leak::Effort;
+pub use vsi_leak::Ending;
+pub use vsi_leak::Finding;
+pub use vsi_leak::Leak;
+pub use vsi_leak::Run;
+pub use vsi_leak::Sign;
+pub use vsi_leak::Wanted;
+pub use vsi_leak::check_leak;
+pub use vsi_leak::find_leak;
+pub use vsi_leak::leak_of_text;
+pub use vsi_leak::leak_text;
+pub use vsi_machine::Machine;
+pub use vsi_machine::Outcome;
+pub use vsi_machine::StartError;
+pub use vsi_report::flows_dot;
+pub use vsi_report::lattice_dot;
+pub use vsi_report::put_escaped;
+pub use vsi_report::report_page;
+pub use vsi_scope::ScopeError;
+pub use vsi_scope::Var;
+pub use vsi_steady::SteadyError;
+pub use vsi_steady::steady_in;
+pub use vsi_steady::steady_text;
+pub use vsi_store::Comparison;
+pub use vsi_store::RunEnding;
+pub use vsi_store::StoreError;
+pub use vsi_store::View;
+pub use vsi_store::ViewError;
+pub use vsi_store::compare;
+pub use vsi_store::named_globals;
+pub use vsi_store::read_store;
+pub use vsi_store::store_text;
+pub use vsi_store::view;
+pub use vsi_syntax::LexError;
+pub use vsi_syntax::ParseError;
+pub use vsi_syntax::Span;
+pub use vsi_types::LOOP;
+pub use vsi_types::Profile;
+pub use vsi_types::Rule;
+pub use vsi_types::Step;

@@ -80,7 +80,7 @@ pub(crate) fn bytes_in<'a, F: Files>(
 }
 
 /// A whole file that is shorter than `READ_LIMIT`; a longer one is a file fault.
-fn settings_in<'a, F: Files>(
+pub(crate) fn settings_in<'a, F: Files>(
     alloc: Global,
     path: &'a str,
     files: &mut F,
@@ -105,7 +105,7 @@ pub(crate) fn store_in<'a, F: Files>(
 }
 
 /// The lattice that a text declares.
-fn declared_lattice<'a>(alloc: Global, text: &[u8]) -> Result<Lattice, Stop<'a>> {
+pub(crate) fn declared_lattice<'a>(alloc: Global, text: &[u8]) -> Result<Lattice, Stop<'a>> {
     match read_lattice(alloc, text) {
         Ok(lattice) => Ok(lattice),
         Err(error) => Err(faulty(alloc, &Fault::Lattice(error))),

@@ -28,6 +28,8 @@ pub(crate) enum Stop<'a> {
     OutOfBudget,
     /// The file at this path, or a standard stream, doesn't open, or fails.
     FileFault(&'a str),
+    /// The file at this path, which another file names, doesn't open, or fails.
+    LostFile(String),
     /// A growth was refused.
     Memory,
 }
@@ -58,7 +60,7 @@ impl Stop<'_> {
             Stop::Refused(_) | Stop::Differs => 1,
             Stop::Usage(_) | Stop::NoClass(_) => 2,
             Stop::OutOfBudget => 3,
-            Stop::FileFault(_) => 4,
+            Stop::FileFault(_) | Stop::LostFile(_) => 4,
             Stop::Memory => 5,
         }
     }
@@ -74,6 +76,7 @@ impl Stop<'_> {
             Stop::NoClass(name) => tell_line(b"no class ", name, error),
             Stop::OutOfBudget => write_out(b"out of budget\n", error),
             Stop::FileFault(path) => tell_line(b"file fault: ", path, error),
+            Stop::LostFile(path) => tell_line(b"file fault: ", path.as_str(), error),
             Stop::Memory => write_out(b"out of memory\n", error),
         }
     }

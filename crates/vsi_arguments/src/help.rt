@@ -1,5 +1,5 @@
-//! The longer texts of help: what each subcommand reads and writes, the statuses, what each word
-//! is, and an example.
+//! The longer texts of help for subcommands: what each reads and writes, its statuses, and an
+//! example.
 
 /// What the program is, in full.
 pub(crate) const PROGRAM: &str = "\
@@ -57,6 +57,36 @@ Example:
   refused: 25 Refused
   1:15 h flows to (loop) by LOOP at 1:15
   h : H may not flow to (loop) : L";
+
+/// What `conform` does.
+pub(crate) const CONFORM: &str = "\
+Says whether a source text conforms to an interface.
+
+Reads the interface file and its lattice and judges them, then reads the source
+text, and prints `conforms` where its globals are those of the interface, it is
+accepted under the profile of the interface, and each run of the interface halts
+within its budget with the expected words. Else it prints a line for each point
+that differs, the lines of a refusal first.
+
+Statuses: 0 conforms, 1 refused, or it doesn't conform, 2 usage, 4 file fault,
+5 out of memory.";
+
+/// An example of `conform`.
+pub(crate) const CONFORM_EXAMPLE: &str = "\
+Example:
+  $ cat lock.toml
+  lattice = \"two.toml\"
+  profile = \"strict\"
+  globals = [[\"key\", \"H\"], [\"out\", \"L\"]]
+  [[runs]]
+  store = { key = 7 }
+  budget = 1000
+  expect = { out = 3 }
+  $ cat lock.vsi
+  var key : L; var out : L; out := 4
+  $ vsi conform lock.toml lock.vsi
+  1:11 class key : L, expected H
+  run 1 out = 4, expected 3";
 
 /// What `classes` does.
 pub(crate) const CLASSES: &str = "\
@@ -313,6 +343,52 @@ Example:
   * l = 0                 l = 1
   * after 5 instructions  after 6 instructions";
 
+/// What `report` does.
+pub(crate) const REPORT: &str = "\
+Prints a page of a source text, its lattice and its flows.
+
+Reads the lattice file and judges it, then reads the source text and judges it,
+and prints a page in HTML that needs nothing else: the verdict, the source with
+the class of each name, the lattice and the flows as pictures, and all flows. Of
+an accepted text it has the image, of a refused one why it is refused, and a
+leak where one is found. Every text has a page, and a refused one is no refusal
+here.
+
+Statuses: 0 printed, 1 the lattice is refused, 2 usage, 4 file fault,
+5 out of memory.";
+
+/// An example of `report`.
+pub(crate) const REPORT_EXAMPLE: &str = "\
+Example:
+  $ vsi report two.toml leak.vsi > page.html
+  $ grep '<title>Refused' page.html
+  <title>Refused: a report of its flows</title>";
+
+/// What `draw` does.
+pub(crate) const DRAW: &str = "\
+Prints a lattice, and the flows of a source text, as graphs.
+
+Reads the lattice file and judges it, and prints a graph in the language of
+Graphviz with an edge from each class to each one directly above it. With a
+source text, which is read and judged but for its flows, a second graph has a
+node for each variable and an edge for each rule by which one flows to another
+in one step.
+
+Statuses: 0 printed, 1 refused for another cause than a flow, 2 usage,
+4 file fault, 5 out of memory.";
+
+/// An example of `draw`.
+pub(crate) const DRAW_EXAMPLE: &str = "\
+Example:
+  $ vsi draw two.toml
+  digraph lattice {
+    rankdir=BT;
+    node [shape=box, style=rounded];
+    \"L\";
+    \"H\";
+    \"L\" -> \"H\";
+  }";
+
 /// What `fmt` does.
 pub(crate) const FORMAT: &str = "\
 Prints the canonical text of a source text.
@@ -332,133 +408,22 @@ Example:
   var x : L;
   x := 1 + (2)";
 
-/// What a lattice file is.
-pub(crate) const LATTICE: &str = "\
-The path of the lattice file, a TOML document of at most 1048576 bytes
-with two keys: `classes`, an array of 1 to 64 names, and `below`, an
-array of pairs [low, high] of them. Every two classes must have a
-least class above both and a greatest class below both.";
+/// What `explain` does.
+pub(crate) const EXPLAIN: &str = "\
+Explains a refusal by its number.
 
-/// What a source text is.
-pub(crate) const SOURCE: &str = "\
-The path of the source text, of at most 1048576 bytes.";
+Prints what the refusal with this number means, what to do, and, where the
+program can be made to tell it, an example. A refusal is told as the line
+`refused: NUMBER NAME`, with its place or other fields behind it.
 
-/// What an image is that is read.
-pub(crate) const IMAGE: &str = "\
-The path of the image, the bytes that `vsi build` writes. Any bytes
-may be given: they are verified before they are used.";
+Statuses: 0 printed, 2 usage or no such refusal, 4 file fault, 5 out of memory.";
 
-/// What an image is that is written.
-pub(crate) const NEW_IMAGE: &str = "\
-The path that the image is written to. A file that stands there is
-replaced, and left as it is where the text is refused.";
+/// An example of `explain`.
+pub(crate) const EXPLAIN_EXAMPLE: &str = "\
+Example:
+  $ printf 'x := 1' | vsi
+  refused: 19 Unbound 1:1
+  $ vsi explain 19 | head -n 3
+  19 Unbound LINE:COLUMN
 
-/// What the strict profile is.
-pub(crate) const STRICT: &str = "\
-Judges by the strict profile: each variable that the guard of a
-`while` reads, or the guard of an `if` that contains one, must have
-the least class, so that whether a run ends tells nothing of the
-classes above it.";
-
-/// What `--steady` asks for of a source text.
-pub(crate) const STEADY_SOURCE: &str = "\
-Judges by the strict profile as if each `if` were a `while`: each
-variable that a guard reads must have the least class. Then judges
-the image as `vsi audit --steady` does: two runs from stores that
-agree at and below a class do the same instructions and write the
-same there. With it --strict adds nothing.";
-
-/// What `--steady` asks for of an image.
-pub(crate) const STEADY: &str = "\
-Accepts only an image whose jumps depend on nothing above the least
-class. Two runs from stores that agree at and below a class then do
-the same instructions, as many as any budget allows, and write the
-same there. These are instructions, not seconds. With it --strict
-adds nothing.";
-
-/// What `--walks` asks for.
-pub(crate) const WALKS: &str = "\
-Prints below each line the steps of a shortest chain, each as in the
-explanation of a refusal: where a name is read, where it flows to, by
-which rule, and where that is written. Of all shortest chains it is
-the first in the order of the program's steps.";
-
-/// What a trace is.
-pub(crate) const TRACE: &str = "\
-Prints a line before each instruction that is done: its number, its
-text, and behind a bar the operands on the stack, the lowest first.";
-
-/// What a class is that looks.
-pub(crate) const CLASS: &str = "\
-The name of the class that looks, one of LATTICE.";
-
-/// What a budget is.
-pub(crate) const BUDGET: &str = "\
-The most instructions that are done, the halt included: a whole number
-from 0 to 18446744073709551615, in digits alone.";
-
-/// What a store file is.
-pub(crate) const STORE: &str = "\
-The path of the store file, a TOML document of at most 1048576 bytes
-with a key `NAME = NUMBER` for each global that doesn't begin as 0, a
-number being one from -9223372036854775808 to 9223372036854775807.
-Without a file each global begins as 0.";
-
-/// What a setting is.
-pub(crate) const SET: &str = "\
-Sets a global, of whatever class, behind the store file: its name, `=`
-and a number from -9223372036854775808 to 9223372036854775807. It may
-be given again, and of two settings of one global the second stands.";
-
-/// What a full store is.
-pub(crate) const FULL_STORE: &str = "\
-Refuses to begin where a global has no key in the store file and isn't
-set, so that none begins as 0 by oversight.";
-
-/// What the file of a store is that is written.
-pub(crate) const OUT: &str = "\
-The path of a file that gets the store in place of standard output. It
-is replaced as a whole where the run halts, and left as it is
-otherwise, so that it may be the store file that is read.";
-
-/// What the file of the last store is.
-pub(crate) const SAVE: &str = "\
-The path of a file that gets the last store, where standard input has
-ended and no read and no write has failed. It is replaced as a whole,
-so that it may be the store file that is read.";
-
-/// What the store files are that are compared.
-pub(crate) const STORES: &str = "\
-The path of a store file, as `vsi help run` tells of it, given twice:
-the first run begins from the first one, the second from the second.";
-
-/// What a class is that looks for a leak.
-pub(crate) const LOOKING: &str = "\
-The name of the class that looks, one of LATTICE. Without it each
-class of LATTICE looks, each behind those below it.";
-
-/// What the budget of a search is.
-pub(crate) const RUN_BUDGET: &str = "\
-The most instructions of each run, the halt included: a whole number
-from 0 to 18446744073709551615, in digits alone. Without it 10000.";
-
-/// What the tries of a search are.
-pub(crate) const TRIES: &str = "\
-The most pairs of runs that are tried for a class, and again for
---endings and for --steps: a whole number from 0 to
-18446744073709551615, in digits alone. Without it 10000.";
-
-/// What the seed of a search is.
-pub(crate) const SEED: &str = "\
-The seed of the stores that are drawn: a whole number from 0 to
-18446744073709551615, in digits alone. Without it 0.";
-
-/// What the search for endings is.
-pub(crate) const ENDINGS: &str = "\
-Where no ends differ, looks for two stores of which the run from one
-halts within the budget, and the run from the other doesn't.";
-
-/// What the search for steps is.
-pub(crate) const STEPS: &str = "\
-Where nothing else is found, looks for two stores whose runs halt
-after different numbers of instructions.";
+  The name at LINE:COLUMN isn't declared there.";

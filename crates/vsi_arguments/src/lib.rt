@@ -6,8 +6,11 @@ mod error;
 mod help;
 mod request;
 mod usage;
+mod word_help;
+mod words;
 
 pub use error::ArgumentsError;
 pub use request::{
-    Audit, Comparison, Compilation, Driving, Execution, Outset, Request, Search, request_of,
+    Audit, Comparison, Compilation, Conformance, Drawing, Driving, Execution, Outset, Request,
+    Search, request_of,
 };

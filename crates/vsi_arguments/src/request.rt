@@ -5,6 +5,7 @@ use crate::usage::program;
 use clap::error::ErrorKind;
 use clap::{ArgMatches, Command, Error};
 use std::alloc::{AllocError, Global};
+use vsi_explain::page;
 
 /// What is compiled: the paths of a lattice file and of a source text, and whether the strict
 /// profile judges it.
@@ -80,6 +81,24 @@ pub struct Audit<'a> {
     pub is_steady: bool,
 }
 
+/// What is judged by an interface: the paths of the interface file and of a source text, and
+/// whether the answer is written as JSON.
+#[derive(Clone, Copy)]
+pub struct Conformance<'a> {
+    pub interface: &'a str,
+    pub source: &'a str,
+    pub is_json: bool,
+}
+
+/// What is drawn: the paths of a lattice file and, where flows are drawn too, of a source text, and
+/// whether the flows are those of the strict profile.
+#[derive(Clone, Copy)]
+pub struct Drawing<'a> {
+    pub lattice: &'a str,
+    pub source: Option<&'a str>,
+    pub is_strict: bool,
+}
+
 /// A subcommand with what it is given.
 #[derive(Drop)]
 pub enum Request<'a> {
@@ -87,6 +106,7 @@ pub enum Request<'a> {
         compilation: Compilation<'a>,
         is_steady: bool,
     },
+    Conform(Conformance<'a>),
     Classes(Compilation<'a>),
     Flows {
         compilation: Compilation<'a>,
@@ -110,7 +130,11 @@ pub enum Request<'a> {
     Drive(Driving<'a>),
     Compare(Comparison<'a>),
     Leak(Search<'a>),
+    Report(Compilation<'a>),
+    Draw(Drawing<'a>),
     Format(&'a str),
+    /// With the page of the refusal.
+    Explain(&'static str),
 }
 
 /// The budget and the number of pairs of a search where none is given.
@@ -150,13 +174,16 @@ enum Mistake {
     SignedBudget,
     SignedNumber,
     NoTwoStores,
+    NoRefusal,
     NoSubcommand,
 }
 
 impl Mistake {
     fn kind(self) -> ErrorKind {
         match self {
-            Mistake::SignedBudget | Mistake::SignedNumber => ErrorKind::ValueValidation,
+            Mistake::SignedBudget | Mistake::SignedNumber | Mistake::NoRefusal => {
+                ErrorKind::ValueValidation
+            }
             Mistake::NoTwoStores => ErrorKind::WrongNumberOfValues,
             Mistake::NoSubcommand => ErrorKind::MissingSubcommand,
         }
@@ -167,6 +194,7 @@ impl Mistake {
             Mistake::SignedBudget => "a budget is written by digits alone",
             Mistake::SignedNumber => "a number is written by digits alone",
             Mistake::NoTwoStores => "two stores are compared",
+            Mistake::NoRefusal => "no refusal has this number",
             Mistake::NoSubcommand => "a subcommand is needed",
         }
     }
@@ -208,7 +236,7 @@ fn judged<'a>(
     if has_signed_budget(matches) {
         return Ok(Err(Mistake::SignedBudget));
     }
-    if has_signed_search(matches) {
+    if has_signed_number(matches) {
         return Ok(Err(Mistake::SignedNumber));
     }
     let Some((name, inner)) = matches.subcommand() else {
@@ -218,6 +246,7 @@ fn judged<'a>(
         "run" => Ok(Ok(run_request(alloc, inner)?)),
         "view" => Ok(Ok(view_request(alloc, inner)?)),
         "compare" => Ok(compare_request(inner)),
+        "explain" => Ok(explain_request(inner)),
         _ => Ok(Ok(requested(name, inner))),
     }
 }
@@ -226,6 +255,7 @@ fn judged<'a>(
 fn requested<'a>(name: &str, inner: &ArgMatches<'a>) -> Request<'a> {
     match name {
         "check" => check_request(inner),
+        "conform" => Request::Conform(conformance_in(inner)),
         "classes" => Request::Classes(compilation_in(inner)),
         "flows" => flows_request(inner),
         "build" => Request::Build(compilation_in(inner), text(inner, "IMAGE")),
@@ -234,6 +264,8 @@ fn requested<'a>(name: &str, inner: &ArgMatches<'a>) -> Request<'a> {
         "source" => Request::Source(text(inner, "IMAGE")),
         "drive" => Request::Drive(driving_in(inner)),
         "leak" => Request::Leak(search_in(inner)),
+        "report" => Request::Report(compilation_in(inner)),
+        "draw" => Request::Draw(drawing_in(inner)),
         _ => Request::Format(text(inner, "SOURCE")),
     }
 }
@@ -242,6 +274,14 @@ fn check_request<'a>(matches: &ArgMatches<'a>) -> Request<'a> {
     Request::Check {
         compilation: compilation_in(matches),
         is_steady: matches.get_flag("steady"),
+    }
+}
+
+fn conformance_in<'a>(matches: &ArgMatches<'a>) -> Conformance<'a> {
+    Conformance {
+        interface: text(matches, "INTERFACE"),
+        source: text(matches, "SOURCE"),
+        is_json: matches.get_flag("json"),
     }
 }
 
@@ -282,6 +322,13 @@ fn compare_request<'a>(matches: &ArgMatches<'a>) -> Result<Request<'a>, Mistake>
     }
 }
 
+fn explain_request<'a>(matches: &ArgMatches<'a>) -> Result<Request<'a>, Mistake> {
+    match page(matches.get_one::<u64>("NUMBER").unwrap_or(0)) {
+        Some(explained) => Ok(Request::Explain(explained)),
+        None => Err(Mistake::NoRefusal),
+    }
+}
+
 fn outset_in<'a>(alloc: Global, matches: &ArgMatches<'a>) -> Result<Outset<'a>, AllocError> {
     let mut settings = Vec::new(alloc);
     for setting in matches.get_strs("set").unwrap_or(&[]) {
@@ -307,6 +354,14 @@ fn compilation_in<'a>(matches: &ArgMatches<'a>) -> Compilation<'a> {
     Compilation {
         lattice: text(matches, "LATTICE"),
         source: text(matches, "SOURCE"),
+        is_strict: matches.get_flag("strict"),
+    }
+}
+
+fn drawing_in<'a>(matches: &ArgMatches<'a>) -> Drawing<'a> {
+    Drawing {
+        lattice: text(matches, "LATTICE"),
+        source: matches.get_str("SOURCE"),
         is_strict: matches.get_flag("strict"),
     }
 }
@@ -356,9 +411,10 @@ fn has_signed_budget(matches: &ArgMatches<'_>) -> bool {
     }
 }
 
-/// Whether the tries or the seed of a search begin with a sign.
-fn has_signed_search(matches: &ArgMatches<'_>) -> bool {
+/// Whether the tries or the seed of a search, or the number of a refusal, begin with a sign.
+fn has_signed_number(matches: &ArgMatches<'_>) -> bool {
     match matches.subcommand() {
+        Some(("explain", inner)) => text(inner, "NUMBER").starts_with('+'),
         Some(("leak", inner)) => {
             text(inner, "tries").starts_with('+') || text(inner, "seed").starts_with('+')
         }

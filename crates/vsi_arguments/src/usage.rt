@@ -1,7 +1,14 @@
-//! The words that the program takes, each with its help.
+//! The subcommands that the program takes, each with its words and its help.
 
-use crate::help;
-use clap::{Arg, ArgAction, Command, value_parser};
+use crate::words::{
+    budget_argument, class_argument, drawn_source_argument, endings_argument, full_store_argument,
+    image_argument, interface_argument, json_argument, lattice_argument, looking_argument,
+    new_image_argument, out_argument, refusal_argument, run_budget_argument, save_argument,
+    seed_argument, set_argument, source_argument, steady_argument, steps_argument, store_argument,
+    stores_argument, strict_argument, trace_argument, tries_argument, walks_argument,
+};
+use crate::{help, word_help};
+use clap::{Arg, Command};
 use std::alloc::{AllocError, Global};
 
 /// What `--version` tells, behind the name of the program.
@@ -13,7 +20,10 @@ pub(crate) fn program<'a>(alloc: Global) -> Result<Command<'a>, AllocError> {
     let program = with_runs(alloc, program);
     let program = with(program, compare_command(alloc));
     let program = with(program, leak_command(alloc));
-    with(program, format_command(alloc))
+    let program = with(program, report_command(alloc));
+    let program = with(program, draw_command(alloc));
+    let program = with(program, format_command(alloc));
+    with(program, explain_command(alloc))
 }
 
 /// The program with the subcommands that judge a source text.
@@ -22,6 +32,7 @@ fn with_judges<'a>(
     program: Result<Command<'a>, AllocError>,
 ) -> Result<Command<'a>, AllocError> {
     let program = with(program, check_command(alloc));
+    let program = with(program, conform_command(alloc));
     let program = with(program, classes_command(alloc));
     let program = with(program, flows_command(alloc));
     with(program, build_command(alloc))
@@ -99,8 +110,21 @@ fn check_command<'a>(alloc: Global) -> Result<Command<'a>, AllocError> {
     );
     taking(
         judging(alloc, check),
-        steady_argument(alloc, help::STEADY_SOURCE),
+        steady_argument(alloc, word_help::STEADY_SOURCE),
     )
+}
+
+fn conform_command<'a>(alloc: Global) -> Result<Command<'a>, AllocError> {
+    let conform = with_help(
+        alloc,
+        "conform",
+        "Says whether a source text conforms to an interface",
+        help::CONFORM,
+        help::CONFORM_EXAMPLE,
+    );
+    let conform = conform.arg(interface_argument(alloc));
+    let conform = taking(conform, source_argument(alloc));
+    taking(conform, json_argument(alloc))
 }
 
 fn classes_command<'a>(alloc: Global) -> Result<Command<'a>, AllocError> {
@@ -165,7 +189,7 @@ fn audit_command<'a>(alloc: Global) -> Result<Command<'a>, AllocError> {
     let audit = audit.arg(lattice_argument(alloc));
     let audit = taking(audit, image_argument(alloc));
     let audit = taking(audit, strict_argument(alloc));
-    taking(audit, steady_argument(alloc, help::STEADY))
+    taking(audit, steady_argument(alloc, word_help::STEADY))
 }
 
 fn source_command<'a>(alloc: Global) -> Result<Command<'a>, AllocError> {
@@ -267,6 +291,30 @@ fn leak_command<'a>(alloc: Global) -> Result<Command<'a>, AllocError> {
     searching(alloc, taking(leak, looking_argument(alloc)))
 }
 
+fn report_command<'a>(alloc: Global) -> Result<Command<'a>, AllocError> {
+    let report = with_help(
+        alloc,
+        "report",
+        "Prints a page of a source text, its lattice and its flows",
+        help::REPORT,
+        help::REPORT_EXAMPLE,
+    );
+    judging(alloc, report)
+}
+
+fn draw_command<'a>(alloc: Global) -> Result<Command<'a>, AllocError> {
+    let draw = with_help(
+        alloc,
+        "draw",
+        "Prints a lattice, and the flows of a source text, as graphs",
+        help::DRAW,
+        help::DRAW_EXAMPLE,
+    );
+    let draw = draw.arg(lattice_argument(alloc));
+    let draw = taking(draw, drawn_source_argument(alloc));
+    taking(draw, strict_argument(alloc))
+}
+
 /// A subcommand that searches, with the words that say how long and for what.
 fn searching<'a>(
     alloc: Global,
@@ -290,153 +338,13 @@ fn format_command<'a>(alloc: Global) -> Result<Command<'a>, AllocError> {
     format.arg(source_argument(alloc))
 }
 
-/// A word that is needed, by its place.
-fn placed<'a>(alloc: Global, id: &'a str, line: &'a str, whole: &'a str) -> Arg<'a> {
-    Arg::new(alloc, id)
-        .required(true)
-        .help(line)
-        .long_help(whole)
-}
-
-/// A word `--ID` that is there or not.
-fn flag<'a>(alloc: Global, id: &'a str, line: &'a str, whole: &'a str) -> Arg<'a> {
-    option(alloc, id, line, whole).action(ArgAction::SetTrue)
-}
-
-/// A word `--ID` with a number behind it.
-fn number<'a>(alloc: Global, id: &'a str, line: &'a str, whole: &'a str) -> Arg<'a> {
-    option(alloc, id, line, whole).value_parser(value_parser!(u64))
-}
-
-/// A word `--ID`.
-fn option<'a>(alloc: Global, id: &'a str, line: &'a str, whole: &'a str) -> Arg<'a> {
-    Arg::new(alloc, id).long(id).help(line).long_help(whole)
-}
-
-fn lattice_argument<'a>(alloc: Global) -> Arg<'a> {
-    placed(alloc, "LATTICE", "The lattice file", help::LATTICE)
-}
-
-fn source_argument<'a>(alloc: Global) -> Arg<'a> {
-    placed(alloc, "SOURCE", "The source text", help::SOURCE)
-}
-
-fn image_argument<'a>(alloc: Global) -> Arg<'a> {
-    placed(alloc, "IMAGE", "The image file", help::IMAGE)
-}
-
-fn new_image_argument<'a>(alloc: Global) -> Arg<'a> {
-    let line = "The image file that is written";
-    placed(alloc, "IMAGE", line, help::NEW_IMAGE)
-}
-
-fn strict_argument<'a>(alloc: Global) -> Arg<'a> {
-    let line = "Asks that the ending of loops tells nothing either";
-    flag(alloc, "strict", line, help::STRICT)
-}
-
-fn steady_argument<'a>(alloc: Global, whole: &'a str) -> Arg<'a> {
-    let line = "Asks that the number of instructions tells nothing";
-    flag(alloc, "steady", line, whole)
-}
-
-fn walks_argument<'a>(alloc: Global) -> Arg<'a> {
-    let line = "Prints the steps of a shortest chain below each line";
-    flag(alloc, "walks", line, help::WALKS)
-}
-
-fn trace_argument<'a>(alloc: Global) -> Arg<'a> {
-    let line = "Prints each instruction before it is done";
-    flag(alloc, "trace", line, help::TRACE)
-}
-
-fn class_argument<'a>(alloc: Global) -> Arg<'a> {
-    option(alloc, "class", "The class that looks", help::CLASS)
-        .value_name("C")
-        .required(true)
-}
-
-fn budget_argument<'a>(alloc: Global) -> Arg<'a> {
-    let line = "The most instructions that are done";
-    number(alloc, "budget", line, help::BUDGET)
-        .value_name("N")
-        .required(true)
-}
-
-fn store_argument<'a>(alloc: Global) -> Arg<'a> {
-    let line = "The store file; without it the run begins from zeros";
-    option(alloc, "store", line, help::STORE).value_name("FILE")
-}
-
-fn set_argument<'a>(alloc: Global) -> Arg<'a> {
-    Arg::new(alloc, "set")
-        .long("set")
-        .value_name("NAME=NUMBER")
-        .action(ArgAction::Append)
-        .help("Sets a global behind the store file; can be repeated")
-        .long_help(help::SET)
-}
-
-fn full_store_argument<'a>(alloc: Global) -> Arg<'a> {
-    Arg::new(alloc, "full-store")
-        .long("full-store")
-        .action(ArgAction::SetTrue)
-        .help("Asks that each global is in the store file or set")
-        .long_help(help::FULL_STORE)
-}
-
-fn out_argument<'a>(alloc: Global) -> Arg<'a> {
-    Arg::new(alloc, "out")
-        .long("out")
-        .value_name("FILE")
-        .help("The file that the store goes to, not standard output")
-        .long_help(help::OUT)
-}
-
-fn save_argument<'a>(alloc: Global) -> Arg<'a> {
-    Arg::new(alloc, "save")
-        .long("save")
-        .value_name("FILE")
-        .help("The file that gets the last store")
-        .long_help(help::SAVE)
-}
-
-fn stores_argument<'a>(alloc: Global) -> Arg<'a> {
-    Arg::new(alloc, "store")
-        .long("store")
-        .value_name("FILE")
-        .required(true)
-        .action(ArgAction::Append)
-        .help("A store file, given twice")
-        .long_help(help::STORES)
-}
-
-fn looking_argument<'a>(alloc: Global) -> Arg<'a> {
-    let line = "The class that looks; without it each one";
-    option(alloc, "class", line, help::LOOKING).value_name("C")
-}
-
-fn run_budget_argument<'a>(alloc: Global) -> Arg<'a> {
-    let line = "The most instructions of a run, 10000 where it isn't given";
-    number(alloc, "budget", line, help::RUN_BUDGET).value_name("N")
-}
-
-fn tries_argument<'a>(alloc: Global) -> Arg<'a> {
-    let line = "The most pairs of runs, 10000 where it isn't given";
-    number(alloc, "tries", line, help::TRIES).value_name("N")
-}
-
-fn seed_argument<'a>(alloc: Global) -> Arg<'a> {
-    let line = "The seed of what is drawn, 0 where it isn't given";
-    number(alloc, "seed", line, help::SEED).value_name("S")
-}
-
-fn endings_argument<'a>(alloc: Global) -> Arg<'a> {
-    let line = "Looks also for runs that are out of budget";
-    flag(alloc, "endings", line, help::ENDINGS)
-}
-
-fn steps_argument<'a>(alloc: Global) -> Arg<'a> {
-    let line = "Looks also for runs of different numbers of instructions";
-    flag(alloc, "steps", line, help::STEPS)
+fn explain_command<'a>(alloc: Global) -> Result<Command<'a>, AllocError> {
+    let explain = with_help(
+        alloc,
+        "explain",
+        "Explains a refusal by its number",
+        help::EXPLAIN,
+        help::EXPLAIN_EXAMPLE,
+    );
+    explain.arg(refusal_argument(alloc))
 }

@@ -103,7 +103,10 @@ fn images_are_judged(rt: HostRuntime) {
         is_judged(
             alloc,
             &shared,
-            b"refused: 25 Refused\n0 h flows to slot 2 by STORE at 1\n4 slot 2 flows to l by STORE at 5\nh : H may not flow to l : L\n"
+            b"refused: 25 Refused\n\
+              0 h flows to slot 2 by STORE at 1\n\
+              4 slot 2 flows to l by STORE at 5\n\
+              h : H may not flow to l : L\n"
         )
     );
     // A chain against the order of the code, behind a jump into the middle.
@@ -123,7 +126,11 @@ fn images_are_judged(rt: HostRuntime) {
         is_judged(
             alloc,
             &back,
-            b"refused: 25 Refused\n4 h flows to slot 3 by STORE at 5\n1 slot 3 flows to slot 2 by STORE at 2\n7 slot 2 flows to (jump) by JZ at 8\nh : H may not flow to (jump) : L\n"
+            b"refused: 25 Refused\n\
+              4 h flows to slot 3 by STORE at 5\n\
+              1 slot 3 flows to slot 2 by STORE at 2\n\
+              7 slot 2 flows to (jump) by JZ at 8\n\
+              h : H may not flow to (jump) : L\n"
         )
     );
 }

@@ -1,0 +1,52 @@
+//! Pages and pictures.
+
+use crate::files::Files;
+use crate::reading::{bytes_in, lattice_in, refused};
+use crate::stop::Stop;
+use crate::subcommands::profile;
+use std::alloc::Global;
+use vsi_arguments::{Compilation, Drawing};
+use vsi_lattice::Lattice;
+use vsi_report::{flows_dot, lattice_dot, report_page};
+
+/// The page of a source text.
+pub(crate) fn report<'a, F: Files>(
+    alloc: Global,
+    compilation: Compilation<'a>,
+    files: &mut F,
+) -> Result<Vec<u8>, Stop<'a>> {
+    let classes = lattice_in(alloc, compilation.lattice, files)?;
+    let text = bytes_in(alloc, compilation.source, files)?;
+    let profile = profile(compilation.is_strict);
+    Ok(report_page(alloc, profile, &classes, text.as_slice())?)
+}
+
+/// The graph of the flows of the source text.
+fn flows_graph<'a, F: Files>(
+    alloc: Global,
+    classes: &Lattice,
+    source: &'a str,
+    is_strict: bool,
+    files: &mut F,
+) -> Result<Vec<u8>, Stop<'a>> {
+    let text = bytes_in(alloc, source, files)?;
+    match flows_dot(alloc, profile(is_strict), classes, text.as_slice()) {
+        Ok(graph) => Ok(graph),
+        Err(error) => Err(refused(alloc, classes, text.as_slice(), &error)),
+    }
+}
+
+/// The graph of the lattice, and behind it that of the flows, where a source text is given.
+pub(crate) fn draw<'a, F: Files>(
+    alloc: Global,
+    drawing: Drawing<'a>,
+    files: &mut F,
+) -> Result<Vec<u8>, Stop<'a>> {
+    let classes = lattice_in(alloc, drawing.lattice, files)?;
+    let mut graphs = lattice_dot(alloc, &classes)?;
+    if let Some(source) = drawing.source {
+        let flows = flows_graph(alloc, &classes, source, drawing.is_strict, files)?;
+        graphs.extend_from_slice(&flows)?;
+    }
+    Ok(graphs)
+}

@@ -1,0 +1,4 @@
+pub mod Going
+pub mod Lossless
+pub mod Spelled
+pub mod Refusals

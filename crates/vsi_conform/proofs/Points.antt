@@ -1,0 +1,124 @@
+-- Where no point is told all is as is asked for, and the other way round.
+use Rattle.std.proofs.Common.{◌≡◌, ℕ, ◌+◌, ℤ, Bool, true, false, ◌&&◌, List, [], ◌∷◌, ◌++◌, Option, Some, None, if◌then◌else◌, bytes_eq, refl, sym, ap, ◌∙◌, inl, inr}
+use Rattle.std.specs.Ordering.{int_eq}
+use Rattle.std.proofs.lemmas.Bool.Decides.{Decides-int_eq}
+use Rattle.std.proofs.lemmas.Slice.Eq.{bytes_eq-Decides}
+use Rattle.vsi_image.specs.Fields.{Global, is_taken}
+use Rattle.vsi_conform.specs.declared.point.Point.{Point}
+use Rattle.vsi_conform.specs.declared.point.Point.TheVariants.{Missing, Unexpected, WrongClass, WrongOrder, OutOfBudget, WrongWord, NoWord}
+use Rattle.vsi_conform.specs.Points.{told, class_point, entry_point, entry_points, unexpected_points, set_points, are_same, first_difference, or_order, points_from, ordered_points, global_points, Entry, word_of, word_point, expected_point, word_points}
+use Rattle.vsi_conform.specs.Asked.{class_of, HasEach, AreAskedFor, HasGlobals, HasWords}
+
+-- Lists that are empty one behind the other are empty.
+pub both_empty : {A : Type 0} (xs ys : List A) → xs ++ ys ≡ [] → (xs ≡ []) × (ys ≡ [])
+both_empty [] ys h = (refl, h)
+both_empty (x ∷ xs) ys h = absurd cc
+
+-- No point is told where there is none.
+none_told : (o : Option Point) → told o ≡ [] → o ≡ None
+none_told None h = refl
+none_told (Some p) h = absurd cc
+
+-- A test that gives no point holds.
+holds : (b : Bool) (p : Point) → ◌≡◌ {A = Option Point} (if b then None else Some p) None → b ≡ true
+holds true p h = refl
+holds false p h = absurd cc
+
+-- Texts that compare equal are the same.
+same_bytes : (xs ys : List ℕ) → bytes_eq xs ys ≡ true → xs ≡ ys
+same_bytes xs ys h = (bytes_eq-Decides xs ys).0 h
+
+-- Words that compare equal are the same.
+same_words : (x y : ℤ) → int_eq x y ≡ true → x ≡ y
+same_words x y h = (Decides-int_eq x y).0 h
+
+-- ---- no point, so all is as is asked for.
+
+-- One more global.
+class_more : (b : Bool) (n place : ℕ) (w g : Global) (gs : List Global) →
+    ◌≡◌ {A = Option Point} (if b then class_point n place w g else entry_point n w (place + 1) gs) None →
+    (entry_point n w (place + 1) gs ≡ None → class_of gs w.0 ≡ Some w.1) →
+    (if b then Some g.1 else class_of gs w.0) ≡ Some w.1
+class_more true n place w g gs h more =
+    ap Some (same_bytes g.1 w.1 (holds (bytes_eq g.1 w.1) (WrongClass place n) h))
+class_more false n place w g gs h more = more h
+
+-- A global of which nothing is told is there, with its class.
+has_class : (n : ℕ) (w : Global) (place : ℕ) (gs : List Global) → entry_point n w place gs ≡ None →
+    class_of gs w.0 ≡ Some w.1
+has_class n w place [] h = absurd cc
+has_class n w place (g ∷ gs) h =
+    class_more (bytes_eq g.0 w.0) n place w g gs h (has_class n w (place + 1) gs)
+
+-- So are all.
+has_each : (n : ℕ) (ws gs : List Global) → entry_points n ws gs ≡ [] → HasEach gs ws
+has_each n [] gs h = tt
+has_each n (w ∷ ws) gs h =
+    let p = both_empty (told (entry_point n w 0 gs)) (entry_points (n + 1) ws gs) h in
+    (has_class n w 0 gs (none_told (entry_point n w 0 gs) p.0), has_each (n + 1) ws gs p.1)
+
+-- A test that tells nothing more holds, and nothing more is told.
+nothing_more : (b : Bool) (p : Point) (ps : List Point) → (if b then ps else p ∷ ps) ≡ [] →
+    (b ≡ true) × (ps ≡ [])
+nothing_more true p ps h = (refl, h)
+nothing_more false p ps h = absurd cc
+
+-- Where no global is unexpected each is asked for.
+asked_for : (place : ℕ) (ws gs : List Global) → unexpected_points place ws gs ≡ [] → AreAskedFor ws gs
+asked_for place ws [] h = tt
+asked_for place ws (g ∷ gs) h =
+    let p = nothing_more (is_taken ws g.0) (Unexpected place) (unexpected_points (place + 1) ws gs) h in
+    (p.0, asked_for (place + 1) ws gs p.1)
+
+-- Where nothing is told of the globals they are those that are asked for, in any order.
+set_kept : (ws gs : List Global) → set_points ws gs ≡ [] → HasGlobals false ws gs
+set_kept ws gs h =
+    let p = both_empty (entry_points 0 ws gs) (unexpected_points 0 ws gs) h in
+    (has_each 0 ws gs p.0, asked_for 0 ws gs p.1)
+
+-- A test of two parts.
+both_parts : (a b : Bool) (n : ℕ) (o : Option ℕ) → (if a && b then o else Some n) ≡ None →
+    (a ≡ true) × (b ≡ true) × (o ≡ None)
+both_parts true true n o h = (refl, refl, h)
+both_parts true false n o h = absurd cc
+both_parts false b n o h = absurd cc
+
+-- Lists that differ nowhere are the same.
+same_globals : (n : ℕ) (ws gs : List Global) → first_difference n ws gs ≡ None → gs ≡ ws
+same_globals n [] [] h = refl
+same_globals n [] (g ∷ gs) h = absurd cc
+same_globals n (w ∷ ws) [] h = absurd cc
+same_globals n (w ∷ ws) (g ∷ gs) h =
+    let p = both_parts (bytes_eq w.0 g.0) (bytes_eq w.1 g.1) n (first_difference (n + 1) ws gs) h in
+    ap (λ x. (x, g.1) ∷ gs) (sym (same_bytes w.0 g.0 p.0))
+    ∙ ap (λ x. (w.0, x) ∷ gs) (sym (same_bytes w.1 g.1 p.1))
+    ∙ ap (λ xs. w ∷ xs) (same_globals (n + 1) ws gs p.2)
+
+-- Where nothing is told of two lists they differ nowhere.
+differ_nowhere : (o : Option ℕ) (ps : List Point) → points_from o ps ≡ [] → o ≡ None
+differ_nowhere None ps h = refl
+differ_nowhere (Some n) [] h = absurd cc
+differ_nowhere (Some n) (p ∷ ps) h = absurd cc
+
+-- Where nothing is told of the globals they are those that are asked for.
+pub globals_kept : (is_ordered : Bool) (ws gs : List Global) → global_points is_ordered ws gs ≡ [] →
+    HasGlobals is_ordered ws gs
+globals_kept true ws gs h =
+    same_globals 0 ws gs (differ_nowhere (first_difference 0 ws gs) (set_points ws gs) h)
+globals_kept false ws gs h = set_kept ws gs h
+
+-- A word of which nothing is told is the expected one.
+word_kept : (trial n : ℕ) (expected : ℤ) (o : Option ℤ) → word_point trial n expected o ≡ None → o ≡ Some expected
+word_kept trial n expected None h = absurd cc
+word_kept trial n expected (Some w) h =
+    ap Some (same_words w expected (holds (int_eq w expected) (WrongWord trial n w) h))
+
+-- So are all.
+pub words_kept : (trial n : ℕ) (es : List Entry) (gs : List Global) (ws : List ℤ) →
+    word_points trial n es gs ws ≡ [] → HasWords gs ws es
+words_kept trial n [] gs ws h = tt
+words_kept trial n (e ∷ es) gs ws h =
+    let p = both_empty (told (expected_point trial n e gs ws)) (word_points trial (n + 1) es gs ws) h in (
+      word_kept trial n e.1 (word_of gs ws e.0) (none_told (expected_point trial n e gs ws) p.0),
+      words_kept trial (n + 1) es gs ws p.1,
+    )

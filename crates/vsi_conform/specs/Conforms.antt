@@ -1,0 +1,128 @@
+-- When a text conforms to an interface, and what is told of one that doesn't.
+use Rattle.std.specs.Prelude.{◌≡◌, ◌≢◌, ℕ, ◌⊎◌, true, List, [], ◌∷◌, Option, Some, None}
+use Rattle.vsi_lattice.specs.Order.{Lattice}
+use Rattle.vsi_lattice.specs.declared.lattice.Lattice as named
+use Rattle.vsi_lattice.specs.LatticeView.{class_named, order}
+use Rattle.vsi_scope.specs.Faults.{Known}
+use Rattle.vsi_types.specs.declared.rules.Profile.{Profile}
+use Rattle.vsi_types.specs.declared.rules.Profile.TheVariants as profile
+use Rattle.vsi_image.specs.declared.instr.Image.{Image}
+use Rattle.vsi_image.specs.Fields.{globals}
+use Rattle.vsi_image.specs.Meaning.{State}
+use Rattle.vsi_machine.specs.Runs.{globals_of, run_of}
+use Rattle.vsi_compiler.specs.Acceptance.{IsAccepted}
+use Rattle.vsi_compiler.specs.Headline as compiler
+use Rattle.vsi_compiler.specs.Readable.{HasProgram}
+use Rattle.vsi_compiler.specs.Refusal as refusal
+use Rattle.vsi_steady.specs.Source.{HasSteadyFlows, RefusesSteady}
+use Rattle.vsi_steady.specs.Steady.{IsSteady}
+use Rattle.vsi_steady.specs.declared.unsteady.UnsteadyError.{UnsteadyError}
+use Rattle.vsi_steady.specs.declared.unsteady.UnsteadyError.TheVariants as unsteady
+use Rattle.vsi_conform.specs.declared.interface.Interface.{Interface}
+use Rattle.vsi_conform.specs.declared.interface.Judgement.{Judgement}
+use Rattle.vsi_conform.specs.declared.interface.Judgement.TheVariants.{Base, Strict, Steady}
+use Rattle.vsi_conform.specs.declared.interface.Trial.{Trial}
+use Rattle.vsi_conform.specs.declared.point.Answer.{Answer}
+use Rattle.vsi_conform.specs.declared.point.Point.{Point}
+use Rattle.vsi_conform.specs.Asked.{HasGlobals, HasWords}
+use Rattle.vsi_conform.specs.Points.{entries, points_of, words_of}
+
+-- ---- the runs.
+
+-- A run halts within its budget with the words that are expected.
+pub record EndsAsAsked (image : Image) (t : Trial) : Type 0 where
+  pub last : State
+  pub reached : run_of image (words_of image t) t.budget ≡ Some last
+  pub halted : last.halted ≡ true
+  pub words : HasWords (globals image.globals.items) (globals_of image last) (entries t.expect.items)
+
+-- Each of these runs does.
+abbrev pub AllEndAsAsked : Image → List Trial → Type 0
+AllEndAsAsked image [] = Unit {0}
+AllEndAsAsked image (t ∷ ts) = EndsAsAsked image t × AllEndAsAsked image ts
+
+-- An image has the globals and the runs that are asked for.
+pub record Fits (i : Interface) (image : Image) : Type 0 where
+  pub globals : HasGlobals i.is_ordered (globals i.globals.items) (globals image.globals.items)
+  pub trials : AllEndAsAsked image i.trials.items
+
+-- ---- the judgement.
+
+-- The image is that of a text that is accepted under a profile.
+abbrev pub IsCompiled : Known → Lattice → Profile → List ℕ → Image → Type 0
+IsCompiled = compiler.IsCompiled
+
+-- The image is that of a text with steady flows, and steady.
+pub record IsSteadilyCompiled (known : Known) (L : Lattice) (text : List ℕ) (image : Image) : Type 0 where
+  pub compiled : compiler.IsCompiled known L profile.Strict text image
+  pub flows : HasSteadyFlows known L text
+  pub steady : IsSteady known L image
+
+-- The image is that of a text that is accepted as is asked for.
+abbrev pub IsAcceptedAs : Known → Lattice → Judgement → List ℕ → Image → Type 0
+IsAcceptedAs known L Base text image = IsCompiled known L profile.Base text image
+IsAcceptedAs known L Strict text image = IsCompiled known L profile.Strict text image
+IsAcceptedAs known L Steady text image = IsSteadilyCompiled known L text image
+
+-- The text conforms to the interface: it is accepted as is asked for, and its image fits.
+pub record Conforms (l : named.Lattice) (text : List ℕ) (i : Interface) : Type 0 where
+  pub image : Image
+  pub accepted : IsAcceptedAs (class_named l) (order l) i.judgement text image
+  pub fits : Fits i image
+
+-- ---- what is told.
+
+-- A refusal of a text under a profile, which isn't accepted.
+abbrev pub IsRefused : Known → Lattice → Profile → List ℕ → UnsteadyError → Type 0
+IsRefused known L P text (unsteady.Compile e) = refusal.IsRefused known L P text e
+IsRefused known L P text (unsteady.Image e) = ⊥
+IsRefused known L P text unsteady.Memory = ⊥
+
+-- A refusal of a text whose image is to be steady, which isn't want of memory.
+pub record IsSteadilyRefused (known : Known) (L : Lattice) (text : List ℕ) (e : UnsteadyError) : Type 0 where
+  pub other : e ≢ unsteady.Memory
+  pub told : RefusesSteady known L text e
+
+-- A refusal of a text that is to be accepted as is asked for.
+abbrev pub IsRefusedAs : Known → Lattice → Judgement → List ℕ → UnsteadyError → Type 0
+IsRefusedAs known L Base text e = IsRefused known L profile.Base text e
+IsRefusedAs known L Strict text e = IsRefused known L profile.Strict text e
+IsRefusedAs known L Steady text e = IsSteadilyRefused known L text e
+
+-- These are the points of the one image of a text whose flows aren't judged.
+pub record TellsImage (known : Known) (text : List ℕ) (i : Interface) (ps : List Point) : Type 0 where
+  pub image : Image
+  pub globals : compiler.HasGlobals text image
+  pub meaning : compiler.KeepsMeaning known text image
+  pub code : compiler.IsImageOf known text image
+  pub points : ps ≡ points_of image i
+
+-- The text has no program, and no point is told.
+pub record TellsNothing (known : Known) (text : List ℕ) (ps : List Point) : Type 0 where
+  pub unreadable : ¬ (HasProgram known text)
+  pub nothing : ps ≡ []
+
+-- What is told of a refused text beside its refusal.
+abbrev pub TellsReadable : Known → List ℕ → Interface → List Point → Type 0
+TellsReadable known text i ps = TellsImage known text i ps ⊎ TellsNothing known text ps
+
+-- What is told of an accepted text: the points of its image.
+pub record TellsAccepted (l : named.Lattice) (text : List ℕ) (i : Interface) (ps : List Point) : Type 0 where
+  pub image : Image
+  pub accepted : IsAcceptedAs (class_named l) (order l) i.judgement text image
+  pub points : ps ≡ points_of image i
+
+-- What is told of a refused text: its refusal, and the points of its image where it has a program.
+pub record TellsRefused (l : named.Lattice) (text : List ℕ) (i : Interface) (e : UnsteadyError)
+    (ps : List Point) : Type 0 where
+  pub refused : IsRefusedAs (class_named l) (order l) i.judgement text e
+  pub points : TellsReadable (class_named l) text i ps
+
+-- What is told by whether there is a refusal.
+abbrev pub TellsBoth : named.Lattice → List ℕ → Interface → Option UnsteadyError → List Point → Type 0
+TellsBoth l text i None ps = TellsAccepted l text i ps
+TellsBoth l text i (Some e) ps = TellsRefused l text i e ps
+
+-- What is told is so.
+abbrev pub Tells : named.Lattice → List ℕ → Interface → Answer → Type 0
+Tells l text i a = TellsBoth l text i a.refusal a.points.items

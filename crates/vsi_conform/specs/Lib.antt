@@ -1,0 +1,4 @@
+pub mod Points
+pub mod Asked
+pub mod Conforms
+pub mod Reading

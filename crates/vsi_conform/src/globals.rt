@@ -1,0 +1,163 @@
+//! The globals of a text beside those that are asked for.
+
+ghost use Rattle.std.specs.Prelude.{◌≡◌, ◌++◌, IfOk, OnOk};
+ghost use Rattle.vsi_image.specs.Fields.{global, globals, is_taken};
+ghost use Rattle.vsi_conform.specs.Points as spec;
+
+use crate::point::{Point, push_told};
+use std::alloc::{AllocError, Global};
+
+/// What is wrong with a class, where the names are the same.
+fn class_point(
+    number: usize,
+    place: usize,
+    wanted: &(Vec<u8>, Vec<u8>),
+    found: &(Vec<u8>, Vec<u8>),
+) -> Option<Point>
+    ensures { result ≡ spec.class_point number place (global wanted.now) (global found.now) }
+{
+    if found.1.as_slice() == wanted.1.as_slice() {
+        None
+    } else {
+        Some(Point::WrongClass {
+            place,
+            wanted: number,
+        })
+    }
+}
+
+/// What is wrong with one global that is asked for.
+fn entry_point(
+    number: usize,
+    wanted: &(Vec<u8>, Vec<u8>),
+    found: &[(Vec<u8>, Vec<u8>)],
+) -> Option<Point>
+    ensures { result ≡ spec.entry_point number (global wanted.now) 0 (globals found.now) }
+{
+    for (place, variable) in found.iter().enumerate() {
+        if variable.0.as_slice() == wanted.0.as_slice() {
+            return class_point(number, place, wanted, variable);
+        }
+    }
+    Some(Point::Missing(number))
+}
+
+/// What is wrong with the globals that are asked for.
+fn push_entries(
+    points: &mut Vec<Point>,
+    wanted: &[(Vec<u8>, Vec<u8>)],
+    found: &[(Vec<u8>, Vec<u8>)],
+) -> Result<(), AllocError>
+    ensures { OnOk result (points.new.items
+        ≡ points.old.items ++ spec.entry_points 0 (globals wanted.now) (globals found.now)) }
+{
+    for (number, entry) in wanted.iter().enumerate() {
+        push_told(points, entry_point(number, entry, found))?;
+    }
+    Ok(())
+}
+
+/// Whether a global has this name.
+pub(crate) fn is_named(variables: &[(Vec<u8>, Vec<u8>)], name: &[u8]) -> bool
+    ensures { result ≡ is_taken (globals variables.now) name.now }
+{
+    for variable in variables {
+        if variable.0.as_slice() == name {
+            return true;
+        }
+    }
+    false
+}
+
+/// The globals that aren't asked for.
+fn push_unexpected(
+    points: &mut Vec<Point>,
+    wanted: &[(Vec<u8>, Vec<u8>)],
+    found: &[(Vec<u8>, Vec<u8>)],
+) -> Result<(), AllocError>
+    ensures { OnOk result (points.new.items
+        ≡ points.old.items ++ spec.unexpected_points 0 (globals wanted.now) (globals found.now)) }
+{
+    for (place, variable) in found.iter().enumerate() {
+        if !is_named(wanted, variable.0.as_slice()) {
+            points.push(Point::Unexpected(place))?;
+        }
+    }
+    Ok(())
+}
+
+/// What is wrong with the globals, their order aside.
+fn set_points(
+    alloc: Global,
+    wanted: &[(Vec<u8>, Vec<u8>)],
+    found: &[(Vec<u8>, Vec<u8>)],
+) -> Result<Vec<Point>, AllocError>
+    ensures { IfOk result (λ points. points.items
+        ≡ spec.set_points (globals wanted.now) (globals found.now)) }
+{
+    let mut points = Vec::new(alloc);
+    push_entries(&mut points, wanted, found)?;
+    push_unexpected(&mut points, wanted, found)?;
+    Ok(points)
+}
+
+/// Whether two globals have the same name and the same class.
+fn are_same(one: &(Vec<u8>, Vec<u8>), other: &(Vec<u8>, Vec<u8>)) -> bool
+    ensures { result ≡ spec.are_same (global one.now) (global other.now) }
+{
+    one.0.as_slice() == other.0.as_slice() && one.1.as_slice() == other.1.as_slice()
+}
+
+/// The first place where two lists of globals differ.
+fn first_difference(wanted: &[(Vec<u8>, Vec<u8>)], found: &[(Vec<u8>, Vec<u8>)]) -> Option<usize>
+    ensures { result ≡ spec.first_difference 0 (globals wanted.now) (globals found.now) }
+{
+    for (place, entry) in wanted.iter().enumerate() {
+        let Some(variable) = found.get(place) else {
+            return Some(place);
+        };
+        if !are_same(entry, variable) {
+            return Some(place);
+        }
+    }
+    let Some(_more) = found.get(wanted.len()) else {
+        return None;
+    };
+    Some(wanted.len())
+}
+
+/// What is wrong with the globals, which are to stand in order.
+fn ordered_points(
+    alloc: Global,
+    wanted: &[(Vec<u8>, Vec<u8>)],
+    found: &[(Vec<u8>, Vec<u8>)],
+) -> Result<Vec<Point>, AllocError>
+    ensures { IfOk result (λ points. points.items
+        ≡ spec.ordered_points (globals wanted.now) (globals found.now)) }
+{
+    let Some(place) = first_difference(wanted, found) else {
+        return Ok(Vec::new(alloc));
+    };
+    let mut points = set_points(alloc, wanted, found)?;
+    if points.is_empty() {
+        points.push(Point::WrongOrder(place))?;
+    }
+    Ok(points)
+}
+
+/// What is wrong with the globals.
+pub(crate) fn global_points(
+    alloc: Global,
+    is_ordered: bool,
+    wanted: &[(Vec<u8>, Vec<u8>)],
+    found: &[(Vec<u8>, Vec<u8>)],
+) -> Result<Vec<Point>, AllocError>
+    ensures { IfOk result (λ points. points.items
+        ≡ spec.global_points is_ordered (globals wanted.now) (globals found.now)) }
+{
+    if is_ordered {
+        ordered_points(alloc, wanted, found)
+    } else {
+        set_points(alloc, wanted, found)
+    }
+}

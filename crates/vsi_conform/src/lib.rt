@@ -1,0 +1,29 @@
+//! Interfaces that are fixed from outside a program, and whether a text conforms to one.
+//!
+//! `read_interface` reads an interface file: the lattice, the judgement, the globals with their
+//! classes, and the runs that are asked for. `conform` tells each point in which a text differs
+//! from an interface; where it tells none, the text conforms to it, as `specs/Conforms` says.
+//! `points_text` and `points_json` write what is told, `interface_text` why an interface is
+//! refused.
+#![tactic(auto)]
+
+mod accepting;
+mod conforming;
+mod declared;
+mod error;
+mod globals;
+mod interface;
+mod json;
+mod keys;
+mod point;
+mod reader;
+mod texts;
+mod trials;
+
+pub use conforming::conform;
+pub use error::{InterfaceError, interface_text};
+pub use interface::{Interface, Judgement, Trial};
+pub use json::points_json;
+pub use point::{Answer, Point};
+pub use reader::{Asked, Policy, path_beside, read_interface, unknown_class};
+pub use texts::points_text;

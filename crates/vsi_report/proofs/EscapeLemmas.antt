@@ -1,0 +1,86 @@
+-- What a reader sees of an escaped text, and of tags.
+use Rattle.std.proofs.Common.{◌≡◌, ◌≢◌, ℕ, ◌+◌, ◌==◌, List, [], ◌∷◌, ◌++◌, take, ap, sym, ◌∙◌, arith, refl, append_assoc, if◌then◌else◌, Bool, true, false, rules}
+use Rattle.std.specs.Prelude.{codes, decimal}
+use Rattle.std.specs.List.{flat_map, All}
+use Rattle.std.proofs.lemmas.Bool.{cases_eq}
+use Rattle.vsi_report.specs.Escape.{escape, escaped}
+use Rattle.vsi_report.specs.Panel.{line_tag, next_tag, open_tag, close_tag}
+use Rattle.vsi_report.specs.Reading.{Mode, Between, Within, Escape, seen, Shows}
+
+-- Behind the markup a reader who stood between tags stands in one, and has seen nothing.
+abbrev Opens : List ℕ → Type 0
+Opens m = (rest : List ℕ) → seen Between (m ++ rest) ≡ seen Within rest
+
+-- Behind the markup a reader who stood in a tag stands in it still.
+abbrev Stays : List ℕ → Type 0
+Stays m = (rest : List ℕ) → seen Within (m ++ rest) ≡ seen Within rest
+
+-- Behind the markup a reader who stood in a tag stands between tags.
+abbrev Closes : List ℕ → Type 0
+Closes m = (rest : List ℕ) → seen Within (m ++ rest) ≡ seen Between rest
+
+-- Of an escaped byte the byte is seen.
+pub byte_shows : (b : ℕ) → Shows (escape b) (b ∷ [])
+byte_shows b rest = grind arith
+
+-- An escaped byte leaves no tag.
+byte_stays : (b : ℕ) → Stays (escape b)
+byte_stays b rest = grind arith
+
+-- An escaped text leaves no tag.
+text_stays : (t : List ℕ) → Stays (escaped t)
+text_stays [] rest = refl
+text_stays (b ∷ bs) rest =
+    ap (seen Within) (append_assoc (escape b) (escaped bs) rest)
+    ∙ byte_stays b (escaped bs ++ rest) ∙ text_stays bs rest
+
+-- Of one markup behind another what is seen of both.
+pub both_show : (a b s t : List ℕ) → Shows a s → Shows b t → Shows (a ++ b) (s ++ t)
+both_show a b s t ha hb rest =
+    ap (seen Between) (append_assoc a b rest) ∙ ha (b ++ rest) ∙ ap (λ x. s ++ x) (hb rest)
+    ∙ sym (append_assoc s t (seen Between rest))
+
+-- What stays in a tag, and then goes on to close it, closes it.
+stays_closes : (a b : List ℕ) → Stays a → Closes b → Closes (a ++ b)
+stays_closes a b ha hb rest = ap (seen Within) (append_assoc a b rest) ∙ ha (b ++ rest) ∙ hb rest
+
+-- What opens a tag, and then goes on to close it, shows nothing.
+opens_closes : (a b : List ℕ) → Opens a → Closes b → Shows (a ++ b) []
+opens_closes a b ha hb rest = ap (seen Between) (append_assoc a b rest) ∙ ha (b ++ rest) ∙ hb rest
+
+-- The beginning of a line shows nothing.
+pub line_shows : (n : ℕ) → Shows (line_tag n) []
+line_shows n =
+    opens_closes (codes "<span class=\"line\" id=\"L") (escaped (decimal n) ++ codes "\">") (λ rest. refl)
+    (stays_closes (escaped (decimal n)) (codes "\">") (text_stays (decimal n)) (λ rest. refl))
+
+-- The end of a line and the beginning of the next one show nothing.
+pub next_shows : (n : ℕ) → Shows (next_tag n) []
+next_shows n = both_show (codes "</span>") (line_tag n) [] [] (λ rest. refl) (line_shows n)
+
+-- The beginning of a word shows nothing.
+pub open_shows : (kind class step : List ℕ) → Shows (open_tag kind class step) []
+open_shows kind class step =
+    let last = escaped step ++ codes "\">" in
+    let third = codes "\" data-step=\"" ++ last in
+    let second = escaped class ++ third in
+    let first = codes "\" data-class=\"" ++ second in
+    opens_closes (codes "<b class=\"") (escaped kind ++ first) (λ rest. refl)
+    (stays_closes (escaped kind) first (text_stays kind)
+    (stays_closes (codes "\" data-class=\"") second (λ rest. refl)
+    (stays_closes (escaped class) third (text_stays class)
+    (stays_closes (codes "\" data-step=\"") last (λ rest. refl)
+    (stays_closes (escaped step) (codes "\">") (text_stays step) (λ rest. refl))))))
+
+-- The end of a word shows nothing.
+pub close_shows : Shows close_tag []
+close_shows rest = refl
+
+-- What shows nothing may stand behind what shows a text.
+pub more_shows : (a b t : List ℕ) → Shows a t → Shows b [] → Shows (a ++ b) t
+more_shows a b t ha hb rest =
+    ap (seen Between) (append_assoc a b rest) ∙ ha (b ++ rest) ∙ ap (λ x. t ++ x) (hb rest)
+
+-- The end of the last line shows nothing.
+pub end_shows : Shows (codes "</span>") []
+end_shows rest = refl

@@ -1,0 +1,4 @@
+pub mod Escape
+pub mod Reading
+pub mod Panel
+pub mod Covering

@@ -1,0 +1,40 @@
+//! Texts in pages.
+
+ghost use Rattle.std.specs.Prelude.{◌≡◌, ◌++◌, OnOk, decimal};
+ghost use Rattle.vsi_report.specs.Escape.{escape, escaped};
+
+use itoa::Buffer;
+use std::alloc::AllocError;
+
+/// Adds a byte as it is written in a page.
+pub(crate) fn put_byte(page: &mut Vec<u8>, byte: u8) -> Result<(), AllocError>
+    ensures { OnOk result (page.new.items ≡ page.old.items ++ escape byte) }
+{
+    match byte {
+        b'<' => page.extend_from_slice(b"&#60;"),
+        b'>' => page.extend_from_slice(b"&#62;"),
+        b'&' => page.extend_from_slice(b"&#38;"),
+        b'"' => page.extend_from_slice(b"&#34;"),
+        b'\'' => page.extend_from_slice(b"&#39;"),
+        other => page.extend_from_slice(&[other]),
+    }
+}
+
+/// Adds a text as it is written in a page: no byte of it begins or ends a tag or a quoted value,
+/// and a reader sees the text.
+pub fn put_escaped(page: &mut Vec<u8>, text: &[u8]) -> Result<(), AllocError>
+    ensures { OnOk result (page.new.items ≡ page.old.items ++ escaped text.now) }
+{
+    for byte in text {
+        put_byte(page, *byte)?;
+    }
+    Ok(())
+}
+
+/// Adds a number in decimal.
+pub(crate) fn put_number(page: &mut Vec<u8>, number: usize) -> Result<(), AllocError>
+    ensures { OnOk result (page.new.items ≡ page.old.items ++ escaped (decimal number)) }
+{
+    let mut buffer = Buffer::new();
+    put_escaped(page, buffer.format(number).as_bytes())
+}

@@ -1,0 +1,218 @@
+//! What is known of a program that a page or a picture shows.
+
+ghost use Rattle.std.specs.List.{All};
+ghost use Rattle.vsi_lattice.specs.Order.{IsClass};
+ghost use Rattle.vsi_lattice.specs.LatticeView.{order};
+ghost use Rattle.vsi_types.specs.Security.{program as program_of};
+ghost use Rattle.vsi_infer.specs.Inference.{AreClasses};
+
+use crate::walking::{Use, tour_of};
+use std::alloc::{AllocError, Global};
+use vsi_compiler::{CompileError, resolved_program};
+use vsi_flows::{FlowsError, Pair, flows_in};
+use vsi_infer::{InferError, infer_in};
+use vsi_lattice::{Class, Classes, Lattice};
+use vsi_scope::{Resolved, Var};
+use vsi_types::Profile;
+
+/// A variable: its name, its class where there is one, and whether the text declares it.
+#[derive(Drop)]
+pub(crate) struct Variable {
+    pub(crate) name: Vec<u8>,
+    pub(crate) class: Option<usize>,
+    pub(crate) is_declared: bool,
+}
+
+/// The variables of a program by their numbers, the ending of loops last; where their names stand;
+/// the flows of one step, a row of bits for each target; and the table of flows.
+#[derive(Drop)]
+pub(crate) struct Facts {
+    pub(crate) variables: Vec<Variable>,
+    pub(crate) uses: Vec<Use>,
+    pub(crate) kinds: Vec<u8>,
+    pub(crate) pairs: Vec<Pair>,
+}
+
+/// Adds the globals.
+fn put_globals(
+    alloc: Global,
+    program: &Resolved<'_>,
+    variables: &mut Vec<Variable>,
+) -> Result<(), AllocError> {
+    for global in program.globals() {
+        variables.push(Variable {
+            name: global.name.to_vec(alloc)?,
+            class: Some(global.class.index()),
+            is_declared: true,
+        })?;
+    }
+    Ok(())
+}
+
+/// The class of a letvar: the one that the text declares, else the one that was inferred.
+fn class_of(declared: Option<Class>, inferred: &[Class], number: usize) -> Option<usize> {
+    if let Some(class) = declared {
+        return Some(class.index());
+    }
+    match inferred.get(number) {
+        Some(class) => Some(class.index()),
+        None => None,
+    }
+}
+
+/// Adds the letvars.
+fn put_letvars(
+    alloc: Global,
+    program: &Resolved<'_>,
+    inferred: &[Class],
+    variables: &mut Vec<Variable>,
+) -> Result<(), AllocError> {
+    for (number, entry) in program.letvars().iter().enumerate() {
+        variables.push(Variable {
+            name: entry.name.to_vec(alloc)?,
+            class: class_of(entry.class, inferred, number),
+            is_declared: entry.class.is_some(),
+        })?;
+    }
+    Ok(())
+}
+
+/// The variables of a program.
+fn variables_of(
+    alloc: Global,
+    program: &Resolved<'_>,
+    inferred: &[Class],
+    bottom: usize,
+) -> Result<Vec<Variable>, AllocError> {
+    let mut variables = Vec::new(alloc);
+    put_globals(alloc, program, &mut variables)?;
+    put_letvars(alloc, program, inferred, &mut variables)?;
+    variables.push(Variable {
+        name: Vec::from_slice(alloc, b"(loop)")?,
+        class: Some(bottom),
+        is_declared: true,
+    })?;
+    Ok(variables)
+}
+
+/// The classes of the letvars; none where the program is refused.
+fn inferred_classes(
+    alloc: Global,
+    profile: Profile,
+    lattice: &Lattice,
+    program: &Resolved<'_>,
+) -> Result<Vec<Class>, AllocError>
+    requires globals { All (IsClass (order lattice.now)) (program_of program.now).globals }
+    requires declared { AreClasses (order lattice.now) (program_of program.now).declared }
+{
+    match infer_in(alloc, profile, lattice, program) {
+        Ok(classes) => Ok(classes),
+        Err(InferError::Refused(_walk)) => Ok(Vec::new(alloc)),
+        Err(InferError::Memory) => Err(AllocError),
+    }
+}
+
+/// The table of flows.
+fn pairs_of(
+    alloc: Global,
+    profile: Profile,
+    lattice: &Lattice,
+    program: &Resolved<'_>,
+) -> Result<Vec<Pair>, AllocError>
+    requires globals { All (IsClass (order lattice.now)) (program_of program.now).globals }
+    requires declared { AreClasses (order lattice.now) (program_of program.now).declared }
+{
+    match flows_in(alloc, profile, lattice, program) {
+        Ok(pairs) => Ok(pairs),
+        Err(FlowsError::Memory) => Err(AllocError),
+    }
+}
+
+/// Whether flows into the ending of loops are judged.
+pub(crate) fn is_strict(profile: Profile) -> bool {
+    match profile {
+        Profile::Base => false,
+        Profile::Strict => true,
+    }
+}
+
+/// What is known of a program, with the classes and the flows that are handed in.
+fn gathered(
+    alloc: Global,
+    profile: Profile,
+    lattice: &Lattice,
+    program: &Resolved<'_>,
+    inferred: &[Class],
+    pairs: Vec<Pair>,
+) -> Result<Facts, AllocError> {
+    let variables = variables_of(alloc, program, inferred, lattice.bottom().index())?;
+    let tour = tour_of(alloc, program, is_strict(profile))?;
+    Ok(Facts {
+        variables,
+        uses: tour.uses,
+        kinds: tour.kinds,
+        pairs,
+    })
+}
+
+/// What is known of the program of a text.
+///
+/// # Errors
+///
+/// The refusals of the words, the tree, the scope and the size; no flow is refused here.
+pub(crate) fn facts_of(
+    alloc: Global,
+    profile: Profile,
+    lattice: &Lattice,
+    source: &[u8],
+) -> Result<Facts, CompileError> {
+    let program = resolved_program(alloc, lattice, source)?;
+    let pairs = pairs_of(alloc, profile, lattice, &program)?;
+    let inferred = inferred_classes(alloc, profile, lattice, &program)?;
+    Ok(gathered(alloc, profile, lattice, &program, &inferred, pairs)?)
+}
+
+/// The number of a variable; that of the ending of loops is the last.
+pub(crate) fn number_of(facts: &Facts, variable: Var) -> usize {
+    let number = variable.0 as usize;
+    number.min(facts.variables.len().saturating_sub(1))
+}
+
+/// The name of a variable.
+pub(crate) fn variable_name(facts: &Facts, number: usize) -> &[u8] {
+    match facts.variables.get(number) {
+        Some(variable) => variable.name.as_slice(),
+        None => b"",
+    }
+}
+
+/// The class of a variable.
+pub(crate) fn variable_class(facts: &Facts, number: usize) -> Option<usize> {
+    match facts.variables.get(number) {
+        Some(variable) => variable.class,
+        None => None,
+    }
+}
+
+/// Whether the class of a variable was inferred.
+pub(crate) fn is_inferred(facts: &Facts, number: usize) -> bool {
+    match facts.variables.get(number) {
+        Some(variable) => !variable.is_declared,
+        None => false,
+    }
+}
+
+/// The bits of the rules by which a variable flows to another in one step.
+pub(crate) fn kinds_between(facts: &Facts, source: usize, target: usize) -> u8 {
+    let width = facts.variables.len();
+    let place = target.wrapping_mul(width).wrapping_add(source);
+    match facts.kinds.get(place) {
+        Some(kinds) => *kinds,
+        None => 0,
+    }
+}
+
+/// Whether the flows of the program are few enough for a picture.
+pub(crate) fn is_drawn(facts: &Facts) -> bool {
+    !facts.kinds.is_empty()
+}

@@ -1,0 +1,28 @@
+//! A program and its policy as a page, and as pictures.
+//!
+//! A lattice, a source text and a profile come in. `report_page` gives a page in HTML that needs
+//! nothing else: no script, no font, no picture from elsewhere. `lattice_dot` and `flows_dot` give
+//! its pictures in the language of Graphviz. Every byte of a text or a name comes into a page by
+//! `put_escaped`, and the panel of a source text shows the text (`Shows` of `specs/Reading`).
+#![tactic(auto)]
+
+mod bands;
+mod dot;
+mod escape;
+mod facts;
+mod flows_picture;
+mod lattice_picture;
+mod layout;
+mod order;
+mod page;
+mod panel;
+mod report;
+mod source_view;
+mod style;
+mod table;
+mod telling;
+mod walking;
+
+pub use dot::{flows_dot, lattice_dot};
+pub use escape::put_escaped;
+pub use report::report_page;

@@ -1,0 +1,169 @@
+//! The classes of a lattice, with what a picture of it shows.
+
+ghost use Rattle.std.specs.Prelude.{◌≡◌, ◌↔◌, ◌⊎◌, ℕ, IsTrue, IsFalse};
+ghost use Rattle.vsi_lattice.specs.LatticeView.{order};
+ghost use Rattle.vsi_lattice.specs.Order.{IsClass, Below};
+ghost use Rattle.vsi_report.specs.Covering.{Covers};
+
+use std::alloc::{AllocError, Global};
+use vsi_lattice::{Class, Classes, Lattice};
+
+/// The classes of a lattice by their numbers: the name of each, the covering pairs, the lower class
+/// first, and for each class the length of the longest chain that leads up to it.
+#[derive(Drop)]
+pub(crate) struct Order {
+    pub(crate) names: Vec<Vec<u8>>,
+    pub(crate) covers: Vec<(usize, usize)>,
+    pub(crate) levels: Vec<usize>,
+}
+
+/// Whether a class stands between two others, and is neither.
+fn stands_between(lattice: &Lattice, low: Class, high: Class, class: Class) -> bool
+    requires low { IsClass (order lattice.now) low }
+    requires high { IsClass (order lattice.now) high }
+    requires class { IsClass (order lattice.now) class }
+    ensures stands { IsTrue result → Below (order lattice.now) low class }
+    ensures nothing { IsFalse result → Below (order lattice.now) low class
+        → Below (order lattice.now) class high → (class ≡ low) ⊎ (class ≡ high) }
+{
+    if class == low || class == high {
+        return false;
+    }
+    if !lattice.leq(low, class) {
+        return false;
+    }
+    lattice.leq(class, high)
+}
+
+/// Whether the second class covers the first.
+pub(crate) fn covers(lattice: &Lattice, low: Class, high: Class) -> bool
+    requires low { IsClass (order lattice.now) low }
+    requires high { IsClass (order lattice.now) high }
+    ensures { IsTrue result → Covers (order lattice.now) low high }
+{
+    if low == high {
+        return false;
+    }
+    if !lattice.leq(low, high) {
+        return false;
+    }
+    for number in 0..lattice.count() {
+        if stands_between(lattice, low, high, Class::at(number as u8)) {
+            return false;
+        }
+    }
+    true
+}
+
+/// Adds the pairs of a class and the classes that cover it.
+fn put_covers(
+    lattice: &Lattice,
+    low: usize,
+    pairs: &mut Vec<(usize, usize)>,
+) -> Result<(), AllocError> {
+    if low >= lattice.count() {
+        return Ok(());
+    }
+    for high in 0..lattice.count() {
+        if covers(lattice, Class::at(low as u8), Class::at(high as u8)) {
+            pairs.push((low, high))?;
+        }
+    }
+    Ok(())
+}
+
+/// The covering pairs of a lattice, by the lower class and then by the higher one.
+fn covering_pairs(alloc: Global, lattice: &Lattice) -> Result<Vec<(usize, usize)>, AllocError> {
+    let mut pairs = Vec::new(alloc);
+    for low in 0..lattice.count() {
+        put_covers(lattice, low, &mut pairs)?;
+    }
+    Ok(pairs)
+}
+
+/// The names of the classes.
+fn class_names(alloc: Global, lattice: &Lattice) -> Result<Vec<Vec<u8>>, AllocError> {
+    let mut names = Vec::new(alloc);
+    for number in 0..lattice.count() {
+        names.push(lattice.name(Class::at(number as u8)).to_vec(alloc)?)?;
+    }
+    Ok(names)
+}
+
+/// Sets the level of the higher class above that of the lower one.
+fn raise(levels: &mut Vec<usize>, low: usize, high: usize) {
+    let wanted = at(levels, low).saturating_add(1);
+    if let Some(level) = levels.get_mut(high) {
+        if *level < wanted {
+            *level = wanted;
+        }
+    }
+}
+
+/// The lengths of the longest chains.
+fn levels_of(
+    alloc: Global,
+    count: usize,
+    covers: &[(usize, usize)],
+) -> Result<Vec<usize>, AllocError> {
+    let mut levels = zeros(alloc, count)?;
+    for _ in 0..count {
+        for pair in covers {
+            raise(&mut levels, pair.0, pair.1);
+        }
+    }
+    Ok(levels)
+}
+
+/// What a lattice shows.
+pub(crate) fn order_of(alloc: Global, lattice: &Lattice) -> Result<Order, AllocError> {
+    let names = class_names(alloc, lattice)?;
+    let covers = covering_pairs(alloc, lattice)?;
+    let levels = levels_of(alloc, names.len(), &covers)?;
+    Ok(Order {
+        names,
+        covers,
+        levels,
+    })
+}
+
+/// A list of zeros.
+pub(crate) fn zeros(alloc: Global, count: usize) -> Result<Vec<usize>, AllocError> {
+    let mut list = Vec::new(alloc);
+    for _ in 0..count {
+        list.push(0)?;
+    }
+    Ok(list)
+}
+
+/// The number at a place, or 0 past the end.
+pub(crate) fn at(list: &[usize], place: usize) -> usize {
+    match list.get(place) {
+        Some(number) => *number,
+        None => 0,
+    }
+}
+
+/// Writes a number at a place, if there is one.
+pub(crate) fn write_at(list: &mut Vec<usize>, place: usize, number: usize) {
+    if let Some(cell) = list.get_mut(place) {
+        *cell = number;
+    }
+}
+
+/// The name of a class, or nothing for another number.
+pub(crate) fn name_of(order: &Order, class: usize) -> &[u8] {
+    match order.names.get(class) {
+        Some(name) => name.as_slice(),
+        None => b"",
+    }
+}
+
+/// The greatest number of a list.
+pub(crate) fn greatest(list: &[usize]) -> usize {
+    let mut most: usize = 0;
+    for number in list {
+        most = most.max(*number);
+    }
+    most
+}

@@ -1,0 +1,211 @@
+//! The source text of a page, each name with its class, and the steps of a walk.
+
+ghost use Rattle.std.specs.Prelude.{◌≡◌, IfOk};
+ghost use Rattle.vsi_report.specs.Reading.{Shows};
+
+use crate::facts::{Facts, is_inferred, variable_class};
+use crate::order::{Order, name_of};
+use crate::panel::{Panel, advanced, begun, closed, ended, opened};
+use crate::walking::Use;
+use itoa::Buffer;
+use std::alloc::{AllocError, Global};
+use vsi_syntax::{Kind, Token, lex};
+use vsi_types::Step;
+
+/// The names of the colours of classes.
+const COLOURS: [&[u8]; 8] = [
+    b"name k0", b"name k1", b"name k2", b"name k3", b"name k4", b"name k5", b"name k6", b"name k7",
+];
+
+/// The kind of a name of a class.
+fn colour(class: Option<usize>) -> &'static [u8] {
+    match class {
+        Some(class) => COLOURS[class % 8],
+        None => b"name kn",
+    }
+}
+
+/// The label of a variable's class: its name, behind it a star where it was inferred, or a question
+/// mark where no class fits.
+fn class_label(
+    alloc: Global,
+    order: &Order,
+    facts: &Facts,
+    variable: usize,
+) -> Result<Vec<u8>, AllocError> {
+    let Some(class) = variable_class(facts, variable) else {
+        return Vec::from_slice(alloc, b"?");
+    };
+    let mut label = name_of(order, class).to_vec(alloc)?;
+    if is_inferred(facts, variable) {
+        label.extend_from_slice(b"*")?;
+    }
+    Ok(label)
+}
+
+/// Adds the number of a step and a word, behind a comma where another one stands before it.
+fn put_word(label: &mut Vec<u8>, number: usize, word: &[u8]) -> Result<(), AllocError> {
+    if !label.is_empty() {
+        label.extend_from_slice(b", ")?;
+    }
+    let mut buffer = Buffer::new();
+    label.extend_from_slice(buffer.format(number).as_bytes())?;
+    label.extend_from_slice(word)
+}
+
+/// Adds the label of a step, if it reads or writes at a place.
+fn put_step(
+    label: &mut Vec<u8>,
+    step: &Step,
+    number: usize,
+    start: usize,
+) -> Result<(), AllocError> {
+    if step.read.start == start {
+        return put_word(label, number, b" from");
+    }
+    if step.written.start == start {
+        return put_word(label, number, b" to");
+    }
+    Ok(())
+}
+
+/// The label of the steps of a walk that read or write at a place.
+fn step_label(alloc: Global, walk: &[Step], start: usize) -> Result<Vec<u8>, AllocError> {
+    let mut label = Vec::new(alloc);
+    for (place, step) in walk.iter().enumerate() {
+        put_step(&mut label, step, place.saturating_add(1), start)?;
+    }
+    Ok(label)
+}
+
+/// The variable of a name that stands at a place. The uses stand in the order of the text; `next`
+/// is the first that may be meant.
+fn variable_at(uses: &[Use], next: usize, start: usize) -> Option<usize> {
+    let found = uses.get(next)?;
+    if found.start == start {
+        Some(found.variable)
+    } else {
+        None
+    }
+}
+
+/// What is meant by the words of a text: the declaration of a global, and the uses so far.
+#[derive(Clone, Copy)]
+struct Reader {
+    next: usize,
+    globals: usize,
+    is_declaring: bool,
+}
+
+/// A panel with a name of a variable.
+fn with_variable<'a>(
+    alloc: Global,
+    panel: Panel<'a>,
+    order: &Order,
+    facts: &Facts,
+    walk: &[Step],
+    variable: usize,
+    token: &Token<'_>,
+) -> Result<Panel<'a>, AllocError>
+    ensures source { IfOk result (λ p. p.source ≡ panel.entry.source) }
+{
+    let class = class_label(alloc, order, facts, variable)?;
+    let step = step_label(alloc, walk, token.span.start)?;
+    let kind = colour(variable_class(facts, variable));
+    let panel = opened(panel, kind, &class, &step)?;
+    let panel = advanced(panel, token.span.stop)?;
+    closed(panel)
+}
+
+/// A panel with a keyword.
+fn with_keyword<'a>(panel: Panel<'a>, token: &Token<'_>) -> Result<Panel<'a>, AllocError>
+    ensures source { IfOk result (λ p. p.source ≡ panel.entry.source) }
+{
+    let panel = opened(panel, b"word", b"", b"")?;
+    let panel = advanced(panel, token.span.stop)?;
+    closed(panel)
+}
+
+/// Whether a token is a keyword.
+fn is_keyword(kind: Kind) -> bool {
+    match kind {
+        Kind::Var | Kind::Letvar | Kind::In | Kind::If => true,
+        Kind::Then | Kind::Else | Kind::While | Kind::Do => true,
+        _ => false,
+    }
+}
+
+/// Where a reader stands behind a token, and the variable that the token names, if any.
+fn read_token(reader: Reader, uses: &[Use], token: &Token<'_>) -> (Reader, Option<usize>) {
+    let mut after = reader;
+    after.is_declaring = token.kind == Kind::Var;
+    if token.kind != Kind::Name {
+        return (after, None);
+    }
+    if reader.is_declaring {
+        after.globals = reader.globals.saturating_add(1);
+        return (after, Some(reader.globals));
+    }
+    let variable = variable_at(uses, reader.next, token.span.start);
+    if variable.is_some() {
+        after.next = reader.next.saturating_add(1);
+    }
+    (after, variable)
+}
+
+/// A panel with a token.
+fn with_token<'a>(
+    alloc: Global,
+    panel: Panel<'a>,
+    order: &Order,
+    facts: &Facts,
+    walk: &[Step],
+    variable: Option<usize>,
+    token: &Token<'_>,
+) -> Result<Panel<'a>, AllocError>
+    ensures source { IfOk result (λ p. p.source ≡ panel.entry.source) }
+{
+    let panel = advanced(panel, token.span.start)?;
+    if let Some(variable) = variable {
+        return with_variable(alloc, panel, order, facts, walk, variable, token);
+    }
+    if is_keyword(token.kind) {
+        return with_keyword(panel, token);
+    }
+    Ok(panel)
+}
+
+/// The panel of a text that has a program, with what is known of that.
+pub(crate) fn source_panel(
+    alloc: Global,
+    order: &Order,
+    facts: &Facts,
+    walk: &[Step],
+    source: &[u8],
+) -> Result<Vec<u8>, AllocError>
+    ensures { IfOk result (λ page. Shows page.items source.now) }
+{
+    let Ok(tokens) = lex(alloc, source) else {
+        return Err(AllocError);
+    };
+    let mut panel = begun(alloc, source)?;
+    let mut reader = Reader {
+        next: 0,
+        globals: 0,
+        is_declaring: false,
+    };
+    for token in &tokens {
+        let (after, variable) = read_token(reader, &facts.uses, token);
+        reader = after;
+        panel = with_token(alloc, panel, order, facts, walk, variable, token)?;
+    }
+    ended(panel)
+}
+
+/// The panel of a text of which nothing is known.
+pub(crate) fn plain_panel(alloc: Global, source: &[u8]) -> Result<Vec<u8>, AllocError>
+    ensures { IfOk result (λ page. Shows page.items source.now) }
+{
+    let panel = begun(alloc, source)?;
+    ended(panel)
+}

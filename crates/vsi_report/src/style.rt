@@ -1,0 +1,107 @@
+//! How a page looks.
+
+/// The first lines of a page.
+pub(crate) const HEAD: &[u8] = b"<!DOCTYPE html>
+<html lang=\"en\">
+<head>
+<meta charset=\"utf-8\">
+<meta name=\"viewport\" content=\"width=device-width, initial-scale=1\">
+<meta http-equiv=\"Content-Security-Policy\" \
+content=\"default-src 'none'; style-src 'unsafe-inline'\">
+<meta name=\"color-scheme\" content=\"light dark\">
+";
+
+/// The style sheet.
+pub(crate) const STYLE: &[u8] = b":root{color-scheme:light dark;--ink:#1c2128;--soft:#57606a;\
+--paper:#fff;--panel:#f5f7f9;--rule:#d3dae1;--good:#146c2e;--goodp:#e6f4ea;--bad:#b01e1e;\
+--badp:#fdecea;\
+--k0:#0b57c2;--k1:#9a3d00;--k2:#0d6b3a;--k3:#7a3fc4;--k4:#00687a;--k5:#7d5700;--k6:#b0247e;\
+--k7:#4f5b66}
+@media (prefers-color-scheme:dark){:root{--ink:#e6edf3;--soft:#9aa5b1;--paper:#0f1419;\
+--panel:#171d24;\
+--rule:#343d48;--good:#62d384;--goodp:#12291a;--bad:#ff8f87;--badp:#331817;\
+--k0:#7fb6ff;--k1:#ffab70;--k2:#74dd96;--k3:#cda8ff;--k4:#6adbe8;--k5:#e6bd4a;--k6:#ff8fcb;\
+--k7:#c3ccd5}}
+*{box-sizing:border-box}
+body{margin:0;background:var(--paper);color:var(--ink);font:17px/1.55 system-ui,\
+-apple-system,\"Segoe UI\",\
+Roboto,\"DejaVu Sans\",sans-serif;-webkit-text-size-adjust:100%}
+main{max-width:76rem;margin:0 auto;padding:1rem clamp(.9rem,3vw,2.5rem) 3rem}
+header{border-left:.5rem solid;border-radius:.4rem;padding:.9rem 1.2rem;margin:1rem 0 1.6rem}
+header h1{margin:0;font-size:1.9rem;line-height:1.2}
+header p{margin:.3rem 0 0;color:var(--ink)}
+.good{border-color:var(--good);background:var(--goodp)}.good h1{color:var(--good)}
+.bad{border-color:var(--bad);background:var(--badp)}.bad h1{color:var(--bad)}
+h2{font-size:1.3rem;margin:1.8rem 0 .6rem}h3{font-size:1.05rem;margin:1.4rem 0 .5rem}
+p{max-width:46rem;margin:.5rem 0}
+a{color:inherit;text-underline-offset:.2em}
+section{min-width:0}
+.beside{display:grid;gap:0 2rem;grid-template-columns:minmax(0,1fr)}
+@media (min-width:62rem){.beside{grid-template-columns:minmax(0,3fr) minmax(0,2fr)}}
+pre{background:var(--panel);border:1px solid var(--rule);border-radius:.5rem;\
+padding:.8rem 1rem;margin:.5rem 0;\
+overflow-x:auto;font:.93rem/1.75 ui-monospace,SFMono-Regular,Menlo,\
+Consolas,\"DejaVu Sans Mono\",monospace;tab-size:4}
+code{font-family:ui-monospace,SFMono-Regular,Menlo,Consolas,\"DejaVu Sans Mono\",monospace}
+pre code{font:inherit}
+.source{padding-left:0;counter-reset:line;white-space:pre-wrap;overflow-wrap:anywhere}
+.line{display:block;position:relative;padding-left:4rem;min-height:1.75em}
+.line::before{counter-increment:line;content:counter(line);position:absolute;left:0;width:3.1rem;\
+text-align:right;color:var(--soft);-webkit-user-select:none;user-select:none}
+.line:target{background:var(--badp)}
+.line b{font-weight:inherit}
+.line .word{font-weight:700}
+.line .name{font-weight:600}
+.name::after{content:attr(data-class);font-size:.68em;font-weight:600;vertical-align:.45em;\
+margin-left:.12em;\
+-webkit-user-select:none;user-select:none}
+.name:not([data-step=\"\"]){background:var(--badp);outline:2px solid var(--bad);\
+border-radius:.2rem;padding:.05em .15em;white-space:nowrap}
+.name:not([data-step=\"\"])::before{content:attr(data-step);background:var(--bad);\
+color:var(--paper);\
+font:700 .72em/1 system-ui,sans-serif;border-radius:.2rem;padding:.15em .35em;\
+margin-right:.3em;vertical-align:.12em}
+.k0{color:var(--k0)}.k1{color:var(--k1)}.k2{color:var(--k2)}.k3{color:var(--k3)}
+.k4{color:var(--k4)}.k5{color:var(--k5)}.k6{color:var(--k6)}.k7{color:var(--k7)}.kn{\
+color:var(--bad)}
+.chip{border:1px solid;border-radius:1rem;padding:0 .5em;font-size:.8em;font-weight:600;\
+white-space:nowrap}
+.hint,figcaption,small{color:var(--soft);font-size:.88rem}
+.walk{padding-left:1.6rem;margin:.5rem 0}.walk li{margin:0 0 .9rem}.walk li::marker{\
+font-weight:700;color:var(--bad)}
+.walk p{margin:.15rem 0}.step{font-size:1.02em}
+.end{border-left:.25rem solid var(--bad);padding-left:.8rem}
+figure{margin:.5rem 0}figcaption{margin-top:.4rem;max-width:46rem}
+.scroll{overflow-x:auto;max-width:100%}
+.picture{display:block;font:600 15px ui-monospace,SFMono-Regular,Menlo,\
+Consolas,\"DejaVu Sans Mono\",monospace}
+.cover{stroke:var(--soft);stroke-width:2}
+.box rect{fill:var(--paper);stroke:currentColor;stroke-width:2}
+.box text{fill:currentColor;text-anchor:middle}
+.inferred .box rect{stroke-dasharray:5 4}
+.band rect{fill:currentColor;fill-opacity:.07;stroke:currentColor;stroke-opacity:.35}
+.band text{fill:currentColor;font-size:13px}
+.flow{fill:none;stroke:var(--soft);stroke-width:1.6}
+.r2{stroke-dasharray:7 4}.r4{stroke-dasharray:2 4;stroke-width:2.4}.r8{stroke-width:3}.r16{\
+stroke-dasharray:10 3 2 3}
+.tip{fill:var(--soft)}
+.told{fill:none;stroke:var(--bad);stroke-width:4}.toldtip{fill:var(--bad)}
+.number circle{fill:var(--bad);stroke:var(--paper);stroke-width:2}
+.number text{fill:var(--paper);text-anchor:middle;font-size:14px}
+.legend{list-style:none;margin:.6rem 0;padding:0;display:flex;flex-wrap:wrap;gap:.1rem 1.4rem;\
+font-size:.88rem}
+.legend svg{vertical-align:middle}
+table{border-collapse:collapse;font-size:.95rem}
+th,td{text-align:left;padding:.35rem .9rem .35rem .5rem;border-bottom:1px solid var(--rule);\
+vertical-align:baseline}
+th{color:var(--soft);font-size:.85rem}
+.yes{color:var(--good);white-space:nowrap}.no{color:var(--bad);font-weight:700;white-space:nowrap}
+.refused{background:var(--badp)}
+@media (max-width:40rem){body{font-size:16px}header h1{font-size:1.6rem}.line{\
+padding-left:2.6rem}.line::before{width:2rem}\
+pre{font-size:.85rem}th,td{padding-right:.5rem}}
+@media print{:root{--paper:#fff;--panel:#fff;--ink:#000}body{font-size:11pt}main{\
+max-width:none;padding:0}\
+pre,.scroll{overflow:visible;white-space:pre-wrap}.picture{max-width:100%;height:auto}figure,\
+tr,li{break-inside:avoid}h2{break-after:avoid}}
+";
