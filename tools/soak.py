@@ -8,12 +8,16 @@ source texts, lattices, stores and images, made from worked ones by changes of b
 pieces, deep nesting and great length, or drawn from the grammar. Input number K is the same for the same seed,
 whatever the other options are, so --first K --count 1 gives it again. Reported are a status outside 0 to 5, a signal,
 two runs with different answers (status, both streams, written image), a stream or a written image that isn't of the
-documented form, a run of more than half a second of processor time, and one that is stopped after twenty seconds. The
+documented form, a run of more than half a second of processor time, and one that is stopped after twenty seconds. Each
+input whose words are right is run a third time with an option that tells more, --explain, --count or --json: its status
+is to be the same, and so are standard output, the first lines of standard error and the written image; what stands
+behind those lines has no byte but printable ASCII and line feeds, and the JSON says what the lines did. The
 files of reported inputs are copied to FOLDER/K. The last line has the figures, of which the most memory
 is at least a worker's own; the status is 1 where anything was reported. It needs /dev/shm, and leaves nothing there.
 """
 
 import collections
+import json
 import os
 import random
 import re
@@ -81,6 +85,13 @@ DONE = {command: re.compile(form) for command, form in {
     "draw": rb"digraph lattice \{\n(?:  .*\n)*\}\n(?:digraph flows \{\n(?:  .*\n)*\}\n)?",
     "list": rb"globals \d+\nslots \d+\nstack \d+\n(?:\w+ : \w+\n)*(?:\d+: [A-Z]+(?: -?\d+)?\n)+"}.items()}
 UNFINISHED = re.compile(TRACE)
+
+# The options that tell more, of each subcommand that takes them.
+FURTHER = {command: ("--explain",) for command in DONE if command not in ("", "?", "explain")}
+FURTHER["run"] += ("--count",)
+FURTHER["check"] += ("--json",)
+TOLD_FURTHER = re.compile(rb"[ -~\n]*")
+COUNTED = re.compile(rb"instructions: \d+\n")
 
 Answer = collections.namedtuple("Answer", "status output error written")
 
@@ -184,6 +195,38 @@ def faults_of(given, answer):
     return [fault for fault in faults if fault]
 
 
+def json_fault(plain, answer):
+    """What is wrong with an answer in JSON beside the one without it, or None."""
+    if not answer.output:
+        return None if answer == plain else "another answer without JSON"
+    try:
+        line = json.loads(answer.output)
+    except ValueError:
+        return "no JSON"
+    if answer.error or answer.output.count(b"\n") != 1 or line["accepted"] != (plain.status == 0):
+        return "JSON of another answer"
+    is_told = line["accepted"] or line["text"].encode() + b"\n" == plain.error
+    return None if is_told else "JSON of another refusal"
+
+
+def further_fault(option, plain, answer):
+    """What is wrong with the answer to an input with an option that tells more, or None."""
+    if answer.status != plain.status:
+        return f"status {answer.status} in place of {plain.status}"
+    if answer.written != plain.written:
+        return "another image was written"
+    if option == "--json" and plain.status in (0, 1):
+        return json_fault(plain, answer)
+    if answer.output != plain.output or not answer.error.startswith(plain.error):
+        return "another answer"
+    more = answer.error[len(plain.error):]
+    if option == "--count" and plain.status == 0:
+        return None if COUNTED.fullmatch(more) else "no count"
+    if option != "--explain" or plain.status == 0:
+        return "more was told" if more else None
+    return None if TOLD_FURTHER.fullmatch(more) else "an explanation with other bytes"
+
+
 class Worker:
     """Goes through every so many inputs and counts what becomes of them."""
 
@@ -203,8 +246,21 @@ class Worker:
             for name in self.runner.kept:
                 shutil.copy(name, folder)
 
+    def try_further(self, number, given, plain):
+        """What isn't as documented where an option tells more of an input that was answered so."""
+        options = [option for option in FURTHER.get(given.command, ()) if option not in given.words]
+        if plain.status not in (0, 1, 3, 4) or not options:
+            return []
+        option = options[number % len(options)]
+        answer, seconds = self.runner.run([*given.words, option])
+        self.figures["further"] += 1
+        faults = [further_fault(option, plain, answer)]
+        if seconds > 2 * SLOW_SECONDS:
+            faults.append(f"{seconds:.1f} seconds")
+        return [f"with {option} {fault}" for fault in faults if fault]
+
     def try_input(self, number):
-        """Runs an input twice, and reports what isn't as documented."""
+        """Runs an input twice, and with an option that tells more, and reports what isn't as documented."""
         given = Input(random.Random(f"{self.options.seed}/{number}"), ALL)
         self.runner.put(given.files)
         faults, answers = [], []
@@ -220,6 +276,8 @@ class Worker:
         faults += faults_of(given, answers[0])
         if answers[0] != answers[1]:
             faults.append("two answers")
+        if not self.runner.is_stopped:
+            faults += self.try_further(number, given, answers[0])
         if faults:
             self.report(number, given, faults)
 
@@ -249,7 +307,7 @@ def main():
         longest, most_memory = max(longest, seconds), max(most_memory, memory)
     runs = {key: figures[key] for key in sorted(figures) if key.startswith("status")}
     print(f"seed {options.seed}, inputs {figures['inputs']}, runs {sum(runs.values())},",
-          *(f"{key}: {count}," for key, count in runs.items()),
+          *(f"{key}: {count}," for key, count in runs.items()), f"told further {figures['further']},",
           f"longest run {longest:.3f} s, most memory {most_memory // 1024} MiB,",
           f"lost workers {lost}, reports {figures['reports']}")
     return 1 if lost or figures["reports"] else 0

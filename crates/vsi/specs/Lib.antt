@@ -1,3 +1,3 @@
 pub mod Stops
-pub mod Zeros
+pub mod Input
 pub mod Words

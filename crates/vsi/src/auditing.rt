@@ -16,13 +16,13 @@ fn refused_image<'a>(
     alloc: Global,
     lattice: &Lattice,
     image: &Image,
-    error: &AuditError,
+    error: AuditError,
 ) -> Stop<'a> {
-    if let AuditError::Memory = error {
+    if let AuditError::Memory = &error {
         return Stop::Memory;
     }
-    match audit_text(alloc, lattice, image, error) {
-        Ok(text) => Stop::Refused(text),
+    match audit_text(alloc, lattice, image, &error) {
+        Ok(text) => Stop::Audit(text, error),
         Err(_) => Stop::Memory,
     }
 }
@@ -32,13 +32,13 @@ fn refused_unsteady<'a>(
     alloc: Global,
     lattice: &Lattice,
     image: &Image,
-    error: &SteadyError,
+    error: SteadyError,
 ) -> Stop<'a> {
-    if let SteadyError::Memory = error {
+    if let SteadyError::Memory = &error {
         return Stop::Memory;
     }
-    match steady_text(alloc, lattice, image, error) {
-        Ok(text) => Stop::Refused(text),
+    match steady_text(alloc, lattice, image, &error) {
+        Ok(text) => Stop::Unsteady(text, error),
         Err(_) => Stop::Memory,
     }
 }
@@ -53,12 +53,12 @@ fn judge<'a>(
     if asked.is_steady {
         return match steady_in(alloc, classes, verified) {
             Ok(()) => Ok(()),
-            Err(error) => Err(refused_unsteady(alloc, classes, verified.image(), &error)),
+            Err(error) => Err(refused_unsteady(alloc, classes, verified.image(), error)),
         };
     }
     match audit_in(alloc, profile(asked.is_strict), classes, verified) {
         Ok(()) => Ok(()),
-        Err(error) => Err(refused_image(alloc, classes, verified.image(), &error)),
+        Err(error) => Err(refused_image(alloc, classes, verified.image(), error)),
     }
 }
 
@@ -82,6 +82,6 @@ pub(crate) fn source<'a, F: Files>(
     let verified = image_in(alloc, image, files)?;
     match source_text(alloc, &verified) {
         Ok(text) => Ok(text),
-        Err(error) => Err(refused_image(alloc, &two_classes(alloc)?, verified.image(), &error)),
+        Err(error) => Err(refused_image(alloc, &two_classes(alloc)?, verified.image(), error)),
     }
 }

@@ -1,31 +1,41 @@
 //! Does what a command line asks for.
 
-ghost use Rattle.std.specs.Prelude.{◌≡◌, ◌≢◌, ◌<◌, ◌≤◌, [], false, IfErr};
+ghost use Rattle.std.specs.Prelude.{◌≡◌, ◌≢◌, ◌<◌, ◌≤◌, [], false, Ok, IfOk, IfErr, OnOk};
 ghost use Rattle.std.specs.Io.KnownBytes.{Keeps};
+ghost use Rattle.vsi.specs.Input.{WritesRun, WritesRunOf};
 ghost use Rattle.vsi.specs.Stops.{status_of, TellsFault};
 ghost use Rattle.vsi.specs.Words as spec;
+ghost use Rattle.vsi_answers.specs.Requests.{RunsSourceTo};
 ghost use Rattle.vsi_devices.specs.Counted.{device_of, faults_of};
+ghost use Rattle.vsi_devices.specs.Running.{WrittenSome};
 
 use crate::auditing::{audit, source};
 use crate::comparing::compare;
 use crate::conformance::conform;
+use crate::desk::Desk;
 use crate::drawing::{draw, report};
 use crate::driving::drive;
+use crate::explaining::{Explaining, explained};
 use crate::files::Files;
 use crate::leaking::leak;
-use crate::reading::{device_stop, refused, two_classes};
-use crate::running::{run, run_from_zeros, view};
+use crate::reading::{answered, device_stop, two_classes};
+use crate::running::{Running, run, view};
 use crate::stop::{STREAM, Stop, write};
-use crate::subcommands::{build, check, check_steady, classes, flows, format, list};
+use crate::subcommands::{build, check, check_as_json, classes, flows, format, list};
+use crate::telling::{Told, say, tell_stop};
 use std::alloc::Global;
 use std::io::{Read, Write};
-use vsi_arguments::{ArgumentsError, Request, request_of};
-use vsi_compiler::compile;
+use vsi_arguments::{ArgumentsError, Manner, Request, request_of};
 use vsi_devices::{Counted, read_all};
 use vsi_lattice::Lattice;
 
 /// The budget of a run without words, in instructions.
 const DEFAULT_BUDGET: u64 = 1_000_000;
+
+/// What a person is told at a terminal.
+const GREETING: &[u8] = b"\
+vsi reads a source text from the terminal until Ctrl-D; `vsi --help` tells more.
+";
 
 /// What words get to read that don't ask for the subcommand that reads the input.
 const NOTHING: &[u8] = b"";
@@ -57,19 +67,57 @@ pub fn command<F: Files, R: Read, W: Write, E: Write>(
         → Keeps (W.contents (device_of output.old)) (W.contents (device_of output.new)) }
     ensures unread { words.now ≢ [] → spec.reads_input words.now ≡ false → input.new ≡ input.old }
 {
+    let mut told = Told::new(alloc);
     let answer = if words.is_empty() {
+        greet(files, error);
         run_input(alloc, input, output)
     } else if reads_input(words) {
-        obey(alloc, words, files, input, output)
+        obey(alloc, words, files, input, output, &mut told)
     } else {
-        obey(alloc, words, files, &mut Counted::new(NOTHING), output)
+        obey(
+            alloc,
+            words,
+            files,
+            &mut Counted::new(NOTHING),
+            output,
+            &mut told,
+        )
     };
+    ended(answer, &told, output.is_closed(), error)
+}
+
+/// Tells what is to be told of an answer, and gives its status.
+fn ended<E: Write>(
+    answer: Result<(), Stop<'_>>,
+    told: &Told,
+    is_closed: bool,
+    error: &mut Counted<E>,
+) -> u8
+    ensures bound { result ≤ 5 }
+    ensures done { IfOk answer.entry (λ _. result ≡ 0) }
+    ensures stopped { IfErr answer.entry (λ stop. result ≡ status_of stop) }
+{
     match answer {
-        Ok(()) => 0,
+        Ok(()) => {
+            told.tell(error);
+            0
+        }
         Err(stop) => {
-            let _ = stop.tell(error);
+            if !stop.is_unheard(is_closed) {
+                tell_stop(&stop, error);
+                if !stop.wants_memory() {
+                    told.tell(error);
+                }
+            }
             stop.status()
         }
+    }
+}
+
+/// Tells a person at a terminal that a text is waited for.
+fn greet<F: Files, E: Write>(files: &mut F, error: &mut Counted<E>) {
+    if files.reads_terminal() {
+        say(GREETING, error);
     }
 }
 
@@ -80,6 +128,7 @@ fn obey<'a, F: Files, R: Read, W: Write>(
     files: &mut F,
     input: &mut Counted<R>,
     output: &mut Counted<W>,
+    told: &mut Told,
 ) -> Result<(), Stop<'a>>
     requires input { faults_of input.old < u64.MAX }
     requires output { faults_of output.old < u64.MAX }
@@ -87,8 +136,40 @@ fn obey<'a, F: Files, R: Read, W: Write>(
     ensures output_fault { TellsFault (faults_of output.old) (faults_of output.new) result }
 {
     match request_of(alloc, words) {
-        Ok(request) => perform(alloc, request, files, input, output),
+        Ok(asked) => match asked.manner {
+            Manner::Fixed => perform(alloc, asked.request, files, input, output, told),
+            Manner::Explained(colour) => {
+                let explaining = Explaining::new(&asked.request, colour, files);
+                obey_explaining(alloc, asked.request, explaining, files, input, output, told)
+            }
+        },
         Err(error) => answer_arguments(error, output),
+    }
+}
+
+/// Does what is asked for, and puts an explanation behind what is told where it isn't done.
+fn obey_explaining<'a, F: Files, R: Read, W: Write>(
+    alloc: Global,
+    request: Request<'a>,
+    explaining: Explaining,
+    files: &mut F,
+    input: &mut Counted<R>,
+    output: &mut Counted<W>,
+    told: &mut Told,
+) -> Result<(), Stop<'a>>
+    requires input { faults_of input.old < u64.MAX }
+    requires output { faults_of output.old < u64.MAX }
+    ensures input_fault { TellsFault (faults_of input.old) (faults_of input.new) result }
+    ensures output_fault { TellsFault (faults_of output.old) (faults_of output.new) result }
+{
+    told.is_explained = true;
+    let mut desk = Desk::new(alloc, files);
+    match perform(alloc, request, &mut desk, input, output, told) {
+        Ok(()) => Ok(()),
+        Err(stop) => {
+            let lines = explained(alloc, explaining, &mut desk, &stop);
+            Err(stop.after(told.put(lines)))
+        }
     }
 }
 
@@ -129,19 +210,41 @@ fn run_input<'a, R: Read, W: Write>(
     ensures output_fault { TellsFault (faults_of output.old) (faults_of output.new) result }
     ensures silent { IfErr result (λ stop. status_of stop ≢ 4
         → Keeps (W.contents (device_of output.old)) (W.contents (device_of output.new))) }
+    ensures ran { OnOk result (WritesRun (R.remaining (device_of input.old))
+        (W.contents (device_of output.old)) (W.contents (device_of output.new))) }
 {
     let lattice = two_classes(alloc)?;
-    let source = read_all(alloc, input).map_err(|error| device_stop(alloc, error, STREAM))?;
-    let text = ran(alloc, &lattice, source.as_slice())?;
+    match read_all(alloc, input) {
+        Ok(source) => write_run(alloc, &lattice, source.as_slice(), output),
+        Err(error) => Err(device_stop(alloc, error, STREAM)),
+    }
+}
+
+/// Writes the text of the store in which the run of a source text ends.
+fn write_run<'a, W: Write>(
+    alloc: Global,
+    lattice: &Lattice,
+    source: &[u8],
+    output: &mut Counted<W>,
+) -> Result<(), Stop<'a>>
+    requires { faults_of output.old < u64.MAX }
+    ensures output_fault { TellsFault (faults_of output.old) (faults_of output.new) result }
+    ensures silent { IfErr result (λ stop. status_of stop ≢ 4
+        → Keeps (W.contents (device_of output.old)) (W.contents (device_of output.new))) }
+    ensures ran { OnOk result (WritesRunOf lattice.now source.now
+        (W.contents (device_of output.old)) (W.contents (device_of output.new))) }
+{
+    let text = ran(alloc, lattice, source)?;
     write(text.as_slice(), output)
 }
 
 /// The text of the store in which the run of a source text ends.
-fn ran<'a>(alloc: Global, lattice: &Lattice, source: &[u8]) -> Result<Vec<u8>, Stop<'a>> {
-    match compile(alloc, lattice, source) {
-        Ok(verified) => run_from_zeros(alloc, &verified, DEFAULT_BUDGET),
-        Err(error) => Err(refused(alloc, lattice, source, &error)),
-    }
+fn ran<'a>(alloc: Global, lattice: &Lattice, source: &[u8]) -> Result<Vec<u8>, Stop<'a>>
+    ensures { IfOk result
+        (λ text. RunsSourceTo lattice.now source.now 1000000 (Ok text)) }
+{
+    let answer = vsi_answers::run_source(alloc, lattice, source, DEFAULT_BUDGET);
+    answered(answer)
 }
 
 /// Writes `accepted` where nothing is wrong.
@@ -175,6 +278,7 @@ fn perform<'a, F: Files, R: Read, W: Write>(
     files: &mut F,
     input: &mut Counted<R>,
     output: &mut Counted<W>,
+    told: &mut Told,
 ) -> Result<(), Stop<'a>>
     requires input { faults_of input.old < u64.MAX }
     requires output { faults_of output.old < u64.MAX }
@@ -182,14 +286,8 @@ fn perform<'a, F: Files, R: Read, W: Write>(
     ensures output_fault { TellsFault (faults_of output.old) (faults_of output.new) result }
 {
     match request {
-        Request::Check {
-            compilation,
-            is_steady: true,
-        } => accept(check_steady(alloc, compilation, files), output),
-        Request::Check {
-            compilation,
-            is_steady: false,
-        } => accept(check(alloc, compilation, files), output),
+        Request::Check(asked) if asked.is_json => check_as_json(alloc, asked, files, output),
+        Request::Check(asked) => put(check(alloc, asked, files), output),
         Request::Conform(asked) => conform(alloc, asked, files, output),
         Request::Classes(compilation) => put(classes(alloc, compilation, files), output),
         Request::Flows {
@@ -204,7 +302,18 @@ fn perform<'a, F: Files, R: Read, W: Write>(
             execution,
             outset,
             has_trace,
-        } => run(alloc, execution, &outset, has_trace, files, output),
+            has_count,
+        } => {
+            let is_explained = told.is_explained;
+            let asked = Running {
+                execution,
+                outset,
+                has_trace,
+                has_count,
+                is_explained,
+            };
+            run(alloc, &asked, files, output, &mut told.note)
+        }
         Request::View {
             lattice,
             class,

@@ -6,13 +6,12 @@ ghost use Rattle.vsi_devices.specs.Counted.{faults_of};
 
 use crate::driving::stored_words;
 use crate::files::Files;
-use crate::reading::{class_in, faulty, image_in, lattice_in};
+use crate::reading::{class_in, image_in, lattice_in};
 use crate::stop::{Stop, write};
 use std::alloc::Global;
 use std::io::Write;
 use vsi_arguments::Comparison;
 use vsi_devices::Counted;
-use vsi_faults::Fault;
 
 /// Runs an image file from two store files, and says what a class sees of both.
 fn compared<'a, F: Files>(
@@ -25,7 +24,7 @@ fn compared<'a, F: Files>(
     let verified = image_in(alloc, asked.image, files)?;
     let first = stored_words(alloc, &verified, Some(asked.stores.0), files)?;
     let second = stored_words(alloc, &verified, Some(asked.stores.1), files)?;
-    match vsi_store::compare(
+    let found = vsi_answers::compare(
         alloc,
         &classes,
         &verified,
@@ -33,10 +32,8 @@ fn compared<'a, F: Files>(
         &first,
         &second,
         asked.budget,
-    ) {
-        Ok(found) => Ok(found),
-        Err(error) => Err(faulty(alloc, &Fault::View(error))),
-    }
+    )?;
+    Ok(found)
 }
 
 /// Writes what a class sees of runs of an image file from two store files.

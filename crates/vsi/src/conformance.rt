@@ -4,7 +4,7 @@ ghost use Rattle.std.specs.Prelude.{◌<◌};
 ghost use Rattle.vsi.specs.Stops.{TellsFault};
 ghost use Rattle.vsi_devices.specs.Counted.{faults_of};
 
-use crate::files::Files;
+use crate::files::{Files, Kind};
 use crate::reading::{bytes_in, declared_lattice, settings_in};
 use crate::stop::{Stop, write};
 use std::alloc::Global;
@@ -18,12 +18,12 @@ use vsi_devices::Counted;
 use vsi_lattice::Lattice;
 
 /// What stands for the refusal of an interface file.
-fn unusable<'a>(alloc: Global, error: &InterfaceError) -> Stop<'a> {
-    if let InterfaceError::Memory = error {
+fn unusable<'a>(alloc: Global, error: InterfaceError) -> Stop<'a> {
+    if let InterfaceError::Memory = &error {
         return Stop::Memory;
     }
-    match interface_text(alloc, error) {
-        Ok(text) => Stop::Refused(text),
+    match interface_text(alloc, &error) {
+        Ok(text) => Stop::Interface(text, error),
         Err(_) => Stop::Memory,
     }
 }
@@ -36,7 +36,7 @@ fn named_bytes<'a, F: Files>(
     files: &mut F,
 ) -> Result<Vec<u8>, Stop<'a>> {
     let beside = path_beside(alloc, interface, path)?;
-    match settings_in(alloc, beside.as_str(), files) {
+    match settings_in(alloc, Kind::Lattice, beside.as_str(), files) {
         Ok(bytes) => return Ok(bytes),
         Err(Stop::FileFault(_)) => {}
         Err(_) => return Err(Stop::Memory),
@@ -66,10 +66,10 @@ fn interface_in<'a, F: Files>(
     path: &'a str,
     files: &mut F,
 ) -> Result<Asked, Stop<'a>> {
-    let bytes = settings_in(alloc, path, files)?;
+    let bytes = settings_in(alloc, Kind::Interface, path, files)?;
     match read_interface(alloc, &bytes) {
         Ok(asked) => Ok(asked),
-        Err(error) => Err(unusable(alloc, &error)),
+        Err(error) => Err(unusable(alloc, error)),
     }
 }
 
@@ -86,7 +86,7 @@ fn know_classes<'a>(
     if let Some(entry) = interface.globals.get(number) {
         name.extend_from_slice(&entry.0)?;
     }
-    Err(unusable(alloc, &InterfaceError::UnknownClass(name)))
+    Err(unusable(alloc, InterfaceError::UnknownClass(name)))
 }
 
 /// The answer of a text as it is written, and whether it conforms.
@@ -115,7 +115,7 @@ fn judged<'a, F: Files>(
     let found = interface_in(alloc, asked.interface, files)?;
     let lattice = lattice_of(alloc, asked.interface, &found.policy, files)?;
     know_classes(alloc, &lattice, &found.interface)?;
-    let text = bytes_in(alloc, asked.source, files)?;
+    let text = bytes_in(alloc, Kind::Source, asked.source, files)?;
     answer_of(alloc, asked.is_json, &lattice, &text, &found.interface)
 }
 

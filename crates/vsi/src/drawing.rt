@@ -1,6 +1,6 @@
 //! Pages and pictures.
 
-use crate::files::Files;
+use crate::files::{Files, Kind};
 use crate::reading::{bytes_in, lattice_in, refused};
 use crate::stop::Stop;
 use crate::subcommands::profile;
@@ -16,7 +16,7 @@ pub(crate) fn report<'a, F: Files>(
     files: &mut F,
 ) -> Result<Vec<u8>, Stop<'a>> {
     let classes = lattice_in(alloc, compilation.lattice, files)?;
-    let text = bytes_in(alloc, compilation.source, files)?;
+    let text = bytes_in(alloc, Kind::Source, compilation.source, files)?;
     let profile = profile(compilation.is_strict);
     Ok(report_page(alloc, profile, &classes, text.as_slice())?)
 }
@@ -29,10 +29,10 @@ fn flows_graph<'a, F: Files>(
     is_strict: bool,
     files: &mut F,
 ) -> Result<Vec<u8>, Stop<'a>> {
-    let text = bytes_in(alloc, source, files)?;
+    let text = bytes_in(alloc, Kind::Source, source, files)?;
     match flows_dot(alloc, profile(is_strict), classes, text.as_slice()) {
         Ok(graph) => Ok(graph),
-        Err(error) => Err(refused(alloc, classes, text.as_slice(), &error)),
+        Err(error) => Err(refused(alloc, classes, text.as_slice(), error)),
     }
 }
 

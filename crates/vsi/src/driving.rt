@@ -41,7 +41,7 @@ pub(crate) fn drive<'a, F: Files, R: Read, W: Write>(
     let mut words = stored_words(alloc, &verified, driving.execution.store, files)?;
     match Controller::new(&classes, &verified, driver, driving.execution.budget) {
         Ok(controller) => drive_input(alloc, &controller, words.as_mut_slice(), input, output)?,
-        Err(error) => return Err(faulty(alloc, &Fault::View(error))),
+        Err(error) => return Err(faulty(alloc, Fault::View(error))),
     }
     save(alloc, &verified, &words, driving.save, files)
 }
@@ -77,7 +77,7 @@ pub(crate) fn stored_words<'a, F: Files>(
     let bytes = store_in(alloc, path, files)?;
     match read_store(alloc, verified.image(), bytes.as_slice()) {
         Ok(words) => Ok(words),
-        Err(error) => Err(faulty(alloc, &Fault::Store(error))),
+        Err(error) => Err(faulty(alloc, Fault::Store(error))),
     }
 }
 

@@ -1,6 +1,19 @@
 //! Where the paths of a command line lead.
 
+use std::alloc::AllocError;
 use std::io::{Read, Write};
+
+/// What a file that was read is.
+#[derive(Clone, Copy, Debug, PartialEq, Eq)]
+pub enum Kind {
+    Lattice,
+    Source,
+    Image,
+    Store,
+    Interface,
+    /// No file, but a setting of the command line.
+    Setting,
+}
 
 /// The files of a system. It counts as a device: `None` is a file fault, also where an
 /// implementation found no memory.
@@ -23,6 +36,26 @@ pub trait Files {
     /// replaced.
     fn replace_file(&mut self, _path: &str, _fresh: &str, _bytes: &[u8]) -> Option<()> {
         None
+    }
+
+    /// Is told of each file that was read, with its bytes, before they are judged.
+    fn keep(&mut self, _kind: Kind, _path: &str, _bytes: &[u8]) -> Result<(), AllocError> {
+        Ok(())
+    }
+
+    /// Why the file at the path can't be used, in a sentence, where that is known.
+    fn trouble(&mut self, _path: &str) -> Option<&'static str> {
+        None
+    }
+
+    /// Whether what is written to standard error may be coloured.
+    fn wants_colour(&mut self) -> bool {
+        false
+    }
+
+    /// Whether standard input is a terminal, at which a person may wait.
+    fn reads_terminal(&mut self) -> bool {
+        false
     }
 
     /// Ends the writing of a file. Each output is handed back once, after a fault too.

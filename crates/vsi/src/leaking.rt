@@ -4,7 +4,7 @@ ghost use Rattle.std.specs.Prelude.{IfOk, IfSome};
 ghost use Rattle.vsi_lattice.specs.LatticeView.{order};
 ghost use Rattle.vsi_lattice.specs.Order.{IsClass};
 
-use crate::files::Files;
+use crate::files::{Files, Kind};
 use crate::reading::{bytes_in, class_in, lattice_in, refused};
 use crate::stop::Stop;
 use std::alloc::Global;
@@ -31,7 +31,7 @@ pub(crate) fn leak<'a, F: Files>(
 ) -> Result<Vec<u8>, Stop<'a>> {
     let classes = lattice_in(alloc, search.lattice, files)?;
     let class = looking(&classes, search.class)?;
-    let text = bytes_in(alloc, search.source, files)?;
+    let text = bytes_in(alloc, Kind::Source, search.source, files)?;
     let wanted = Wanted {
         class,
         endings: search.has_endings,
@@ -44,12 +44,12 @@ pub(crate) fn leak<'a, F: Files>(
     };
     let (verified, finding) = match leak_of_text(alloc, &classes, text.as_slice(), &wanted) {
         Ok(found) => found,
-        Err(error) => return Err(refused(alloc, &classes, text.as_slice(), &error)),
+        Err(error) => return Err(refused(alloc, &classes, text.as_slice(), error)),
     };
     match &finding {
         Finding::Leak(leak) => {
             let shown = leak_text(alloc, &classes, verified.image(), leak)?;
-            Err(Stop::Refused(shown))
+            Err(Stop::Refused(shown, None))
         }
         Finding::Nothing { pairs } => {
             let line = format!(in alloc; "no leak in {pairs} pairs of runs\n")?;

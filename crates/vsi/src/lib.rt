@@ -6,23 +6,29 @@
 //! `Counted` move texts through devices, and `refusal_text` and `fault_text` tell why a text or a
 //! file is refused. `command` does what the words of a command line ask for. What an error holds,
 //! as a `LexError` or a `Walk` of `Step`s, stands here beside it.
+//!
+//! To be believed: `specs/Words`; the other files of `specs/` are stepping stones of proofs.
 #![tactic(auto)]
 
 mod auditing;
 mod command_line;
 mod comparing;
 mod conformance;
+mod desk;
 mod drawing;
 mod driving;
+mod explaining;
 mod files;
 mod leaking;
 mod reading;
 mod running;
 mod stop;
 mod subcommands;
+mod telling;
 
 pub use command_line::command;
 pub use files::Files;
+pub use files::Kind;
 pub use vsi_audit::AuditError;
 pub use vsi_audit::audit_in;
 pub use vsi_audit::audit_text;

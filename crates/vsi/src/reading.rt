@@ -1,23 +1,26 @@
 //! Files, read and judged.
 
-ghost use Rattle.std.specs.Prelude.{◌≡◌, IfOk};
-ghost use Rattle.vsi.specs.Stops.{status_of};
+ghost use Rattle.std.specs.Prelude.{◌≡◌, IfOk, Ok, Err, MatchResult};
+ghost use Rattle.vsi.specs.Input.{two_classes};
+ghost use Rattle.vsi.specs.Stops.{status_of, stop_of};
+ghost use Rattle.vsi_answers.specs.Judged.{Declares};
 ghost use Rattle.vsi_devices.specs.declared.error.EngineError.TheVariants.{ReadFault, WriteFault};
 ghost use Rattle.vsi_lattice.specs.LatticeView.{order};
 ghost use Rattle.vsi_lattice.specs.Order.{IsClass};
 
-use crate::files::Files;
+use crate::files::{Files, Kind};
 use crate::stop::{STREAM, Stop};
 use std::alloc::Global;
+use vsi_answers::{Unanswered, judged_image, refused_file, refused_source};
 use vsi_compiler::CompileError;
-use vsi_devices::{Counted, EngineError, READ_LIMIT, read_all, verified_image};
-use vsi_faults::{Fault, fault_text, refusal_text};
+use vsi_devices::{Counted, EngineError, READ_LIMIT, read_all};
+use vsi_faults::Fault;
 use vsi_image::{DecodeError, Verified};
-use vsi_lattice::{Class, Lattice, LatticeError, read_lattice};
+use vsi_lattice::{Class, Lattice, LatticeError};
 use vsi_store::{StoreError, ViewError};
 
 /// The lattice of a run without words.
-const TWO_CLASSES: &[u8] = b"classes = [\"L\", \"H\"]\nbelow = [[\"L\", \"H\"]]\n";
+pub(crate) const TWO_CLASSES: &[u8] = b"classes = [\"L\", \"H\"]\nbelow = [[\"L\", \"H\"]]\n";
 
 /// What stands for an error of a call that reads the file at the path, or judges its bytes. No such
 /// call compiles.
@@ -28,9 +31,9 @@ pub(crate) fn device_stop<'a>(alloc: Global, error: EngineError, path: &'a str) 
     match error {
         EngineError::ReadFault => Stop::FileFault(path),
         EngineError::WriteFault => Stop::FileFault(STREAM),
-        EngineError::Decode(inner) => faulty(alloc, &Fault::Decode(inner)),
-        EngineError::Verify(inner) => faulty(alloc, &Fault::Verify(inner)),
-        EngineError::Store(inner) => faulty(alloc, &Fault::Store(inner)),
+        EngineError::Decode(inner) => faulty(alloc, Fault::Decode(inner)),
+        EngineError::Verify(inner) => faulty(alloc, Fault::Verify(inner)),
+        EngineError::Store(inner) => faulty(alloc, Fault::Store(inner)),
         EngineError::Compile(_) | EngineError::Memory => Stop::Memory,
     }
 }
@@ -40,34 +43,36 @@ pub(crate) fn refused<'a>(
     alloc: Global,
     lattice: &Lattice,
     source: &[u8],
-    error: &CompileError,
+    error: CompileError,
 ) -> Stop<'a> {
-    if let CompileError::Memory = error {
-        return Stop::Memory;
-    }
-    match refusal_text(alloc, lattice, source, error) {
-        Ok(text) => Stop::Refused(text),
-        Err(_) => Stop::Memory,
+    Stop::from(refused_source(alloc, lattice, source, error))
+}
+
+/// What is answered of a source text, or what stands for why there is no answer.
+pub(crate) fn answered<'a>(answer: Result<Vec<u8>, Unanswered>) -> Result<Vec<u8>, Stop<'a>>
+    ensures { MatchResult answer (λ text. result ≡ Ok text)
+        (λ reason. result ≡ Err (stop_of reason)) }
+{
+    match answer {
+        Ok(text) => Ok(text),
+        Err(reason) => Err(Stop::from(reason)),
     }
 }
 
 /// What stands for the refusal of another file.
-pub(crate) fn faulty<'a>(alloc: Global, fault: &Fault) -> Stop<'a> {
+pub(crate) fn faulty<'a>(alloc: Global, fault: Fault) -> Stop<'a> {
     if let Fault::Lattice(LatticeError::Memory)
     | Fault::Decode(DecodeError::Memory)
     | Fault::Store(StoreError::Memory)
-    | Fault::View(ViewError::Memory) = fault
+    | Fault::View(ViewError::Memory) = &fault
     {
         return Stop::Memory;
     }
-    match fault_text(alloc, fault) {
-        Ok(text) => Stop::Refused(text),
-        Err(_) => Stop::Memory,
-    }
+    Stop::from(refused_file(alloc, fault))
 }
 
 /// A whole file, or its first `READ_LIMIT` bytes.
-pub(crate) fn bytes_in<'a, F: Files>(
+fn whole_in<'a, F: Files>(
     alloc: Global,
     path: &'a str,
     files: &mut F,
@@ -79,13 +84,26 @@ pub(crate) fn bytes_in<'a, F: Files>(
     read_all(alloc, &mut reader).map_err(|error| device_stop(alloc, error, path))
 }
 
-/// A whole file that is shorter than `READ_LIMIT`; a longer one is a file fault.
-pub(crate) fn settings_in<'a, F: Files>(
+/// The bytes of a file of this kind, of which the files are told.
+pub(crate) fn bytes_in<'a, F: Files>(
     alloc: Global,
+    kind: Kind,
     path: &'a str,
     files: &mut F,
 ) -> Result<Vec<u8>, Stop<'a>> {
-    let bytes = bytes_in(alloc, path, files)?;
+    let bytes = whole_in(alloc, path, files)?;
+    files.keep(kind, path, bytes.as_slice())?;
+    Ok(bytes)
+}
+
+/// A whole file that is shorter than `READ_LIMIT`; a longer one is a file fault.
+pub(crate) fn settings_in<'a, F: Files>(
+    alloc: Global,
+    kind: Kind,
+    path: &'a str,
+    files: &mut F,
+) -> Result<Vec<u8>, Stop<'a>> {
+    let bytes = bytes_in(alloc, kind, path, files)?;
     if bytes.len() >= READ_LIMIT {
         return Err(Stop::FileFault(path));
     }
@@ -99,21 +117,22 @@ pub(crate) fn store_in<'a, F: Files>(
     files: &mut F,
 ) -> Result<Vec<u8>, Stop<'a>> {
     match path {
-        Some(path) => settings_in(alloc, path, files),
+        Some(path) => settings_in(alloc, Kind::Store, path, files),
         None => Ok(Vec::new(alloc)),
     }
 }
 
 /// The lattice that a text declares.
-pub(crate) fn declared_lattice<'a>(alloc: Global, text: &[u8]) -> Result<Lattice, Stop<'a>> {
-    match read_lattice(alloc, text) {
-        Ok(lattice) => Ok(lattice),
-        Err(error) => Err(faulty(alloc, &Fault::Lattice(error))),
-    }
+pub(crate) fn declared_lattice<'a>(alloc: Global, text: &[u8]) -> Result<Lattice, Stop<'a>>
+    ensures { IfOk result (Declares text.now) }
+{
+    Ok(vsi_answers::declared_lattice(alloc, text)?)
 }
 
 /// The lattice of `L` below `H`.
-pub(crate) fn two_classes<'a>(alloc: Global) -> Result<Lattice, Stop<'a>> {
+pub(crate) fn two_classes<'a>(alloc: Global) -> Result<Lattice, Stop<'a>>
+    ensures { IfOk result (Declares two_classes) }
+{
     declared_lattice(alloc, TWO_CLASSES)
 }
 
@@ -123,7 +142,7 @@ pub(crate) fn lattice_in<'a, F: Files>(
     path: &'a str,
     files: &mut F,
 ) -> Result<Lattice, Stop<'a>> {
-    let bytes = settings_in(alloc, path, files)?;
+    let bytes = settings_in(alloc, Kind::Lattice, path, files)?;
     declared_lattice(alloc, bytes.as_slice())
 }
 
@@ -143,6 +162,6 @@ pub(crate) fn image_in<'a, F: Files>(
     path: &'a str,
     files: &mut F,
 ) -> Result<Verified, Stop<'a>> {
-    let bytes = bytes_in(alloc, path, files)?;
-    verified_image(alloc, bytes.as_slice()).map_err(|error| device_stop(alloc, error, path))
+    let bytes = bytes_in(alloc, Kind::Image, path, files)?;
+    Ok(judged_image(alloc, bytes.as_slice())?)
 }

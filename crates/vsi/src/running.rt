@@ -2,38 +2,29 @@
 
 ghost use Rattle.std.specs.Prelude.{◌≡◌, ◌<◌, length, IfOk};
 ghost use Rattle.vsi.specs.Stops.{TellsFault};
-ghost use Rattle.vsi.specs.Zeros.{EndsInText};
 ghost use Rattle.vsi_devices.specs.Counted.{faults_of};
 
-use crate::files::Files;
-use crate::reading::{class_in, device_stop, faulty, image_in, lattice_in, store_in};
+use crate::files::{Files, Kind};
+use crate::reading::{class_in, device_stop, image_in, lattice_in, store_in};
 use crate::stop::{Stop, write};
 use std::alloc::Global;
 use std::io::Write;
+use vsi_answers::start_words;
 use vsi_arguments::{Execution, Outset};
+use vsi_count::{count_text, counted, stop_text};
 use vsi_devices::{Counted, run_words};
-use vsi_drive::{first_words, start_fault_line};
-use vsi_faults::Fault;
 use vsi_image::Verified;
-use vsi_machine::{Machine, Outcome};
-use vsi_store::{View, store_text};
+use vsi_machine::Outcome;
 
-/// The text of the store in which an image ends from zeros. There is one word per global, so that
-/// the machine can't be started only for want of memory.
-pub(crate) fn run_from_zeros<'a>(
-    alloc: Global,
-    verified: &Verified,
-    budget: u64,
-) -> Result<Vec<u8>, Stop<'a>>
-    ensures text { IfOk result (λ text. EndsInText verified.now budget text.items) }
-{
-    let image = verified.image();
-    let zeros = vec![in alloc; 0i64; image.globals.len()]?;
-    let mut machine = Machine::new(alloc, verified, zeros.as_slice()).map_err(|_| Stop::Memory)?;
-    match machine.run(budget) {
-        Outcome::Halted => Ok(store_text(alloc, image, machine.store())?),
-        Outcome::OutOfBudget => Err(Stop::OutOfBudget),
+/// What stands in the place of a path where a setting is told.
+const SETTING: &str = "--set";
+
+/// Tells the files of each setting.
+fn keep_settings<'a, F: Files>(outset: &Outset<'a>, files: &mut F) -> Result<(), Stop<'a>> {
+    for setting in &outset.settings {
+        files.keep(Kind::Setting, SETTING, setting)?;
     }
+    Ok(())
 }
 
 /// The words that a run begins with, of a store file's bytes and the settings behind it.
@@ -46,11 +37,7 @@ pub(crate) fn words_in<'a>(
     ensures { IfOk result (λ words. length words.items ≡ length verified.now.globals.items) }
 {
     let settings = outset.settings.as_slice();
-    match first_words(alloc, verified.image(), file, settings, outset.is_full) {
-        Ok(Ok(words)) => Ok(words),
-        Ok(Err(fault)) => Err(Stop::Refused(start_fault_line(alloc, fault)?)),
-        Err(error) => Err(faulty(alloc, &Fault::Store(error))),
-    }
+    Ok(start_words(alloc, verified, file, settings, outset.is_full)?)
 }
 
 /// Writes a text to the file that is asked for, as a whole, or else to standard output.
@@ -96,34 +83,76 @@ fn image_and_words<'a, F: Files>(
 {
     let file = store_in(alloc, execution.store, files)?;
     let verified = image_in(alloc, execution.image, files)?;
+    keep_settings(outset, files)?;
     let words = words_in(alloc, &verified, &file, outset)?;
     Ok((verified, words))
 }
 
-/// Runs an image file and writes what the run shows.
+/// How an image is run: from what, and what is told besides the store that it ends in.
+#[derive(Drop)]
+pub(crate) struct Running<'a> {
+    pub(crate) execution: Execution<'a>,
+    pub(crate) outset: Outset<'a>,
+    pub(crate) has_trace: bool,
+    pub(crate) has_count: bool,
+    pub(crate) is_explained: bool,
+}
+
+/// How many instructions a run does that halts within the budget, or where it stands at its end.
+fn count_lines<'a>(
+    alloc: Global,
+    verified: &Verified,
+    words: &[i64],
+    budget: u64,
+) -> Result<Vec<u8>, Stop<'a>> {
+    let Ok(count) = counted(alloc, verified, words, budget) else {
+        return Err(Stop::Memory);
+    };
+    match count.outcome {
+        Outcome::Halted => Ok(count_text(alloc, count.instructions)?),
+        Outcome::OutOfBudget => Ok(stop_text(alloc, &count)?),
+    }
+}
+
+/// Puts behind the note what a run is asked to tell of its instructions.
+fn put_count<'a>(
+    alloc: Global,
+    is_asked: bool,
+    verified: &Verified,
+    words: &[i64],
+    budget: u64,
+    note: &mut Vec<u8>,
+) -> Result<(), Stop<'a>> {
+    if is_asked {
+        let lines = count_lines(alloc, verified, words, budget)?;
+        note.extend_from_slice(&lines)?;
+    }
+    Ok(())
+}
+
+/// Runs an image file and writes what the run shows; the note gets what standard error is told.
 pub(crate) fn run<'a, F: Files, W: Write>(
     alloc: Global,
-    execution: Execution<'a>,
-    outset: &Outset<'a>,
-    has_trace: bool,
+    asked: &Running<'a>,
     files: &mut F,
     output: &mut Counted<W>,
+    note: &mut Vec<u8>,
 ) -> Result<(), Stop<'a>>
     requires { faults_of output.old < u64.MAX }
     ensures fault { TellsFault (faults_of output.old) (faults_of output.new) result }
 {
-    let (verified, words) = image_and_words(alloc, execution, outset, files)?;
-    match run_words(
-        alloc,
-        &verified,
-        &words,
-        execution.budget,
-        has_trace,
-        output,
-    ) {
-        Ok(Some(text)) => deliver(alloc, &text, outset.out, files, output),
-        Ok(None) => Err(Stop::OutOfBudget),
-        Err(error) => Err(device_stop(alloc, error, execution.image)),
+    let budget = asked.execution.budget;
+    let (verified, words) = image_and_words(alloc, asked.execution, &asked.outset, files)?;
+    match run_words(alloc, &verified, &words, budget, asked.has_trace, output) {
+        Ok(Some(text)) => {
+            put_count(alloc, asked.has_count, &verified, &words, budget, note)?;
+            deliver(alloc, &text, asked.outset.out, files, output)
+        }
+        Ok(None) => {
+            put_count(alloc, asked.is_explained, &verified, &words, budget, note)?;
+            Err(Stop::OutOfBudget)
+        }
+        Err(error) => Err(device_stop(alloc, error, asked.execution.image)),
     }
 }
 
@@ -140,12 +169,10 @@ fn seen<'a, F: Files>(
     let viewer = class_in(&classes, class)?;
     let verified = image_in(alloc, execution.image, files)?;
     let file = store_in(alloc, execution.store, files)?;
+    keep_settings(outset, files)?;
     let words = words_in(alloc, &verified, &file, outset)?;
-    match vsi_store::view(alloc, &classes, &verified, viewer, &words, execution.budget) {
-        Ok(View::Text(text)) => Ok(text),
-        Ok(View::OutOfBudget) => Err(Stop::OutOfBudget),
-        Err(error) => Err(faulty(alloc, &Fault::View(error))),
-    }
+    let budget = execution.budget;
+    Ok(vsi_answers::view(alloc, &classes, &verified, viewer, &words, budget)?)
 }
 
 /// Runs an image file and writes the lines of the store that a class may see.

@@ -8,7 +8,11 @@ ghost use Rattle.vsi_devices.specs.Counted.{device_of, faults_of};
 
 use std::alloc::{AllocError, AllocFailed};
 use std::io::Write;
+use vsi_answers::{Cause, Unanswered};
+use vsi_audit::AuditError;
+use vsi_conform::InterfaceError;
 use vsi_devices::{Counted, EngineError, write_out};
+use vsi_steady::SteadyError;
 
 /// Standard input and output, in a file fault.
 pub(crate) const STREAM: &str = "-";
@@ -16,8 +20,14 @@ pub(crate) const STREAM: &str = "-";
 /// Why a command line wasn't done to its end.
 #[derive(Debug, Drop)]
 pub(crate) enum Stop<'a> {
-    /// With the fault text.
-    Refused(Vec<u8>),
+    /// With the fault text, and its cause where that is told further.
+    Refused(Vec<u8>, Option<Cause>),
+    /// An interface file is refused, with the fault text.
+    Interface(Vec<u8>, InterfaceError),
+    /// The commands of an image are refused, with the fault text.
+    Audit(Vec<u8>, AuditError),
+    /// An image isn't steady, with the fault text.
+    Unsteady(Vec<u8>, SteadyError),
     /// A class sees a difference, of which standard output has told.
     Differs,
     /// With the text of the parser of command lines.
@@ -50,18 +60,59 @@ impl<T: Drop> From<AllocFailed<T>> for Stop<'_> {
     }
 }
 
+impl From<Unanswered> for Stop<'_> {
+    ghost use Rattle.vsi.specs.Stops.{stop_of};
+
+    ghost from_gives = { λ inner e. e ≡ stop_of inner };
+
+    fn from(unanswered: Unanswered) -> Self {
+        match unanswered {
+            Unanswered::Refused(text, cause) => Stop::Refused(text, Some(cause)),
+            Unanswered::OutOfBudget => Stop::OutOfBudget,
+            Unanswered::Memory => Stop::Memory,
+        }
+    }
+}
+
 impl Stop<'_> {
     /// What the program ends with.
     pub(crate) fn status(&self) -> u8
         ensures status { result ≡ status_of self.now }
+        ensures some { 0 < result }
         ensures bound { result ≤ 5 }
     {
         match self {
-            Stop::Refused(_) | Stop::Differs => 1,
+            Stop::Refused(_, _) | Stop::Differs => 1,
+            Stop::Interface(_, _) | Stop::Audit(_, _) | Stop::Unsteady(_, _) => 1,
             Stop::Usage(_) | Stop::NoClass(_) => 2,
             Stop::OutOfBudget => 3,
             Stop::FileFault(_) | Stop::LostFile(_) => 4,
             Stop::Memory => 5,
+        }
+    }
+
+    /// Whether the stop is want of memory, behind which nothing else is told.
+    pub(crate) fn wants_memory(&self) -> bool {
+        matches!(self, Stop::Memory)
+    }
+
+    /// Whether nobody is there to hear that standard output takes no more.
+    pub(crate) fn is_unheard(&self, is_closed: bool) -> bool {
+        match self {
+            Stop::FileFault(path) => is_closed && *path == STREAM,
+            _ => false,
+        }
+    }
+
+    /// This stop where an explanation could be added; where it wanted memory that is the stop, but
+    /// for a fault of a file or a stream.
+    pub(crate) fn after(self, added: Result<(), AllocError>) -> Self
+        ensures { status_of self.entry ≡ 4 → status_of result ≡ 4 }
+    {
+        if added.is_ok() || self.status() == 4 {
+            self
+        } else {
+            Stop::Memory
         }
     }
 
@@ -70,7 +121,10 @@ impl Stop<'_> {
         requires { faults_of error.old < u64.MAX }
     {
         match self {
-            Stop::Refused(text) => write_out(text.as_slice(), error),
+            Stop::Refused(text, _)
+            | Stop::Interface(text, _)
+            | Stop::Audit(text, _)
+            | Stop::Unsteady(text, _) => write_out(text.as_slice(), error),
             Stop::Differs => Ok(()),
             Stop::Usage(text) => write_out(text.as_bytes(), error),
             Stop::NoClass(name) => tell_line(b"no class ", name, error),

@@ -1,17 +1,19 @@
 //! What the subcommands that run nothing answer: the text to be written, or why there is none.
 
-use crate::files::Files;
-use crate::reading::{bytes_in, image_in, lattice_in, refused, two_classes};
-use crate::stop::Stop;
-use std::alloc::{AllocError, Global};
-use vsi_arguments::Compilation;
-use vsi_compiler::{CompileError, classes_text_in, compile_in, format_text, unjudged_image};
-use vsi_devices::{Counted, EngineError, image_bytes, write_out};
-use vsi_faults::refusal_text;
-use vsi_flows::{flows_text_in, walks_text_in};
-use vsi_image::listing;
+ghost use Rattle.std.specs.Prelude.{◌<◌};
+ghost use Rattle.vsi.specs.Stops.{TellsFault};
+ghost use Rattle.vsi_devices.specs.Counted.{faults_of};
+
+use crate::files::{Files, Kind};
+use crate::reading::{answered, bytes_in, lattice_in, two_classes};
+use crate::stop::{Stop, write};
+use std::alloc::Global;
+use std::io::Write;
+use vsi_arguments::{Compilation, Judging};
+use vsi_conform::Judgement;
+use vsi_devices::{Counted, write_out};
+use vsi_json::check_json;
 use vsi_lattice::Lattice;
-use vsi_steady::{UnsteadyError, compile_steady, steady_explanation, steady_text};
 use vsi_types::Profile;
 
 /// The profile that judges a text or an image.
@@ -30,61 +32,65 @@ fn policy_and_text<'a, F: Files>(
     files: &mut F,
 ) -> Result<(Lattice, Vec<u8>), Stop<'a>> {
     let classes = lattice_in(alloc, compilation.lattice, files)?;
-    let text = bytes_in(alloc, compilation.source, files)?;
+    let text = bytes_in(alloc, Kind::Source, compilation.source, files)?;
     Ok((classes, text))
 }
 
-/// Whether the source text is accepted.
+/// `accepted`, where the source text is accepted as it is asked.
 pub(crate) fn check<'a, F: Files>(
     alloc: Global,
-    compilation: Compilation<'a>,
+    asked: Judging<'a>,
     files: &mut F,
-) -> Result<(), Stop<'a>> {
-    let (classes, text) = policy_and_text(alloc, compilation, files)?;
-    let profile = profile(compilation.is_strict);
-    match compile_in(alloc, profile, &classes, text.as_slice()) {
-        Ok(_verified) => Ok(()),
-        Err(error) => Err(refused(alloc, &classes, text.as_slice(), &error)),
+) -> Result<Vec<u8>, Stop<'a>> {
+    let (classes, text) = policy_and_text(alloc, asked.compilation, files)?;
+    let answer = if asked.is_steady {
+        vsi_answers::check_steady(alloc, &classes, text.as_slice())
+    } else {
+        let profile = profile(asked.compilation.is_strict);
+        vsi_answers::check(alloc, profile, &classes, text.as_slice())
+    };
+    answered(answer)
+}
+
+/// What the source text is judged by.
+fn judgement(asked: Judging<'_>) -> Judgement {
+    if asked.is_steady {
+        Judgement::Steady
+    } else if asked.compilation.is_strict {
+        Judgement::Strict
+    } else {
+        Judgement::Base
     }
 }
 
-/// The text of a refusal of a source text whose image is to be steady.
-fn unsteady_text(
+/// The same answer as a line of JSON, and whether the text is accepted.
+fn checked_line<'a, F: Files>(
     alloc: Global,
-    classes: &Lattice,
-    source: &[u8],
-    error: &UnsteadyError,
-) -> Result<Vec<u8>, AllocError> {
-    match error {
-        UnsteadyError::Compile(CompileError::Flow(walk)) => {
-            let mut text = Vec::from_slice(alloc, b"refused: 25 Refused\n")?;
-            let lines = steady_explanation(alloc, classes, source, walk)?;
-            text.extend_from_slice(&lines)?;
-            Ok(text)
-        }
-        UnsteadyError::Compile(error) => refusal_text(alloc, classes, source, error),
-        UnsteadyError::Image(error) => match unjudged_image(alloc, classes, source) {
-            Ok(verified) => steady_text(alloc, classes, verified.image(), error),
-            Err(_) => Err(AllocError),
-        },
-        UnsteadyError::Memory => Err(AllocError),
-    }
+    asked: Judging<'a>,
+    files: &mut F,
+) -> Result<(bool, Vec<u8>), Stop<'a>> {
+    let (classes, text) = policy_and_text(alloc, asked.compilation, files)?;
+    let line = check_json(alloc, judgement(asked), &classes, text.as_slice())?;
+    let is_accepted = line.as_slice() == b"{\"accepted\":true}\n".as_slice();
+    Ok((is_accepted, line))
 }
 
-/// Whether the source text is accepted, and the number of its image's instructions tells nothing.
-pub(crate) fn check_steady<'a, F: Files>(
+/// Writes whether the source text is accepted as a line of JSON.
+pub(crate) fn check_as_json<'a, F: Files, W: Write>(
     alloc: Global,
-    compilation: Compilation<'a>,
+    asked: Judging<'a>,
     files: &mut F,
-) -> Result<(), Stop<'a>> {
-    let (classes, text) = policy_and_text(alloc, compilation, files)?;
-    let source = text.as_slice();
-    match compile_steady(alloc, &classes, source) {
-        Ok(_verified) => Ok(()),
-        Err(error) => match unsteady_text(alloc, &classes, source, &error) {
-            Ok(text) => Err(Stop::Refused(text)),
-            Err(_) => Err(Stop::Memory),
-        },
+    output: &mut Counted<W>,
+) -> Result<(), Stop<'a>>
+    requires { faults_of output.old < u64.MAX }
+    ensures fault { TellsFault (faults_of output.old) (faults_of output.new) result }
+{
+    let (is_accepted, line) = checked_line(alloc, asked, files)?;
+    write(&line, output)?;
+    if is_accepted {
+        Ok(())
+    } else {
+        Err(Stop::Differs)
     }
 }
 
@@ -96,28 +102,11 @@ pub(crate) fn classes<'a, F: Files>(
 ) -> Result<Vec<u8>, Stop<'a>> {
     let (classes, text) = policy_and_text(alloc, compilation, files)?;
     let profile = profile(compilation.is_strict);
-    match classes_text_in(alloc, profile, &classes, text.as_slice()) {
-        Ok(lines) => Ok(lines),
-        Err(error) => Err(refused(alloc, &classes, text.as_slice(), &error)),
-    }
+    answered(vsi_answers::classes(alloc, profile, &classes, text.as_slice()))
 }
 
-/// The flows between the declared variables of a text, each with a walk where that is asked for.
-fn flow_lines(
-    alloc: Global,
-    profile: Profile,
-    has_walks: bool,
-    classes: &Lattice,
-    text: &[u8],
-) -> Result<Vec<u8>, CompileError> {
-    if has_walks {
-        walks_text_in(alloc, profile, classes, text)
-    } else {
-        flows_text_in(alloc, profile, classes, text)
-    }
-}
-
-/// The flows between the declared variables of the source text.
+/// The flows between the declared variables of the source text, each with a walk where that is
+/// asked for.
 pub(crate) fn flows<'a, F: Files>(
     alloc: Global,
     compilation: Compilation<'a>,
@@ -126,10 +115,12 @@ pub(crate) fn flows<'a, F: Files>(
 ) -> Result<Vec<u8>, Stop<'a>> {
     let (classes, text) = policy_and_text(alloc, compilation, files)?;
     let profile = profile(compilation.is_strict);
-    match flow_lines(alloc, profile, has_walks, &classes, text.as_slice()) {
-        Ok(lines) => Ok(lines),
-        Err(error) => Err(refused(alloc, &classes, text.as_slice(), &error)),
-    }
+    let answer = if has_walks {
+        vsi_answers::walks(alloc, profile, &classes, text.as_slice())
+    } else {
+        vsi_answers::flows(alloc, profile, &classes, text.as_slice())
+    };
+    answered(answer)
 }
 
 /// The bytes of the image of the source text.
@@ -140,11 +131,7 @@ fn built<'a, F: Files>(
 ) -> Result<Vec<u8>, Stop<'a>> {
     let (classes, text) = policy_and_text(alloc, compilation, files)?;
     let profile = profile(compilation.is_strict);
-    match image_bytes(alloc, profile, &classes, text.as_slice()) {
-        Ok(bytes) => Ok(bytes),
-        Err(EngineError::Compile(error)) => Err(refused(alloc, &classes, text.as_slice(), &error)),
-        Err(_) => Err(Stop::Memory),
-    }
+    answered(vsi_answers::build(alloc, profile, &classes, text.as_slice()))
 }
 
 /// Compiles the source text, and fills the image file once the image's bytes are there.
@@ -170,8 +157,8 @@ pub(crate) fn list<'a, F: Files>(
     image: &'a str,
     files: &mut F,
 ) -> Result<Vec<u8>, Stop<'a>> {
-    let verified = image_in(alloc, image, files)?;
-    Ok(listing(alloc, verified.image())?)
+    let bytes = bytes_in(alloc, Kind::Image, image, files)?;
+    Ok(vsi_answers::list(alloc, bytes.as_slice())?)
 }
 
 /// The canonical text of the source text.
@@ -180,9 +167,7 @@ pub(crate) fn format<'a, F: Files>(
     source: &'a str,
     files: &mut F,
 ) -> Result<Vec<u8>, Stop<'a>> {
-    let bytes = bytes_in(alloc, source, files)?;
-    match format_text(alloc, bytes.as_slice()) {
-        Ok(text) => Ok(text),
-        Err(error) => Err(refused(alloc, &two_classes(alloc)?, bytes.as_slice(), &error)),
-    }
+    let bytes = bytes_in(alloc, Kind::Source, source, files)?;
+    let classes = two_classes(alloc)?;
+    answered(vsi_answers::format(alloc, &classes, bytes.as_slice()))
 }

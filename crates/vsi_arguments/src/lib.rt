@@ -4,13 +4,15 @@
 
 mod error;
 mod help;
+mod numbers;
 mod request;
+mod tips;
 mod usage;
 mod word_help;
 mod words;
 
 pub use error::ArgumentsError;
 pub use request::{
-    Audit, Comparison, Compilation, Conformance, Drawing, Driving, Execution, Outset, Request,
-    Search, request_of,
+    Asked, Audit, Colour, Comparison, Compilation, Conformance, Drawing, Driving, Execution,
+    Judging, Manner, Outset, Request, Search, request_of,
 };

@@ -1,6 +1,8 @@
 //! What the arguments of a command line ask for.
 
 use crate::error::ArgumentsError;
+use crate::numbers::{Limit, number_of, wrong_number};
+use crate::tips::retold;
 use crate::usage::program;
 use clap::error::ErrorKind;
 use clap::{ArgMatches, Command, Error};
@@ -99,13 +101,44 @@ pub struct Drawing<'a> {
     pub is_strict: bool,
 }
 
+/// What a source text is judged for: its flows, by the profile that `Compilation` names, or also
+/// whether its image is steady; and whether the answer is written as JSON.
+#[derive(Clone, Copy)]
+pub struct Judging<'a> {
+    pub compilation: Compilation<'a>,
+    pub is_steady: bool,
+    pub is_json: bool,
+}
+
+/// Whether an explanation is coloured.
+#[derive(Clone, Copy, Debug, PartialEq, Eq)]
+pub enum Colour {
+    /// Where standard error is a terminal, and the environment doesn't ask for none.
+    Auto,
+    Always,
+    Never,
+}
+
+/// How a refusal is told.
+#[derive(Clone, Copy, Debug, PartialEq, Eq)]
+pub enum Manner {
+    /// By its fixed text alone.
+    Fixed,
+    /// With an explanation behind the fixed text.
+    Explained(Colour),
+}
+
+/// What a command line asks for, and how its refusal is told.
+#[derive(Drop)]
+pub struct Asked<'a> {
+    pub request: Request<'a>,
+    pub manner: Manner,
+}
+
 /// A subcommand with what it is given.
 #[derive(Drop)]
 pub enum Request<'a> {
-    Check {
-        compilation: Compilation<'a>,
-        is_steady: bool,
-    },
+    Check(Judging<'a>),
     Conform(Conformance<'a>),
     Classes(Compilation<'a>),
     Flows {
@@ -120,6 +153,7 @@ pub enum Request<'a> {
         execution: Execution<'a>,
         outset: Outset<'a>,
         has_trace: bool,
+        has_count: bool,
     },
     View {
         lattice: &'a str,
@@ -134,7 +168,7 @@ pub enum Request<'a> {
     Draw(Drawing<'a>),
     Format(&'a str),
     /// With the page of the refusal.
-    Explain(&'static str),
+    Explain(&'a str),
 }
 
 /// The budget and the number of pairs of a search where none is given.
@@ -146,12 +180,9 @@ const SEARCH: u64 = 10_000;
 ///
 /// `Help` where help or the version is asked for, `Mistake` where the arguments are wrong,
 /// `Memory`.
-pub fn request_of<'a>(
-    alloc: Global,
-    arguments: &'a [String],
-) -> Result<Request<'a>, ArgumentsError> {
+pub fn request_of<'a>(alloc: Global, arguments: &'a [String]) -> Result<Asked<'a>, ArgumentsError> {
     match parsed(alloc, arguments) {
-        Ok(request) => Ok(request),
+        Ok(asked) => Ok(asked),
         Err(error) => Err(told(alloc, &error)),
     }
 }
@@ -161,9 +192,14 @@ fn told(alloc: Global, error: &Error) -> ArgumentsError {
     if error.kind() == ErrorKind::OutOfMemory {
         return ArgumentsError::Memory;
     }
-    match error.to_string(alloc) {
-        Ok(text) if error.use_stderr() => ArgumentsError::Mistake(text),
-        Ok(text) => ArgumentsError::Help(text),
+    let Ok(text) = error.to_string(alloc) else {
+        return ArgumentsError::Memory;
+    };
+    if !error.use_stderr() {
+        return ArgumentsError::Help(text);
+    }
+    match retold(alloc, text.as_str()) {
+        Ok(text) => ArgumentsError::Mistake(text),
         Err(_) => ArgumentsError::Memory,
     }
 }
@@ -171,17 +207,19 @@ fn told(alloc: Global, error: &Error) -> ArgumentsError {
 /// What is wrong with arguments that the parser of command lines takes.
 #[derive(Clone, Copy)]
 enum Mistake {
-    SignedBudget,
-    SignedNumber,
+    /// What should be a number isn't one.
+    NoNumber(Limit),
     NoTwoStores,
     NoRefusal,
+    /// The image would take the place of a file that is read.
+    ImageIsRead,
     NoSubcommand,
 }
 
 impl Mistake {
     fn kind(self) -> ErrorKind {
         match self {
-            Mistake::SignedBudget | Mistake::SignedNumber | Mistake::NoRefusal => {
+            Mistake::NoNumber(_) | Mistake::NoRefusal | Mistake::ImageIsRead => {
                 ErrorKind::ValueValidation
             }
             Mistake::NoTwoStores => ErrorKind::WrongNumberOfValues,
@@ -191,17 +229,17 @@ impl Mistake {
 
     fn text(self) -> &'static str {
         match self {
-            Mistake::SignedBudget => "a budget is written by digits alone",
-            Mistake::SignedNumber => "a number is written by digits alone",
+            Mistake::NoNumber(limit) => limit.text(),
             Mistake::NoTwoStores => "two stores are compared",
             Mistake::NoRefusal => "no refusal has this number",
+            Mistake::ImageIsRead => "the image would take the place of a file that is read",
             Mistake::NoSubcommand => "a subcommand is needed",
         }
     }
 }
 
 /// Parses the arguments.
-fn parsed<'a>(alloc: Global, arguments: &'a [String]) -> Result<Request<'a>, Error> {
+fn parsed<'a>(alloc: Global, arguments: &'a [String]) -> Result<Asked<'a>, Error> {
     let mut command = program(alloc)?;
     answered(alloc, &mut command, arguments)
 }
@@ -211,42 +249,65 @@ fn answered<'a>(
     alloc: Global,
     command: &mut Command<'a>,
     arguments: &'a [String],
-) -> Result<Request<'a>, Error> {
-    match asked(alloc, command, arguments)? {
-        Ok(request) => Ok(request),
+) -> Result<Asked<'a>, Error> {
+    match taken(alloc, command, arguments)? {
+        Ok(asked) => Ok(asked),
         Err(mistake) => Err(command.error(mistake.kind(), mistake.text())?),
     }
 }
 
 /// What arguments that the program takes ask for.
-fn asked<'a>(
+fn taken<'a>(
     alloc: Global,
     command: &mut Command<'a>,
     arguments: &'a [String],
-) -> Result<Result<Request<'a>, Mistake>, Error> {
+) -> Result<Result<Asked<'a>, Mistake>, Error> {
     let matches = command.try_get_matches_from_mut(arguments)?;
     judged(alloc, &matches)
 }
 
-/// What is asked for, with a budget of digits alone.
+/// What is asked for, with numbers of digits alone.
 fn judged<'a>(
     alloc: Global,
     matches: &ArgMatches<'a>,
-) -> Result<Result<Request<'a>, Mistake>, Error> {
-    if has_signed_budget(matches) {
-        return Ok(Err(Mistake::SignedBudget));
-    }
-    if has_signed_number(matches) {
-        return Ok(Err(Mistake::SignedNumber));
-    }
+) -> Result<Result<Asked<'a>, Mistake>, Error> {
     let Some((name, inner)) = matches.subcommand() else {
         return Ok(Err(Mistake::NoSubcommand));
     };
+    if let Some(limit) = wrong_number(inner) {
+        return Ok(Err(Mistake::NoNumber(limit)));
+    }
+    let manner = manner_in(inner);
+    match named(alloc, name, inner)? {
+        Ok(request) => Ok(Ok(Asked { request, manner })),
+        Err(mistake) => Ok(Err(mistake)),
+    }
+}
+
+/// How a refusal is to be told.
+fn manner_in<'a>(matches: &ArgMatches<'a>) -> Manner {
+    if !matches.get_flag("explain") {
+        return Manner::Fixed;
+    }
+    match text(matches, "color") {
+        "always" => Manner::Explained(Colour::Always),
+        "never" => Manner::Explained(Colour::Never),
+        _ => Manner::Explained(Colour::Auto),
+    }
+}
+
+/// What the subcommand of this name asks for.
+fn named<'a>(
+    alloc: Global,
+    name: &str,
+    inner: &ArgMatches<'a>,
+) -> Result<Result<Request<'a>, Mistake>, Error> {
     match name {
         "run" => Ok(Ok(run_request(alloc, inner)?)),
         "view" => Ok(Ok(view_request(alloc, inner)?)),
         "compare" => Ok(compare_request(inner)),
         "explain" => Ok(explain_request(inner)),
+        "build" => Ok(build_request(inner)),
         _ => Ok(Ok(requested(name, inner))),
     }
 }
@@ -258,7 +319,6 @@ fn requested<'a>(name: &str, inner: &ArgMatches<'a>) -> Request<'a> {
         "conform" => Request::Conform(conformance_in(inner)),
         "classes" => Request::Classes(compilation_in(inner)),
         "flows" => flows_request(inner),
-        "build" => Request::Build(compilation_in(inner), text(inner, "IMAGE")),
         "list" => Request::List(text(inner, "IMAGE")),
         "audit" => Request::Audit(audit_in(inner)),
         "source" => Request::Source(text(inner, "IMAGE")),
@@ -271,9 +331,28 @@ fn requested<'a>(name: &str, inner: &ArgMatches<'a>) -> Request<'a> {
 }
 
 fn check_request<'a>(matches: &ArgMatches<'a>) -> Request<'a> {
-    Request::Check {
+    Request::Check(Judging {
         compilation: compilation_in(matches),
         is_steady: matches.get_flag("steady"),
+        is_json: matches.get_flag("json"),
+    })
+}
+
+fn build_request<'a>(matches: &ArgMatches<'a>) -> Result<Request<'a>, Mistake> {
+    let compilation = compilation_in(matches);
+    let image = text(matches, "IMAGE");
+    let place = plain(image);
+    if place == plain(compilation.lattice) || place == plain(compilation.source) {
+        return Err(Mistake::ImageIsRead);
+    }
+    Ok(Request::Build(compilation, image))
+}
+
+/// A path without the `./` that it begins with.
+fn plain(path: &str) -> &str {
+    match path.strip_prefix("./") {
+        Some(rest) => rest,
+        None => path,
     }
 }
 
@@ -297,6 +376,7 @@ fn run_request<'a>(alloc: Global, matches: &ArgMatches<'a>) -> Result<Request<'a
         execution: execution_in(matches),
         outset: outset_in(alloc, matches)?,
         has_trace: matches.get_flag("trace"),
+        has_count: matches.get_flag("count"),
     })
 }
 
@@ -315,7 +395,7 @@ fn compare_request<'a>(matches: &ArgMatches<'a>) -> Result<Request<'a>, Mistake>
             lattice: text(matches, "LATTICE"),
             image: text(matches, "IMAGE"),
             class: text(matches, "class"),
-            budget: matches.get_one::<u64>("budget").unwrap_or(0),
+            budget: number_of(matches, "budget").unwrap_or(0),
             stores: (*first, *second),
         })),
         _ => Err(Mistake::NoTwoStores),
@@ -323,7 +403,7 @@ fn compare_request<'a>(matches: &ArgMatches<'a>) -> Result<Request<'a>, Mistake>
 }
 
 fn explain_request<'a>(matches: &ArgMatches<'a>) -> Result<Request<'a>, Mistake> {
-    match page(matches.get_one::<u64>("NUMBER").unwrap_or(0)) {
+    match page(number_of(matches, "NUMBER").unwrap_or(0)) {
         Some(explained) => Ok(Request::Explain(explained)),
         None => Err(Mistake::NoRefusal),
     }
@@ -378,7 +458,7 @@ fn audit_in<'a>(matches: &ArgMatches<'a>) -> Audit<'a> {
 fn execution_in<'a>(matches: &ArgMatches<'a>) -> Execution<'a> {
     Execution {
         image: text(matches, "IMAGE"),
-        budget: matches.get_one::<u64>("budget").unwrap_or(0),
+        budget: number_of(matches, "budget").unwrap_or(0),
         store: matches.get_str("store"),
     }
 }
@@ -388,9 +468,9 @@ fn search_in<'a>(matches: &ArgMatches<'a>) -> Search<'a> {
         lattice: text(matches, "LATTICE"),
         source: text(matches, "SOURCE"),
         class: matches.get_str("class"),
-        budget: matches.get_one::<u64>("budget").unwrap_or(SEARCH),
-        tries: matches.get_one::<u64>("tries").unwrap_or(SEARCH),
-        seed: matches.get_one::<u64>("seed").unwrap_or(0),
+        budget: number_of(matches, "budget").unwrap_or(SEARCH),
+        tries: number_of(matches, "tries").unwrap_or(SEARCH),
+        seed: number_of(matches, "seed").unwrap_or(0),
         has_endings: matches.get_flag("endings"),
         has_steps: matches.get_flag("steps"),
     }
@@ -399,25 +479,4 @@ fn search_in<'a>(matches: &ArgMatches<'a>) -> Search<'a> {
 /// A required word, which a parse that succeeds has.
 fn text<'a>(matches: &ArgMatches<'a>, id: &str) -> &'a str {
     matches.get_str(id).unwrap_or("")
-}
-
-/// Whether the budget begins with a sign.
-fn has_signed_budget(matches: &ArgMatches<'_>) -> bool {
-    match matches.subcommand() {
-        Some(("run" | "view" | "drive" | "compare" | "leak", inner)) => {
-            text(inner, "budget").starts_with('+')
-        }
-        _ => false,
-    }
-}
-
-/// Whether the tries or the seed of a search, or the number of a refusal, begin with a sign.
-fn has_signed_number(matches: &ArgMatches<'_>) -> bool {
-    match matches.subcommand() {
-        Some(("explain", inner)) => text(inner, "NUMBER").starts_with('+'),
-        Some(("leak", inner)) => {
-            text(inner, "tries").starts_with('+') || text(inner, "seed").starts_with('+')
-        }
-        _ => false,
-    }
 }

@@ -1,11 +1,12 @@
 //! The subcommands that the program takes, each with its words and its help.
 
 use crate::words::{
-    budget_argument, class_argument, drawn_source_argument, endings_argument, full_store_argument,
-    image_argument, interface_argument, json_argument, lattice_argument, looking_argument,
-    new_image_argument, out_argument, refusal_argument, run_budget_argument, save_argument,
-    seed_argument, set_argument, source_argument, steady_argument, steps_argument, store_argument,
-    stores_argument, strict_argument, trace_argument, tries_argument, walks_argument,
+    budget_argument, class_argument, color_argument, count_argument, drawn_source_argument,
+    endings_argument, explain_argument, full_store_argument, image_argument, interface_argument,
+    json_argument, lattice_argument, looking_argument, new_image_argument, out_argument,
+    refusal_argument, run_budget_argument, save_argument, seed_argument, set_argument,
+    source_argument, steady_argument, steps_argument, store_argument, stores_argument,
+    strict_argument, trace_argument, tries_argument, walks_argument,
 };
 use crate::{help, word_help};
 use clap::{Arg, Command};
@@ -18,12 +19,12 @@ const VERSION: &str = "0.1.0";
 pub(crate) fn program<'a>(alloc: Global) -> Result<Command<'a>, AllocError> {
     let program = with_judges(alloc, described(alloc));
     let program = with_runs(alloc, program);
-    let program = with(program, compare_command(alloc));
-    let program = with(program, leak_command(alloc));
-    let program = with(program, report_command(alloc));
-    let program = with(program, draw_command(alloc));
-    let program = with(program, format_command(alloc));
-    with(program, explain_command(alloc))
+    let program = with(alloc, program, compare_command(alloc));
+    let program = with(alloc, program, leak_command(alloc));
+    let program = with(alloc, program, report_command(alloc));
+    let program = with(alloc, program, draw_command(alloc));
+    let program = with(alloc, program, format_command(alloc))?;
+    program.subcommand(explain_command(alloc)?)
 }
 
 /// The program with the subcommands that judge a source text.
@@ -31,11 +32,11 @@ fn with_judges<'a>(
     alloc: Global,
     program: Result<Command<'a>, AllocError>,
 ) -> Result<Command<'a>, AllocError> {
-    let program = with(program, check_command(alloc));
-    let program = with(program, conform_command(alloc));
-    let program = with(program, classes_command(alloc));
-    let program = with(program, flows_command(alloc));
-    with(program, build_command(alloc))
+    let program = with(alloc, program, check_command(alloc));
+    let program = with(alloc, program, conform_command(alloc));
+    let program = with(alloc, program, classes_command(alloc));
+    let program = with(alloc, program, flows_command(alloc));
+    with(alloc, program, build_command(alloc))
 }
 
 /// The program with the subcommands that show, judge or run an image.
@@ -43,21 +44,31 @@ fn with_runs<'a>(
     alloc: Global,
     program: Result<Command<'a>, AllocError>,
 ) -> Result<Command<'a>, AllocError> {
-    let program = with(program, list_command(alloc));
-    let program = with(program, audit_command(alloc));
-    let program = with(program, source_command(alloc));
-    let program = with(program, run_command(alloc));
-    let program = with(program, view_command(alloc));
-    with(program, drive_command(alloc))
+    let program = with(alloc, program, list_command(alloc));
+    let program = with(alloc, program, audit_command(alloc));
+    let program = with(alloc, program, source_command(alloc));
+    let program = with(alloc, program, run_command(alloc));
+    let program = with(alloc, program, view_command(alloc));
+    with(alloc, program, drive_command(alloc))
 }
 
-/// The program with one more subcommand.
+/// The program with one more subcommand, whose refusals can be explained.
 fn with<'a>(
+    alloc: Global,
     program: Result<Command<'a>, AllocError>,
     subcommand: Result<Command<'a>, AllocError>,
 ) -> Result<Command<'a>, AllocError> {
     let program = program?;
-    program.subcommand(subcommand?)
+    program.subcommand(explaining(alloc, subcommand)?)
+}
+
+/// A subcommand with the words that say how a refusal is told.
+fn explaining<'a>(
+    alloc: Global,
+    subcommand: Result<Command<'a>, AllocError>,
+) -> Result<Command<'a>, AllocError> {
+    let subcommand = taking(subcommand, explain_argument(alloc));
+    taking(subcommand, color_argument(alloc))
 }
 
 /// The program itself, without its subcommands.
@@ -108,10 +119,9 @@ fn check_command<'a>(alloc: Global) -> Result<Command<'a>, AllocError> {
         help::CHECK,
         help::CHECK_EXAMPLE,
     );
-    taking(
-        judging(alloc, check),
-        steady_argument(alloc, word_help::STEADY_SOURCE),
-    )
+    let steady = steady_argument(alloc, word_help::STEADY_SOURCE);
+    let check = taking(judging(alloc, check), steady);
+    taking(check, json_argument(alloc, word_help::CHECK_JSON))
 }
 
 fn conform_command<'a>(alloc: Global) -> Result<Command<'a>, AllocError> {
@@ -124,7 +134,7 @@ fn conform_command<'a>(alloc: Global) -> Result<Command<'a>, AllocError> {
     );
     let conform = conform.arg(interface_argument(alloc));
     let conform = taking(conform, source_argument(alloc));
-    taking(conform, json_argument(alloc))
+    taking(conform, json_argument(alloc, word_help::JSON))
 }
 
 fn classes_command<'a>(alloc: Global) -> Result<Command<'a>, AllocError> {
@@ -212,7 +222,8 @@ fn run_command<'a>(alloc: Global) -> Result<Command<'a>, AllocError> {
         help::RUN_EXAMPLE,
     );
     let run = starting(alloc, running(alloc, Ok(run)));
-    taking(run, trace_argument(alloc))
+    let run = taking(run, trace_argument(alloc));
+    taking(run, count_argument(alloc))
 }
 
 fn view_command<'a>(alloc: Global) -> Result<Command<'a>, AllocError> {

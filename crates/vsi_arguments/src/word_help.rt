@@ -143,6 +143,30 @@ lattice file at `lattice`, or in its place the keys of one; `profile`,
 and a class; `order`, \"exact\" or \"set\"; and `runs`, each with a
 `budget`, a `store`, and `expect` or `halts = true`.";
 
+/// What `--count` asks for.
+pub(crate) const COUNT: &str = "\
+Tells on standard error, where the run halts, how many instructions
+were done, the halt included: the least budget within which it halts.
+The image is run again to count them.";
+
+/// What `--explain` asks for.
+pub(crate) const EXPLAINED: &str = "\
+Explains a refusal on standard error, behind its fixed text: the file
+and the place, the line with a mark below what stands there, what
+could stand there, and what to do. Where nothing is refused it changes
+nothing.";
+
+/// What `--color` asks for.
+pub(crate) const COLOR: &str = "\
+Colours an explanation: `always`, `never`, or `auto`, as without it:
+where standard error is a terminal and NO_COLOR isn't set.";
+
+/// The answer of `check` as JSON, in full.
+pub(crate) const CHECK_JSON: &str = "\
+Writes the answer as a line of JSON on standard output: an object with
+`accepted`, and of a refusal its number, its name, its place, its text
+and the steps of its flow.";
+
 /// The answer as JSON, in full.
 pub(crate) const JSON: &str = "\
 Writes the answer as a line of JSON: an object with `conforms` and

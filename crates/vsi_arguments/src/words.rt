@@ -1,8 +1,11 @@
 //! The words behind a subcommand, each with its help.
 
 use crate::word_help;
-use clap::{Arg, ArgAction, value_parser};
+use clap::{Arg, ArgAction};
 use std::alloc::Global;
+
+/// When an explanation is coloured.
+const WHEN: [&str; 3] = ["auto", "always", "never"];
 
 /// A word that is needed, by its place.
 fn placed<'a>(alloc: Global, id: &'a str, line: &'a str, whole: &'a str) -> Arg<'a> {
@@ -17,9 +20,9 @@ fn flag<'a>(alloc: Global, id: &'a str, line: &'a str, whole: &'a str) -> Arg<'a
     option(alloc, id, line, whole).action(ArgAction::SetTrue)
 }
 
-/// A word `--ID` with a number behind it.
+/// A word `--ID` with a number behind it, which is looked at later: a sign is no other word.
 fn number<'a>(alloc: Global, id: &'a str, line: &'a str, whole: &'a str) -> Arg<'a> {
-    option(alloc, id, line, whole).value_parser(value_parser!(u64))
+    option(alloc, id, line, whole).allow_hyphen_values(true)
 }
 
 /// A word `--ID`.
@@ -44,8 +47,8 @@ pub(crate) fn interface_argument<'a>(alloc: Global) -> Arg<'a> {
     )
 }
 
-pub(crate) fn json_argument<'a>(alloc: Global) -> Arg<'a> {
-    flag(alloc, "json", "Writes the answer as JSON", word_help::JSON)
+pub(crate) fn json_argument<'a>(alloc: Global, whole: &'a str) -> Arg<'a> {
+    flag(alloc, "json", "Writes the answer as JSON", whole)
 }
 
 pub(crate) fn drawn_source_argument<'a>(alloc: Global) -> Arg<'a> {
@@ -64,7 +67,7 @@ pub(crate) fn new_image_argument<'a>(alloc: Global) -> Arg<'a> {
 
 pub(crate) fn refusal_argument<'a>(alloc: Global) -> Arg<'a> {
     let line = "The number of the refusal";
-    placed(alloc, "NUMBER", line, word_help::REFUSAL).value_parser(value_parser!(u64))
+    placed(alloc, "NUMBER", line, word_help::REFUSAL)
 }
 
 pub(crate) fn strict_argument<'a>(alloc: Global) -> Arg<'a> {
@@ -85,6 +88,24 @@ pub(crate) fn walks_argument<'a>(alloc: Global) -> Arg<'a> {
 pub(crate) fn trace_argument<'a>(alloc: Global) -> Arg<'a> {
     let line = "Prints each instruction before it is done";
     flag(alloc, "trace", line, word_help::TRACE)
+}
+
+pub(crate) fn count_argument<'a>(alloc: Global) -> Arg<'a> {
+    let line = "Tells how many instructions were done";
+    flag(alloc, "count", line, word_help::COUNT)
+}
+
+pub(crate) fn explain_argument<'a>(alloc: Global) -> Arg<'a> {
+    let line = "Explains a refusal on standard error";
+    flag(alloc, "explain", line, word_help::EXPLAINED)
+}
+
+pub(crate) fn color_argument<'a>(alloc: Global) -> Arg<'a> {
+    let line = "Colours an explanation: auto, always or never";
+    option(alloc, "color", line, word_help::COLOR)
+        .value_name("WHEN")
+        .value_parser(WHEN.as_slice())
+        .hide_possible_values(true)
 }
 
 pub(crate) fn class_argument<'a>(alloc: Global) -> Arg<'a> {

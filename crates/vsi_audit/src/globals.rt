@@ -75,6 +75,7 @@ pub(crate) fn declared_program<'a>(
         Err(ScopeError::Memory) => return Err(Unread::Memory),
         Err(_) => return Err(Unread::Fields),
     };
+    // What `body` ensures says that the program is resolved, which the proofs ask for.
     let _body = resolved.body();
     Ok(resolved)
 }

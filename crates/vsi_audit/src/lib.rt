@@ -4,6 +4,9 @@
 //! makes the code of these again, compares it with the image's and judges their flows: what it
 //! accepts is noninterfering, whatever the reading back did. `source_text` writes the commands as a
 //! text, `audit_text` tells why an image is refused.
+//!
+//! To be believed: `specs/Refusal`, `specs/Standing`, `specs/Text`; the other files of `specs/` are
+//! stepping stones of proofs.
 #![tactic(auto)]
 
 mod audit;

@@ -5,6 +5,9 @@
 //! `requires`: each place, slot and depth is tested as it is used, so records that `vsi_load`
 //! didn't write are answered with a status. That no run of a loaded image is answered so is part
 //! of what `vsi_run` promises.
+//!
+//! To be believed: `specs/Calls`, `specs/Cells`; the other files of `specs/` are stepping stones of
+//! proofs.
 #![tactic(auto)]
 
 mod action;

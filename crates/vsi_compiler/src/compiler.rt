@@ -52,6 +52,7 @@ pub fn compile_in(
     let _classes = infer_in(alloc, profile, lattice, &resolved)?;
     let optimised = optimise(alloc, &resolved)?;
     let verified = generate(alloc, &optimised)?;
+    // Done for its contract alone: each operand fits its width, so the image has bytes.
     have_opcodes(&verified.image().code);
     Ok(verified)
 }

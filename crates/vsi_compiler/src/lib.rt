@@ -1,4 +1,6 @@
 //! From a source text to a verified image, and what is promised of it.
+//!
+//! To be believed: all files of `specs/`.
 #![tactic(auto)]
 
 mod compiler;

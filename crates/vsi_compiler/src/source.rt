@@ -46,6 +46,7 @@ pub fn resolved_program<'a>(
 {
     let program = read_program(alloc, text)?;
     let resolved = resolve(alloc, &program, lattice)?;
+    // What `body` ensures says that the program is resolved, which the proofs ask for.
     let _body = resolved.body();
     Ok(resolved)
 }

@@ -133,6 +133,7 @@ pub fn classes_text_in(
 {
     let program = read_program(alloc, text)?;
     let resolved = resolve(alloc, &program, lattice)?;
+    // What `body` ensures says that the program is resolved, which the proofs ask for.
     let _body = resolved.body();
     let classes = infer_in(alloc, profile, lattice, &resolved)?;
     let mut out = Vec::new(alloc);

@@ -1,5 +1,5 @@
 -- An image of which nothing is told fits.
-use Rattle.std.proofs.Common.{◌≡◌, ℕ, ◌+◌, Bool, true, false, List, [], ◌∷◌, ◌++◌, Option, Some, None, if◌then◌else◌, refl, sym, ◌∙◌}
+use Rattle.std.proofs.Common.{◌≡◌, ℕ, ◌+◌, Bool, true, false, List, [], ◌∷◌, Option, Some, None, if◌then◌else◌, refl, sym, ◌∙◌}
 use Rattle.vsi_lattice.specs.declared.lattice.Lattice.{Lattice}
 use Rattle.vsi_lattice.specs.LatticeView.{class_named, order}
 use Rattle.vsi_image.specs.declared.instr.Image.{Image}

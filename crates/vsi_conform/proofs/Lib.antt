@@ -1,2 +1,4 @@
 pub mod Points
 pub mod Fitting
+pub mod Converse
+pub mod Numbers

@@ -1,12 +1,12 @@
 -- Where no point is told all is as is asked for, and the other way round.
-use Rattle.std.proofs.Common.{◌≡◌, ℕ, ◌+◌, ℤ, Bool, true, false, ◌&&◌, List, [], ◌∷◌, ◌++◌, Option, Some, None, if◌then◌else◌, bytes_eq, refl, sym, ap, ◌∙◌, inl, inr}
+use Rattle.std.proofs.Common.{◌≡◌, ℕ, ◌+◌, ℤ, Bool, true, false, ◌&&◌, List, [], ◌∷◌, ◌++◌, Option, Some, None, if◌then◌else◌, bytes_eq, refl, sym, ap, ◌∙◌, unwrap_or}
 use Rattle.std.specs.Ordering.{int_eq}
 use Rattle.std.proofs.lemmas.Bool.Decides.{Decides-int_eq}
 use Rattle.std.proofs.lemmas.Slice.Eq.{bytes_eq-Decides}
 use Rattle.vsi_image.specs.Fields.{Global, is_taken}
 use Rattle.vsi_conform.specs.declared.point.Point.{Point}
-use Rattle.vsi_conform.specs.declared.point.Point.TheVariants.{Missing, Unexpected, WrongClass, WrongOrder, OutOfBudget, WrongWord, NoWord}
-use Rattle.vsi_conform.specs.Points.{told, class_point, entry_point, entry_points, unexpected_points, set_points, are_same, first_difference, or_order, points_from, ordered_points, global_points, Entry, word_of, word_point, expected_point, word_points}
+use Rattle.vsi_conform.specs.declared.point.Point.TheVariants.{Unexpected, WrongClass, WrongWord}
+use Rattle.vsi_conform.specs.Points.{told, class_point, entry_point, entry_points, unexpected_points, set_points, first_difference, points_from, global_points, Entry, word_of, word_point, expected_point, word_points}
 use Rattle.vsi_conform.specs.Asked.{class_of, HasEach, AreAskedFor, HasGlobals, HasWords}
 
 -- Lists that are empty one behind the other are empty.
@@ -122,3 +122,83 @@ words_kept trial n (e ∷ es) gs ws h =
       word_kept trial n e.1 (word_of gs ws e.0) (none_told (expected_point trial n e gs ws) p.0),
       words_kept trial (n + 1) es gs ws p.1,
     )
+
+-- ---- all as is asked for, so no point.
+
+-- Where nothing is told twice nothing is told at all.
+pub empty_both : {A : Type 0} (xs ys : List A) → xs ≡ [] → ys ≡ [] → xs ++ ys ≡ []
+empty_both xs ys h k = ap (λ l. l ++ ys) h ∙ k
+
+-- The same texts compare equal.
+equal_bytes : (xs ys : List ℕ) → xs ≡ ys → bytes_eq xs ys ≡ true
+equal_bytes xs ys h = (bytes_eq-Decides xs ys).1 h
+
+-- The same words compare equal.
+equal_words : (x y : ℤ) → x ≡ y → int_eq x y ≡ true
+equal_words x y h = (Decides-int_eq x y).1 h
+
+-- What is there is one.
+some_is : (x y : List ℕ) → Some x ≡ Some y → x ≡ y
+some_is x y h = ap (λ o. unwrap_or o x) h
+
+-- One more global.
+class_told : (b : Bool) (n place : ℕ) (w g : Global) (gs : List Global) →
+    (if b then Some g.1 else class_of gs w.0) ≡ Some w.1 →
+    (class_of gs w.0 ≡ Some w.1 → entry_point n w (place + 1) gs ≡ None) →
+    ◌≡◌ {A = Option Point} (if b then class_point n place w g else entry_point n w (place + 1) gs) None
+class_told true n place w g gs h more =
+    ap (λ b. if b then None else Some (WrongClass place n)) (equal_bytes g.1 w.1 (some_is g.1 w.1 h))
+class_told false n place w g gs h more = more h
+
+-- Of a global that is there, with its class, nothing is told.
+class_there : (n : ℕ) (w : Global) (place : ℕ) (gs : List Global) → class_of gs w.0 ≡ Some w.1 →
+    entry_point n w place gs ≡ None
+class_there n w place [] h = absurd cc
+class_there n w place (g ∷ gs) h =
+    class_told (bytes_eq g.0 w.0) n place w g gs h (class_there n w (place + 1) gs)
+
+-- So it is of all.
+each_there : (n : ℕ) (ws gs : List Global) → HasEach gs ws → entry_points n ws gs ≡ []
+each_there n [] gs h = refl
+each_there n (w ∷ ws) gs h =
+    empty_both (told (entry_point n w 0 gs)) (entry_points (n + 1) ws gs)
+    (ap told (class_there n w 0 gs h.0)) (each_there (n + 1) ws gs h.1)
+
+-- Where each global is asked for none is unexpected.
+none_unexpected : (place : ℕ) (ws gs : List Global) → AreAskedFor ws gs → unexpected_points place ws gs ≡ []
+none_unexpected place ws [] h = refl
+none_unexpected place ws (g ∷ gs) h =
+    ap (λ b. if b then unexpected_points (place + 1) ws gs else Unexpected place ∷ unexpected_points (place + 1) ws gs)
+    h.0 ∙ none_unexpected (place + 1) ws gs h.1
+
+-- A list differs nowhere from itself.
+differs_nowhere : (n : ℕ) (gs : List Global) → first_difference n gs gs ≡ None
+differs_nowhere n [] = refl
+differs_nowhere n (g ∷ gs) =
+    ap (λ b. if b && bytes_eq g.1 g.1 then first_difference (n + 1) gs gs else Some n) (equal_bytes g.0 g.0 refl)
+    ∙ ap (λ b. if b then first_difference (n + 1) gs gs else Some n) (equal_bytes g.1 g.1 refl)
+    ∙ differs_nowhere (n + 1) gs
+
+-- Of globals that are those that are asked for nothing is told.
+pub globals_told : (is_ordered : Bool) (ws gs : List Global) → HasGlobals is_ordered ws gs →
+    global_points is_ordered ws gs ≡ []
+globals_told true ws gs h =
+    ap (λ x. points_from (first_difference 0 ws x) (set_points ws x)) h
+    ∙ ap (λ o. points_from o (set_points ws ws)) (differs_nowhere 0 ws)
+globals_told false ws gs h =
+    empty_both (entry_points 0 ws gs) (unexpected_points 0 ws gs) (each_there 0 ws gs h.0)
+    (none_unexpected 0 ws gs h.1)
+
+-- Of the expected word nothing is told.
+word_told : (trial n : ℕ) (expected : ℤ) → word_point trial n expected (Some expected) ≡ None
+word_told trial n expected =
+    ap (λ b. if b then None else Some (WrongWord trial n expected)) (equal_words expected expected refl)
+
+-- So it is of all.
+pub words_told : (trial n : ℕ) (es : List Entry) (gs : List Global) (ws : List ℤ) → HasWords gs ws es →
+    word_points trial n es gs ws ≡ []
+words_told trial n [] gs ws h = refl
+words_told trial n (e ∷ es) gs ws h =
+    empty_both (told (expected_point trial n e gs ws)) (word_points trial (n + 1) es gs ws)
+    (ap (λ o. told (word_point trial n e.1 o)) h.0 ∙ ap told (word_told trial n e.1))
+    (words_told trial (n + 1) es gs ws h.1)

@@ -10,11 +10,10 @@ use Rattle.vsi_image.specs.declared.instr.Image.{Image}
 use Rattle.vsi_image.specs.Fields.{globals}
 use Rattle.vsi_image.specs.Meaning.{State}
 use Rattle.vsi_machine.specs.Runs.{globals_of, run_of}
-use Rattle.vsi_compiler.specs.Acceptance.{IsAccepted}
 use Rattle.vsi_compiler.specs.Headline as compiler
 use Rattle.vsi_compiler.specs.Readable.{HasProgram}
 use Rattle.vsi_compiler.specs.Refusal as refusal
-use Rattle.vsi_steady.specs.Source.{HasSteadyFlows, RefusesSteady}
+use Rattle.vsi_steady.specs.Source.{HasSteadyFlows, IsSteadilyAccepted, RefusesSteady}
 use Rattle.vsi_steady.specs.Steady.{IsSteady}
 use Rattle.vsi_steady.specs.declared.unsteady.UnsteadyError.{UnsteadyError}
 use Rattle.vsi_steady.specs.declared.unsteady.UnsteadyError.TheVariants as unsteady
@@ -78,10 +77,11 @@ IsRefused known L P text (unsteady.Compile e) = refusal.IsRefused known L P text
 IsRefused known L P text (unsteady.Image e) = ⊥
 IsRefused known L P text unsteady.Memory = ⊥
 
--- A refusal of a text whose image is to be steady, which isn't want of memory.
+-- A refusal of a text whose image is to be steady, which isn't want of memory, and the text isn't accepted so.
 pub record IsSteadilyRefused (known : Known) (L : Lattice) (text : List ℕ) (e : UnsteadyError) : Type 0 where
   pub other : e ≢ unsteady.Memory
   pub told : RefusesSteady known L text e
+  pub unaccepted : ¬ (IsSteadilyAccepted known L text)
 
 -- A refusal of a text that is to be accepted as is asked for.
 abbrev pub IsRefusedAs : Known → Lattice → Judgement → List ℕ → UnsteadyError → Type 0

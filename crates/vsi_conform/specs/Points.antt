@@ -1,5 +1,5 @@
 -- In what an image differs from an interface, point by point.
-use Rattle.std.specs.Prelude.{◌≡◌, ℕ, ◌+◌, ℤ, pos, Bool, true, false, ◌&&◌, not, List, [], ◌∷◌, ◌++◌, map, Option, Some, None, if◌then◌else◌, is_some, bytes_eq}
+use Rattle.std.specs.Prelude.{ℕ, ◌+◌, ℤ, pos, Bool, true, false, ◌&&◌, not, List, [], ◌∷◌, ◌++◌, map, Option, Some, None, if◌then◌else◌, is_some, bytes_eq}
 use Rattle.std.specs.Global.{Vec}
 use Rattle.std.specs.Ordering.{int_eq}
 use Rattle.vsi_image.specs.declared.instr.Image.{Image}

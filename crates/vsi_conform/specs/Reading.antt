@@ -1,10 +1,20 @@
 -- What an interface file holds, over the table that its text is.
-use Rattle.std.specs.Prelude.{◌≡◌, ℕ, List, Some}
+use Rattle.std.specs.Prelude.{◌≡◌, ℕ, ℤ, pos, negsuc, List, [], ◌∷◌, Bool, true, false, if◌then◌else◌, Option, Some, None, option_map, option_and_then, map, codes, bytes_eq}
 use Rattle.std.specs.Str.{IsUtf8}
-use Rattle.toml.specs.Data.{Members}
+use Rattle.toml.specs.Data.{Data, Members, no_members, member, get_member, as_str, as_integer, as_bool, as_array, as_table}
 use Rattle.toml.specs.Parse.{parse_document}
+use Rattle.vsi_lattice.specs.Shape.{pair_of, all_of, array_at}
+use Rattle.vsi_image.specs.Fields.{Global, globals}
 use Rattle.vsi_conform.specs.declared.error.InterfaceError.{InterfaceError}
 use Rattle.vsi_conform.specs.declared.error.InterfaceError.TheVariants.{NotToml, Memory}
+use Rattle.vsi_conform.specs.declared.interface.Interface.{Interface}
+use Rattle.vsi_conform.specs.declared.interface.Judgement.{Judgement}
+use Rattle.vsi_conform.specs.declared.interface.Judgement.TheVariants.{Base, Strict, Steady}
+use Rattle.vsi_conform.specs.declared.interface.Trial.{Trial}
+use Rattle.vsi_conform.specs.declared.reader.Asked.{Asked}
+use Rattle.vsi_conform.specs.declared.reader.Policy.{Policy}
+use Rattle.vsi_conform.specs.declared.reader.Policy.TheVariants.{File, Tables}
+use Rattle.vsi_conform.specs.Points.{Entry, entries}
 
 -- The bytes are text, and TOML reads it as this table.
 abbrev pub IsDocument : List ℕ → Members → Type 0
@@ -15,3 +25,131 @@ abbrev pub IsNoTable : List ℕ → InterfaceError → Type 0
 IsNoTable text NotToml = (ms : Members) → ¬ (IsDocument text ms)
 IsNoTable text Memory = Unit {0}
 IsNoTable text e = ⊥
+
+-- ---- the keys.
+
+-- The text at a key.
+abbrev pub text_at : List ℕ → Members → Option (List ℕ)
+text_at key ms = option_and_then as_str (get_member key ms)
+
+-- The judgement of a word.
+abbrev pub judgement_of : List ℕ → Option Judgement
+judgement_of word =
+    if bytes_eq word (codes "base") then Some Base else if bytes_eq word (codes "strict") then Some Strict
+    else if bytes_eq word (codes "steady") then Some Steady else None
+
+-- How a text is to be accepted: the word at `profile`.
+abbrev pub judgement_at : Members → Option Judgement
+judgement_at ms = option_and_then judgement_of (text_at (codes "profile") ms)
+
+-- Whether the globals are to stand in order, by a word.
+abbrev pub order_of : List ℕ → Option Bool
+order_of word =
+    if bytes_eq word (codes "exact") then Some true else if bytes_eq word (codes "set") then Some false else None
+
+-- By what is at `order`, which may be missing.
+abbrev pub order_from : Option Data → Option Bool
+order_from None = Some true
+order_from (Some d) = option_and_then order_of (as_str d)
+
+-- The globals: the pairs of texts at `globals`, in their order.
+abbrev pub globals_at : Members → Option (List Global)
+globals_at ms = array_at pair_of (codes "globals") ms
+
+-- One more entry, where its value is a number.
+abbrev pub entry_more : List ℕ → Option ℤ → Option (List Entry) → Option (List Entry)
+entry_more key None rest = None
+entry_more key (Some word) rest = option_map (λ es. (key, word) ∷ es) rest
+
+-- The names and words of a table of numbers.
+abbrev pub numbers_of : Members → Option (List Entry)
+numbers_of no_members = Some []
+numbers_of (member key d ms) = entry_more key (as_integer d) (numbers_of ms)
+
+-- The names and words of a value that is a table of numbers.
+abbrev pub entries_of : Data → Option (List Entry)
+entries_of d = option_and_then numbers_of (as_table d)
+
+-- ---- runs.
+
+-- What a run asks, without where it lies in memory.
+pub record Run : Type 0 where
+  pub store : List Entry
+  pub budget : ℕ
+  pub expect : List Entry
+
+-- What a run that lies in memory asks.
+abbrev pub run : Trial → Run
+run t = record { store = entries t.store.items; budget = t.budget; expect = entries t.expect.items }
+
+-- The words that a run begins with, by what is at `store`, which may be missing.
+abbrev pub store_from : Option Data → Option (List Entry)
+store_from None = Some []
+store_from (Some d) = entries_of d
+
+-- A number of at least 0.
+abbrev pub natural : ℤ → Option ℕ
+natural (pos n) = Some n
+natural (negsuc n) = None
+
+-- The budget: the number at `budget`, at least 0.
+abbrev pub budget_from : Option Data → Option ℕ
+budget_from o = option_and_then natural (option_and_then as_integer o)
+
+-- Where a run only has to halt no word is expected.
+abbrev pub halting : Option Bool → Option (List Entry)
+halting None = None
+halting (Some b) = if b then Some [] else None
+
+-- The expected words, by what is at `expect` and what is at `halts`: just one of them is there.
+abbrev pub expect_from : Option Data → Option Data → Option (List Entry)
+expect_from None None = None
+expect_from None (Some d) = halting (as_bool d)
+expect_from (Some d) None = entries_of d
+expect_from (Some d) (Some e) = None
+
+-- A run of these parts.
+abbrev pub run_from : Option (List Entry) → Option ℕ → Option (List Entry) → Option Run
+run_from None budget expect = None
+run_from (Some store) None expect = None
+run_from (Some store) (Some budget) None = None
+run_from (Some store) (Some budget) (Some expect) =
+    Some (record { store = store; budget = budget; expect = expect })
+
+-- The run that a table tells.
+abbrev pub run_in : Members → Option Run
+run_in ms =
+    run_from (store_from (get_member (codes "store") ms)) (budget_from (get_member (codes "budget") ms))
+    (expect_from (get_member (codes "expect") ms) (get_member (codes "halts") ms))
+
+-- The run that a value tells, which is a table.
+abbrev pub run_of : Data → Option Run
+run_of d = option_and_then run_in (as_table d)
+
+-- The runs, by what is at `runs`, which may be missing.
+abbrev pub runs_from : Option Data → Option (List Run)
+runs_from None = Some []
+runs_from (Some d) = option_and_then (all_of run_of) (as_array d)
+
+-- ---- the whole.
+
+-- Where the lattice is: at a path at `lattice`, with no table of a lattice file beside it, or in such tables.
+abbrev pub IsPolicy : Members → Policy → Type 0
+IsPolicy ms (File path) =
+    (text_at (codes "lattice") ms ≡ Some path.items)
+    × (get_member (codes "classes") ms ≡ None) × (get_member (codes "below") ms ≡ None)
+IsPolicy ms (Tables text) = get_member (codes "lattice") ms ≡ None
+
+-- What a table asks of a text.
+pub record Asks (ms : Members) (i : Interface) : Type 0 where
+  pub judgement : judgement_at ms ≡ Some i.judgement
+  pub order : order_from (get_member (codes "order") ms) ≡ Some i.is_ordered
+  pub globals : globals_at ms ≡ Some (globals i.globals.items)
+  pub runs : runs_from (get_member (codes "runs") ms) ≡ Some (map run i.trials.items)
+
+-- The text is a document that has this policy and asks this.
+pub record IsReadAs (text : List ℕ) (a : Asked) : Type 0 where
+  pub table : Members
+  pub document : IsDocument text table
+  pub policy : IsPolicy table a.policy
+  pub interface : Asks table a.interface

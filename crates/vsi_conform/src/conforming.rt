@@ -1,6 +1,6 @@
 //! Whether a text conforms to an interface.
 
-ghost use Rattle.std.specs.Prelude.{◌≡◌, IfOk, true};
+ghost use Rattle.std.specs.Prelude.{◌≡◌, IfOk, true, []};
 ghost use Rattle.vsi_lattice.specs.LatticeView.{class_named};
 ghost use Rattle.vsi_conform.specs.Conforms as spec;
 ghost use Rattle.vsi_conform.specs.Points.{is_conforming, points_of};
@@ -60,6 +60,10 @@ pub fn conform(
 ) -> Result<Answer, AllocError>
     ensures conforms { IfOk result (λ answer. is_conforming answer ≡ true
         → spec.Conforms lattice.now text.now interface.now) }
+    ensures exact { spec.Conforms lattice.now text.now interface.now
+        → IfOk result (λ answer. is_conforming answer ≡ true) }
+    ensures pointless { spec.Conforms lattice.now text.now interface.now
+        → IfOk result (λ answer. answer.points.items ≡ []) }
     ensures told { IfOk result (spec.Tells lattice.now text.now interface.now) }
 {
     match judged(alloc, interface.judgement, lattice, text)? {

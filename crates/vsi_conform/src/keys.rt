@@ -1,9 +1,11 @@
 //! What stands at the keys of a table.
 
-ghost use Rattle.std.specs.Prelude.{◌≡◌, IfOk, IfErr, MatchResult, option_map};
+ghost use Rattle.std.specs.Prelude.{◌≡◌, IfOk, MatchResult, option_map};
+ghost use Rattle.std.specs.Option.{option_copied};
 ghost use Rattle.toml.specs.Data.{get_member};
 ghost use Rattle.toml.specs.View.{table_view, view};
 ghost use Rattle.vsi_conform.specs.declared.error.InterfaceError.TheVariants.{Memory, NotToml};
+ghost use Rattle.vsi_conform.specs.Points.{entries};
 ghost use Rattle.vsi_conform.specs.Reading as spec;
 
 use crate::error::InterfaceError;
@@ -55,7 +57,9 @@ pub(crate) fn other_key<'t>(table: &'t Table, words: &[&str]) -> Option<&'t str>
 }
 
 /// The text at a key.
-pub(crate) fn text_at<'t>(table: &'t Table, key: &str) -> Option<&'t str> {
+pub(crate) fn text_at<'t>(table: &'t Table, key: &str) -> Option<&'t str>
+    ensures { option_copied result ≡ spec.text_at key.now (table_view table.now) }
+{
     match value_at(table, key) {
         Some(value) => value.as_str(),
         None => None,
@@ -66,7 +70,10 @@ pub(crate) fn text_at<'t>(table: &'t Table, key: &str) -> Option<&'t str> {
 pub(crate) fn entries_of(
     alloc: Global,
     value: &Value,
-) -> Result<Option<Vec<(Vec<u8>, i64)>>, AllocError> {
+) -> Result<Option<Vec<(Vec<u8>, i64)>>, AllocError>
+    ensures { IfOk result (λ found. option_map (λ es. entries es.items) found
+        ≡ spec.entries_of (view value.now)) }
+{
     let Some(table) = value.as_table() else {
         return Ok(None);
     };
@@ -74,7 +81,10 @@ pub(crate) fn entries_of(
 }
 
 /// The names and the words of a table; nothing where a value is no number.
-fn numbers_of(alloc: Global, table: &Table) -> Result<Option<Vec<(Vec<u8>, i64)>>, AllocError> {
+fn numbers_of(alloc: Global, table: &Table) -> Result<Option<Vec<(Vec<u8>, i64)>>, AllocError>
+    ensures { IfOk result (λ found. option_map (λ es. entries es.items) found
+        ≡ spec.numbers_of (table_view table.now)) }
+{
     let mut found = Vec::new(alloc);
     for (key, value) in table {
         let Some(word) = value.as_integer() else {

@@ -5,6 +5,8 @@
 //! from an interface; where it tells none, the text conforms to it, as `specs/Conforms` says.
 //! `points_text` and `points_json` write what is told, `interface_text` why an interface is
 //! refused.
+//!
+//! To be believed: all files of `specs/`.
 #![tactic(auto)]
 
 mod accepting;
@@ -20,10 +22,11 @@ mod reader;
 mod texts;
 mod trials;
 
+pub use accepting::judged;
 pub use conforming::conform;
 pub use error::{InterfaceError, interface_text};
 pub use interface::{Interface, Judgement, Trial};
 pub use json::points_json;
 pub use point::{Answer, Point};
 pub use reader::{Asked, Policy, path_beside, read_interface, unknown_class};
-pub use texts::points_text;
+pub use texts::{points_text, refusal_lines};

@@ -1,7 +1,13 @@
 //! Reads an interface file.
 
-ghost use Rattle.std.specs.Prelude.{◌≡◌, ◌≤◌, length};
-ghost use Rattle.vsi_image.specs.Fields.{globals};
+ghost use Rattle.std.specs.Prelude.{◌≡◌, ◌≤◌, length, map, codes, Some, true, IsTrue, IfOk};
+ghost use Rattle.std.specs.Prelude.{option_map, option_and_then};
+ghost use Rattle.toml.specs.Data.{as_bool, get_member};
+ghost use Rattle.toml.specs.View.{items_view, table_view, view};
+ghost use Rattle.vsi_image.specs.Fields.{global, globals};
+ghost use Rattle.vsi_lattice.specs.Shape as shape;
+ghost use Rattle.vsi_conform.specs.Points.{entries};
+ghost use Rattle.vsi_conform.specs.Reading as spec;
 ghost use Rattle.vsi_lattice.specs.LatticeView.{class_named};
 ghost use Rattle.vsi_store.specs.View.{first_unknown};
 
@@ -87,7 +93,9 @@ fn put_copy(alloc: Global, tables: &mut Table, table: &Table, key: &str) -> Resu
 }
 
 /// Where the lattice is.
-fn policy_in(alloc: Global, table: &Table) -> Result<Policy, InterfaceError> {
+fn policy_in(alloc: Global, table: &Table) -> Result<Policy, InterfaceError>
+    ensures { IfOk result (spec.IsPolicy (table_view table.now)) }
+{
     let has_tables = value_at(table, "classes").is_some() || value_at(table, "below").is_some();
     let Some(value) = value_at(table, "lattice") else {
         if has_tables {
@@ -105,35 +113,67 @@ fn policy_in(alloc: Global, table: &Table) -> Result<Policy, InterfaceError> {
 }
 
 /// How a text is to be accepted.
-fn judgement_in(table: &Table) -> Result<Judgement, InterfaceError> {
+fn judgement_in(table: &Table) -> Result<Judgement, InterfaceError>
+    ensures { IfOk result (λ judgement. spec.judgement_at (table_view table.now) ≡ Some judgement) }
+{
     let Some(word) = text_at(table, "profile") else {
         return Err(InterfaceError::BadProfile);
     };
-    match word.as_bytes() {
-        b"base" => Ok(Judgement::Base),
-        b"strict" => Ok(Judgement::Strict),
-        b"steady" => Ok(Judgement::Steady),
-        _ => Err(InterfaceError::BadProfile),
+    match judgement_of(word.as_bytes()) {
+        Some(judgement) => Ok(judgement),
+        None => Err(InterfaceError::BadProfile),
+    }
+}
+
+/// The judgement of a word.
+fn judgement_of(word: &[u8]) -> Option<Judgement>
+    ensures { result ≡ spec.judgement_of word.now }
+{
+    if word == b"base".as_slice() {
+        Some(Judgement::Base)
+    } else if word == b"strict".as_slice() {
+        Some(Judgement::Strict)
+    } else if word == b"steady".as_slice() {
+        Some(Judgement::Steady)
+    } else {
+        None
     }
 }
 
 /// Whether the globals are to stand in order.
-fn order_in(table: &Table) -> Result<bool, InterfaceError> {
+fn order_in(table: &Table) -> Result<bool, InterfaceError>
+    ensures { IfOk result (λ is_ordered. spec.order_from
+        (get_member (codes "order") (table_view table.now)) ≡ Some is_ordered) }
+{
     let Some(value) = value_at(table, "order") else {
         return Ok(true);
     };
     let Some(word) = value.as_str() else {
         return Err(InterfaceError::BadOrder);
     };
-    match word.as_bytes() {
-        b"exact" => Ok(true),
-        b"set" => Ok(false),
-        _ => Err(InterfaceError::BadOrder),
+    match order_of(word.as_bytes()) {
+        Some(is_ordered) => Ok(is_ordered),
+        None => Err(InterfaceError::BadOrder),
+    }
+}
+
+/// Whether the globals are to stand in order, by a word.
+fn order_of(word: &[u8]) -> Option<bool>
+    ensures { result ≡ spec.order_of word.now }
+{
+    if word == b"exact".as_slice() {
+        Some(true)
+    } else if word == b"set".as_slice() {
+        Some(false)
+    } else {
+        None
     }
 }
 
 /// The two texts of an array of just two.
-fn pair_of(value: &Value) -> Option<(&str, &str)> {
+fn pair_of(value: &Value) -> Option<(&str, &str)>
+    ensures { option_map (λ p. (p.0.now, p.1.now)) result ≡ shape.pair_of (view value.now) }
+{
     let array = value.as_array()?;
     if array.len() != 2 {
         return None;
@@ -148,7 +188,9 @@ fn global_of(
     alloc: Global,
     value: &Value,
     before: &[(Vec<u8>, Vec<u8>)],
-) -> Result<(Vec<u8>, Vec<u8>), InterfaceError> {
+) -> Result<(Vec<u8>, Vec<u8>), InterfaceError>
+    ensures { IfOk result (λ g. shape.pair_of (view value.now) ≡ Some (global g)) }
+{
     let Some((name, class)) = pair_of(value) else {
         return Err(InterfaceError::BadGlobals);
     };
@@ -164,10 +206,24 @@ fn global_of(
 }
 
 /// The globals that are asked for.
-fn globals_in(alloc: Global, table: &Table) -> Result<Vec<(Vec<u8>, Vec<u8>)>, InterfaceError> {
-    let Some(Value::Array(array)) = value_at(table, "globals") else {
+fn globals_in(alloc: Global, table: &Table) -> Result<Vec<(Vec<u8>, Vec<u8>)>, InterfaceError>
+    ensures { IfOk result
+        (λ found. spec.globals_at (table_view table.now) ≡ Some (globals found.items)) }
+{
+    let Some(value) = value_at(table, "globals") else {
         return Err(InterfaceError::BadGlobals);
     };
+    let Some(array) = value.as_array() else {
+        return Err(InterfaceError::BadGlobals);
+    };
+    globals_of(alloc, array.as_slice())
+}
+
+/// The globals of an array.
+fn globals_of(alloc: Global, array: &[Value]) -> Result<Vec<(Vec<u8>, Vec<u8>)>, InterfaceError>
+    ensures { IfOk result (λ found. shape.all_of shape.pair_of (items_view array.now)
+        ≡ Some (globals found.items)) }
+{
     let mut found = Vec::new(alloc);
     for value in array {
         let entry = global_of(alloc, value, &found)?;
@@ -181,7 +237,10 @@ fn store_in(
     alloc: Global,
     number: usize,
     table: &Table,
-) -> Result<Vec<(Vec<u8>, i64)>, InterfaceError> {
+) -> Result<Vec<(Vec<u8>, i64)>, InterfaceError>
+    ensures { IfOk result (λ store. spec.store_from
+        (get_member (codes "store") (table_view table.now)) ≡ Some (entries store.items)) }
+{
     let Some(value) = value_at(table, "store") else {
         return Ok(Vec::new(alloc));
     };
@@ -192,14 +251,45 @@ fn store_in(
 }
 
 /// The budget of a run.
-fn budget_in(number: usize, table: &Table) -> Result<u64, InterfaceError> {
-    let Some(Value::Integer(budget)) = value_at(table, "budget") else {
+fn budget_in(number: usize, table: &Table) -> Result<u64, InterfaceError>
+    ensures { IfOk result (λ budget. spec.budget_from
+        (get_member (codes "budget") (table_view table.now)) ≡ Some budget) }
+{
+    let Some(value) = value_at(table, "budget") else {
         return Err(InterfaceError::NoBudget(number));
     };
-    if *budget < 0 {
+    let Some(budget) = value.as_integer() else {
         return Err(InterfaceError::NoBudget(number));
+    };
+    match natural(budget) {
+        Some(budget) => Ok(budget),
+        None => Err(InterfaceError::NoBudget(number)),
     }
-    Ok(budget.unsigned_abs())
+}
+
+/// A number of at least 0.
+fn natural(number: i64) -> Option<u64>
+    ensures { result ≡ spec.natural number }
+{
+    if number < 0 {
+        None
+    } else {
+        Some(number as u64)
+    }
+}
+
+/// Whether a run has `halts = true`.
+fn is_halting(table: &Table) -> bool
+    ensures { IsTrue result → option_and_then as_bool
+        (get_member (codes "halts") (table_view table.now)) ≡ Some true }
+{
+    let Some(value) = value_at(table, "halts") else {
+        return false;
+    };
+    let Some(halts) = value.as_bool() else {
+        return false;
+    };
+    halts
 }
 
 /// The words that a run expects; where it only halts there are none.
@@ -207,12 +297,16 @@ fn expect_in(
     alloc: Global,
     number: usize,
     table: &Table,
-) -> Result<Vec<(Vec<u8>, i64)>, InterfaceError> {
+) -> Result<Vec<(Vec<u8>, i64)>, InterfaceError>
+    ensures { IfOk result (λ expect. spec.expect_from
+        (get_member (codes "expect") (table_view table.now))
+        (get_member (codes "halts") (table_view table.now)) ≡ Some (entries expect.items)) }
+{
     let Some(value) = value_at(table, "expect") else {
-        return match value_at(table, "halts") {
-            Some(Value::Boolean(true)) => Ok(Vec::new(alloc)),
-            _ => Err(InterfaceError::NothingExpected(number)),
-        };
+        if is_halting(table) {
+            return Ok(Vec::new(alloc));
+        }
+        return Err(InterfaceError::NothingExpected(number));
     };
     if value_at(table, "halts").is_some() {
         return Err(InterfaceError::NothingExpected(number));
@@ -245,7 +339,9 @@ fn trial_of(
     number: usize,
     value: &Value,
     globals: &[(Vec<u8>, Vec<u8>)],
-) -> Result<Trial, InterfaceError> {
+) -> Result<Trial, InterfaceError>
+    ensures { IfOk result (λ trial. spec.run_of (view value.now) ≡ Some (spec.run trial)) }
+{
     let Some(table) = value.as_table() else {
         return Err(InterfaceError::BadRun(number));
     };
@@ -269,14 +365,29 @@ fn trials_in(
     alloc: Global,
     table: &Table,
     globals: &[(Vec<u8>, Vec<u8>)],
-) -> Result<Vec<Trial>, InterfaceError> {
-    let mut trials = Vec::new(alloc);
+) -> Result<Vec<Trial>, InterfaceError>
+    ensures { IfOk result (λ trials. spec.runs_from
+        (get_member (codes "runs") (table_view table.now)) ≡ Some (map spec.run trials.items)) }
+{
     let Some(value) = value_at(table, "runs") else {
-        return Ok(trials);
+        return Ok(Vec::new(alloc));
     };
     let Some(array) = value.as_array() else {
         return Err(InterfaceError::BadRuns);
     };
+    trials_of(alloc, array.as_slice(), globals)
+}
+
+/// The runs of an array.
+fn trials_of(
+    alloc: Global,
+    array: &[Value],
+    globals: &[(Vec<u8>, Vec<u8>)],
+) -> Result<Vec<Trial>, InterfaceError>
+    ensures { IfOk result (λ trials. shape.all_of spec.run_of (items_view array.now)
+        ≡ Some (map spec.run trials.items)) }
+{
+    let mut trials = Vec::new(alloc);
     for (i, item) in array.iter().enumerate() {
         let trial = trial_of(alloc, i.saturating_add(1), item, globals)?;
         trials.push(trial)?;
@@ -285,7 +396,9 @@ fn trials_in(
 }
 
 /// What a table asks of a text.
-fn interface_in(alloc: Global, table: &Table) -> Result<Interface, InterfaceError> {
+fn interface_in(alloc: Global, table: &Table) -> Result<Interface, InterfaceError>
+    ensures { IfOk result (spec.Asks (table_view table.now)) }
+{
     let judgement = judgement_in(table)?;
     let is_ordered = order_in(table)?;
     let globals = globals_in(alloc, table)?;
@@ -304,7 +417,9 @@ fn interface_in(alloc: Global, table: &Table) -> Result<Interface, InterfaceErro
 ///
 /// `NotToml` where the text is no document, no UTF-8, or has an integer beyond 64 bits; else the
 /// first fault in the order keys, lattice, profile, order, globals, runs.
-pub fn read_interface(alloc: Global, text: &[u8]) -> Result<Asked, InterfaceError> {
+pub fn read_interface(alloc: Global, text: &[u8]) -> Result<Asked, InterfaceError>
+    ensures read { IfOk result (spec.IsReadAs text.now) }
+{
     let table = table_in(alloc, text)?;
     if let Some(key) = other_key(&table, &KEYS) {
         let name = Vec::from_slice(alloc, key.as_bytes())?;

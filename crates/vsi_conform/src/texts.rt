@@ -39,8 +39,9 @@ pub(crate) fn push_parts(text: &mut Vec<u8>, parts: &[&[u8]]) -> Result<(), Allo
     Ok(())
 }
 
-/// The lines of a refusal, as of a text that is to be accepted.
-pub(crate) fn refusal_lines(
+/// The lines of a refusal, as of a text that is to be accepted. A flow of a text whose image is to
+/// be steady is told as it is judged there.
+pub fn refusal_lines(
     alloc: Global,
     lattice: &Lattice,
     text: &[u8],

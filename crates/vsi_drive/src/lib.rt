@@ -8,6 +8,9 @@
 //!
 //! `first_words` gives what a run begins with, a store file and globals that are set behind it:
 //! `specs/Starts`.
+//!
+//! To be believed: `specs/Control`, `specs/Cycles`, `specs/Fields`, `specs/Laws`, `specs/Settings`,
+//! `specs/Starts`; the other files of `specs/` are stepping stones of proofs.
 #![tactic(auto)]
 
 mod controller;

@@ -2,6 +2,8 @@
 //!
 //! `page` has one for each number that the program or the library answers; `specs/Numbers` lists
 //! them.
+//!
+//! To be believed: `specs/Numbers`.
 #![tactic(auto)]
 
 ghost use Rattle.std.specs.Prelude.{◌≡◌, ◌↔◌, IsSome, true};

@@ -47,10 +47,12 @@ module _ (L : Lattice) (P : Profile) (p : Program) (limit : size_of p ≤ 1024) 
         ∙ ap (λ t. cond t (size_of p) b) (ne_eqb b sink (λ e. omega (arith, e, le, limit)))
   ]
 
+  -- What stands before a pair stands before a later one.
   later : (a b : ℕ) (r : Pair) → IsBefore (size_of p) a b r → IsBefore (size_of p) a (b + 1) r
   later a b r (inl lt) = inl lt
   later a b r (inr (e, lt)) = inr (e, omega (arith, lt))
 
+  -- At the beginning there are no pairs.
   nothing : IsFilled L P p 0 0 []
   nothing = record {
     told = All-nil (IsTold L P p);
@@ -62,6 +64,7 @@ module _ (L : Lattice) (P : Profile) (p : Program) (limit : size_of p ≤ 1024) 
     ];
   }
 
+  -- An empty list is filled up to there.
   pub start : (pairs : List Pair) → pairs ≡ [] → IsFilled L P p 0 0 pairs
   start pairs e = subst (IsFilled L P p 0 0) (sym e) nothing
 

@@ -59,6 +59,7 @@ module _ (p : Program) (entries : length p.declared ≡ letvars p.body) (places 
     pub count : length classes ≡ n
     pub each : (v : ℕ) → v < n → Says (get_or classes v 0) v
 
+  -- The classes of one variable more.
   more : (n : ℕ) (a : AreSaid n) (c : ℕ) → Says c n → AreSaid (suc n)
   more n a c says = record {
     classes = a.classes ++ c ∷ [];
@@ -81,9 +82,11 @@ module _ (p : Program) (entries : length p.declared ≡ letvars p.body) (places 
       no' (more n a 0 (inr (refl, unreached))))
 
   module _ (said : AreSaid (size_of p)) where
+    -- The classes of all variables.
     cs : List ℕ
     cs = said.classes
 
+    -- How many globals the program has.
     g : ℕ
     g = length p.globals
 
@@ -96,21 +99,26 @@ module _ (p : Program) (entries : length p.declared ≡ letvars p.body) (places 
       body = p.body;
     }
 
+    -- A class is left for each global.
     count : length (take (length p.globals) said.classes) ≡ length p.globals
     count = length-take-le (length p.globals) said.classes (omega (arith, said.count))
 
+    -- The steps are those of the program, since classes make none.
     same_steps : steps_of Base raised ≡ steps_of Base p
     same_steps = ap (λ (n : ℕ). steps Base p.names [] (count_from 0 n) n p.body) count
 
+    -- A class is the lower or the upper one.
     is_class : (v : ℕ) → v < size_of p → get_or said.classes v 0 < 2
     is_class v lt = elim (said.each v lt) [
       | inl (e, r) ↦ omega (arith, e)
       | inr (e, r) ↦ omega (arith, e)
     ]
 
+    -- All of these are classes.
     all_classes : All (IsClass two) said.classes
     all_classes = All-from_get_or (IsClass two) said.classes 0 (λ i lt. is_class i (omega (arith, lt, said.count)))
 
+    -- The program with these classes is well formed.
     formed : IsWellFormed two raised
     formed = record {
       classes = All-take (IsClass two) (length p.globals) said.classes all_classes;
@@ -119,14 +127,17 @@ module _ (p : Program) (entries : length p.declared ≡ letvars p.body) (places 
       limit = omega (arith, count, limit);
     }
 
+    -- The classes of its `letvar`s.
     rest : List ℕ
     rest = drop (length p.globals) said.classes
 
+    -- A class is left for each `letvar`.
     rest_count : length (drop (length p.globals) said.classes) ≡ length p.declared
     rest_count =
         let d = length-drop (length p.globals) said.classes in
         omega (arith, d, said.count, entries)
 
+    -- These are a choice of the program.
     chosen : IsChoice raised (drop (length p.globals) said.classes)
     chosen = keeps_none p.declared (drop (length p.globals) said.classes) rest_count
 
@@ -157,11 +168,13 @@ module _ (p : Program) (entries : length p.declared ≡ letvars p.body) (places 
           | inr (c, n) ↦ absurd (n r)
         ]
 
+    -- Each step is between variables of the program.
     inside : All (IsInside (size_of p)) (steps_of Base p)
     inside = targets (size_of p) p.names [] (count_from 0 (length p.globals)) (length p.globals) p.body
         (subst (λ (n : ℕ). HasPlaces n p.body) (sym (length_count 0 (length p.globals))) places) (omega arith)
         (count_within 0 (length p.globals) (size_of p) (omega arith))
 
+    -- Each step is in order for these classes.
     step_up : (s : Step) → Contains (steps_of Base p) s → IsInOrder two (class_of two said.classes) s
     step_up s there = elim (upper s.source) [
       | inl low ↦ subst (λ (x : ℕ). two_leq x (class_of two said.classes s.target) ≡ true) (sym low) refl
@@ -176,6 +189,7 @@ module _ (p : Program) (entries : length p.declared ≡ letvars p.body) (places 
           (subst (λ (x : ℕ). two_leq 1 x ≡ true) (sym u) refl))
     ]
 
+    -- All steps are in order.
     in_order : AreInOrder two (class_of two (take (length p.globals) said.classes ++ drop (length p.globals)
         said.classes)) (steps_of Base raised)
     in_order =
@@ -185,18 +199,22 @@ module _ (p : Program) (entries : length p.declared ≡ letvars p.body) (places 
         (All-weaker (Contains (steps_of Base p)) (IsInOrder two (class_of two said.classes)) step_up
         (steps_of Base p) (All-contains_itself (steps_of Base p))))
 
+    -- With these classes the program is typable.
     typed : IsTypable two Base raised (drop (length p.globals) said.classes)
     typed =
         (steps_decide two Base raised (drop (length p.globals) said.classes) two_laws formed
         (All-drop (IsClass two) (length p.globals) said.classes all_classes)).1 (chosen, in_order)
 
+    -- A global has the class that is said of it.
     at_global : (l : ℕ) → l < length p.globals → get_or (take (length p.globals) said.classes) l 0
         ≡ get_or said.classes l 0
     at_global l lt = get_or-take (length p.globals) said.classes l 0 lt
 
+    -- The upper class isn't below the lower one.
     not_below : (c : ℕ) → c ≡ 1 → two_leq c 0 ≡ true → ⊥
     not_below c e t = false≢true (subst (λ (x : ℕ). two_leq x 0 ≡ true) e t)
 
+    -- Two stores that differ at the given globals alone agree at and below the lower class.
     agree : (m m' : Store) → AgreeOutside from m m' → Agree two raised.globals 0 m m'
     agree m m' out l lt low = out l (λ c.
         let lg : l < length p.globals = omega (arith, lt, count) in
@@ -205,6 +223,7 @@ module _ (p : Program) (entries : length p.declared ≡ letvars p.body) (places 
           | inr (e, n) ↦ n (l, c, ([], refl))
         ])
 
+    -- So it is by the classes that are said.
     pub equal_words : (b : ℕ) → b < length p.globals → IsUnreached p from b → (m₁ m₂ m₁' m₂' : Store)
         → length m₁ ≡ length p.globals → length m₂ ≡ length p.globals → AgreeOutside from m₁ m₂
         → Evaluates p.body m₁ m₁' → Evaluates p.body m₂ m₂' → get_or m₁' b (pos 0) ≡ get_or m₂' b (pos 0)
@@ -216,6 +235,7 @@ module _ (p : Program) (entries : length p.declared ≡ letvars p.body) (places 
           | inr (e, n) ↦ subst (λ (x : ℕ). two_leq x 0 ≡ true) (sym (at_global b lt ∙ e)) refl
         ])
 
+  -- Two stores that differ in the given globals alone end with equal words in one that none of these reaches.
   pub independent : (b : ℕ) → b < length p.globals → IsUnreached p from b → (m₁ m₂ m₁' m₂' : Store)
       → length m₁ ≡ length p.globals → length m₂ ≡ length p.globals → AgreeOutside from m₁ m₂
       → Evaluates p.body m₁ m₁' → Evaluates p.body m₂ m₂' → get_or m₁' b (pos 0) ≡ get_or m₂' b (pos 0)
@@ -247,6 +267,7 @@ global_class L p v small lt =
     ∙ ap (λ t. cond t (Some (slice_index p.globals v)) (slice_index_or p.declared (v - length p.globals) None))
     (lt-ltb v (length p.globals) lt)
 
+-- Where the table has no pair no walk reaches.
 pub unlisted_is_unreached : UnlistedIsUnreached
 unlisted_is_unreached L P p pairs from b res table lb none a w c q =
     let n = none a c in

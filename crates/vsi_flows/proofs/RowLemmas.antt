@@ -19,6 +19,7 @@ use Rattle.vsi_flows.specs.Rows.{AreLeastRows, IsRowTo, AreRows, AreRowsOf}
 
 module _ (L : Lattice) (laws : IsLattice L) (P : Profile) (p : Program) (res : IsWellFormed L p)
     (ds : AreClasses L p.declared) (flows : ℕ → ℕ → Bool) (are : AreFlowsOf P p flows) where
+  -- How many variables the program has.
   k : ℕ
   k = size_of p
 

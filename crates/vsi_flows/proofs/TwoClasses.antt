@@ -13,26 +13,31 @@ two_leq (suc a) (suc b) = true
 abbrev pub two : Lattice
 two = record { count = 2; leq = two_leq; bottom = 0; top = 1 }
 
+-- A class is at or below itself.
 itself : (a : ℕ) → two_leq a a ≡ true
 itself zero = refl
 itself (suc a) = refl
 
+-- Any class is at or below one that isn't the lowest.
 over : (a b : ℕ) → two_leq b (suc a) ≡ true
 over a zero = refl
 over a (suc b) = refl
 
+-- Two classes at or below each other are one.
 one_way : (a b : ℕ) → a < 2 → b < 2 → two_leq a b ≡ true → two_leq b a ≡ true → a ≡ b
 one_way zero zero la lb x y = refl
 one_way zero (suc b) la lb x y = absurd (false≢true y)
 one_way (suc a) zero la lb x y = absurd (false≢true x)
 one_way (suc a) (suc b) la lb x y = omega (arith, la, lb)
 
+-- Order is passed on.
 on : (a b c : ℕ) → two_leq a b ≡ true → two_leq b c ≡ true → two_leq a c ≡ true
 on zero b c x y = refl
 on (suc a) zero c x y = absurd (false≢true x)
 on (suc a) (suc b) zero x y = absurd (false≢true y)
 on (suc a) (suc b) (suc c) x y = refl
 
+-- Two classes have a join.
 join : (a b : ℕ) → a < 2 → b < 2 → HasJoin 2 (Below two) a b
 join zero b la lb = (
   b,
@@ -43,6 +48,7 @@ join (suc a) b la lb = (
   record { within = la; left = refl; right = over a b; least = λ d ld x y. x },
 )
 
+-- Two classes have a meet.
 meet : (a b : ℕ) → a < 2 → b < 2 → HasMeet 2 (Below two) a b
 meet zero b la lb = (
   0,
@@ -53,6 +59,7 @@ meet (suc a) b la lb = (
   record { within = lb; left = over a b; right = itself b; greatest = λ d ld x y. y },
 )
 
+-- All classes are at or below the upper one.
 highest : (a : ℕ) → two_leq a 1 ≡ true
 highest zero = refl
 highest (suc a) = refl

@@ -44,9 +44,11 @@ filled_table L laws P p res ds flows are pairs f = record {
 
 module _ (L : Lattice) (P : Profile) (p : Program) (rows : List (List ℕ))
     (are : AreRows L P p rows) (a b : ℕ) (la : a < size_of p) (lb : b ≤ size_of p) where
+  -- A number is that of its variable.
   here : variable_at (size_of p) a ≡ a
   here = ap (λ t. cond t sink a) (ne_eqb a (size_of p) (λ e. omega (arith, la, e)))
 
+  -- The row of a variable with a class has its fewest steps.
   row_to : (c : ℕ) → declared_class L p (variable_at (size_of p) b) ≡ Some c
       → IsRowTo P p (variable_at (size_of p) b) (get_or rows b [])
   row_to c e = are b c lb e
@@ -97,10 +99,12 @@ module _ (L : Lattice) (P : Profile) (p : Program) (rows : List (List ℕ))
 module _ (L : Lattice) (laws : IsLattice L) (P : Profile) (p : Program) (res : IsWellFormed L p)
     (within : (v c : ℕ) → declared_class L p v ≡ Some c → IsClass L c) (pairs : List Pair)
     (table : IsTable L P p pairs) where
+  -- What isn't refused is allowed.
   allowed_of : (b : Bool) → (b ≡ false → ⊥) → b ≡ true
   allowed_of true n = refl
   allowed_of false n = absurd (n refl)
 
+  -- What is refused isn't allowed.
   not_below : (b : Bool) → b ≡ false → b ≡ true → ⊥
   not_below b e t = false≢true (sym e ∙ t)
 
@@ -117,12 +121,14 @@ module _ (L : Lattice) (laws : IsLattice L) (P : Profile) (p : Program) (res : I
             (ap (declared_class L p) q.0 ∙ t.source) t.target (not_below (L.leq t.low t.high) (sym t.verdict ∙ e)),
       )
 
+  -- Where some choice is typable each pair is allowed.
   choice_allows : HasChoice L P p → AreAllowed pairs
   choice_allows (s, typed) =
       All-weaker (IsTold L P p) (λ r. r.allowed ≡ true)
       (λ r t. allowed_of r.allowed (λ e. let w = pair_bad r t e in
       bad_walks_refute L P p w.0 s laws res w.1 typed)) pairs table.told
 
+  -- Where some walk is bad not each pair is allowed.
   bad_refuses : HasBadWalk L P p → AreAllowed pairs → ⊥
   bad_refuses ([], bad) all = bad
   bad_refuses (s ∷ rest, bad) all =

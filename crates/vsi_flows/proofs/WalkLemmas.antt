@@ -47,6 +47,7 @@ module _ (L : Lattice) (laws : IsLattice L) (P : Profile) (p : Program) (res : I
     (ds : AreClasses L p.declared) (flows : ℕ → ℕ → Bool) (are : AreFlowsOf P p flows) where
   -- Along a row of fewest steps a step leads down from each place but the last.
   module _ (b : ℕ) (row : List ℕ) (d : AreLeast flows (size_of p + 1) b row) where
+    -- From each place but the last a step of the program leads down.
     down_at : (i n : ℕ) → get_or row i 0 ≡ suc n → suc n < 65535 → (i < size_of p)
         × ((s : Step) × Contains (steps_of P p) s × (s.source ≡ i) × (get_or row (row_of (size_of p) s.target) 0 ≡ n))
     down_at i n e lt =
@@ -71,6 +72,7 @@ module _ (L : Lattice) (laws : IsLattice L) (P : Profile) (p : Program) (res : I
           ),
         )
 
+    -- The row leads down by steps of the program.
     leads_down : LeadsDown (steps_of P p) (size_of p) row
     leads_down v n e lt =
         let r = down_at (row_of (size_of p) v) n e lt in
@@ -158,6 +160,7 @@ module _ (L : Lattice) (laws : IsLattice L) (P : Profile) (p : Program) (res : I
         come b row d lb r [] e to some q n z = absurd (omega (arith, n, some))
         come b row d lb r (s ∷ rest) e to some q n z = arrives b row d lb r.source e s rest q z ∙ sym to
 
+    -- A pair that is told is found where its row is.
     found_one : ((b c : ℕ) → b ≤ size_of p → declared_class L p (variable_at (size_of p) b) ≡ Some c
         → AreLeast flows (size_of p + 1) b (get_or rows b [])) → (r : Pair) → IsTold L P p r
         → IsFound (steps_of P p) (size_of p) found r

@@ -5,6 +5,9 @@
 //! allows it. A program is accepted exactly where no pair is refused (clause `verdict` of
 //! `flows_in`). That what isn't joined is independent, whatever the classes are, is a law and
 //! stands in `laws`.
+//!
+//! To be believed: `specs/Independence`, `specs/Table`, `specs/Text`; the other files of `specs/`
+//! are stepping stones of proofs.
 #![tactic(auto)]
 
 mod error;

@@ -6,6 +6,8 @@
 //! `specs/Reading`. `verify` answers the same image as a `Verified`, exactly where it is valid
 //! (`specs/Valid`), else its first fault (`specs/Faults`). `listing` is the text of an image
 //! (`specs/Listing`). `laws` says what the definitions say together.
+//!
+//! To be believed: all files of `specs/` but `specs/Marks`, a stepping stone of proofs.
 #![tactic(auto)]
 
 mod decoder;

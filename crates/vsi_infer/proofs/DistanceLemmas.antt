@@ -5,16 +5,20 @@ use Rattle.std.proofs.lemmas.List.Sums.{sum_by-set}
 use Rattle.vsi_infer.specs.Distances.{Leads, IsGoal, IsAway, AreDistances, Spreads, AtMost, IsSeen, Moved, unreached}
 
 module _ (flows : ℕ → ℕ → Bool) (goals : List Bool) (level : ℕ) (small : level < 65534) where
+  -- Where nothing moves no number does.
   pub moved_none : (far : List ℕ) → Moved flows level far far false
   moved_none far = record { down = λ v. omega arith; level_kept = λ v e. e; quiet = λ e. refl; fewer = omega arith }
 
   module _ (far : List ℕ) (from : ℕ) (lt : from < length far) (free : get_or far from 0 ≡ 65535) where
+    -- Another variable keeps its number.
     pub other : (v : ℕ) → v ≢ from → get_or (set far from (level + 1)) v 0 ≡ get_or far v 0
     other v n = get_or-set_other far from v (level + 1) 0 n
 
+    -- The variable has the new number.
     pub same : get_or (set far from (level + 1)) from 0 ≡ level + 1
     same = get_or-set_same far from (level + 1) 0 lt
 
+    -- No number grows.
     pub down : (v : ℕ) → get_or (set far from (level + 1)) v 0 ≤ get_or far v 0
     down v = elim (cases_eq v from) [
       | inl e ↦ subst (λ u. get_or (set far from (level + 1)) u 0 ≤ get_or far u 0) (sym e)
@@ -29,6 +33,7 @@ module _ (flows : ℕ → ℕ → Bool) (goals : List Bool) (level : ℕ) (small
       | inr n ↦ sym (other v n) ∙ e
     ]
 
+    -- With one number more the numbers spread as before.
     pub one_more : (to : ℕ) → flows from to ≡ true → get_or far to 0 ≡ level → to < length far
         → Spreads flows goals level far → Spreads flows goals level (set far from (level + 1))
     one_more to fl at tl s = record {
@@ -60,6 +65,7 @@ module _ (flows : ℕ → ℕ → Bool) (goals : List Bool) (level : ℕ) (small
           omega (arith, c, e, down a);
     }
 
+    -- With one number more something has moved.
     pub one_moved : (old : List ℕ) (more : Bool) → Moved flows level old far more
         → Moved flows level old (set far from (level + 1)) true
     one_moved old more m = record {
@@ -101,6 +107,7 @@ module _ (flows : ℕ → ℕ → Bool) (goals : List Bool) (level : ℕ) (small
 
 module _ (flows : ℕ → ℕ → Bool) (goals : List Bool) (level : ℕ) (small : level < 65534)
     (within : (a b : ℕ) → flows a b ≡ true → (a < length goals) × (b < length goals)) where
+  -- Where each place of a level was seen no flow to it is left out.
   seen_closed : (new : List ℕ) → Spreads flows goals level new
       → ((b : ℕ) → b < length new → get_or new b 0 ≡ level → IsSeen flows level new b) → (a b : ℕ)
       → flows a b ≡ true → get_or new b 0 < level + 1 → get_or new a 0 ≤ get_or new b 0 + 1

@@ -23,6 +23,7 @@ explained l source r (x ∷ xs) d e lt =
     ap (λ (i : ℕ). flat_map (step_line source r) (x ∷ xs) ++ last_text l r x.source (get_or (x ∷ xs) i e).target) n
     ∙ ap (λ v. flat_map (step_line source r) (x ∷ xs) ++ last_text l r x.source v) (last_at x e xs)
 
+-- What isn't 0 is above it.
 pub positive : (n : ℕ) → false ≡ (n == 0) → 0 < n
 positive zero e = absurd (false≢true e)
 positive (suc n) e = omega arith

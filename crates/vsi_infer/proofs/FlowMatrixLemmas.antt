@@ -22,6 +22,7 @@ or_swap false true false = refl
 or_swap false false true = refl
 or_swap false false false = refl
 
+-- What is added twice under one condition is added at once.
 both_to : (x t r g : Bool) → ((x || (t && r)) || (t && g)) ≡ (x || (t && (r || g)))
 both_to true t r g = refl
 both_to false true r g = refl
@@ -53,6 +54,7 @@ leads_same P k f g h scope n (Letvar e c) a b =
 
 -- One command more of a list.
 module _ (P : Profile) (k : ℕ) (around : ℕ → Bool) (scope : List ℕ) (a b : ℕ) where
+  -- A sequence leads where its commands do, one after the other.
   leads_push : (n : ℕ) (cs : List Cmd) (c : Cmd) → leads P k around scope n (sequence (cs ++ c ∷ [])) a b ≡
       (leads P k around scope n (sequence cs) a b || leads P k around scope (n + letvars (sequence cs))
       (command c) a b)
@@ -69,6 +71,7 @@ module _ (P : Profile) (k : ℕ) (around : ℕ → Bool) (scope : List ℕ) (a b
       ∙ ap (λ m. (leads P k around scope n (command x) a b || leads P k around scope (n + letvars (command x))
       (sequence cs) a b) || leads P k around scope m (command c) a b) e
 
+  -- One more command leads where it does.
   pub leads_more : (n : ℕ) (cs : List Cmd) (i : ℕ) (c : Cmd) → i < length cs → c ≡ get_or cs i c
       → leads P k around scope n (sequence (take (i + 1) cs)) a b ≡
       (leads P k around scope n (sequence (take i cs)) a b || leads P k around scope
@@ -79,10 +82,12 @@ module _ (P : Profile) (k : ℕ) (around : ℕ → Bool) (scope : List ℕ) (a b
       ∙ ap (λ y. leads P k around scope n (sequence (take i cs)) a b || leads P k around scope
       (n + letvars (sequence (take i cs))) (command y) a b) (sym is)
 
+-- A position: rows, the variable of each location, the next declaration.
 abbrev pub position : List ℕ → List ℕ → ℕ → Position
 position r s n = record { rows = r; scope = s; next = n }
 
 module _ (P : Profile) (k : ℕ) (around : ℕ → Bool) where
+  -- The same places lead the same.
   moved : (s s' : List ℕ) (n n' : ℕ) (c : Command) (x y : ℕ) → s ≡ s' → n ≡ n'
       → leads P k around s n c x y ≡ leads P k around s' n' c x y
   moved s s' n n' c x y p q = ap (λ z. leads P k around z n c x y) p ∙ ap (λ m. leads P k around s' m c x y) q
@@ -126,6 +131,7 @@ module _ (P : Profile) (k : ℕ) (around : ℕ → Bool) where
             (sym (leads_more P k around a.scope x y a.next cs i c lt is));
       }
 
+  -- At the end the whole sequence is noted.
   pub noted_all : (a b : Position) (cs : List Cmd) (i : ℕ) → length cs ≤ i
       → IsNoted P k around a (sequence (take i cs)) b → IsNoted P k around a (sequence cs) b
   noted_all a b cs i le h = subst (λ l. IsNoted P k around a (sequence l) b) (take_all i cs le) h
@@ -208,6 +214,7 @@ module _ (P : Profile) (k : ℕ) (around : ℕ → Bool) where
 
 -- Where the rows have room for a command, they have it for its parts.
 module _ (k : ℕ) where
+  -- A position of the same places is ready for a command of fewer declarations.
   pub ready_same : (a b : Position) (c d : Command) → HasPlaces (length a.scope) d → letvars d ≤ letvars c
       → IsReady k a c → b.scope ≡ a.scope → b.next ≡ a.next → length b.rows ≡ length a.rows → IsReady k b d
   ready_same a b c d places le r sc ne len = record {
@@ -218,6 +225,7 @@ module _ (k : ℕ) where
     room = omega (arith, r.room, len);
   }
 
+  -- Behind one command a position is ready for the next.
   pub ready_after : (P : Profile) (around : ℕ → Bool) (a b : Position) (c c₁ d : Command) → HasPlaces (length a.scope) d
       → letvars c₁ + letvars d ≤ letvars c → IsReady k a c → IsNoted P k around a c₁ b → IsReady k b d
   ready_after P around a b c c₁ d places le r h = record {
@@ -228,6 +236,7 @@ module _ (k : ℕ) where
     room = omega (arith, r.room, h.room);
   }
 
+  -- Inside of a `letvar` a position is ready for its body.
   pub ready_letvar : (a b : Position) (e : Expression) (c : Command) → IsReady k a (Letvar e c) → b.scope ≡ a.scope
       ++ a.next ∷ [] → b.next ≡ a.next + 1 → length b.rows ≡ length a.rows → IsReady k b c
   ready_letvar a b e c r sc ne len =

@@ -42,9 +42,11 @@ from_push old new s e x c = elim (Contains-push_cases old s x (subst (λ l. Cont
 pub from_some : (xs ys a b : List Step) → ((x : Step) → Contains xs x → Contains ys x) → IsFrom xs a b → IsFrom ys a b
 from_some xs ys a b f h x c = elim (h x c) [ inl l ↦ inl l | inr r ↦ inr (f x r) ]
 
+-- What is kept of the first list is kept of both.
 pub from_left : (xs ys a b : List Step) → IsFrom xs a b → IsFrom (xs ++ ys) a b
 from_left xs ys a b h = from_some xs (xs ++ ys) a b (λ x. Contains-append_left xs ys x) h
 
+-- What is kept of the second list is kept of both.
 pub from_right : (xs ys a b : List Step) → IsFrom ys a b → IsFrom (xs ++ ys) a b
 from_right xs ys a b h = from_some ys (xs ++ ys) a b (λ x. Contains-append_right xs ys x) h
 
@@ -69,6 +71,7 @@ all_from ss old new e h x c = elim (h x c) [
   | inr r ↦ r
 ]
 
+-- What was kept of an empty beginning are steps of the list.
 pub all_kept : (ss tt' old new : List Step) → ss ≡ tt' → old ≡ [] → IsFrom ss old new → All (Contains tt') new
 all_kept ss tt' old new e z h k d lt =
     subst (λ l. Contains l (get_or new k d)) e (all_from ss old new z h (get_or new k d) (Contains-get_or new k d lt))
@@ -125,6 +128,7 @@ proposed_there ss x o h (y, e, t) =
     list_any_at (same_step x) ss c.0 y c.1 (subst (λ z. same_step x z ≡ true) (sym c.2) t)
 
 module _ (P : Profile) (names : ℕ → Span) where
+  -- The steps of a command from a place on.
   abbrev here : Place → Command → List Step
   here a c = steps P names a.guards a.scope a.next c
 
@@ -205,6 +209,7 @@ module _ (P : Profile) (names : ℕ → Span) where
   -- The commands of a list, up to a place in it.
   module _ (a b : Place) (w x : List Step) (cs : List Cmd) (i : ℕ) (c : Cmd) (lt : i < length cs)
       (is : c ≡ get_or cs i c) (h : IsGathered P names a w (sequence (take i cs)) b x) where
+    -- Behind the next command one more of the list has been gathered.
     pub gathered_more : (d : Place) (y : List Step) → IsGathered P names b x (command c) d y
         → IsGathered P names a w (sequence (take (i + 1) cs)) d y
     gathered_more d y j = record {
@@ -217,6 +222,7 @@ module _ (P : Profile) (names : ℕ → Span) where
       next = (let e = letvars_more cs i c lt is in omega (arith, j.next, h.next, e));
     }
 
+    -- Room for the list is room for its next command.
     pub gathered_room : (first count : ℕ) → HasRoom first count a (sequence cs) → HasRoom first count b (command c)
     gathered_room first count f =
         let l = letvars_at cs i c lt is in
@@ -228,6 +234,7 @@ module _ (P : Profile) (names : ℕ → Span) where
           small = f.small;
         }
 
+  -- At the end the whole list has been gathered.
   pub gathered_all : (a b : Place) (w x : List Step) (cs : List Cmd) (i : ℕ) → length cs ≤ i
       → IsGathered P names a w (sequence (take i cs)) b x → IsGathered P names a w (sequence cs) b x
   gathered_all a b w x cs i le h = subst (λ l. IsGathered P names a w (sequence l) b x) (take_all i cs le) h

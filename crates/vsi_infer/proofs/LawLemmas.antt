@@ -12,6 +12,7 @@ use Rattle.vsi_types.specs.Steps.{reads, guarded, flows, endings, steps}
 use Rattle.vsi_types.specs.Security.{steps_of}
 use Rattle.vsi_infer.specs.Laws.{BaseWalksStayBad}
 
+-- A step of a command under the base profile is one under the strict profile.
 pub stays : (names : ℕ → Span) (x : Step) (gs : List Guard) (scope : List ℕ) (n : ℕ) (c : Command)
     → Contains (steps Base names gs scope n c) x → Contains (steps Strict names gs scope n c) x
 stays names x gs scope n Skip h = h
@@ -46,6 +47,7 @@ stays names x gs scope n (Letvar e c) h =
           (stays names x gs (scope ++ n ∷ []) (n + 1) c k)
     ]
 
+-- What is bad under the base profile is bad under the strict one.
 pub base_stay_bad : BaseWalksStayBad
 base_stay_bad L p [] bad = bad
 base_stay_bad L p (s ∷ rest) bad = record {

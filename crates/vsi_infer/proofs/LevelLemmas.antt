@@ -6,15 +6,18 @@ use Rattle.vsi_infer.specs.Shortest.{far_at}
 
 -- A row is empty, or has what it is to have.
 module _ (Q : ℕ → List ℕ → Type 0) where
+  -- A row is empty, or what is claimed of it holds.
   abbrev pub EmptyOr : List (List ℕ) → ℕ → Type 0
   EmptyOr rows k = (get_or rows k [] ≡ []) ⊎ Q k (get_or rows k [])
 
+  -- A row that was put in has what it was put in with.
   pub set_has : (rows : List (List ℕ)) (i : ℕ) (row : List ℕ) → i < length rows → Q i row → (k : ℕ) → k ≡ i
       → Q k (get_or (set rows i row) k [])
   set_has rows i row lt q k e =
       subst (λ (m : ℕ). Q m (get_or (set rows i row) m [])) (sym e)
       (subst (Q i) (sym (get_or-set_same rows i row [] lt)) q)
 
+  -- With one row put in each is empty or has what is claimed of it.
   pub set_each : (rows : List (List ℕ)) (i : ℕ) (row : List ℕ) → i < length rows → Q i row
       → ((k : ℕ) → EmptyOr rows k) → (k : ℕ) → EmptyOr (set rows i row) k
   set_each rows i row lt q h k = elim (cases_eq k i) [
@@ -22,6 +25,7 @@ module _ (Q : ℕ → List ℕ → Type 0) where
     | inr n ↦ subst (λ r. (r ≡ []) ⊎ Q k r) (sym (get_or-set_other rows i k row [] n)) (h k)
   ]
 
+  -- What is claimed of a row stays when another one is put in.
   pub set_kept : (rows : List (List ℕ)) (i : ℕ) (row : List ℕ) → i < length rows → Q i row → (k : ℕ)
       → Q k (get_or rows k []) → Q k (get_or (set rows i row) k [])
   set_kept rows i row lt q k h = elim (cases_eq k i) [
@@ -29,6 +33,7 @@ module _ (Q : ℕ → List ℕ → Type 0) where
     | inr n ↦ subst (Q k) (sym (get_or-set_other rows i k row [] n)) h
   ]
 
+  -- A row that isn't empty has what is claimed of it.
   pub has_filled : (rows : List (List ℕ)) (k : ℕ) → (get_or rows k [] ≡ [] → ⊥) → EmptyOr rows k
       → Q k (get_or rows k [])
   has_filled rows k full h = elim h [ inl e ↦ absurd (full e) | inr q ↦ q ]
@@ -40,6 +45,7 @@ map_set f [] i x = refl
 map_set f (y ∷ xs) zero x = refl
 map_set f (y ∷ xs) (suc i) x = ap (λ l. f y ∷ l) (map_set f xs i x)
 
+-- One more empty row leaves all of them empty.
 pub empty_more : (rows : List (List ℕ)) (row : List ℕ) → row ≡ [] → ((k : ℕ) → get_or rows k [] ≡ []) → (k : ℕ)
     → get_or (rows ++ row ∷ []) k [] ≡ []
 empty_more [] row e h zero = e
@@ -71,6 +77,7 @@ next_none R ds v o lt never h u c le e = elim (cases_eq u v) [
     inner : (a : Option ℕ) (c : ℕ) → Some a ≡ Some (Some c) → a ≡ Some c
     inner a c e = ap (λ o. elim o as (λ _. Option ℕ) [ None ↦ a | Some x ↦ x ]) e
 
+-- What holds of the first variables holds of one more, where it holds of this one.
 pub next_some : (R R' : ℕ → Type 0) → ((c : ℕ) → R c → R' c) → (ds : List (Option ℕ)) (v class : ℕ) (o : Option ℕ)
     → v < length ds → get_or ds v o ≡ Some class → R' class →
     ((u c : ℕ) → u < v → slice_get ds u ≡ Some (Some c) → R c)
@@ -89,12 +96,15 @@ module _ (ds : List (Option ℕ)) (rows : List (List ℕ)) where
   abbrev pub Lower : ℕ → ℕ → Type 0
   Lower best v = (u c : ℕ) → u < v → slice_get ds u ≡ Some (Some c) → best ≤ far_at rows c u
 
+  -- Two classes that were found are equal where the findings are.
   some_of : (a b : Option ℕ) → Some a ≡ Some b → a ≡ b
   some_of a b e = ap (λ o. elim o as (λ _. Option ℕ) [ None ↦ a | Some x ↦ x ]) e
 
+  -- Two classes that were found are one where the findings are equal.
   class_of : (a b : ℕ) → Some a ≡ Some b → a ≡ b
   class_of a b e = ap (λ o. elim o as (λ _. ℕ) [ None ↦ a | Some x ↦ x ]) e
 
+  -- A variable without a class leaves the lower bound as it is.
   pub lower_none : (best v : ℕ) (o : Option ℕ) → v < length ds → ((x : ℕ) → get_or ds v o ≡ Some x → ⊥)
       → Lower best v → Lower best (v + 1)
   lower_none best v o lt never h u c le e = elim (cases_eq u v) [
@@ -103,6 +113,7 @@ module _ (ds : List (Option ℕ)) (rows : List (List ℕ)) where
     | inr n ↦ h u c (omega (arith, le, n)) e
   ]
 
+  -- A variable with a class keeps the lower bound, where its distance is no smaller.
   pub lower_some : (best best' v class : ℕ) (o : Option ℕ) → v < length ds → get_or ds v o ≡ Some class
       → best' ≤ best → best' ≤ far_at rows class v → Lower best v → Lower best' (v + 1)
   lower_some best best' v class o lt is less here h u c le e = elim (cases_eq u v) [
@@ -116,6 +127,7 @@ module _ (ds : List (Option ℕ)) (rows : List (List ℕ)) where
   abbrev pub Attained : ℕ → Type 0
   Attained n = (n ≡ 65535) ⊎ ((v : ℕ) × (c : ℕ) × (slice_get ds v ≡ Some (Some c)) × (far_at rows c v ≡ n))
 
+  -- Where the smaller of two is taken a distance attains it.
   pub fewer : (best far best' v class : ℕ) (o : Option ℕ) → v < length ds → get_or ds v o ≡ Some class
       → best' ≡ min best far → far_at rows class v ≡ far → Attained best → Attained best'
   fewer best far best' v class o lt is m f h = elim (cases_lt far best) [
@@ -124,6 +136,7 @@ module _ (ds : List (Option ℕ)) (rows : List (List ℕ)) where
     | inr ge ↦ (let e : best' ≡ best = omega (arith, m, ge) in subst Attained (sym e) h)
   ]
 
+  -- At the end the lower bound is one for all of the declared variables.
   pub lower_all : (best v : ℕ) → length ds ≤ v → Lower best v → (u c : ℕ) → slice_get ds u ≡ Some (Some c)
       → best ≤ far_at rows c u
   lower_all best v le h u c e = h u c (let lt = slice_get_within ds u (Some c) e in omega (arith, lt, le)) e

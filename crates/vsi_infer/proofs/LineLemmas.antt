@@ -25,12 +25,14 @@ mark text i line column le s = record {
   within = le;
 }
 
+-- Behind a line feed a mark stands at the next line's beginning.
 pub mark_break : (text : List ℕ) (m : Mark) → m.at < length text → eqb (get_or text m.at 0) 10 ≡ true
     → IsMarkOf text m → IsMarkOf text (record { at = m.at + 1; line = m.line + 1; column = 1 })
 mark_break text m lt e i =
     mark text (m.at + 1) (m.line + 1) 1 (omega (arith, lt))
     (stands_break text m.at m.line m.column lt e (stands text m i))
 
+-- Behind another byte a mark stands one column further.
 pub mark_on : (text : List ℕ) (m : Mark) → m.at < length text → eqb (get_or text m.at 0) 10 ≡ false
     → IsMarkOf text m → IsMarkOf text (record { at = m.at + 1; line = m.line; column = m.column + 1 })
 mark_on text m lt e i =
@@ -42,6 +44,7 @@ pub line_at : (text : List ℕ) (m : Mark) (at : ℕ) → m.at ≡ min at (lengt
     → m.line ≡ 1 + breaks (take at text)
 line_at text m at e i = i.line ∙ ap (λ l. 1 + breaks l) (stop text at m.at e)
 
+-- The column of a place counts the bytes of its line before it.
 pub column_at : (text : List ℕ) (m : Mark) (at : ℕ) → m.at ≡ min at (length text) → IsMarkOf text m
     → m.column ≡ 1 + length (last_line (take at text))
 column_at text m at e i = i.column ∙ ap (λ l. 1 + length (last_line l)) (stop text at m.at e)

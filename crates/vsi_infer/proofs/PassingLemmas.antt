@@ -26,6 +26,7 @@ module _ (P : Profile) (names : ℕ → Span) (p : Step → Bool) where
   abbrev pub here : Place → Command → List Step
   here a c = steps P names a.guards a.scope a.next c
 
+  -- Where the first list has no such step the second decides.
   pub passed_then : (xs ys : List Step) (o : Option Step) → find p xs ≡ None → find p ys ≡ o → find p (xs ++ ys) ≡ o
   passed_then xs ys o e f = find-append p xs ys ∙ ap (λ x. option_or x (find p ys)) e ∙ f
 
@@ -34,6 +35,7 @@ module _ (P : Profile) (names : ℕ → Span) (p : Step → Bool) where
       → Sought {E = ⊤} P names p a c b (Ok o) → find p (here a c) ≡ Some s
   sought_some a b c o s e h = subst (λ x. Sought {E = ⊤} P names p a c b (Ok x)) e h
 
+  -- A command in which the search finds none is passed.
   pub sought_none : (a b : Place) (c : Command) (o : Option Step) → o ≡ None → Sought {E = ⊤} P names p a c b (Ok o)
       → IsPassed P names p a c b
   sought_none a b c o e h = subst (λ x. Sought {E = ⊤} P names p a c b (Ok x)) e h
@@ -46,6 +48,7 @@ module _ (P : Profile) (names : ℕ → Span) (p : Step → Bool) where
       subst (λ u. find p (here (place u g' n) c) ≡ Some s) f (subst (λ l. find p (here (place t l n) c) ≡ Some s) e
       (sought_some (place t g n) b c o s i h))
 
+  -- So is one in which the search from an equal place finds none.
   pub none_at : (t t' : List ℕ) (g g' : List Guard) (n : ℕ) (b : Place) (c : Command) (o : Option Step) → t ≡ t'
       → g ≡ g' → o ≡ None → Sought {E = ⊤} P names p (place t g n) c b (Ok o) → IsPassed P names p (place t' g' n) c b
   none_at t t' g g' n b c o f e i h =
@@ -73,6 +76,7 @@ module _ (P : Profile) (names : ℕ → Span) (p : Step → Bool) where
 
   module _ (a : Place) (e : Expression) (c d : Command) (none : find p
       (endings P (has_loop c || has_loop d) (reads a.scope e)) ≡ None) where
+    -- A step of the first branch is one of the command.
     pub choose_first : (s : Step) → find p (here (inside typing.If e a) c) ≡ Some s → find p (here a (If e c d))
         ≡ Some s
     choose_first s h =
@@ -81,6 +85,7 @@ module _ (P : Profile) (names : ℕ → Span) (p : Step → Bool) where
         (steps P names (a.guards ++ guarded typing.If (reads a.scope e)) a.scope
         (a.next + letvars c) d) s h)
 
+    -- Where the first branch is passed the second decides.
     pub choose_second : (b : Place) (o : Option Step) → IsPassed P names p (inside typing.If e a) c b
         → find p (here b d) ≡ o → find p (here a (If e c d)) ≡ o
     choose_second b o i h =
@@ -90,6 +95,7 @@ module _ (P : Profile) (names : ℕ → Span) (p : Step → Bool) where
         (a.next + letvars c) d) o i.nothing
         (moved (inside typing.If e a) b d o i.scope i.guards (a.next + letvars c) i.next h))
 
+    -- Where both branches are passed the command is.
     pub choose_none : (b b' z : Place) → IsPassed P names p (inside typing.If e a) c b → IsPassed P names p b d b'
         → z.scope ≡ b'.scope → z.guards ≡ take (length a.guards) b'.guards → z.next ≡ b'.next
         → IsPassed P names p a (If e c d) z
@@ -102,10 +108,12 @@ module _ (P : Profile) (names : ℕ → Span) (p : Step → Bool) where
     }
 
   module _ (a : Place) (e : Expression) (c : Command) (none : find p (endings P true (reads a.scope e)) ≡ None) where
+    -- What is found in a loop's body is what is found in the loop.
     pub repeat_some : (o : Option Step) → find p (here (inside typing.While e a) c) ≡ o → find p (here a (While e c))
         ≡ o
     repeat_some o h = passed_then (endings P true (reads a.scope e)) _ o none h
 
+    -- Where its body is passed a loop is.
     pub repeat_none : (b z : Place) → IsPassed P names p (inside typing.While e a) c b → z.scope ≡ b.scope
         → z.guards ≡ take (length a.guards) b.guards → z.next ≡ b.next → IsPassed P names p a (While e c) z
     repeat_none b z i s g n = record {
@@ -117,6 +125,7 @@ module _ (P : Profile) (names : ℕ → Span) (p : Step → Bool) where
     }
 
   module _ (a : Place) (e : Expression) (c : Command) where
+    -- A flow into a new variable is a step of the `letvar`.
     pub allocate_here : (s : Step) → find p (flows a.next (names a.next) (guarded typing.Letvar (reads a.scope e)))
         ≡ Some
         s → find p (here a (Letvar e c)) ≡ Some s
@@ -124,11 +133,13 @@ module _ (P : Profile) (names : ℕ → Span) (p : Step → Bool) where
         (here (within_letvar a) c) s h
 
     module _ (none : find p (flows a.next (names a.next) (guarded typing.Letvar (reads a.scope e))) ≡ None) where
+      -- Without one there, what is found in its body is what is found in the `letvar`.
       pub allocate_some : (o : Option Step) → find p (here (within_letvar a) c) ≡ o
           → find p (here a (Letvar e c)) ≡ o
       allocate_some o h = passed_then (flows a.next (names a.next) (guarded typing.Letvar (reads a.scope e)))
           (here (within_letvar a) c) o none h
 
+      -- Where its body is passed a `letvar` is.
       pub allocate_none : (b z : Place) → IsPassed P names p (within_letvar a) c b
           → z.scope ≡ take (length a.scope) b.scope → z.guards ≡ b.guards → z.next ≡ b.next
           → IsPassed P names p a (Letvar e c) z
@@ -142,6 +153,7 @@ module _ (P : Profile) (names : ℕ → Span) (p : Step → Bool) where
   -- The commands of a list, up to a place in it.
   module _ (a b : Place) (cs : List Cmd) (i : ℕ) (c : Cmd) (lt : i < length cs) (is : c ≡ get_or cs i c)
       (h : IsPassed P names p a (sequence (take i cs)) b) where
+    -- A step of the next command is one of the list.
     pub list_some : (s : Step) → find p (here b (command c)) ≡ Some s → find p (here a (sequence cs)) ≡ Some s
     list_some s f =
         let r = steps_at P names a.guards a.scope a.next cs i c lt is in
@@ -149,6 +161,7 @@ module _ (P : Profile) (names : ℕ → Span) (p : Step → Bool) where
         ap (find p) r.1 ∙ passed_then (here a (sequence (take i cs))) _ (Some s) h.nothing
         (found_left p (steps P names a.guards a.scope (a.next + letvars (sequence (take i cs))) (command c)) r.0 s k)
 
+    -- Where the next command is passed one more of the list is.
     pub list_more : (d : Place) → IsPassed P names p b (command c) d
         → IsPassed P names p a (sequence (take (i + 1) cs)) d
     list_more d j = record {
@@ -161,6 +174,7 @@ module _ (P : Profile) (names : ℕ → Span) (p : Step → Bool) where
       next = (let e = letvars_more cs i c lt is in omega (arith, j.next, h.next, e));
     }
 
+    -- Room for the list is room for its next command.
     pub room_next : (first count : ℕ) → HasRoom first count a (sequence cs) → HasRoom first count b (command c)
     room_next first count f =
         let l = letvars_at cs i c lt is in

@@ -75,6 +75,7 @@ module _ (ss : List Step) where
   path_steps a b [] p = All-nil (Contains ss)
   path_steps a b (x ∷ xs) p = All-cons (Contains ss) x xs p.1 (path_steps x.target b xs p.2)
 
+  -- A path is a chain of steps to its end.
   pub path_chain : (a b : ℕ) (s : Step) (rest : List Step) → IsPath ss a (s ∷ rest) b → IsChain s rest
       × (last_target s rest ≡ b)
   path_chain a b s [] p = (tt, p.2)
@@ -82,6 +83,7 @@ module _ (ss : List Step) where
       let r = path_chain s.target b t rest p.2 in
       ((sym p.2.0, r.0), r.1)
 
+  -- A chain of the program's steps is a path.
   pub chain_path : (s : Step) (rest : List Step) → All (Contains ss) (s ∷ rest) → IsChain s rest
       → IsPath ss s.source (s ∷ rest) (last_target s rest)
   chain_path s [] all c = (refl, All-head (Contains ss) s [] all, refl)
@@ -128,6 +130,7 @@ pub record Bad (L : Lattice) (P : Profile) (p : Program) (xs : List Step) (s : S
   pub target : declared_class L p end ≡ Some high
   pub down : Below L low high → ⊥
 
+-- What makes a walk bad, told by its first step.
 pub bad_parts : (L : Lattice) (P : Profile) (p : Program) (xs : List Step) (s : Step) → slice_get xs 0 ≡ Some s
     → IsBad L P p xs → Bad L P p xs s
 bad_parts L P p [] s e bad = absurd bad
@@ -195,6 +198,7 @@ rule_is typing.Loop typing.If e = absurd (false≢true e)
 rule_is typing.Loop typing.While e = absurd (false≢true e)
 rule_is typing.Loop typing.Letvar e = absurd (false≢true e)
 
+-- A rule is the same as itself.
 rule_self : (r : Rule) → same_rule r r ≡ true
 rule_self typing.Assign = refl
 rule_self typing.If = refl
@@ -202,6 +206,7 @@ rule_self typing.While = refl
 rule_self typing.Letvar = refl
 rule_self typing.Loop = refl
 
+-- Numbers that compare equal are equal.
 pub equal : (a b : ℕ) → (a == b) ≡ true → a ≡ b
 equal a b t = grind (arith, nat_tests)
 
@@ -209,17 +214,21 @@ equal a b t = grind (arith, nat_tests)
 pub same_from : (a b : ℕ) → false ≡ not (a == b) → a ≡ b
 same_from a b t = grind (arith, nat_tests)
 
+-- Numbers that compare different differ.
 pub differ_from : (a b : ℕ) → true ≡ not (a == b) → a ≡ b → ⊥
 differ_from a b t e = false≢true (sym (t ∙ ap not (eq-eqb a b e)))
 
+-- A test doesn't hold where its equal fails.
 pub not_true : (a b : Bool) → a ≡ b → not a ≡ true → b ≡ true → ⊥
 not_true true b e n t = false≢true n
 not_true false b e n t = false≢true (e ∙ t)
 
+-- Where a test can't hold its equal fails.
 pub true_not : (a b : Bool) → a ≡ b → (b ≡ true → ⊥) → not a ≡ true
 true_not true b e n = absurd (n (sym e))
 true_not false b e n = refl
 
+-- Spans that compare equal are equal.
 span_is : (s t : Span) → same_span s t ≡ true → s ≡ t
 span_is s t e =
     let q = and_parts (s.start == t.start) (s.stop == t.stop) e in
@@ -227,10 +236,12 @@ span_is s t e =
     let b = equal s.stop t.stop q.1 in
     ap (λ x. record { start = x; stop = s.stop }) a ∙ ap (λ x. record { start = t.start; stop = x }) b
 
+-- A span is the same as itself.
 span_self : (s : Span) → same_span s s ≡ true
 span_self s = and_from (s.start == s.start) (s.stop == s.stop) (eq-eqb s.start s.start refl)
     (eq-eqb s.stop s.stop refl)
 
+-- Steps that compare equal are equal.
 step_is : (x s : Step) → same_step x s ≡ true → s ≡ x
 step_is x s e =
     let q = and_parts (read_is x s.rule s.source s.read) (written_is x s.target s.written) e in
@@ -248,6 +259,7 @@ step_is x s e =
     ∙ ap (λ y. record { rule = x.rule; source = x.source; target = x.target; read = y; written = s.written }) c
     ∙ ap (λ y. record { rule = x.rule; source = x.source; target = x.target; read = x.read; written = y }) f
 
+-- A step is the same as itself.
 step_self : (x : Step) → same_step x x ≡ true
 step_self x =
     and_from (read_is x x.rule x.source x.read) (written_is x x.target x.written)
@@ -264,6 +276,7 @@ same_there x (s ∷ ss) e = elim (or_cases (same_step x s) (list_any (same_step 
   | inr t ↦ (let r = same_there x ss t in (suc r.0, omega (arith, r.1), r.2))
 ]
 
+-- A step of a list is found in it.
 pub there_same : (x : Step) (ss : List Step) → Contains ss x → list_any (same_step x) ss ≡ true
 there_same x ss c = list_any_at (same_step x) ss c.0 x c.1 (subst (λ y. same_step x y ≡ true) (sym c.2) (step_self x))
 
@@ -272,6 +285,7 @@ module _ (x : Step) where
   abbrev pub guards_pass : List Guard → Bool
   guards_pass gs = list_any (λ g. read_is x g.rule g.read.variable g.read.place) gs
 
+  -- The guards of an expression pass a step as the expression does.
   reads_as : (rule : Rule) (scope : List ℕ) (e : Expression) → guards_pass
       (guarded rule (reads scope e)) ≡ reads_pass x rule scope e
   reads_as rule scope (Number z) = refl
@@ -288,6 +302,7 @@ module _ (x : Step) where
           ∙ sym (or_assoc (read_is x rule r.variable r.place) (guards_pass (guarded rule rs))
           (guards_pass (guarded rule qs)))
 
+  -- The endings of a loop pass a step as its guard does.
   ends_as : (scope : List ℕ) (e : Expression) → list_any (same_step x)
       (endings Strict true (reads scope e)) ≡ ends_pass x scope e
   ends_as scope (Number z) = refl
@@ -303,20 +318,24 @@ module _ (x : Step) where
           (more rs qs) ∙ sym (or_assoc (read_is x typing.Loop r.variable r.place && written_is x sink r.place)
           (list_any (same_step x) (endings Strict true rs)) (list_any (same_step x) (endings Strict true qs)))
 
+  -- Nothing is lost of a fact by a true one beside it.
   and_true : (t : Bool) → t ≡ (t && true)
   and_true true = refl
   and_true false = refl
 
+  -- With a false one beside it nothing holds.
   and_false : (t : Bool) → false ≡ (t && false)
   and_false true = refl
   and_false false = refl
 
+  -- The endings pass a step where the profile looks at them.
   endings_as : (P : Profile) (looping : Bool) (scope : List ℕ) (e : Expression)
       → list_any (same_step x) (endings P looping (reads scope e)) ≡ (ends_pass x scope e && observes_ending P looping)
   endings_as Base looping scope e = and_false (ends_pass x scope e)
   endings_as Strict false scope e = and_false (ends_pass x scope e)
   endings_as Strict true scope e = ends_as scope e ∙ and_true (ends_pass x scope e)
 
+  -- The flows of a target pass a step that its guards pass and that is written there.
   flows_as : (target : ℕ) (written : Span) (gs : List Guard) → list_any (same_step x) (flows target written gs) ≡
       (guards_pass gs && written_is x target written)
   flows_as target written [] = refl
@@ -330,10 +349,12 @@ module _ (x : Step) where
       distribute true false false = refl
       distribute false y b = refl
 
+  -- A step of two lists is one of either.
   any_append : (xs ys : List Step) → list_any (same_step x) (xs ++ ys) ≡
       (list_any (same_step x) xs || list_any (same_step x) ys)
   any_append xs ys = list_any-append (same_step x) xs ys
 
+  -- A guard of two lists is one of either.
   guards_append : (gs hs : List Guard) → guards_pass (gs ++ hs) ≡ (guards_pass gs || guards_pass hs)
   guards_append gs hs = list_any-append (λ (g : Guard). read_is x g.rule g.read.variable g.read.place) gs hs
 

@@ -21,16 +21,19 @@ left_bit (suc zero) (suc zero) h k = refl
 left_bit (suc (suc x)) y h k = absurd (omega arith)
 left_bit x (suc (suc y)) h k = absurd (omega arith)
 
+-- A condition of what is left is one of the whole and of what is left out.
 and_inside : (t x z : Bool) → (t && (x && not z)) ≡ ((t && x) && not (t && z))
 and_inside true x z = refl
 and_inside false x z = refl
 
+-- Nothing is lost of a fact by a true one beside it.
 and_true : (x : Bool) → x ≡ (x && true)
 and_true true = refl
 and_true false = refl
 
 module _ (old new reached : List ℕ) (i : ℕ) (fits : i < length old)
     (e : new ≡ set old i (bit_xor (bit_or (get_or old i 0) (get_or reached i 0)) (get_or reached i 0))) where
+  -- In the word itself what is reached is left out.
   left_here : (a : ℕ) → a / 64 ≡ i → flow_has new 0 a ≡ (flow_has old 0 a && not (flow_has reached 0 a))
   unfolding flow_has
   left_here a q =
@@ -49,12 +52,14 @@ module _ (old new reached : List ℕ) (i : ℕ) (fits : i < length old)
       (bit_at-lt x (a % 64)) (bit_at-lt y (a % 64)))
       ∙ and_inside (nat_lt a 1024) (bit_at x (a % 64) == 1) (bit_at y (a % 64) == 1)
 
+  -- Another word stays.
   left_there : (a : ℕ) → a / 64 ≢ i → flow_has new 0 a ≡ flow_has old 0 a
   unfolding flow_has
   left_there a n = ap (λ l. nat_lt a 1024 && (bit_at (get_or l (0 * 16 + a / 64) 0) (a % 64) == 1)) e
       ∙ ap (λ (m : ℕ). nat_lt a 1024 && (bit_at m (a % 64) == 1))
       (get_or-set_other old i (0 * 16 + a / 64) _ 0 (λ q. n (omega (arith, q))))
 
+  -- What is left of a set when a word of what is reached is taken out.
   pub left_word : (a : ℕ) → flow_has new 0 a ≡ (flow_has old 0 a && not ((a / 64 == i) && flow_has reached 0 a))
   left_word a = elim (cases_eq (a / 64) i) [
     | inl q ↦ left_here a q ∙ ap (λ t. flow_has old 0 a && not (t && flow_has reached 0 a))
@@ -63,6 +68,7 @@ module _ (old new reached : List ℕ) (i : ℕ) (fits : i < length old)
         ∙ ap (λ t. flow_has old 0 a && not (t && flow_has reached 0 a)) (sym (ne_eqb (a / 64) i n))
   ]
 
+-- Two words left out one after the other are left out together.
 left_shuffle : (x l q m w : Bool) → m ≡ (l || q) → ((x && not (l && w)) && not (q && w)) ≡ (x && not (m && w))
 left_shuffle false l q m w h = refl
 left_shuffle true true q m true h = ap (λ t. not (t && true)) (sym h)
@@ -75,6 +81,7 @@ left_shuffle true true q m false h = left_none q m
     left_none false false = refl
 left_shuffle true false q m w h = ap (λ t. not (t && w)) (sym h)
 
+-- Below the next number is below this one, or this one.
 next_one : (q i : ℕ) → nat_lt q (i + 1) ≡ (nat_lt q i || (q == i))
 next_one q i = grind (arith, nat_tests)
 
@@ -103,6 +110,7 @@ has_small words row v h = elim (cases_lt v 1024) [
   | inr le ↦ absurd (false≢true (sym (and_left (nat_lt v 1024) _ (le-ltb v 1024 le)) ∙ h))
 ]
 
+-- What isn't true is false.
 not_true : (x : Bool) → (x ≡ true → ⊥) → x ≡ false
 not_true true f = absurd (f refl)
 not_true false f = refl
@@ -212,6 +220,7 @@ module _ (flows : ℕ → ℕ → Bool) (front : ℕ → Bool) (level : ℕ) (sm
     outside = s.outside;
   }
 
+  -- Behind the last of the places the set has been collected.
   pub spread_collected : (far : List ℕ) (next : ℕ → Bool) (more : Bool) (v : ℕ)
       → ((u : ℕ) → front u ≡ true → u < 1024) → 1024 ≤ v → IsSpread flows front level v old far next more
       → IsCollected flows front next
@@ -220,6 +229,7 @@ module _ (flows : ℕ → ℕ → Bool) (front : ℕ → Bool) (level : ℕ) (sm
     sound = s.sound;
   }
 
+  -- Where nothing was found the set is empty.
   pub spread_quiet : (far : List ℕ) (next : ℕ → Bool) (more : Bool) (v : ℕ)
       → ((u : ℕ) → front u ≡ true → u < 1024) → 1024 ≤ v → IsSpread flows front level v old far next more
       → more ≡ false → (u : ℕ) → front u ≡ false
@@ -237,28 +247,34 @@ and_first : (x y : Bool) → (x && y) ≡ true → x ≡ true
 and_first true y e = refl
 and_first false y e = absurd (false≢true e)
 
+-- What is in one set without another isn't in the other.
 and_not : (x y : Bool) → (x && not y) ≡ true → y ≡ false
 and_not true true e = absurd (false≢true e)
 and_not true false e = refl
 and_not false y e = absurd (false≢true e)
 
+-- What is in one set, and not in it without another, is in the other.
 one_of : (x y : Bool) → x ≡ true → (x && not y) ≡ false → y ≡ true
 one_of true true e f = refl
 one_of true false e f = absurd (true≢false f)
 one_of false y e f = absurd (false≢true e)
 
+-- One of two holds.
 either_of : (x y : Bool) → (x || y) ≡ true → (x ≡ true) ⊎ (y ≡ true)
 either_of true y e = inl refl
 either_of false y e = inr e
 
+-- Of two that fail the first does.
 neither_left : (x y : Bool) → (x || y) ≡ false → x ≡ false
 neither_left true y e = absurd (true≢false e)
 neither_left false y e = refl
 
+-- Of two that fail the second does.
 neither_right : (x y : Bool) → (x || y) ≡ false → y ≡ false
 neither_right true y e = absurd (true≢false e)
 neither_right false y e = e
 
+-- A test holds or fails.
 true_or_false : (x : Bool) → (x ≡ true) ⊎ (x ≡ false)
 true_or_false true = inl refl
 true_or_false false = inr refl
@@ -281,11 +297,13 @@ module _ (flows : ℕ → ℕ → Bool) (count b : ℕ) (few : count ≤ 1025)
     fresh_within a h =
         let c = s.sources a (and_first (front a) (not (reached a)) (sym (left a) ∙ h)) in (within a c.0 c.2).0
 
+    -- What is in the new set has no number yet.
     pub fresh_free : (a : ℕ) → front' a ≡ true → get_or far a 0 ≡ 65535
     fresh_free a h =
         let f = and_first (front a) (not (reached a)) (sym (left a) ∙ h) in
         s.unreached_free a (fresh_within a h) (bits a f) (and_not (front a) (reached a) (sym (left a) ∙ h))
 
+    -- What has a number isn't in the new set.
     numbered_old : (v : ℕ) → get_or far v 0 < 65535 → front' v ≡ false
     numbered_old v lt = not_true (front' v) (λ h. let e = fresh_free v h in omega (arith, e, lt))
 
@@ -309,6 +327,7 @@ module _ (flows : ℕ → ℕ → Bool) (count b : ℕ) (few : count ≤ 1025)
     module _ (new : List ℕ) (next : ℕ → Bool) (more : Bool) (num : IsNumbered front' level far new)
         (both : (a : ℕ) → reached' a ≡ (reached a || front' a)) (got : IsCollected flows front' next)
         (fewer : unreached new + cond more 1 0 ≤ unreached far) (yes' : more ≡ true) (small : level < 65535) where
+      -- A place with a number leads there in so many flows.
       sound : (v : ℕ) → v < count → get_or new v 0 < 65535 → Leads flows (get_or new v 0) v b
       sound v lt h = elim (true_or_false (front' v)) [
         | inl t ↦ (let c = s.sources v (and_first (front v) (not (reached v)) (sym (left v) ∙ t)) in
@@ -319,18 +338,21 @@ module _ (flows : ℕ → ℕ → Bool) (count b : ℕ) (few : count ≤ 1025)
             (s.sound v lt (omega (arith, h, num.outside v n)))
       ]
 
+      -- A number is below the next level.
       below : (v : ℕ) → v < count → get_or new v 0 < 65535 → get_or new v 0 < level + 1
       below v lt h = elim (true_or_false (front' v)) [
         | inl t ↦ omega (arith, num.inside v t)
         | inr n ↦ (let q = s.below v lt (omega (arith, h, num.outside v n)) in omega (arith, q, num.outside v n))
       ]
 
+      -- A place that flows to one with a number gets at most one more.
       least_at : (v c n : ℕ) → flows v c ≡ true → get_or far c 0 ≤ n → n + 1 ≡ level → get_or new v 0 ≤ n + 1
       least_at v c n f le e = elim (step_below v c f (omega (arith, le, e)) (omega (arith, le, e, small))) [
         | inl q ↦ omega (arith, num.inside v q.0, e)
         | inr q ↦ omega (arith, num.outside v q.1, q.0, le)
       ]
 
+      -- A place that leads there in so many flows has no larger number.
       least : (n v : ℕ) → n < level + 1 → Leads flows n v b → get_or new v 0 ≤ n
       least zero v lt w =
           let le = s.least zero v (omega (arith, s.some)) w in
@@ -370,12 +392,14 @@ module _ (flows : ℕ → ℕ → Bool) (count b : ℕ) (few : count ≤ 1025)
             omega (arith, q, s.bound);
       }
 
+      -- The numbers are those of the next level.
       pub level_more : (all : List ℕ) → all ≡ new → IsLevel flows count b (level + 1) all reached' next
       level_more all e = subst (λ l. IsLevel flows count b (level + 1) l reached' next) (sym e) more_is
 
     -- No place is new.
     module _ (new : List ℕ) (num : IsNumbered front' level far new) (none : (a : ℕ) → front' a ≡ false)
         (small : level < 65535) where
+      -- What leads there at all has a number, and no larger one.
       all_least : (n v : ℕ) → Leads flows n v b → (get_or far v 0 < 65535) × (get_or far v 0 ≤ n)
       all_least zero v w = let le = s.least zero v (omega (arith, s.some)) w in (omega (arith, le), le)
       all_least (suc n) v (c, f, w) =
@@ -386,6 +410,7 @@ module _ (flows : ℕ → ℕ → Bool) (count b : ℕ) (few : count ≤ 1025)
             | inr t ↦ (omega (arith, t.0, l, small), omega (arith, t.0, q.1))
           ]
 
+      -- Behind the last level all numbers are least.
       pub level_last : (all : List ℕ) → all ≡ new → AreLeast flows count b all
       level_last all e = subst (AreLeast flows count b) (sym e) record {
         len = num.len ∙ s.len;

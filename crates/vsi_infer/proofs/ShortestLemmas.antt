@@ -31,6 +31,7 @@ high_is : (leq : ℕ → ℕ → Bool) (low : ℕ) (d : Option ℕ) → is_high 
 high_is leq low None e = absurd (false≢true e)
 high_is leq low (Some h) e = (h, refl, λ t. false≢true (sym (ap not t) ∙ e))
 
+-- A declared class that the lower one isn't at or below is high.
 is_high_of : (leq : ℕ → ℕ → Bool) (low : ℕ) (d : Option ℕ) (h : ℕ) → d ≡ Some h → (leq low h ≡ true → ⊥)
     → is_high leq low d ≡ true
 is_high_of leq low d h e n = ap (is_high leq low) e ∙ by (leq low h) n
@@ -44,6 +45,7 @@ pub leads_push : (flows : ℕ → ℕ → Bool) (n a b c : ℕ) → Leads flows 
 leads_push flows zero a b c w f = (c, ap (λ (x : ℕ). flows x c) w ∙ f, refl)
 leads_push flows (suc n) a b c (d, g, w) f = (d, g, leads_push flows n d b c w f)
 
+-- A walk of so many flows leads there.
 leads_of : (flows : ℕ → ℕ → Bool) (n a b : ℕ) → Walk flows n a b → Leads flows n a b
 leads_of flows zero a b w = w
 leads_of flows (suc n) a b (c, w, f) = leads_push flows n a c b (leads_of flows n a c w) f
@@ -59,19 +61,24 @@ begin_parts rows last now after (Some c) s e =
 
 module _ (L : Lattice) (laws : IsLattice L) (P : Profile) (p : Program) (res : IsWellFormed L p)
     (ds : AreClasses L p.declared) (flows : ℕ → ℕ → Bool) (are : AreFlowsOf P p flows) where
+  -- The table has an entry for each variable and for the ending.
   size : length (table L p) ≡ size_of p + 1
   size = table_length L p res.entries res.limit
 
+  -- The goals of a class are as many as the table has entries.
   goals_size : (c : ℕ) → length (goals_of L.leq (table L p) c) ≡ size_of p + 1
   goals_size c = length-map (table L p) (is_high L.leq c) ∙ size
 
+  -- There are at most 1,025 goals.
   few : (c : ℕ) → length (goals_of L.leq (table L p) c) ≤ 1025
   few c = omega (arith, goals_size c, are.size)
 
+  -- A flow is between places of the table.
   inside : (c : ℕ) (a b : ℕ) → flows a b ≡ true → (a < length (goals_of L.leq (table L p) c))
       × (b < length (goals_of L.leq (table L p) c))
   inside c a b f = let w = are.within a b f in (omega (arith, w.0, goals_size c), omega (arith, w.1, goals_size c))
 
+  -- A goal has a declared class that the class isn't at or below.
   goal_is : (c v : ℕ) → IsGoal (goals_of L.leq (table L p) c) v → (h : ℕ) × (get_or (table L p) v None ≡ Some h)
       × (Below L c h → ⊥)
   goal_is c v g = elim (cases_lt v (length (table L p))) [
@@ -81,6 +88,7 @@ module _ (L : Lattice) (laws : IsLattice L) (P : Profile) (p : Program) (res : I
         (omega (arith, ge, goals_size c, size))) ∙ g))
   ]
 
+  -- A variable with a declared class that the class isn't at or below is a goal.
   is_goal : (c v h : ℕ) → get_or (table L p) v None ≡ Some h → (Below L c h → ⊥)
       → IsGoal (goals_of L.leq (table L p) c) v
   is_goal c v h e n = elim (cases_lt v (length (table L p))) [
@@ -97,6 +105,7 @@ module _ (L : Lattice) (laws : IsLattice L) (P : Profile) (p : Program) (res : I
         ∙ ap (λ t. cond t (size_of p) b) (ne_eqb b sink (λ e. omega (arith, e, le, are.size)))
   ]
 
+  -- A row before the last is that of its variable.
   pub row_plain : (v : ℕ) → row_of (size_of p) v < size_of p → row_of (size_of p) v ≡ v
   row_plain v lt = elim (cases_eq v sink) [
     | inl e ↦ absurd (let q : row_of (size_of p) v ≡ size_of p = ap (λ t. cond t (size_of p) v) (eq-eqb v sink e) in
@@ -131,6 +140,7 @@ module _ (L : Lattice) (laws : IsLattice L) (P : Profile) (p : Program) (res : I
           ),
         )
 
+    -- A row of fewest steps leads down by steps of the program.
     pub leads_down : LeadsDown (steps_of P p) (size_of p) row
     leads_down v n e lt =
         let r = down_at (row_of (size_of p) v) n e lt in
@@ -149,6 +159,7 @@ module _ (L : Lattice) (laws : IsLattice L) (P : Profile) (p : Program) (res : I
             ∙ there_step (steps_of P p) x there,
       )
 
+  -- A step is read from a variable of the program.
   pub source_within : (x : Step) → Contains (steps_of P p) x → x.source < size_of p
   source_within x there = let f = step_flow x there in (are.within x.source f.0 f.3).0
 
@@ -161,6 +172,7 @@ module _ (L : Lattice) (laws : IsLattice L) (P : Profile) (p : Program) (res : I
         omega (arith, s, lt, are.size))
   ]
 
+  -- A chain of steps is as many flows.
   chain_leads : (s : Step) (rest : List Step) → All (Contains (steps_of P p)) (s ∷ rest) → IsChain s rest → (b : ℕ)
       × (b ≤ size_of p) × (last_target s rest ≡ variable_at (size_of p) b)
       × Leads flows (length (s ∷ rest)) s.source b
@@ -221,6 +233,7 @@ module _ (L : Lattice) (laws : IsLattice L) (P : Profile) (p : Program) (res : I
         unwrap : (d : Option ℕ) (c : ℕ) → Some d ≡ Some (Some c) → d ≡ Some c
         unwrap d c e = ap (λ o. elim o as (λ _. Option ℕ) [ None ↦ d | Some x ↦ x ]) e
 
+    -- Where a bad walk exists some step begins a shortest one.
     pub begin_there : HasBadWalk L.count L.leq flows (table L p) → (1 ≤ n)
         × ((s : Step) × Contains (steps_of P p) s × (begins (table L p) rows (size_of p) n (n - 1) s ≡ true))
     begin_there has = elim best.attained [
@@ -295,6 +308,7 @@ module _ (L : Lattice) (laws : IsLattice L) (P : Profile) (p : Program) (res : I
         shorter e [] bad = absurd bad
         shorter e (x ∷ xs) bad = let q = no_shorter x xs bad in omega (arith, q, e)
 
+  -- What the table declares are classes.
   pub table_classes : AreClasses L (table L p)
   table_classes =
       All-append (λ d. IfSome d (IsClass L)) (map Some p.globals) (p.declared ++ Some L.bottom ∷ [])
@@ -311,18 +325,23 @@ module _ (L : Lattice) (laws : IsLattice L) (P : Profile) (p : Program) (res : I
   -- The same for a list that is the table.
   module _ (T : List (Option ℕ)) (same : T ≡ table L p) (rows : List (List ℕ)) (levels : AreLevels L flows T rows)
       (n : ℕ) (best : IsFewest T rows n) (has : HasBadWalk L.count L.leq flows (table L p)) where
+    -- The rows have the fewest flows from each declared class.
     levels' : AreLevels L flows (table L p) rows
     levels' = subst (λ t. AreLevels L flows t rows) same levels
 
+    -- The number is the fewest of any walk that breaks the policy.
     best' : IsFewest (table L p) rows n
     best' = subst (λ t. IsFewest t rows n) same best
 
+    -- The last entry of the table is the ending.
     pub last_is : length T - 1 ≡ size_of p
     last_is = omega (arith, ap length same, size)
 
+    -- A bad walk has a step at least.
     pub length_some : 1 ≤ n
     length_some = (begin_there rows levels' n best' has).0
 
+    -- Some step begins a shortest bad walk.
     pub first_step : (s : Step) × Contains (steps_of P p) s × (begins T rows (length T - 1) n (n - 1) s ≡ true)
     first_step =
         let r = (begin_there rows levels' n best' has).1 in (
@@ -333,17 +352,21 @@ module _ (L : Lattice) (laws : IsLattice L) (P : Profile) (p : Program) (res : I
         )
 
     module _ (s : Step) (there : Contains (steps_of P p) s) (c : ℕ) (o : Some c ≡ get_or T s.source None) where
+      -- The source of the first step has its declared class.
       here : get_or (table L p) s.source None ≡ Some c
       here = sym (o ∙ ap (λ t. get_or t s.source None) same)
 
+      -- The source of the first step has that class in the table.
       declared_here : slice_get (table L p) s.source ≡ Some (Some c)
       declared_here = let lt = source_within s there in slice_get-get_or (table L p) s.source None
           (omega (arith, lt, size)) ∙ ap Some here
 
+      -- The row of the class leads down by steps of the program.
       pub row_leads : LeadsDown (steps_of P p) (length T - 1) (get_or rows c [])
       row_leads = subst (λ (k : ℕ). LeadsDown (steps_of P p) k (get_or rows c [])) (sym last_is)
           (leads_down c (get_or rows c []) (levels' s.source c declared_here))
 
+      -- Behind the first step one step less is left.
       pub level_after : begins T rows (length T - 1) n (n - 1) s ≡ true
           → get_or (get_or rows c []) (row_of (length T - 1) s.target) 0 ≡ n - 1
       level_after w =
@@ -351,6 +374,7 @@ module _ (L : Lattice) (laws : IsLattice L) (P : Profile) (p : Program) (res : I
           let e = some_same c q.0 (o ∙ q.1) in
           ap (λ (k : ℕ). far_at rows k (row_of (length T - 1) s.target)) e ∙ q.3
 
+      -- What goes on so is a shortest bad walk.
       pub shortest : (items : List Step) → (rest : List Step) × (items ≡ s ∷ rest)
           × IsArrived (steps_of P p) (length T - 1) (get_or rows c []) s.source (n - 1 + 1) (s ∷ rest)
           → IsShortest L P p items

@@ -20,9 +20,11 @@ use Rattle.vsi_infer.specs.Membership.{IsFor, same_step, passes}
 use Rattle.vsi_infer.proofs.PathLemmas.{steps_pass}
 
 module _ (r : Resolved) (res : IsResolved r) where
+  -- The body's locations exist at its beginning.
   at_start : HasPlaces (length (count_from 0 (length r.globals))) (sequence r.body)
   at_start = subst (λ n. HasPlaces n (sequence r.body)) (sym (length_count 0 (length r.globals))) res.places
 
+  -- The body has room at its beginning.
   whole_room : HasRoom (length r.globals) (length r.letvars) (place (count_from 0 (length r.globals)) []
       (length r.globals)) (sequence r.body)
   whole_room = record {
@@ -32,6 +34,7 @@ module _ (r : Resolved) (res : IsResolved r) where
     small = omega (arith, res.entries, res.few_declarations);
   }
 
+  -- The body fits its place at the beginning.
   whole_for : IsFor (length r.globals) (length r.letvars) (record
       { scope = count_from 0 (length r.globals); next = length r.globals }) (sequence r.body)
   whole_for = record {
@@ -44,6 +47,7 @@ module _ (r : Resolved) (res : IsResolved r) where
 
   module _ (scope : List ℕ) (n : ℕ) (entries : List Entry) (body : List Cmd) (s : scope ≡ count_from 0 n)
       (g : n ≡ length r.globals) (ls : entries ≡ r.letvars) (b : body ≡ r.body) where
+    -- A beginning of the same globals has that room.
     pub start_room : HasRoom n (length entries) (place scope [] n) (sequence body)
     start_room =
         subst (λ t. HasRoom n (length entries) (place t [] n) (sequence body)) (sym s)
@@ -53,6 +57,7 @@ module _ (r : Resolved) (res : IsResolved r) where
         (subst (λ l. HasRoom (length r.globals) (length r.letvars)
         (place (count_from 0 (length r.globals)) [] (length r.globals)) (sequence l)) (sym b) whole_room)))
 
+    -- A beginning of the same globals fits.
     pub start_for : IsFor n (length entries) (record { scope = scope; next = n }) (sequence body)
     start_for =
         subst (λ t. IsFor n (length entries) (record { scope = t; next = n }) (sequence body)) (sym s)
@@ -64,6 +69,7 @@ module _ (r : Resolved) (res : IsResolved r) where
         (record { scope = count_from 0 (length r.globals); next = length r.globals }) (sequence l))
         (sym b) whole_for)))
 
+    -- From there the steps are those of the program.
     pub start_steps : (P : Profile) → steps P (name_place entries n) [] scope n (sequence body) ≡ steps_of P
         (program r)
     start_steps P =
@@ -74,11 +80,13 @@ module _ (r : Resolved) (res : IsResolved r) where
         ∙ ap (λ (k : ℕ). steps P (name_place r.letvars k) [] (count_from 0 n) n (sequence r.body)) g
         ∙ ap (λ (k : ℕ). steps P (name_place r.letvars (length r.globals)) [] (count_from 0 k) k (sequence r.body)) m
 
+    -- From there a step passes where it is one of the program's.
     pub start_passes : (x : Step) (P : Profile) → passes x P (name_place entries n) false scope n
         (sequence body) ≡ list_any (same_step x) (steps_of P (program r))
     start_passes x P = sym (steps_pass x P (name_place entries n) [] scope n (sequence body))
         ∙ ap (list_any (same_step x)) (start_steps P)
 
+    -- What is sought there is what is sought among the program's steps.
     pub start_sought : {E : Type 0} (P : Profile) (p : Step → Bool) (z : Place) (o : Result (Option Step) E)
         → Sought P (name_place entries n) p (place scope [] n) (sequence body) z o
         → IfOk o (λ t. t ≡ find p (steps_of P (program r)))

@@ -26,15 +26,18 @@ use Rattle.vsi_infer.proofs.FlowMatrixLemmas.{leads_same}
 abbrev pub guards_read : List Guard → ℕ → Bool
 guards_read gs v = list_any (λ g. g.read.variable == v) gs
 
+-- One of the reads is of the variable.
 abbrev reads_list : List Read → ℕ → Bool
 reads_list rs v = list_any (λ r. r.variable == v) rs
 
+-- Both of two facts, in either order.
 and_swap : (x y : Bool) → (x && y) ≡ (y && x)
 and_swap true true = refl
 and_swap true false = refl
 and_swap false true = refl
 and_swap false false = refl
 
+-- A condition of both of two alternatives is one of the two together.
 and_over : (x y t : Bool) → ((x && t) || (t && y)) ≡ (t && (x || y))
 and_over true true true = refl
 and_over true true false = refl
@@ -45,6 +48,7 @@ and_over false true false = refl
 and_over false false true = refl
 and_over false false false = refl
 
+-- The reads of an expression are of the variables that it reads.
 reads_as : (scope : List ℕ) (e : Expression) (v : ℕ) → reads_list (reads scope e) v ≡ reads_it scope e v
 reads_as scope (Number z) v = refl
 reads_as scope (Location l s) v = or-false (slice_index scope l == v)
@@ -53,30 +57,36 @@ reads_as scope (Operator o a b) v =
     ∙ ap (λ x. x || reads_list (reads scope b) v) (reads_as scope a v)
     ∙ ap (λ x. reads_it scope a v || x) (reads_as scope b v)
 
+-- Guards made of reads read what these do.
 guarded_as : (rule : Rule) (rs : List Read) (v : ℕ) → guards_read (guarded rule rs) v ≡ reads_list rs v
 guarded_as rule [] v = refl
 guarded_as rule (r ∷ rs) v = ap (λ x. (r.variable == v) || x) (guarded_as rule rs v)
 
+-- The guards of an expression read what it reads.
 guards_as : (rule : Rule) (scope : List ℕ) (e : Expression) (v : ℕ)
     → guards_read (guarded rule (reads scope e)) v ≡ reads_it scope e v
 guards_as rule scope e v = guarded_as rule (reads scope e) v ∙ reads_as scope e v
 
+-- With the guards of an expression behind them guards read what they did, and what it reads.
 more_guards : (gs : List Guard) (rule : Rule) (scope : List ℕ) (e : Expression) (v : ℕ)
     → guards_read (gs ++ guarded rule (reads scope e)) v ≡ inside (guards_read gs) scope e v
 more_guards gs rule scope e v = list_any-append (λ (g : Guard). g.read.variable == v) gs
     (guarded rule (reads scope e)) ∙ ap (λ x. guards_read gs v || x) (guards_as rule scope e v)
 
+-- A flow to a target goes there from what its guards read.
 flows_as : (target : ℕ) (written : Span) (gs : List Guard) (a b : ℕ)
     → has_step (flows target written gs) a b ≡ ((target == b) && guards_read gs a)
 flows_as target written [] a b = sym (and-false (target == b))
 flows_as target written (g ∷ gs) a b = ap (λ x. ((g.read.variable == a) && (target == b)) || x)
     (flows_as target written gs a b) ∙ and_over (g.read.variable == a) (guards_read gs a) (target == b)
 
+-- The endings of a loop go from what is read to the ending.
 loops_as : (rs : List Read) (a b : ℕ) → has_step (endings Strict true rs) a b ≡ ((sink == b) && reads_list rs a)
 loops_as [] a b = sym (and-false (sink == b))
 loops_as (r ∷ rs) a b = ap (λ x. ((r.variable == a) && (sink == b)) || x) (loops_as rs a b)
     ∙ and_over (r.variable == a) (reads_list rs a) (sink == b)
 
+-- An ending is observed by what an expression reads, where the profile looks at it.
 endings_as : (P : Profile) (looping : Bool) (scope : List ℕ) (e : Expression) (a b : ℕ)
     → has_step (endings P looping (reads scope e)) a b
     ≡ (observes_ending P looping && ((sink == b) && reads_it scope e a))
@@ -84,10 +94,12 @@ endings_as Base looping scope e a b = refl
 endings_as Strict false scope e a b = refl
 endings_as Strict true scope e a b = loops_as (reads scope e) a b ∙ ap (λ x. (sink == b) && x) (reads_as scope e a)
 
+-- Two lists together have the steps of each.
 step_append : (xs ys : List Step) (a b : ℕ) → has_step (xs ++ ys) a b ≡ (has_step xs a b || has_step ys a b)
 step_append xs ys a b = list_any-append (leads_between a b) xs ys
 
 module _ (k : ℕ) (small : k ≤ 1024) where
+  -- The ending is the last of the numbers.
   at_sink : (b : ℕ) → b ≤ k → (sink == variable_at k b) ≡ (b == k)
   at_sink b le = ⊎_elim
       (λ e. ap (λ t. sink == cond t sink b) (eq-eqb b k e) ∙ sym (eq-eqb b k e))
@@ -95,6 +107,7 @@ module _ (k : ℕ) (small : k ≤ 1024) where
       ∙ sym (ne_eqb b k n))
       (cases_eq b k)
 
+  -- A variable is the number that it has.
   at_variable : (t b : ℕ) → t < k → (t == variable_at k b) ≡ (b == t)
   at_variable t b lt = ⊎_elim
       (λ e. ap (λ x. t == cond x sink b) (eq-eqb b k e) ∙ ne_eqb t sink (λ q. omega (arith, lt, small, q))
@@ -103,10 +116,12 @@ module _ (k : ℕ) (small : k ≤ 1024) where
       (λ q. ne_eqb t b (λ r. q (sym r)) ∙ sym (ne_eqb b t q)) (cases_eq b t))
       (cases_eq b k)
 
+  -- A location stands for a variable.
   location : (scope : List ℕ) (l : ℕ) → All (λ v. v < k) scope → l < length scope → slice_index scope l < k
   location scope l all lt = All-get_or (λ v. v < k) scope l 0 lt all
 
   module _ (P : Profile) (names : ℕ → Span) (a b : ℕ) (le : b ≤ k) where
+    -- The steps of a command lead as its flows do.
     pub steps_as : (gs : List Guard) (scope : List ℕ) (n : ℕ) (c : Command) → HasPlaces (length scope) c
         → n + letvars c ≤ k → All (λ v. v < k) scope → has_step (steps P names gs scope n c) a
         (variable_at k b) ≡ leads P k (guards_read gs) scope n c a b
@@ -174,14 +189,17 @@ module _ (k : ℕ) (small : k ≤ 1024) where
   reads_within scope (Operator o a b) v places all h = ⊎_elim (reads_within scope a v places.0 all)
       (reads_within scope b v places.1 all) (or_cases (reads_it scope a v) (reads_it scope b v) h)
 
+  -- Only variables of the program are read around.
   abbrev Within : (ℕ → Bool) → Type 0
   Within around = (v : ℕ) → around v ≡ true → v < k
 
+  -- With what an expression reads they are still variables of the program.
   inside_within : (around : ℕ → Bool) (scope : List ℕ) (e : Expression) → HasLocations (length scope) e
       → All (λ v. v < k) scope → Within around → Within (inside around scope e)
   inside_within around scope e places all w v h = ⊎_elim (w v) (reads_within scope e v places all)
       (or_cases (around v) (reads_it scope e v) h)
 
+  -- What leads anywhere goes from a variable to a variable or to the ending.
   pub leads_within : (P : Profile) (a b : ℕ) (around : ℕ → Bool) → Within around
       → (scope : List ℕ) (n : ℕ) (c : Command) → HasPlaces (length scope) c → n + letvars c ≤ k
       → All (λ v. v < k) scope → leads P k around scope n c a b ≡ true → (a < k) × (b ≤ k)

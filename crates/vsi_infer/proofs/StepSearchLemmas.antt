@@ -12,9 +12,11 @@ use Rattle.vsi_types.specs.declared.rules.Read.{Read}
 use Rattle.vsi_types.specs.Steps.{flow, flows, guarded, ending, endings}
 use Rattle.vsi_types.specs.declared.rules.Profile.TheVariants.{Strict}
 
+-- What is found in the first list is found in both.
 pub found_left : (p : Step → Bool) (xs ys : List Step) (s : Step) → find p xs ≡ Some s → find p (xs ++ ys) ≡ Some s
 found_left p xs ys s e = find-append p xs ys ∙ ap (λ o. option_or o (find p ys)) e
 
+-- What isn't in the first list is found in the second.
 pub found_right : (p : Step → Bool) (xs ys : List Step) (o : Option Step) → find p xs ≡ None → o ≡ find p ys
     → o ≡ find p (xs ++ ys)
 found_right p xs ys o e f = f ∙ sym (find-append p xs ys ∙ ap (λ x. option_or x (find p ys)) e)
@@ -46,6 +48,7 @@ guards_passed p target written gs i g lt is none not =
       written = written;
     })) None) not)))
 
+-- A flow of the next guard is found behind those before it.
 pub guards_found : (p : Step → Bool) (target : ℕ) (written : Span) (gs : List Guard) (i : ℕ) (g : Guard)
     → i < length gs → g ≡ get_or gs i g → find p (flows target written (take i gs)) ≡ None
     → p (record {
@@ -97,10 +100,12 @@ pub flows_both : (target : ℕ) (written : Span) (rule : Rule) (xs ys : List Rea
 flows_both target written rule xs ys = ap (flows target written) (map-append _ xs ys)
     ∙ map-append (flow target written) (guarded rule xs) (guarded rule ys)
 
+-- The endings of two lists of reads are those of each.
 pub endings_both : (xs ys : List Read) → endings Strict true (xs ++ ys) ≡ endings Strict true xs
     ++ endings Strict true ys
 endings_both xs ys = map-append ending xs ys
 
+-- A step found among the flows of an assignment's reads is found among all of its flows.
 pub assign_left : (p : Step → Bool) (target target' : ℕ) → target ≡ target' → (written : Span) (xs xs' : List Guard)
     → xs ≡ xs' → (gs : List Guard) (s : Step) → Some s ≡ find p (flows target written xs)
     → Some s ≡ find p (flows target' written (xs' ++ gs))
@@ -109,6 +114,7 @@ assign_left p target target' at written xs xs' same gs s h =
     (flows target' written gs) s (sym (h ∙ ap (λ (t : ℕ). find p (flows t written xs)) at
     ∙ ap (λ l. find p (flows target' written l)) same)))
 
+-- Where the reads have none the guards decide.
 pub assign_right : (p : Step → Bool) (target target' : ℕ) → target ≡ target'
     → (written : Span) (xs xs' : List Guard) → xs ≡ xs' → (gs gs' : List Guard) → gs ≡ gs' → (o : Option Step)
     → None ≡ find p (flows target written xs) → o ≡ find p (flows target written gs)

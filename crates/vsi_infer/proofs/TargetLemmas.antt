@@ -20,6 +20,7 @@ abbrev pub HasTarget : ℕ → Step → Type 0
 HasTarget k s = (b : ℕ) × (b ≤ k) × (s.target ≡ variable_at k b)
 
 module _ (k : ℕ) where
+  -- A step to a variable has a target.
   to_variable : (s : Step) → s.target < k → HasTarget k s
   to_variable s lt = (
     s.target,
@@ -28,6 +29,7 @@ module _ (k : ℕ) where
         (ne_eqb s.target k (λ e. omega (arith, lt, e)))),
   )
 
+  -- Flows to a variable have targets.
   flows_to : (target : ℕ) (written : Span) (gs : List Guard) → target < k
       → All (HasTarget k) (flows target written gs)
   flows_to target written [] lt = All-nil (HasTarget k)
@@ -42,6 +44,7 @@ module _ (k : ℕ) where
         written = written;
       }) lt) (flows_to target written gs lt)
 
+  -- The endings of a loop have targets.
   loops_to : (rs : List Read) → All (HasTarget k) (endings Strict true rs)
   loops_to [] = All-nil (HasTarget k)
   loops_to (r ∷ rs) = All-cons (HasTarget k) (record {
@@ -57,11 +60,13 @@ module _ (k : ℕ) where
     sym (ap (λ t. cond t sink k) (eq-eqb k k refl)),
   ) (loops_to rs)
 
+  -- Endings under any profile have targets.
   endings_to : (P : Profile) (looping : Bool) (rs : List Read) → All (HasTarget k) (endings P looping rs)
   endings_to Base looping rs = All-nil (HasTarget k)
   endings_to Strict false rs = All-nil (HasTarget k)
   endings_to Strict true rs = loops_to rs
 
+  -- All steps of a command have targets.
   pub targets : (P : Profile) (names : ℕ → Span) (gs : List Guard) (scope : List ℕ) (n : ℕ) (c : Command)
       → HasPlaces (length scope) c → n + letvars c ≤ k → All (λ v. v < k) scope
       → All (HasTarget k) (steps P names gs scope n c)

@@ -16,19 +16,23 @@ use Rattle.vsi_infer.proofs.RankLemmas.{distance_falls}
 at_other : (s s' : List ℕ) (to j v : ℕ) → s' ≡ set s to j → v ≢ to → get_or s' v 0 ≡ get_or s v 0
 at_other s s' to j v e n = ap (λ l. get_or l v 0) e ∙ rw get_or-set_other refl
 
+-- The class that was put in stands there.
 at_same : (s s' : List ℕ) (to j : ℕ) → s' ≡ set s to j → to < length s → get_or s' to 0 ≡ j
 at_same s s' to j e lt = ap (λ l. get_or l to 0) e ∙ rw get_or-set_same refl
 
+-- A list of one has no other.
 only : (p q : ℕ) → Contains (p ∷ []) q → p ≡ q
 only p q (zero, lt, e) = e
 only p q (suc k, lt, e) = absurd (omega (arith, lt))
 
+-- A variable has no class, or one, and not both.
 two_declared : (declared : List (Option ℕ)) (v k : ℕ) → slice_get declared v ≡ Some None
     → slice_get declared v ≡ Some (Some k) → ⊥
 two_declared declared v k p q = cc
 
 module _ (size : ℕ) (leq : ℕ → ℕ → Bool) (bottom top : ℕ) (laws : OrderLaws size leq bottom top)
     (flows : ℕ → ℕ → Bool) (declared : List (Option ℕ)) (program : IsProgram size leq flows declared) where
+  -- A choice that keeps to the declared classes does so when a class is raised.
   pub raise_choice : (s s' : List ℕ) (from to : ℕ) → slice_get declared to ≡ Some None → flows from to ≡ true
       → KeepsDeclared size leq flows declared s → IsRaiseOf size leq s s' from to →
       KeepsDeclared size leq flows declared s'
@@ -47,6 +51,7 @@ module _ (size : ℕ) (leq : ℕ → ℕ → Bool) (bottom top : ℕ) (laws : Or
         ];
       }
 
+  -- A raised class has a cause, and the others keep theirs.
   pub raise_justified : (s s' : List ℕ) (from to : ℕ) → flows from to ≡ true → KeepsDeclared size leq flows declared s
       → IsRaiseOf size leq s s' from to → IsJustified size leq flows declared s
       → IsJustified size leq flows declared s'
@@ -64,6 +69,7 @@ module _ (size : ℕ) (leq : ℕ → ℕ → Bool) (bottom top : ℕ) (laws : Or
 
   module _ (s s' w : List ℕ) (from to : ℕ) (flow : flows from to ≡ true) (c : KeepsDeclared size leq flows declared s)
       (r : IsRaiseOf size leq s s' from to) where
+    -- A flow elsewhere is in order as before.
     now_ordered : (a b : ℕ) → flows a b ≡ true → a ≢ to → leq (get_or s a 0) (get_or s b 0) ≡ true
         → leq (get_or s' a 0) (get_or s' b 0) ≡ true
     now_ordered a b fl na le =
@@ -81,6 +87,7 @@ module _ (size : ℕ) (leq : ℕ → ℕ → Bool) (bottom top : ℕ) (laws : Or
               (at_other s s' to r.class b r.is_set n) ∙ le
         ]
 
+    -- A flow is in order, or its source waits, or it is still to be looked at.
     one_wait : (a b : ℕ) → flows a b ≡ true → a ≢ to → (Contains w a ⊎ (leq (get_or s a 0) (get_or s b 0) ≡ true))
         ⊎ ((a ≡ from) × (to ≤ b))
         → (Contains (w ++ to ∷ []) a ⊎ (leq (get_or s' a 0) (get_or s' b 0) ≡ true)) ⊎ ((a ≡ from) × (to + 1 ≤ b))
@@ -94,6 +101,7 @@ module _ (size : ℕ) (leq : ℕ → ℕ → Bool) (bottom top : ℕ) (laws : Or
       | inr n ↦ inr (e, omega (arith, n, le))
     ]
 
+    -- A raised variable waits, and what waited does.
     pub raise_waits : (w' : List ℕ) → w' ≡ w ++ to ∷ [] → Waits size leq flows declared s w from to
         → Waits size leq flows declared s' w' from (to + 1)
     raise_waits w' ew h = subst (λ l. Waits size leq flows declared s' l from (to + 1)) (sym ew) (record {
@@ -125,6 +133,7 @@ module _ (size : ℕ) (leq : ℕ → ℕ → Bool) (bottom top : ℕ) (laws : Or
     within = h.within;
   }
 
+  -- A raise leaves less to be raised.
   pub raise_nearer : (s s' : List ℕ) (from to : ℕ) → flows from to ≡ true → KeepsDeclared size leq flows declared s
       → IsRaiseOf size leq s s' from to → distance leq size s' < distance leq size s
   raise_nearer s s' from to flow c r =
@@ -155,6 +164,7 @@ module _ (size : ℕ) (leq : ℕ → ℕ → Bool) (bottom top : ℕ) (laws : Or
     within = λ v m. h.within v (subst (λ l. Contains l v) (sym e) (Contains-append_left w' (from ∷ []) v m));
   }
 
+  -- What is taken from the worklist is a variable.
   pub last_within : (s w w' : List ℕ) (old from : ℕ) → w ≡ w' ++ from ∷ []
       → Waits size leq flows declared s w old (length declared) → from < length declared
   last_within s w w' old from e h = h.within from (subst (λ l. Contains l from) (sym e)
@@ -190,6 +200,7 @@ module _ (size : ℕ) (leq : ℕ → ℕ → Bool) (bottom top : ℕ) (laws : Or
             (w.choice.within v fits.1) before.1 (w.in_order m v fl),
       )
 
+  -- A variable with a declared class is one of the program.
   declared_place : (v c : ℕ) → slice_get declared v ≡ Some (Some c) → v < length declared
   declared_place v c e = slice_get_within declared v (Some c) e
 

@@ -50,6 +50,7 @@ pub fn infer_in<C: Classes>(
     ensures refused { IfErr result
         (Refuses (C.lattice lattice.now) profile (program_of program.now)) }
 {
+    // What `body` ensures says that the program is resolved, which the proofs ask for.
     let _body = program.body();
     let first = program.globals().len();
     let count = program.letvars().len();

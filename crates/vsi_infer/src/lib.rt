@@ -4,6 +4,11 @@
 //! each `letvar` (clause `ok` of `infer_in`), or a bad walk such that no bad walk has fewer steps
 //! (clause `refused`). `check_walk_in` tells bad walks from others without memory, and `explain`
 //! writes one as text. The laws of bad walks stand in `laws`.
+//!
+//! To be believed: `specs/Explanation`, `specs/Inference`, `specs/Laws`, `specs/Paths` for what
+//! users call; `specs/FlowRows`, `specs/Flowing`, `specs/Lines`, `specs/Shortest`, `AreLeast` of
+//! `specs/Distances`, `has_step` of `specs/Leading` and `same_rule` of `specs/Membership` for what
+//! other crates call. The other definitions are stepping stones of proofs.
 #![tactic(auto)]
 
 mod along;

@@ -307,6 +307,7 @@ pub(crate) fn shortest_walk<C: Classes, F: Flow>(
     ensures { IfOk result
         (λ w. IsShortest (C.lattice lattice.now) profile (program_of program.now) w.steps.items) }
 {
+    // What `body` ensures says that the program is resolved, which the proofs ask for.
     let _body = program.body();
     let rows = levels(alloc, lattice, flow, declared)?;
     let length = fewest(&rows, declared);

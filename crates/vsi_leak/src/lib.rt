@@ -5,6 +5,8 @@
 //! not. What they answer has been run on the machine by `check_leak`, whose clauses `leak` and
 //! `none` say that it answers a leak exactly where two stores show one (`specs/Leaks`); what
 //! proposes them need not be believed. `leak_text` tells it. The laws of leaks stand in `laws`.
+//!
+//! To be believed: all files of `specs/`.
 #![tactic(auto)]
 
 mod check;

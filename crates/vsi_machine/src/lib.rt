@@ -7,6 +7,9 @@
 //! slot or the instruction is missing. The law `never_stuck` says of every run of a valid image
 //! that it has a state, and that its operands have room on the image's stack. So the loop has no
 //! test for any of these.
+//!
+//! To be believed: `specs/Laws`, `specs/Runs`, `specs/Sound`, `specs/Trace`; `specs/Held` is a
+//! stepping stone of proofs.
 #![tactic(auto)]
 
 mod action;

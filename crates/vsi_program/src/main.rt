@@ -10,6 +10,9 @@ use vsi::{Counted, Files, command};
 /// The status of a mistake in the words.
 const USAGE: u8 = 2;
 
+/// From how many bytes on a lattice file, a store file or an interface is too long.
+const LIMIT: u64 = 1_048_577;
+
 /// The status of want of memory.
 const OUT_OF_MEMORY: u8 = 5;
 
@@ -43,10 +46,43 @@ impl Files for Disk<'_> {
         Some(())
     }
 
+    fn trouble(&mut self, path: &str) -> Option<&'static str> {
+        match fs::metadata(self.rt, path) {
+            Ok(found) if found.is_dir() => Some("this is a folder."),
+            Ok(found) if found.len() >= LIMIT => {
+                Some("the file has more than 1048576 bytes, or may not be read or written.")
+            }
+            Ok(_) => Some("the file may not be read or written."),
+            Err(error) if error.kind() == ErrorKind::NotFound => {
+                Some("there is no file at this path.")
+            }
+            Err(error) if error.kind() == ErrorKind::PermissionDenied => {
+                Some("a folder on the way to this path may not be looked into.")
+            }
+            Err(_) => Some("this path leads nowhere."),
+        }
+    }
+
+    fn wants_colour(&mut self) -> bool {
+        env::var(self.rt, "NO_COLOR").is_err() && self.is_terminal("/proc/self/fd/2")
+    }
+
+    fn reads_terminal(&mut self) -> bool {
+        self.is_terminal("/proc/self/fd/0")
+    }
+
     fn close_file(&mut self, _output: File) {}
 }
 
 impl Disk<'_> {
+    /// Whether the stream of this number, by its link under /proc, is a terminal.
+    fn is_terminal(&self, link: &str) -> bool {
+        match fs::read_link(self.rt, link) {
+            Ok(device) => device.starts_with("/dev/pts") || device.starts_with("/dev/tty"),
+            Err(_) => false,
+        }
+    }
+
     /// Whether there is a file of its own at the path, or nothing.
     fn may_replace(&self, path: &str) -> bool {
         match fs::symlink_metadata(self.rt, path) {

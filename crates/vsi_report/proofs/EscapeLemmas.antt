@@ -1,11 +1,9 @@
 -- What a reader sees of an escaped text, and of tags.
-use Rattle.std.proofs.Common.{◌≡◌, ◌≢◌, ℕ, ◌+◌, ◌==◌, List, [], ◌∷◌, ◌++◌, take, ap, sym, ◌∙◌, arith, refl, append_assoc, if◌then◌else◌, Bool, true, false, rules}
+use Rattle.std.proofs.Common.{◌≡◌, ℕ, List, [], ◌∷◌, ◌++◌, ap, sym, ◌∙◌, arith, refl, append_assoc}
 use Rattle.std.specs.Prelude.{codes, decimal}
-use Rattle.std.specs.List.{flat_map, All}
-use Rattle.std.proofs.lemmas.Bool.{cases_eq}
 use Rattle.vsi_report.specs.Escape.{escape, escaped}
 use Rattle.vsi_report.specs.Panel.{line_tag, next_tag, open_tag, close_tag}
-use Rattle.vsi_report.specs.Reading.{Mode, Between, Within, Escape, seen, Shows}
+use Rattle.vsi_report.specs.Reading.{Between, Within, seen, Shows}
 
 -- Behind the markup a reader who stood between tags stands in one, and has seen nothing.
 abbrev Opens : List ℕ → Type 0
@@ -84,3 +82,10 @@ more_shows a b t ha hb rest =
 -- The end of the last line shows nothing.
 pub end_shows : Shows (codes "</span>") []
 end_shows rest = refl
+
+-- Four parts written one behind the other.
+pub parts_so : (a o p e f t u v w : List ℕ) → t ≡ a ++ o → u ≡ t ++ p → v ≡ u ++ e → w ≡ v ++ f →
+    w ≡ a ++ (o ++ (p ++ (e ++ f)))
+parts_so a o p e f t u v w h1 h2 h3 h4 =
+    h4 ∙ ap (λ x. x ++ f) (h3 ∙ ap (λ x. x ++ e) (h2 ∙ ap (λ x. x ++ p) h1))
+    ∙ append_assoc ((a ++ o) ++ p) e f ∙ append_assoc (a ++ o) p (e ++ f) ∙ append_assoc a o (p ++ (e ++ f))

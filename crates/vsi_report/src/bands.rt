@@ -15,7 +15,7 @@ const GAP: usize = 34;
 /// Where the first box of a row begins.
 const LEFT: usize = 30;
 /// The width that a row is filled up to.
-const FULL: usize = 880;
+const FULL: usize = 1080;
 
 /// The variables of a class: where their rows begin and end.
 #[derive(Clone, Copy)]

@@ -1,19 +1,22 @@
 //! What is known of a program that a page or a picture shows.
 
+ghost use Rattle.std.specs.Prelude.{IfOk};
 ghost use Rattle.std.specs.List.{All};
 ghost use Rattle.vsi_lattice.specs.Order.{IsClass};
 ghost use Rattle.vsi_lattice.specs.LatticeView.{order};
 ghost use Rattle.vsi_types.specs.Security.{program as program_of};
 ghost use Rattle.vsi_infer.specs.Inference.{AreClasses};
+ghost use Rattle.vsi_report.specs.FlowsGraph.{AreShown};
 
-use crate::walking::{Use, tour_of};
+use crate::by_rule::{Flows, flows_of, has_flow};
+use crate::walking::{MOST_DRAWN, Use, uses_of};
 use std::alloc::{AllocError, Global};
 use vsi_compiler::{CompileError, resolved_program};
 use vsi_flows::{FlowsError, Pair, flows_in};
 use vsi_infer::{InferError, infer_in};
 use vsi_lattice::{Class, Classes, Lattice};
 use vsi_scope::{Resolved, Var};
-use vsi_types::Profile;
+use vsi_types::{Profile, Rule};
 
 /// A variable: its name, its class where there is one, and whether the text declares it.
 #[derive(Drop)]
@@ -24,12 +27,12 @@ pub(crate) struct Variable {
 }
 
 /// The variables of a program by their numbers, the ending of loops last; where their names stand;
-/// the flows of one step, a row of bits for each target; and the table of flows.
+/// the flows of one step, unless there are too many variables; and the table of flows.
 #[derive(Drop)]
 pub(crate) struct Facts {
     pub(crate) variables: Vec<Variable>,
     pub(crate) uses: Vec<Use>,
-    pub(crate) kinds: Vec<u8>,
+    pub(crate) flows: Option<Flows>,
     pub(crate) pairs: Vec<Pair>,
 }
 
@@ -96,7 +99,7 @@ fn variables_of(
 }
 
 /// The classes of the letvars; none where the program is refused.
-fn inferred_classes(
+pub(crate) fn inferred_classes(
     alloc: Global,
     profile: Profile,
     lattice: &Lattice,
@@ -104,6 +107,8 @@ fn inferred_classes(
 ) -> Result<Vec<Class>, AllocError>
     requires globals { All (IsClass (order lattice.now)) (program_of program.now).globals }
     requires declared { AreClasses (order lattice.now) (program_of program.now).declared }
+    ensures { IfOk result (λ found.
+        AreShown (order lattice.now) profile (program_of program.now) found.items) }
 {
     match infer_in(alloc, profile, lattice, program) {
         Ok(classes) => Ok(classes),
@@ -136,6 +141,19 @@ pub(crate) fn is_strict(profile: Profile) -> bool {
     }
 }
 
+/// The flows of one step of a program, if they are few enough for a picture.
+fn drawn_flows(
+    alloc: Global,
+    profile: Profile,
+    program: &Resolved<'_>,
+    variables: usize,
+) -> Result<Option<Flows>, AllocError> {
+    if variables > MOST_DRAWN + 1 {
+        return Ok(None);
+    }
+    Ok(Some(flows_of(alloc, profile, program)?))
+}
+
 /// What is known of a program, with the classes and the flows that are handed in.
 fn gathered(
     alloc: Global,
@@ -146,11 +164,11 @@ fn gathered(
     pairs: Vec<Pair>,
 ) -> Result<Facts, AllocError> {
     let variables = variables_of(alloc, program, inferred, lattice.bottom().index())?;
-    let tour = tour_of(alloc, program, is_strict(profile))?;
+    let flows = drawn_flows(alloc, profile, program, variables.len())?;
     Ok(Facts {
         variables,
-        uses: tour.uses,
-        kinds: tour.kinds,
+        uses: uses_of(alloc, program)?,
+        flows,
         pairs,
     })
 }
@@ -202,17 +220,15 @@ pub(crate) fn is_inferred(facts: &Facts, number: usize) -> bool {
     }
 }
 
-/// The bits of the rules by which a variable flows to another in one step.
-pub(crate) fn kinds_between(facts: &Facts, source: usize, target: usize) -> u8 {
-    let width = facts.variables.len();
-    let place = target.wrapping_mul(width).wrapping_add(source);
-    match facts.kinds.get(place) {
-        Some(kinds) => *kinds,
-        None => 0,
+/// Whether a variable flows to another by a rule in one step.
+pub(crate) fn flows_between(facts: &Facts, source: usize, target: usize, rule: Rule) -> bool {
+    match &facts.flows {
+        Some(flows) => target <= MOST_DRAWN && has_flow(flows, rule, source, target),
+        None => false,
     }
 }
 
 /// Whether the flows of the program are few enough for a picture.
 pub(crate) fn is_drawn(facts: &Facts) -> bool {
-    !facts.kinds.is_empty()
+    facts.flows.is_some()
 }

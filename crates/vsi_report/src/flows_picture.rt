@@ -1,12 +1,12 @@
 //! The picture of a program's flows.
 
-use crate::bands::{Band, Banded, bands_of};
-use crate::facts::{Facts, is_inferred, kinds_between, number_of, variable_class, variable_name};
+use crate::bands::{Band, Banded};
+use crate::facts::{Facts, flows_between, is_inferred, number_of, variable_class, variable_name};
 use crate::lattice_picture::{put_box, put_kind, put_picture, spot_at};
 use crate::order::{Order, name_of};
 use crate::page::Page;
 use crate::walking::{RULES, bit_of, rule_name};
-use std::alloc::{AllocError, Global};
+use std::alloc::AllocError;
 use vsi_types::Step;
 
 /// The two ends of an arrow, the heights between which it bends, and how far it keeps to the right.
@@ -19,6 +19,31 @@ struct Arrow {
     bend2: usize,
     x2: usize,
     y2: usize,
+}
+
+/// The most arrows that are drawn beside those of a walk.
+const MOST_ARROWS: usize = 2_000;
+
+/// How many arrows a variable has from the others.
+fn arrows_into(facts: &Facts, target: usize) -> usize {
+    let mut count: usize = 0;
+    for source in 0..facts.variables.len() {
+        for rule in RULES {
+            if source != target && flows_between(facts, source, target, rule) {
+                count = count.saturating_add(1);
+            }
+        }
+    }
+    count
+}
+
+/// Whether a program has so few flows of one step that a picture of them can be read.
+pub(crate) fn has_few_arrows(facts: &Facts) -> bool {
+    let mut count: usize = 0;
+    for target in 0..facts.variables.len() {
+        count = count.saturating_add(arrows_into(facts, target));
+    }
+    count <= MOST_ARROWS
 }
 
 /// How far the arrows of a rule stand to the right.
@@ -134,10 +159,9 @@ fn put_arrows(
     if source == target {
         return Ok(());
     }
-    let kinds = kinds_between(facts, source, target);
     for rule in RULES {
-        if kinds & rule != 0 {
-            put_arrow(page, picture, source, target, rule)?;
+        if flows_between(facts, source, target, rule) {
+            put_arrow(page, picture, source, target, bit_of(rule))?;
         }
     }
     Ok(())
@@ -216,9 +240,8 @@ fn put_flow_told(
     source: usize,
     target: usize,
 ) -> Result<(), AllocError> {
-    let kinds = kinds_between(facts, source, target);
     for rule in RULES {
-        if kinds & rule != 0 {
+        if flows_between(facts, source, target, rule) {
             page.between(b" ", variable_name(facts, source), b" flows to ")?;
             page.tell(variable_name(facts, target))?;
             page.between(b" by ", rule_name(rule), b".")?;
@@ -228,7 +251,10 @@ fn put_flow_told(
 }
 
 /// Adds the sentences that tell of the picture.
-fn put_told(page: &mut Page, facts: &Facts) -> Result<(), AllocError> {
+fn put_told(page: &mut Page, facts: &Facts, has_arrows: bool) -> Result<(), AllocError> {
+    if !has_arrows {
+        return page.put(b"<title>The variables by their classes</title>");
+    }
     page.put(b"<title>The flows of one step between variables</title><desc>")?;
     let count = facts.variables.len();
     for source in 0..count {
@@ -288,24 +314,26 @@ fn put_walk(
 }
 
 /// Adds the picture of a program's flows of one step, with the steps of a bad walk. So many of the
-/// first variables are shown.
+/// first variables are shown, where the picture has them; the other arrows only where asked for.
 pub(crate) fn put_flows(
-    alloc: Global,
     page: &mut Page,
     order: &Order,
     facts: &Facts,
+    picture: &Banded,
     shown: usize,
+    has_arrows: bool,
     walk: &[Step],
 ) -> Result<(), AllocError> {
-    let picture = bands_of(alloc, order, facts, shown)?;
     put_picture(page, picture.layout.wide, picture.layout.high)?;
-    put_told(page, facts)?;
+    put_told(page, facts, has_arrows)?;
     page.put(TIPS)?;
     for band in &picture.bands {
         put_band(page, order, picture.layout.wide, *band)?;
     }
-    put_all_arrows(page, facts, &picture)?;
-    put_boxes(page, facts, &picture, shown)?;
-    put_walk(page, facts, &picture, walk)?;
+    if has_arrows {
+        put_all_arrows(page, facts, picture)?;
+    }
+    put_boxes(page, facts, picture, shown)?;
+    put_walk(page, facts, picture, walk)?;
     page.put(b"</svg>")
 }

@@ -1,6 +1,6 @@
 //! The picture of a lattice.
 
-use crate::layout::{Layout, Spot, lattice_layout};
+use crate::layout::{Layout, Spot};
 use crate::order::{Order, name_of};
 use crate::page::Page;
 use std::alloc::{AllocError, Global};
@@ -42,11 +42,12 @@ fn put_line(page: &mut Page, layout: &Layout, pair: (usize, usize)) -> Result<()
     page.put(b"/>")
 }
 
-/// Adds a name as it stands in a box: 24 letters of it at most.
+/// Adds a name as it stands in a box: of one with more than 24 letters the first and the last.
 pub(crate) fn put_short(page: &mut Page, name: &[u8]) -> Result<(), AllocError> {
     if name.len() > 24 {
-        page.tell(&name[..23])?;
-        return page.put("\u{2026}".as_bytes());
+        page.tell(&name[..12])?;
+        page.put("\u{2026}".as_bytes())?;
+        return page.tell(&name[name.len() - 11..]);
     }
     page.tell(name)
 }
@@ -101,18 +102,21 @@ fn put_told(page: &mut Page, order: &Order) -> Result<(), AllocError> {
     page.put(b"</desc>")
 }
 
-/// Adds the picture of a lattice.
-pub(crate) fn put_lattice(alloc: Global, page: &mut Page, order: &Order) -> Result<(), AllocError> {
-    let layout = lattice_layout(alloc, order)?;
+/// Adds the picture of a lattice, whose classes stand so.
+pub(crate) fn put_lattice(
+    page: &mut Page,
+    order: &Order,
+    layout: &Layout,
+) -> Result<(), AllocError> {
     put_picture(page, layout.wide, layout.high)?;
     put_told(page, order)?;
     for pair in &order.covers {
-        put_line(page, &layout, *pair)?;
+        put_line(page, layout, *pair)?;
     }
     for class in 0..order.names.len() {
         put_box(
             page,
-            spot_at(&layout, class),
+            spot_at(layout, class),
             Some(class),
             name_of(order, class),
         )?;

@@ -4,12 +4,18 @@
 //! nothing else: no script, no font, no picture from elsewhere. `lattice_dot` and `flows_dot` give
 //! its pictures in the language of Graphviz. Every byte of a text or a name comes into a page by
 //! `put_escaped`, and the panel of a source text shows the text (`Shows` of `specs/Reading`).
+//!
+//! To be believed: `specs/Covering`, `specs/Escape`, `specs/FlowsGraph`, `specs/Graph`,
+//! `specs/Page`, `specs/Reading`, and the first two definitions of `specs/ByRule`; its others and
+//! the other files of `specs/` are stepping stones of proofs.
 #![tactic(auto)]
 
 mod bands;
+mod by_rule;
 mod dot;
 mod escape;
 mod facts;
+mod flows_graph;
 mod flows_picture;
 mod lattice_picture;
 mod layout;
@@ -17,12 +23,14 @@ mod order;
 mod page;
 mod panel;
 mod report;
+mod rows;
 mod source_view;
 mod style;
 mod table;
 mod telling;
 mod walking;
 
-pub use dot::{flows_dot, lattice_dot};
+pub use dot::lattice_dot;
 pub use escape::put_escaped;
+pub use flows_graph::flows_dot;
 pub use report::report_page;

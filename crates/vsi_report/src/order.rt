@@ -1,9 +1,10 @@
 //! The classes of a lattice, with what a picture of it shows.
 
-ghost use Rattle.std.specs.Prelude.{◌≡◌, ◌↔◌, ◌⊎◌, ℕ, IsTrue, IsFalse};
-ghost use Rattle.vsi_lattice.specs.LatticeView.{order};
+ghost use Rattle.std.specs.Prelude.{◌≡◌, ◌⊎◌, ◌+◌, IsTrue, IsFalse, IfOk, OnOk};
+ghost use Rattle.vsi_lattice.specs.LatticeView.{names, order};
 ghost use Rattle.vsi_lattice.specs.Order.{IsClass, Below};
-ghost use Rattle.vsi_report.specs.Covering.{Covers};
+ghost use Rattle.vsi_report.specs.Covering.{Covers, StandsBetween, HasJust, IsCoveringPair, IsRowSoFar};
+ghost use Rattle.vsi_report.specs.Graph.{name_at, texts};
 
 use std::alloc::{AllocError, Global};
 use vsi_lattice::{Class, Classes, Lattice};
@@ -22,7 +23,7 @@ fn stands_between(lattice: &Lattice, low: Class, high: Class, class: Class) -> b
     requires low { IsClass (order lattice.now) low }
     requires high { IsClass (order lattice.now) high }
     requires class { IsClass (order lattice.now) class }
-    ensures stands { IsTrue result → Below (order lattice.now) low class }
+    ensures stands { IsTrue result → StandsBetween (order lattice.now) low high class }
     ensures nothing { IsFalse result → Below (order lattice.now) low class
         → Below (order lattice.now) class high → (class ≡ low) ⊎ (class ≡ high) }
 {
@@ -39,7 +40,8 @@ fn stands_between(lattice: &Lattice, low: Class, high: Class, class: Class) -> b
 pub(crate) fn covers(lattice: &Lattice, low: Class, high: Class) -> bool
     requires low { IsClass (order lattice.now) low }
     requires high { IsClass (order lattice.now) high }
-    ensures { IsTrue result → Covers (order lattice.now) low high }
+    ensures covers { IsTrue result → Covers (order lattice.now) low high }
+    ensures each { Covers (order lattice.now) low high → IsTrue result }
 {
     if low == high {
         return false;
@@ -47,8 +49,8 @@ pub(crate) fn covers(lattice: &Lattice, low: Class, high: Class) -> bool
     if !lattice.leq(low, high) {
         return false;
     }
-    for number in 0..lattice.count() {
-        if stands_between(lattice, low, high, Class::at(number as u8)) {
+    for middle in 0..lattice.count() {
+        if stands_between(lattice, low, high, Class::at(middle as u8)) {
             return false;
         }
     }
@@ -60,10 +62,11 @@ fn put_covers(
     lattice: &Lattice,
     low: usize,
     pairs: &mut Vec<(usize, usize)>,
-) -> Result<(), AllocError> {
-    if low >= lattice.count() {
-        return Ok(());
-    }
+) -> Result<(), AllocError>
+    requires { IsClass (order lattice.now) low }
+    ensures { HasJust (IsRowSoFar (order lattice.now) low 0) pairs.old.items
+        → OnOk result (HasJust (IsRowSoFar (order lattice.now) (low + 1) 0) pairs.new.items) }
+{
     for high in 0..lattice.count() {
         if covers(lattice, Class::at(low as u8), Class::at(high as u8)) {
             pairs.push((low, high))?;
@@ -73,7 +76,9 @@ fn put_covers(
 }
 
 /// The covering pairs of a lattice, by the lower class and then by the higher one.
-fn covering_pairs(alloc: Global, lattice: &Lattice) -> Result<Vec<(usize, usize)>, AllocError> {
+fn covering_pairs(alloc: Global, lattice: &Lattice) -> Result<Vec<(usize, usize)>, AllocError>
+    ensures { IfOk result (λ pairs. HasJust (IsCoveringPair (order lattice.now)) pairs.items) }
+{
     let mut pairs = Vec::new(alloc);
     for low in 0..lattice.count() {
         put_covers(lattice, low, &mut pairs)?;
@@ -82,7 +87,9 @@ fn covering_pairs(alloc: Global, lattice: &Lattice) -> Result<Vec<(usize, usize)
 }
 
 /// The names of the classes.
-fn class_names(alloc: Global, lattice: &Lattice) -> Result<Vec<Vec<u8>>, AllocError> {
+fn class_names(alloc: Global, lattice: &Lattice) -> Result<Vec<Vec<u8>>, AllocError>
+    ensures { IfOk result (λ found. texts found.items ≡ names lattice.now) }
+{
     let mut names = Vec::new(alloc);
     for number in 0..lattice.count() {
         names.push(lattice.name(Class::at(number as u8)).to_vec(alloc)?)?;
@@ -116,7 +123,11 @@ fn levels_of(
 }
 
 /// What a lattice shows.
-pub(crate) fn order_of(alloc: Global, lattice: &Lattice) -> Result<Order, AllocError> {
+pub(crate) fn order_of(alloc: Global, lattice: &Lattice) -> Result<Order, AllocError>
+    ensures covers { IfOk result
+        (λ o. HasJust (IsCoveringPair (order lattice.now)) o.covers.items) }
+    ensures names { IfOk result (λ o. texts o.names.items ≡ names lattice.now) }
+{
     let names = class_names(alloc, lattice)?;
     let covers = covering_pairs(alloc, lattice)?;
     let levels = levels_of(alloc, names.len(), &covers)?;
@@ -152,7 +163,9 @@ pub(crate) fn write_at(list: &mut Vec<usize>, place: usize, number: usize) {
 }
 
 /// The name of a class, or nothing for another number.
-pub(crate) fn name_of(order: &Order, class: usize) -> &[u8] {
+pub(crate) fn name_of(order: &Order, class: usize) -> &[u8]
+    ensures { result.now ≡ name_at (texts order.now.names.items) class }
+{
     match order.names.get(class) {
         Some(name) => name.as_slice(),
         None => b"",

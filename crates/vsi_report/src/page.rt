@@ -1,7 +1,9 @@
 //! What a page is written with.
 
-ghost use Rattle.std.specs.Prelude.{◌≡◌, ◌++◌, OnOk, decimal};
+ghost use Rattle.std.specs.Prelude.{◌≡◌, ◌++◌, ℕ, List, IfOk, OnOk, decimal};
 ghost use Rattle.vsi_report.specs.Escape.{escaped};
+ghost use Rattle.vsi_report.specs.Page.{HasPanel};
+ghost use Rattle.vsi_report.specs.Reading.{Shows};
 
 use crate::escape::{put_escaped, put_number};
 use std::alloc::{AllocError, Global};
@@ -62,15 +64,16 @@ impl Page {
         self.put(after)
     }
 
-    /// Adds the panel of a source text.
-    pub(crate) fn show(&mut self, panel: &Vec<u8>) -> Result<(), AllocError>
-        ensures { OnOk result (self.new.text.items ≡ self.old.text.items ++ panel.now.items) }
+    /// The bytes of these, then the panel of a source text, and then those of another part.
+    pub(crate) fn with_panel(self, panel: &Vec<u8>, after: &Page) -> Result<Vec<u8>, AllocError>
+        ensures { (source : List ℕ) → Shows panel.now.items source
+            → IfOk result (λ page. HasPanel page.items source) }
     {
-        self.text.extend_from_slice(panel)
-    }
-
-    /// The bytes.
-    pub(crate) fn into_text(self) -> Vec<u8> {
-        self.text
+        let Page { mut text } = self;
+        text.extend_from_slice(b"<pre class=\"source\" tabindex=\"0\"><code>")?;
+        text.extend_from_slice(panel)?;
+        text.extend_from_slice(b"</code></pre>")?;
+        text.extend_from_slice(&after.text)?;
+        Ok(text)
     }
 }

@@ -39,14 +39,19 @@ fn put_open(page: &mut Vec<u8>, kind: &[u8], class: &[u8], step: &[u8]) -> Resul
     page.extend_from_slice(b"\">")
 }
 
-/// Adds a byte of a source text, and behind the last one of a line the beginning of the next line,
-/// which has this number.
-fn put_source_byte(page: &mut Vec<u8>, byte: u8, next: usize) -> Result<(), AllocError>
+/// Adds a byte of a source text, and behind the last one of a line, which isn't the last line, the
+/// beginning of the next line, which has this number.
+fn put_source_byte(
+    page: &mut Vec<u8>,
+    byte: u8,
+    is_ending: bool,
+    next: usize,
+) -> Result<(), AllocError>
     ensures { (t : List ℕ) → Shows page.old.items t
         → OnOk result (Shows page.new.items (t ++ byte ∷ [])) }
 {
     put_byte(page, byte)?;
-    if byte == b'\n' {
+    if is_ending {
         put_next(page, next)?;
     }
     Ok(())
@@ -78,11 +83,12 @@ fn stepped<'a>(panel: Panel<'a>) -> Result<Panel<'a>, AllocError>
     } = panel;
     let byte = source[at];
     let next = line.saturating_add(1);
-    put_source_byte(&mut page, byte, next)?;
+    let is_ending = byte == b'\n' && at + 1 < source.len();
+    put_source_byte(&mut page, byte, is_ending, next)?;
     Ok(Panel {
         source,
         at: at + 1,
-        line: if byte == b'\n' { next } else { line },
+        line: if is_ending { next } else { line },
         page,
     })
 }

@@ -1,8 +1,13 @@
 //! The page of a text.
 
+ghost use Rattle.std.specs.Prelude.{IfOk};
+ghost use Rattle.vsi_report.specs.Page.{HasPanel};
+
+use crate::bands::bands_of;
 use crate::facts::{Facts, facts_of, is_drawn, is_strict};
-use crate::flows_picture::put_flows;
+use crate::flows_picture::{has_few_arrows, put_flows};
 use crate::lattice_picture::put_lattice;
+use crate::layout::lattice_layout;
 use crate::order::{Order, order_of};
 use crate::page::Page;
 use crate::source_view::{plain_panel, source_panel};
@@ -13,16 +18,36 @@ use std::alloc::{AllocError, Global};
 use vsi_compiler::{CompileError, compile_in};
 use vsi_faults::refusal_text;
 use vsi_image::{Verified, listing};
-use vsi_lattice::Lattice;
+use vsi_lattice::{Classes, Lattice};
 use vsi_leak::{Effort, Finding, Wanted, leak_of_text, leak_text};
 use vsi_types::{Profile, Step};
 
-/// How long a leak is searched.
-const EFFORT: Effort = Effort {
-    budget: 10_000,
-    tries: 300,
-    seed: 0,
-};
+/// The greatest number of instructions of a run that is searched for a leak.
+const BUDGET: u64 = 10_000;
+
+/// How many pairs of stores are drawn, for all classes together.
+const TRIES: u64 = 600;
+
+/// The most and the least of them for one class.
+const MOST_TRIES: u64 = 300;
+
+const LEAST_TRIES: u64 = 8;
+
+/// Above how many pixels a picture of a lattice has a row of the page of its own.
+const WIDE: usize = 430;
+
+/// Above how many pixels a picture is higher than a page on paper.
+const HIGH: usize = 2_000;
+
+/// How long a leak is searched at each class of a lattice.
+fn effort(lattice: &Lattice) -> Effort {
+    let count = lattice.count().max(1) as u64;
+    Effort {
+        budget: BUDGET,
+        tries: (TRIES / count).max(LEAST_TRIES).min(MOST_TRIES),
+        seed: 0,
+    }
+}
 
 /// Adds the head of a page, and the beginning of its body, with the verdict as the title.
 fn put_head(page: &mut Page, is_accepted: bool, profile: Profile) -> Result<(), AllocError> {
@@ -56,12 +81,14 @@ fn put_foot(page: &mut Page) -> Result<(), AllocError> {
     page.put(b"</main>\n</body>\n</html>\n")
 }
 
-/// Adds the panel of the source text.
-fn put_source(page: &mut Page, panel: &Vec<u8>, has_classes: bool) -> Result<(), AllocError> {
-    page.put(b"<section><h2>Source</h2>\n")?;
-    page.put(b"<pre class=\"source\" tabindex=\"0\"><code>")?;
-    page.show(panel)?;
-    page.put(b"</code></pre>\n")?;
+/// Adds what stands before the panel of the source text.
+fn put_before_source(page: &mut Page) -> Result<(), AllocError> {
+    page.put(b"<section><h2>Source</h2>\n")
+}
+
+/// Adds what stands behind the panel of the source text.
+fn put_behind_source(page: &mut Page, has_classes: bool) -> Result<(), AllocError> {
+    page.put(b"\n")?;
     if has_classes {
         page.put(
             b"<p class=\"hint\">Behind each name stands its class; a star marks a class that ",
@@ -71,12 +98,32 @@ fn put_source(page: &mut Page, panel: &Vec<u8>, has_classes: bool) -> Result<(),
     page.put(b"</section>\n")
 }
 
-/// Adds the section of the lattice.
+/// What is said of the picture of a lattice.
+const POLICY: &[u8] = b"<figcaption>Information may flow upwards, along the lines; each line joins \
+a class and one directly above it.</figcaption>";
+
+/// Adds the section of the lattice. A wide picture has no section beside it, and a high one stands
+/// below what is said of it.
 fn put_policy(alloc: Global, page: &mut Page, order: &Order) -> Result<(), AllocError> {
-    page.put(b"<section><h2>Lattice</h2>\n<figure><div class=\"scroll\" tabindex=\"0\">")?;
-    put_lattice(alloc, page, order)?;
-    page.put(b"</div><figcaption>Information may flow upwards, along the lines; each line joins ")?;
-    page.put(b"a class and one directly above it.</figcaption></figure></section>\n")
+    let layout = lattice_layout(alloc, order)?;
+    if layout.wide > WIDE {
+        page.put(b"<section class=\"wide\"><h2>Lattice</h2>\n")?;
+    } else {
+        page.put(b"<section><h2>Lattice</h2>\n")?;
+    }
+    if layout.high > HIGH {
+        page.put(b"<figure class=\"high\">")?;
+        page.put(POLICY)?;
+        page.put(b"\n<div class=\"scroll\" tabindex=\"0\">")?;
+        put_lattice(page, order, &layout)?;
+        page.put(b"</div></figure></section>\n")
+    } else {
+        page.put(b"<figure><div class=\"scroll\" tabindex=\"0\">")?;
+        put_lattice(page, order, &layout)?;
+        page.put(b"</div>")?;
+        page.put(POLICY)?;
+        page.put(b"</figure></section>\n")
+    }
 }
 
 /// What the looks of arrows mean.
@@ -97,7 +144,30 @@ LETVAR: an initial value into its variable</li>\
 <path class=\"flow r16\" d=\"M2 6H42\"/></svg> \
 LOOP: a guard into the ending of a loop</li></ul>\n";
 
-/// Adds the picture of the flows.
+/// Adds what is said of the picture of the flows.
+fn put_caption(page: &mut Page, has_arrows: bool, has_walk: bool) -> Result<(), AllocError> {
+    page.put(b"<figcaption>")?;
+    if has_arrows {
+        page.put(b"Each arrow is a flow of one step; what flows upwards or stays ")?;
+        page.put(
+            b"in its band is allowed where the lattice has it so. A flow of a variable into ",
+        )?;
+        page.put(b"itself isn't drawn.")?;
+    } else {
+        page.put(b"There are more than 2,000 flows of one step, and their arrows aren't drawn.")?;
+    }
+    page.put(b" A dashed box is a variable whose class was inferred.")?;
+    if has_walk {
+        page.put(b" The thick arrows with numbers are the chain for which it is refused.")?;
+    }
+    page.put(b"</figcaption>\n")?;
+    if has_arrows {
+        page.put(LEGEND)?;
+    }
+    Ok(())
+}
+
+/// Adds the picture of the flows; a high one stands below what is said of it.
 fn put_drawn(
     alloc: Global,
     page: &mut Page,
@@ -106,19 +176,21 @@ fn put_drawn(
     shown: usize,
     walk: &[Step],
 ) -> Result<(), AllocError> {
-    page.put(b"<figure><div class=\"scroll\" tabindex=\"0\">")?;
-    put_flows(alloc, page, order, facts, shown, walk)?;
-    page.put(
-        b"</div>\n<figcaption>Each arrow is a flow of one step; what flows upwards or stays ",
-    )?;
-    page.put(b"in its band is allowed where the lattice has it so. A flow of a variable into ")?;
-    page.put(b"itself isn't drawn. A dashed box is a variable whose class was inferred.")?;
-    if !walk.is_empty() {
-        page.put(b" The thick arrows with numbers are the chain for which it is refused.")?;
+    let picture = bands_of(alloc, order, facts, shown)?;
+    let has_arrows = has_few_arrows(facts);
+    if picture.layout.high > HIGH {
+        page.put(b"<figure class=\"high\">")?;
+        put_caption(page, has_arrows, !walk.is_empty())?;
+        page.put(b"<div class=\"scroll\" tabindex=\"0\">")?;
+        put_flows(page, order, facts, &picture, shown, has_arrows, walk)?;
+        page.put(b"</div></figure>\n")
+    } else {
+        page.put(b"<figure><div class=\"scroll\" tabindex=\"0\">")?;
+        put_flows(page, order, facts, &picture, shown, has_arrows, walk)?;
+        page.put(b"</div>\n")?;
+        put_caption(page, has_arrows, !walk.is_empty())?;
+        page.put(b"</figure>\n")
     }
-    page.put(b"</figcaption>\n")?;
-    page.put(LEGEND)?;
-    page.put(b"</figure>\n")
 }
 
 /// Adds the section of the flows.
@@ -190,7 +262,7 @@ fn put_leak(
         class: None,
         endings: is_strict(profile),
         steps: false,
-        effort: EFFORT,
+        effort: effort(lattice),
     };
     let Ok((verified, finding)) = leak_of_text(alloc, lattice, source, &wanted) else {
         return Err(AllocError);
@@ -232,16 +304,20 @@ fn accepted_page(
     lattice: &Lattice,
     source: &[u8],
     verified: &Verified,
-) -> Result<Vec<u8>, AllocError> {
+) -> Result<Vec<u8>, AllocError>
+    ensures { IfOk result (λ page. HasPanel page.items source.now) }
+{
     let Ok(facts) = facts_of(alloc, profile, lattice, source) else {
         return Err(AllocError);
     };
     let order = order_of(alloc, lattice)?;
     let panel = source_panel(alloc, &order, &facts, &[], source)?;
+    let mut before = Page::new(alloc);
+    put_head(&mut before, true, profile)?;
+    before.put(b"<div class=\"beside\">\n")?;
+    put_before_source(&mut before)?;
     let mut page = Page::new(alloc);
-    put_head(&mut page, true, profile)?;
-    page.put(b"<div class=\"beside\">\n")?;
-    put_source(&mut page, &panel, true)?;
+    put_behind_source(&mut page, true)?;
     put_listing(alloc, &mut page, verified)?;
     page.put(b"</div>\n")?;
     page.put(b"<div class=\"beside\">\n")?;
@@ -250,7 +326,7 @@ fn accepted_page(
     page.put(b"</div>\n")?;
     put_all_flows(alloc, &mut page, profile, &order, &facts, &[])?;
     put_foot(&mut page)?;
-    Ok(page.into_text())
+    before.with_panel(&panel, &page)
 }
 
 /// The page of a text with a refused flow.
@@ -260,16 +336,20 @@ fn refused_page(
     lattice: &Lattice,
     source: &[u8],
     walk: &[Step],
-) -> Result<Vec<u8>, AllocError> {
+) -> Result<Vec<u8>, AllocError>
+    ensures { IfOk result (λ page. HasPanel page.items source.now) }
+{
     let Ok(facts) = facts_of(alloc, profile, lattice, source) else {
         return Err(AllocError);
     };
     let order = order_of(alloc, lattice)?;
     let panel = source_panel(alloc, &order, &facts, walk, source)?;
+    let mut before = Page::new(alloc);
+    put_head(&mut before, false, profile)?;
+    before.put(b"<div class=\"beside\">\n")?;
+    put_before_source(&mut before)?;
     let mut page = Page::new(alloc);
-    put_head(&mut page, false, profile)?;
-    page.put(b"<div class=\"beside\">\n")?;
-    put_source(&mut page, &panel, true)?;
+    put_behind_source(&mut page, true)?;
     put_walk(&mut page, &order, &facts, source, walk)?;
     page.put(b"</div>\n")?;
     page.put(b"<div class=\"beside\">\n")?;
@@ -278,7 +358,7 @@ fn refused_page(
     page.put(b"</div>\n")?;
     put_all_flows(alloc, &mut page, profile, &order, &facts, walk)?;
     put_foot(&mut page)?;
-    Ok(page.into_text())
+    before.with_panel(&panel, &page)
 }
 
 /// The page of a text that has no program.
@@ -288,24 +368,28 @@ fn faulty_page(
     lattice: &Lattice,
     source: &[u8],
     error: &CompileError,
-) -> Result<Vec<u8>, AllocError> {
+) -> Result<Vec<u8>, AllocError>
+    ensures { IfOk result (λ page. HasPanel page.items source.now) }
+{
     let order = order_of(alloc, lattice)?;
     let panel = plain_panel(alloc, source)?;
     let text = refusal_text(alloc, lattice, source, error)?;
-    let mut page = Page::new(alloc);
-    put_head(&mut page, false, profile)?;
-    page.put(b"<section><h2>Why it is refused</h2>\n<p>The text is no program over the ")?;
-    page.put(b"lattice, and none of its flows is judged. The number and the name of the ")?;
-    page.put(b"refusal, and the line and the column, if it has a place:</p>\n")?;
-    page.between(
+    let mut before = Page::new(alloc);
+    put_head(&mut before, false, profile)?;
+    before.put(b"<section><h2>Why it is refused</h2>\n<p>The text is no program over the ")?;
+    before.put(b"lattice, and none of its flows is judged. The number and the name of the ")?;
+    before.put(b"refusal, and the line and the column, if it has a place:</p>\n")?;
+    before.between(
         b"<pre class=\"leak\" tabindex=\"0\"><code>",
         &text,
         b"</code></pre>\n</section>\n",
     )?;
-    put_source(&mut page, &panel, false)?;
+    put_before_source(&mut before)?;
+    let mut page = Page::new(alloc);
+    put_behind_source(&mut page, false)?;
     put_policy(alloc, &mut page, &order)?;
     put_foot(&mut page)?;
-    Ok(page.into_text())
+    before.with_panel(&panel, &page)
 }
 
 /// The page of a text over a lattice under a profile: the verdict, the source, the lattice and the
@@ -320,7 +404,9 @@ pub fn report_page(
     profile: Profile,
     lattice: &Lattice,
     source: &[u8],
-) -> Result<Vec<u8>, AllocError> {
+) -> Result<Vec<u8>, AllocError>
+    ensures panel { IfOk result (λ page. HasPanel page.items source.now) }
+{
     match compile_in(alloc, profile, lattice, source) {
         Ok(verified) => accepted_page(alloc, profile, lattice, source, &verified),
         Err(CompileError::Memory) => Err(AllocError),

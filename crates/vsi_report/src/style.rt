@@ -17,7 +17,7 @@ pub(crate) const STYLE: &[u8] = b":root{color-scheme:light dark;--ink:#1c2128;--
 --badp:#fdecea;\
 --k0:#0b57c2;--k1:#9a3d00;--k2:#0d6b3a;--k3:#7a3fc4;--k4:#00687a;--k5:#7d5700;--k6:#b0247e;\
 --k7:#4f5b66}
-@media (prefers-color-scheme:dark){:root{--ink:#e6edf3;--soft:#9aa5b1;--paper:#0f1419;\
+@media screen and (prefers-color-scheme:dark){:root{--ink:#e6edf3;--soft:#9aa5b1;--paper:#0f1419;\
 --panel:#171d24;\
 --rule:#343d48;--good:#62d384;--goodp:#12291a;--bad:#ff8f87;--badp:#331817;\
 --k0:#7fb6ff;--k1:#ffab70;--k2:#74dd96;--k3:#cda8ff;--k4:#6adbe8;--k5:#e6bd4a;--k6:#ff8fcb;\
@@ -36,7 +36,7 @@ h2{font-size:1.3rem;margin:1.8rem 0 .6rem}h3{font-size:1.05rem;margin:1.4rem 0 .
 p{max-width:46rem;margin:.5rem 0}
 a{color:inherit;text-underline-offset:.2em}
 section{min-width:0}
-.beside{display:grid;gap:0 2rem;grid-template-columns:minmax(0,1fr)}
+.beside{display:grid;gap:0 2rem;grid-template-columns:minmax(0,1fr)}.wide{grid-column:1/-1}
 @media (min-width:62rem){.beside{grid-template-columns:minmax(0,3fr) minmax(0,2fr)}}
 pre{background:var(--panel);border:1px solid var(--rule);border-radius:.5rem;\
 padding:.8rem 1rem;margin:.5rem 0;\
@@ -72,10 +72,10 @@ font-weight:700;color:var(--bad)}
 .walk p{margin:.15rem 0}.step{font-size:1.02em}
 .end{border-left:.25rem solid var(--bad);padding-left:.8rem}
 figure{margin:.5rem 0}figcaption{margin-top:.4rem;max-width:46rem}
-.scroll{overflow-x:auto;max-width:100%}
+.high figcaption{margin:.2rem 0 .6rem}.scroll{overflow-x:auto;max-width:100%}
 .picture{display:block;font:600 15px ui-monospace,SFMono-Regular,Menlo,\
 Consolas,\"DejaVu Sans Mono\",monospace}
-.cover{stroke:var(--soft);stroke-width:2}
+.cover{stroke:var(--soft);stroke-width:2}.wide .cover{stroke-width:1.3}
 .box rect{fill:var(--paper);stroke:currentColor;stroke-width:2}
 .box text{fill:currentColor;text-anchor:middle}
 .inferred .box rect{stroke-dasharray:5 4}
@@ -100,8 +100,15 @@ th{color:var(--soft);font-size:.85rem}
 @media (max-width:40rem){body{font-size:16px}header h1{font-size:1.6rem}.line{\
 padding-left:2.6rem}.line::before{width:2rem}\
 pre{font-size:.85rem}th,td{padding-right:.5rem}}
-@media print{:root{--paper:#fff;--panel:#fff;--ink:#000}body{font-size:11pt}main{\
-max-width:none;padding:0}\
-pre,.scroll{overflow:visible;white-space:pre-wrap}.picture{max-width:100%;height:auto}figure,\
-tr,li{break-inside:avoid}h2{break-after:avoid}}
+@media print{@page{margin:14mm 13mm}:root{--paper:#fff;--panel:#fff;--ink:#000;\
+-webkit-print-color-adjust:exact;print-color-adjust:exact}\
+body{font-size:10.5pt;line-height:1.45}main{max-width:none;padding:0}.beside{display:block}\
+header{margin-top:0}h2{margin-top:1.3rem}\
+pre{overflow:visible;white-space:pre-wrap;overflow-wrap:anywhere;font-size:8.5pt;\
+-webkit-box-decoration-break:clone;box-decoration-break:clone}.listing,.leak{line-height:1.5}\
+.listing{columns:17em;column-rule:1px solid var(--rule)}\
+.scroll{overflow:visible}.picture{max-width:100%;max-height:23cm;height:auto}\
+.high .picture{max-height:none}table{font-size:9pt}th,td{padding-top:.2rem;padding-bottom:.2rem}\
+header,figure,tr,li,.line,.end{break-inside:avoid}.high{break-inside:auto}\
+h2,h3{break-after:avoid}thead{display:table-header-group}}
 ";

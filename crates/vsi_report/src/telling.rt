@@ -108,11 +108,7 @@ fn put_heading(
     put_name(page, facts, target)?;
     page.put(b" ")?;
     put_class_of(page, order, facts, target)?;
-    page.between(
-        b" by <strong>",
-        rule_name(bit_of(step.rule)),
-        b"</strong></p>",
-    )
+    page.between(b" by <strong>", rule_name(step.rule), b"</strong></p>")
 }
 
 /// Adds where a step reads its source.

@@ -1,4 +1,7 @@
-//! One walk over the commands of a program: where each name stands, and which flows there are.
+//! One walk over the commands of a program: where each name stands.
+
+ghost use Rattle.std.specs.Prelude.{◌≡◌};
+ghost use Rattle.vsi_infer.specs.Explanation.{rule_text};
 
 use std::alloc::{AllocError, Global};
 use vsi_scope::{Cmd, Entry, Ex, Resolved};
@@ -14,24 +17,12 @@ pub(crate) struct Use {
     pub(crate) variable: usize,
 }
 
-/// A variable that a guard round a place reads, and the bit of its rule.
-#[derive(Clone, Copy)]
-struct Held {
-    variable: usize,
-    kind: u8,
-}
-
-/// Where a walk stands, and what it has met: for each two variables, the target's row first, the
-/// bits of the rules by which one flows to the other.
+/// Where a walk stands, and the names that it has met.
 #[derive(Drop)]
 pub(crate) struct Tour {
     pub(crate) uses: Vec<Use>,
-    pub(crate) kinds: Vec<u8>,
-    width: usize,
     scope: Vec<usize>,
-    held: Vec<Held>,
     letvars: usize,
-    is_strict: bool,
     globals: usize,
 }
 
@@ -54,60 +45,8 @@ fn variable_of(tour: &Tour, location: u16) -> usize {
     }
 }
 
-/// Notes a flow.
-fn note(tour: &mut Tour, source: usize, target: usize, kind: u8) {
-    if source >= tour.width || target >= tour.width {
-        return;
-    }
-    let place = target.wrapping_mul(tour.width).wrapping_add(source);
-    if let Some(cell) = tour.kinds.get_mut(place) {
-        *cell |= kind;
-    }
-}
-
-/// Notes the flows of what is read into a target.
-fn note_all(tour: &mut Tour, sources: &[usize], target: usize, kind: u8) {
-    for source in sources {
-        note(tour, *source, target, kind);
-    }
-}
-
-/// Notes the flows of the guards round a place into a target.
-fn note_held(tour: &mut Tour, target: usize) {
-    for place in 0..tour.held.len() {
-        let Some(held) = tour.held.get(place) else {
-            return;
-        };
-        let held = *held;
-        note(tour, held.variable, target, held.kind);
-    }
-}
-
-/// Whether the walk holds a guard already.
-fn holds(tour: &Tour, variable: usize, kind: u8) -> bool {
-    for held in &tour.held {
-        if held.variable == variable && held.kind == kind {
-            return true;
-        }
-    }
-    false
-}
-
-/// Holds what a guard reads.
-fn hold(tour: &mut Tour, reads: &[usize], kind: u8) -> Result<(), AllocError> {
-    for variable in reads {
-        if *variable < tour.width && !holds(tour, *variable, kind) {
-            tour.held.push(Held {
-                variable: *variable,
-                kind,
-            })?;
-        }
-    }
-    Ok(())
-}
-
-/// Adds what an expression reads.
-fn read(tour: &mut Tour, reads: &mut Vec<usize>, e: &Ex) -> Result<(), AllocError> {
+/// Meets the names of an expression.
+fn read(tour: &mut Tour, e: &Ex) -> Result<(), AllocError> {
     match e {
         Ex::Num(_) => Ok(()),
         Ex::Loc(location, span) => {
@@ -116,85 +55,46 @@ fn read(tour: &mut Tour, reads: &mut Vec<usize>, e: &Ex) -> Result<(), AllocErro
                 start: span.start,
                 variable,
             })?;
-            reads.push(variable)?;
             Ok(())
         }
         Ex::Op(_, a, b) => {
-            read(tour, reads, a)?;
-            read(tour, reads, b)
+            read(tour, a)?;
+            read(tour, b)
         }
     }
 }
 
-/// What an expression reads.
-fn reads_of(alloc: Global, tour: &mut Tour, e: &Ex) -> Result<Vec<usize>, AllocError> {
-    let mut reads = Vec::new(alloc);
-    read(tour, &mut reads, e)?;
-    Ok(reads)
-}
-
 /// Walks over an assignment.
-fn walk_assign(
-    alloc: Global,
-    tour: &mut Tour,
-    location: u16,
-    start: usize,
-    value: &Ex,
-) -> Result<(), AllocError> {
+fn walk_assign(tour: &mut Tour, location: u16, start: usize, value: &Ex) -> Result<(), AllocError> {
     let variable = variable_of(tour, location);
     tour.uses.push(Use { start, variable })?;
-    let reads = reads_of(alloc, tour, value)?;
-    note_all(tour, &reads, variable, 1);
-    note_held(tour, variable);
-    Ok(())
+    read(tour, value)
 }
 
-/// Notes the flows of a guard into the ending of loops, whose number is the last.
-fn note_ending(tour: &mut Tour, reads: &[usize]) {
-    if tour.is_strict && tour.width > 0 {
-        let ending = tour.width - 1;
-        note_all(tour, reads, ending, 16);
-    }
-}
-
-/// Walks over a choice, and says whether it loops.
+/// Walks over a choice.
 #[cycle(tour)]
 fn walk_if(
-    alloc: Global,
     entries: &[Entry<'_>],
     tour: &mut Tour,
     then_branch: &[Cmd],
     else_branch: &[Cmd],
     guard: &Ex,
-) -> Result<bool, AllocError> {
-    let reads = reads_of(alloc, tour, guard)?;
-    let outside = tour.held.len();
-    hold(tour, &reads, 2)?;
-    let one = walk_commands(alloc, entries, tour, then_branch)?;
-    let two = walk_commands(alloc, entries, tour, else_branch)?;
-    tour.held.truncate(outside);
-    if one | two {
-        note_ending(tour, &reads);
-    }
-    Ok(one | two)
+) -> Result<(), AllocError> {
+    read(tour, guard)?;
+    walk_commands(entries, tour, then_branch)?;
+    walk_commands(entries, tour, else_branch)
 }
 
 /// Walks over a loop.
 #[cycle(tour)]
 fn walk_while(
-    alloc: Global,
     entries: &[Entry<'_>],
     tour: &mut Tour,
     body: &[Cmd],
     guard: &Ex,
-) -> Result<bool, AllocError> {
-    let reads = reads_of(alloc, tour, guard)?;
-    let outside = tour.held.len();
-    hold(tour, &reads, 4)?;
-    walk_commands(alloc, entries, tour, body)?;
-    tour.held.truncate(outside);
-    note_ending(tour, &reads);
-    Ok(true)
+) -> Result<(), AllocError> {
+    read(tour, guard)?;
+    walk_commands(entries, tour, body)
 }
 
 /// The first byte of the name of the next letvar.
@@ -205,60 +105,43 @@ fn next_start(entries: &[Entry<'_>], tour: &Tour) -> usize {
     }
 }
 
-/// Walks over a letvar, and says whether it loops.
+/// Walks over a letvar.
 #[cycle(tour)]
 fn walk_letvar(
-    alloc: Global,
     entries: &[Entry<'_>],
     tour: &mut Tour,
     body: &[Cmd],
     value: &Ex,
-) -> Result<bool, AllocError> {
+) -> Result<(), AllocError> {
     let variable = tour.globals.saturating_add(tour.letvars);
     let start = next_start(entries, tour);
     tour.uses.push(Use { start, variable })?;
-    let reads = reads_of(alloc, tour, value)?;
-    note_all(tour, &reads, variable, 8);
+    read(tour, value)?;
     let outside = tour.scope.len();
     tour.scope.push(variable)?;
     tour.letvars = tour.letvars.saturating_add(1);
-    let looping = walk_commands(alloc, entries, tour, body)?;
+    walk_commands(entries, tour, body)?;
     tour.scope.truncate(outside);
-    Ok(looping)
+    Ok(())
 }
 
-/// Walks over a list of commands, and says whether one loops.
+/// Walks over a list of commands.
 #[cycle(tour)]
-fn walk_commands(
-    alloc: Global,
-    entries: &[Entry<'_>],
-    tour: &mut Tour,
-    body: &[Cmd],
-) -> Result<bool, AllocError> {
-    let mut looping = false;
+fn walk_commands(entries: &[Entry<'_>], tour: &mut Tour, body: &[Cmd]) -> Result<(), AllocError> {
     for c in body {
-        let one = walk_command(alloc, entries, tour, c)?;
-        looping |= one;
+        walk_command(entries, tour, c)?;
     }
-    Ok(looping)
+    Ok(())
 }
 
-/// Walks over a command, and says whether it loops.
+/// Walks over a command.
 #[cycle(tour)]
-fn walk_command(
-    alloc: Global,
-    entries: &[Entry<'_>],
-    tour: &mut Tour,
-    c: &Cmd,
-) -> Result<bool, AllocError> {
+fn walk_command(entries: &[Entry<'_>], tour: &mut Tour, c: &Cmd) -> Result<(), AllocError> {
     match c {
-        Cmd::Assign { loc, span, value } => {
-            walk_assign(alloc, tour, *loc, span.start, value)?;
-            Ok(false)
-        }
-        Cmd::If { guard, yes, no } => walk_if(alloc, entries, tour, yes, no, guard),
-        Cmd::While { guard, body } => walk_while(alloc, entries, tour, body, guard),
-        Cmd::Letvar { value, body } => walk_letvar(alloc, entries, tour, body, value),
+        Cmd::Assign { loc, span, value } => walk_assign(tour, *loc, span.start, value),
+        Cmd::If { guard, yes, no } => walk_if(entries, tour, yes, no, guard),
+        Cmd::While { guard, body } => walk_while(entries, tour, body, guard),
+        Cmd::Letvar { value, body } => walk_letvar(entries, tour, body, value),
     }
 }
 
@@ -271,57 +154,37 @@ fn first_scope(alloc: Global, count: usize) -> Result<Vec<usize>, AllocError> {
     Ok(scope)
 }
 
-/// The number of variables whose flows are noted, the ending of loops among them; 0 where there are
-/// too many.
-pub(crate) fn drawn_width(declarations: usize) -> usize {
-    if declarations <= MOST_DRAWN {
-        declarations + 1
-    } else {
-        0
-    }
-}
-
-/// A matrix of no flows.
-fn no_kinds(alloc: Global, width: usize) -> Result<Vec<u8>, AllocError> {
-    let mut kinds = Vec::new(alloc);
-    for _ in 0..width.saturating_mul(width) {
-        kinds.push(0)?;
-    }
-    Ok(kinds)
-}
-
-/// What a walk over a program meets.
-pub(crate) fn tour_of(
-    alloc: Global,
-    program: &Resolved<'_>,
-    is_strict: bool,
-) -> Result<Tour, AllocError> {
+/// The names that a walk over a program meets.
+pub(crate) fn uses_of(alloc: Global, program: &Resolved<'_>) -> Result<Vec<Use>, AllocError> {
     let globals = program.globals().len();
-    let width = drawn_width(globals.saturating_add(program.letvars().len()));
     let mut tour = Tour {
         uses: Vec::new(alloc),
-        kinds: no_kinds(alloc, width)?,
-        width,
         scope: first_scope(alloc, globals)?,
-        held: Vec::new(alloc),
         letvars: 0,
-        is_strict,
         globals,
     };
-    walk_commands(alloc, program.letvars(), &mut tour, program.body())?;
-    Ok(tour)
+    walk_commands(program.letvars(), &mut tour, program.body())?;
+    Ok(tour.uses)
 }
 
-/// The bits of the rules.
-pub(crate) const RULES: [u8; 5] = [1, 2, 4, 8, 16];
+/// The rules, in their order.
+pub(crate) const RULES: [Rule; 5] = [
+    Rule::Assign,
+    Rule::If,
+    Rule::While,
+    Rule::Letvar,
+    Rule::Loop,
+];
 
 /// The word of a rule.
-pub(crate) fn rule_name(bit: u8) -> &'static [u8] {
-    match bit {
-        1 => b"ASSIGN",
-        2 => b"IF",
-        4 => b"WHILE",
-        8 => b"LETVAR",
-        _ => b"LOOP",
+pub(crate) fn rule_name(rule: Rule) -> &'static [u8]
+    ensures { result.now ≡ rule_text rule }
+{
+    match rule {
+        Rule::Assign => b"ASSIGN",
+        Rule::If => b"IF",
+        Rule::While => b"WHILE",
+        Rule::Letvar => b"LETVAR",
+        Rule::Loop => b"LOOP",
     }
 }

@@ -44,6 +44,7 @@ fn put_checked(
 /// The program of the same globals that is an `if` with two empty branches and a loop without a
 /// body.
 fn emptied<'a>(alloc: Heap, program: &Resolved<'a>) -> Option<Resolved<'a>> {
+    // What `body` ensures says that the program is resolved, which the proofs ask for.
     let _facts = program.body();
     if program.globals().len() == 0 {
         return None;

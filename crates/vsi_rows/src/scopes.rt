@@ -69,6 +69,7 @@ fn put_program(row: &mut Row<'_>, program: &Resolved<'_>, has_places: bool) {
 
 /// The program of the same globals without a `letvar` or a command.
 fn emptied<'t>(alloc: Heap, program: &Resolved<'t>) -> Option<Resolved<'t>> {
+    // What `body` ensures says that the program is resolved, which the proofs ask for.
     let _facts = program.body();
     program
         .rebuilt(alloc, Vec::new(alloc), Vec::new(alloc))

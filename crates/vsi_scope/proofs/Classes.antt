@@ -18,10 +18,12 @@ module _ (k : Known) (n : ℕ) (below : AreBelow n k) where
   abbrev IsBelow : Option ℕ → Type 0
   IsBelow o = IfSome o (λ c. c < n)
 
+  -- A class that is written is below the number.
   written_below : (c : Option tree.Named) → IsBelow (class_of k c)
   written_below None = tt
   written_below (Some x) = below x.text
 
+  -- The classes of globals are below the number.
   globals_below : (gs : List tree.Declared) → All (λ (s : Shown). IsBelow s.class) (map (global_of k) gs)
   globals_below [] = All-nil (λ (s : Shown). IsBelow s.class)
   globals_below (g ∷ gs) =

@@ -226,6 +226,7 @@ module _ (k : Known) (p : tree.Whole) (list : List Global) (w : Resolver) (b : B
     none_there : first_fault k (all_marks (global_names p.globals) (length p.globals) p.body) ≡ None
     none_there = rw (b.named, begun_declared) at none
 
+    -- The program has no fault.
     pub faultless : first_fault k (program_marks p) ≡ None
     faultless =
         none_in_both k (global_marks [] p.globals) (all_marks (global_names p.globals) (length p.globals) p.body)

@@ -22,9 +22,8 @@ resolved_of gs ls cs = record { globals = gs; letvars = ls; body = cs }
 abbrev pub IsNamed : Global → Type 0
 IsNamed g = IsTrue (is_name g.name.now) × IsTrue (is_name g.class_name.now)
 
--- What a resolved program keeps: an entry for each letvar, locations that exist, the limits, and names of globals
--- that
--- are distinct and are names.
+-- What a resolved program keeps: an entry for each letvar, locations that exist, the limits, and distinct names of
+-- globals.
 pub record IsResolved (r : Resolved) : Type 0 where
   pub entries : length r.letvars ≡ letvars (sequence r.body)
   pub places : HasPlaces (length r.globals) (sequence r.body)

@@ -5,6 +5,10 @@
 //! fault of the text. `resolve` carries the promise: its clause `resolved` says what the program
 //! is, `refused` what each fault means, and `exact` that a program without fault is refused for
 //! want of memory alone. The laws of evaluation are the contracts of the functions in [`laws`].
+//!
+//! To be believed: `specs/Faults`, `specs/Language`, `specs/Laws`, `specs/Meaning`, `specs/Places`,
+//! `specs/Program`, `specs/Resolving`, `specs/Rules`, `specs/Scopes`, `specs/View`;
+//! `specs/Resolver` is a stepping stone of proofs.
 #![tactic(auto)]
 
 pub mod laws;

@@ -128,7 +128,7 @@ module _ (L : Lattice) (classes : ℕ → ℕ) (names : ℕ → Span) where
       (unwatched c gs gs' (scope ++ n ∷ []) (n + 1) e (each_back InOrder own rest h))
 
 -- The program with loops is as well formed.
-watched_formed : (L : Lattice) (p : Program) → IsWellFormed L p → IsWellFormed L (watched_program p)
+pub watched_formed : (L : Lattice) (p : Program) → IsWellFormed L p → IsWellFormed L (watched_program p)
 watched_formed L p w = record {
   classes = w.classes;
   entries = w.entries ∙ sym (watched_letvars p.body);

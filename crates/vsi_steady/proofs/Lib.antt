@@ -2,7 +2,9 @@ mod Alike
 mod Together
 mod Seen
 mod First
+mod Least
 mod Walking
+mod Sweeping
 mod Watching
 mod Guards
 mod Sources

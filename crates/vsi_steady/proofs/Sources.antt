@@ -1,5 +1,6 @@
 -- What the layers promise of a text together.
-use Rattle.std.proofs.Common.{◌≡◌, ℕ, List, map, length, sym, ap, subst, ◌∙◌}
+use Rattle.std.proofs.Common.{◌≡◌, ℕ, List, [], map, length, refl, sym, ap, subst, ◌∙◌}
+use Rattle.std.specs.Prelude.{slice_get}
 use Rattle.std.specs.List.{All}
 use Rattle.vsi_lattice.specs.Order.{Lattice, IsLattice, IsClass}
 use Rattle.vsi_scope.specs.declared.resolved.Global.{Global}
@@ -7,15 +8,18 @@ use Rattle.vsi_scope.specs.declared.resolved.Entry.{Entry}
 use Rattle.vsi_scope.specs.Faults.{Known}
 use Rattle.vsi_scope.specs.Language.{Command}
 use Rattle.vsi_scope.specs.Program.{Resolved, IsResolved}
-use Rattle.vsi_scope.specs.Resolving.{HasClassesBelow}
+use Rattle.vsi_scope.specs.Resolving.{HasClassesBelow, IsResolution}
 use Rattle.vsi_scope.specs.View.{command, sequence}
+use Rattle.vsi_scope.proofs.Complete.{does_all_one}
 use Rattle.vsi_types.specs.declared.rules.Profile.TheVariants.{Strict}
-use Rattle.vsi_types.specs.Security.{Program, program, name_place, IsTypable}
+use Rattle.vsi_types.specs.Security.{Program, program, name_place, IsTypable, IsWellFormed}
+use Rattle.vsi_types.proofs.Walking.{bad_walks_refute}
 use Rattle.vsi_infer.specs.declared.error.InferError.{InferError}
 use Rattle.vsi_infer.specs.declared.error.InferError.TheVariants as infer
 use Rattle.vsi_infer.specs.Inference.{IsShortest, AreClasses}
 use Rattle.vsi_infer.specs.Inference as inference
 use Rattle.vsi_image.specs.declared.instr.Image.{Image}
+use Rattle.vsi_image.specs.Fields.{Fields, fields}
 use Rattle.vsi_compiler.specs.declared.error.CompileError.{CompileError}
 use Rattle.vsi_compiler.specs.declared.error.CompileError.TheVariants as compiler
 use Rattle.vsi_compiler.specs.Acceptance.{IsAccepted, program_of}
@@ -28,9 +32,11 @@ use Rattle.vsi_compiler.proofs.Programs.{program_is, typing_ready, global_classe
 use Rattle.vsi_steady.specs.declared.error.SteadyError.{SteadyError}
 use Rattle.vsi_steady.specs.declared.error.SteadyError.TheVariants as steady
 use Rattle.vsi_steady.specs.Refusal.{Refuses}
-use Rattle.vsi_steady.specs.Source.{HasSteadyFlows, RefusesSteady, compiling, flowing, judging}
+use Rattle.vsi_steady.specs.Source.{HasSteadyFlows, IsSteadilyAccepted, RefusesSteady, compiling, flowing, judging}
+use Rattle.vsi_steady.specs.Steady.{IsSteady, GoesThrough}
 use Rattle.vsi_steady.specs.Watched.{watched_program, IsWatched}
-use Rattle.vsi_steady.proofs.Guards.{unwatched_typable}
+use Rattle.vsi_steady.specs.declared.unsteady.UnsteadyError.TheVariants as unsteady
+use Rattle.vsi_steady.proofs.Guards.{unwatched_typable, watched_formed}
 
 -- A program of these parts.
 parts : List Global → List Entry → Command → Program
@@ -95,7 +101,7 @@ memory_refused known L text e is = subst (λ x. RefusesSteady known L text (comp
 
 -- A refusal of an image of a text whose flows are steady.
 pub image_refused : (known : Known) (L : Lattice) (text : List ℕ) (im : Image) → HasSteadyFlows known L text →
-    IsCompiled known L Strict text im → (e : SteadyError) → Refuses known im e →
+    IsCompiled known L Strict text im → (e : SteadyError) → Refuses known L im e →
     RefusesSteady known L text (judging e)
 image_refused known L text im flows compiled steady.Memory h = tt
 image_refused known L text im flows compiled (steady.UnknownClass i) h =
@@ -141,6 +147,50 @@ module _ (known : Known) (text : List ℕ) (p : Resolved) (stands : Stands known
         resolution = stands.resolves.resolution;
         shortest = subst (λ q. IsShortest L Strict q walk.steps.items) watched_tree h;
       }
+
+  -- The program with loops of a text with steady flows is typable.
+  steady_typed : (L : Lattice) (h : HasSteadyFlows known L text) → IsTypable L Strict (program r) h.choice
+  steady_typed L h =
+      let tree = stands.only h.tree h.reads in
+      let commands = does_all_one _ _ h.commands
+      (subst (λ t. IsResolution known t h.commands) (sym tree) h.resolution).body
+      ∙ sym (does_all_one _ _ (map command p.body) stands.resolves.resolution.body) in
+      let here : IsTypable L Strict (watched_program (program_of known stands.tree (map command p.body))) h.choice =
+      subst (λ t. IsTypable L Strict (watched_program (program_of known t (map command p.body))) h.choice) (sym tree)
+      (subst (λ cs. IsTypable L Strict (watched_program (program_of known h.tree cs)) h.choice) commands h.typable) in
+      subst (λ q. IsTypable L Strict q h.choice) (sym watched_tree) here
+
+  -- So the inference refuses it for want of memory alone.
+  pub flow_memory : (L : Lattice) → IsLattice L → IsResolved p → HasClassesBelow L.count p → (e : InferError) →
+      inference.Refuses L Strict (program r) e → HasSteadyFlows known L text → flowing e ≡ unsteady.Memory
+  flow_memory L laws kept below infer.Memory h s = refl
+  flow_memory L laws kept below (infer.Refused walk) h s =
+      let formed = subst (λ q. IsWellFormed L q) (sym (program_watched p r w))
+      (watched_formed L (program p) (typing_ready L p kept below)) in
+      absurd (bad_walks_refute L Strict (program r) walk.steps.items s.choice laws formed h.0 (steady_typed L s))
+
+-- Images with the same fields are steady alike.
+steady_fields : (known : Known) (L : Lattice) (a b : Image) → fields a ≡ fields b → IsSteady known L a →
+    IsSteady known L b
+steady_fields known L a b same s =
+    record {
+      slots = s.slots;
+      have = record {
+        count = s.have.count ∙ ap (λ f. f.slots) same;
+        classes = s.have.classes;
+        globals = λ i g at. s.have.globals i g (ap (λ (f : Fields). slice_get f.globals i) same ∙ at);
+      };
+      code = subst (λ c. GoesThrough L s.slots c []) (ap (λ (f : Fields). f.code) same) s.code;
+    }
+
+-- Each image of a text of which one is steady is.
+pub image_steady : (known : Known) (L : Lattice) (text : List ℕ) (im : Image) → IsImageOf known text im →
+    IsSteadilyAccepted known L text → IsSteady known L im
+image_steady known L text im code h =
+    let is = h.compiled.accepted in
+    steady_fields known L h.image im
+    (h.compiled.image is.tree is.commands is.reads is.resolution
+    ∙ sym (code is.tree is.commands is.reads is.resolution)) h.steady
 
 -- Two resolved programs with loops of a text are one program for typing.
 pub one_watched : (known : Known) (text : List ℕ) (p q r s : Resolved) → Stands known text p → Stands known text q →

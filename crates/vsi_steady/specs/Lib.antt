@@ -1,4 +1,5 @@
 pub mod Steady
+pub mod Least
 pub mod Laws
 pub mod Refusal
 pub mod Watched

@@ -1,14 +1,15 @@
 -- What a refusal says of an image.
 use Rattle.std.specs.Prelude.{◌≡◌, Some}
+use Rattle.vsi_lattice.specs.Order.{Lattice}
 use Rattle.vsi_image.specs.declared.instr.Image.{Image}
 use Rattle.vsi_image.specs.Fields.{globals}
 use Rattle.vsi_store.specs.View.{Known, first_unknown}
+use Rattle.vsi_steady.specs.Steady.{IsSteady}
 use Rattle.vsi_steady.specs.declared.error.SteadyError.{SteadyError}
 use Rattle.vsi_steady.specs.declared.error.SteadyError.TheVariants.{UnknownClass, Flow, Memory}
 
--- A refusal for a class name tells the first that the lattice lacks. That no classes make the image steady isn't
--- claimed.
-abbrev pub Refuses : Known → Image → SteadyError → Type 0
-Refuses known image (UnknownClass i) = first_unknown known 0 (globals image.globals.items) ≡ Some i
-Refuses known image (Flow place) = Unit {0}
-Refuses known image Memory = Unit {0}
+-- A refusal for a class name tells the first that the lattice lacks; one for a flow is of an image that isn't steady.
+abbrev pub Refuses : Known → Lattice → Image → SteadyError → Type 0
+Refuses known L image (UnknownClass i) = first_unknown known 0 (globals image.globals.items) ≡ Some i
+Refuses known L image (Flow place) = ¬ (IsSteady known L image)
+Refuses known L image Memory = Unit {0}

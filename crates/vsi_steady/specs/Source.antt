@@ -29,6 +29,7 @@ use Rattle.vsi_steady.specs.declared.error.SteadyError.TheVariants as steady
 use Rattle.vsi_steady.specs.declared.unsteady.UnsteadyError.{UnsteadyError}
 use Rattle.vsi_steady.specs.declared.unsteady.UnsteadyError.TheVariants as unsteady
 use Rattle.vsi_steady.specs.Refusal.{Refuses}
+use Rattle.vsi_steady.specs.Steady.{IsSteady}
 use Rattle.vsi_steady.specs.Watched.{watched_program, IsWatched}
 
 -- A tree reads the text, these commands are its resolution, and some choice of classes types the program strictly where
@@ -41,6 +42,13 @@ pub record HasSteadyFlows (known : Known) (L : Lattice) (text : List ℕ) : Type
   pub choice : List ℕ
   pub typable : IsTypable L Strict (watched_program (program_of known tree commands)) choice
 
+-- The flows of the text are steady, and so is its image.
+pub record IsSteadilyAccepted (known : Known) (L : Lattice) (text : List ℕ) : Type 0 where
+  pub flows : HasSteadyFlows known L text
+  pub image : Image
+  pub compiled : IsCompiled known L Strict text image
+  pub steady : IsSteady known L image
+
 -- The text has a tree and its resolution. Where each choice is a loop, these steps are a strictly bad walk, and no such
 -- walk has fewer.
 pub record HasShortestWatchedWalk (known : Known) (L : Lattice) (text : List ℕ) (steps : List Step) : Type 0 where
@@ -50,12 +58,12 @@ pub record HasShortestWatchedWalk (known : Known) (L : Lattice) (text : List ℕ
   pub resolution : IsResolution known tree commands
   pub shortest : IsShortest L Strict (watched_program (program_of known tree commands)) steps
 
--- The flows of the text are steady, and its image is refused. That the image isn't steady isn't claimed.
+-- The flows of the text are steady, and its image is refused.
 pub record HasRefusedImage (known : Known) (L : Lattice) (text : List ℕ) (e : SteadyError) : Type 0 where
   pub flows : HasSteadyFlows known L text
   pub image : Image
   pub compiled : IsCompiled known L Strict text image
-  pub told : Refuses known image e
+  pub told : Refuses known L image e
 
 -- An error of the compiler.
 abbrev pub compiling : CompileError → UnsteadyError

@@ -1,35 +1,18 @@
-//! Classes of slots, proposed and checked.
+//! The least classes of slots, and what of the code they don't let through.
 
-ghost use Rattle.std.specs.Prelude.{[], ◌≤◌, IsNone};
+ghost use Rattle.std.specs.Prelude.{◌≡◌, ◌≤◌, ◌<◌, None, false, true, [], length, reverse, take};
 ghost use Rattle.std.specs.List.{All};
 ghost use Rattle.vsi_image.specs.Valid.{IsFine, IsValid};
+ghost use Rattle.vsi_infer.specs.Ranks.{distance};
 ghost use Rattle.vsi_lattice.specs.LatticeView.{class_named, order};
 ghost use Rattle.vsi_lattice.specs.Order.{IsClass};
-ghost use Rattle.vsi_steady.specs.Steady.{GoesThrough, HaveClasses};
+ghost use Rattle.vsi_steady.specs.Least.{AreLeast, FindsRaised, RisesBy};
+ghost use Rattle.vsi_steady.specs.Steady.{GoesThrough, HaveClasses, IsSteady};
 
 use crate::classes::raise;
 use crate::held::{CAPACITY, Held, blank, pass, top};
 use vsi_image::{Image, Instr};
 use vsi_lattice::{Class, Lattice};
-
-/// The first instruction that doesn't find the classes that it wants.
-pub(crate) fn first_flow(lattice: &Lattice, image: &Image, classes: &[Class]) -> Option<usize>
-    requires valid { IsValid image.now }
-    requires classes { HaveClasses (class_named lattice.now) (order lattice.now) image.now
-        classes.now }
-    ensures { IsNone result → GoesThrough (order lattice.now) classes.now image.now.code.items [] }
-{
-    let mut held: Held = blank(lattice);
-    let mut depth = 0;
-    for (pc, instr) in image.code.iter().enumerate() {
-        let after = pass(lattice, image, classes, *instr, &mut held, depth);
-        if !after.is_met {
-            return Some(pc);
-        }
-        depth = after.depth;
-    }
-    None
-}
 
 /// Raises the class of the slot of a STORE above the globals by what is stored, and tells whether
 /// it has changed.
@@ -46,7 +29,14 @@ fn raise_by(
     requires classes { HaveClasses (class_named lattice.now) (order lattice.now) image.now
         classes.old }
     requires held { All (IsClass (order lattice.now)) held.now }
-    ensures { HaveClasses (class_named lattice.now) (order lattice.now) image.now classes.new }
+    ensures classes { HaveClasses (class_named lattice.now) (order lattice.now) image.now
+        classes.new }
+    ensures found { FindsRaised (order lattice.now) (length image.now.globals.items) classes.new
+        instr (reverse (take depth held.now)) }
+    ensures same { result ≡ false → classes.new ≡ classes.old }
+    ensures risen { result ≡ true
+        → RisesBy (order lattice.now) classes.old instr (reverse (take depth held.now))
+        classes.new }
 {
     match instr {
         Instr::Store(slot) => {
@@ -57,37 +47,78 @@ fn raise_by(
     }
 }
 
-/// Raises the classes of the slots above the globals by what is stored in them, once over the code,
-/// and tells whether one has changed.
-fn sweep(lattice: &Lattice, image: &Image, classes: &mut [Class]) -> bool
+/// The first instruction that didn't find what it wanted, of those up to this one.
+fn noted(flow: Option<usize>, place: usize, is_met: bool) -> Option<usize>
+    ensures met { is_met ≡ true → result ≡ flow }
+    ensures all { result ≡ None → (is_met ≡ true) × (flow ≡ None) }
+{
+    if is_met {
+        return flow;
+    }
+    match flow {
+        Some(first) => Some(first),
+        None => Some(place),
+    }
+}
+
+/// What was seen of a code: whether the class of a slot has risen, and the first instruction that
+/// didn't find the classes that it wants.
+#[derive(Clone, Copy)]
+struct Swept {
+    has_risen: bool,
+    flow: Option<usize>,
+}
+
+/// Raises the classes of the slots above the globals by what is stored in them, once over the code.
+fn sweep(lattice: &Lattice, image: &Image, classes: &mut [Class]) -> Swept
     requires valid { IsValid image.now }
     requires classes { HaveClasses (class_named lattice.now) (order lattice.now) image.now
         classes.old }
-    ensures { HaveClasses (class_named lattice.now) (order lattice.now) image.now classes.new }
+    requires least { AreLeast (class_named lattice.now) (order lattice.now) image.now classes.old }
+    ensures classes { HaveClasses (class_named lattice.now) (order lattice.now) image.now
+        classes.new }
+    ensures least { AreLeast (class_named lattice.now) (order lattice.now) image.now classes.new }
+    ensures through { result.has_risen ≡ false → result.flow ≡ None
+        → GoesThrough (order lattice.now) classes.new image.now.code.items [] }
+    ensures flow { IsSteady (class_named lattice.now) (order lattice.now) image.now
+        → result.flow ≡ None }
+    ensures nearer { result.has_risen ≡ true
+        → distance (order lattice.now).leq (order lattice.now).count classes.new
+        < distance (order lattice.now).leq (order lattice.now).count classes.old }
 {
     let mut held: Held = blank(lattice);
     let mut depth = 0;
     let mut has_risen = false;
-    for instr in image.code.iter() {
+    let mut flow: Option<usize> = None;
+    for (pc, instr) in image.code.iter().enumerate() {
         let is_raised = raise_by(lattice, image, classes, *instr, &held, depth);
-        has_risen = has_risen || is_raised;
-        depth = pass(lattice, image, classes, *instr, &mut held, depth).depth;
+        has_risen = has_risen | is_raised;
+        let after = pass(lattice, image, classes, *instr, &mut held, depth);
+        flow = noted(flow, pc, after.is_met);
+        depth = after.depth;
     }
-    has_risen
+    Swept { has_risen, flow }
 }
 
-/// Raises the classes of the slots above the globals until nothing changes. A class comes to a slot
-/// by as many STOREs at most as there are such slots, so that the last of these sweeps changes
-/// nothing.
-pub(crate) fn settle(lattice: &Lattice, image: &Image, classes: &mut [Class])
+/// Raises the classes of the slots above the globals until nothing changes, and tells the first
+/// instruction that doesn't find the classes that it wants then. A class comes to a slot by as many
+/// STOREs at most as there are such slots, so that there is one sweep more than these at most.
+pub(crate) fn settle(lattice: &Lattice, image: &Image, classes: &mut [Class]) -> Option<usize>
     requires valid { IsValid image.now }
     requires classes { HaveClasses (class_named lattice.now) (order lattice.now) image.now
         classes.old }
-    ensures { HaveClasses (class_named lattice.now) (order lattice.now) image.now classes.new }
+    requires least { AreLeast (class_named lattice.now) (order lattice.now) image.now classes.old }
+    ensures classes { HaveClasses (class_named lattice.now) (order lattice.now) image.now
+        classes.new }
+    ensures through { result ≡ None
+        → GoesThrough (order lattice.now) classes.new image.now.code.items [] }
+    ensures flow { IsSteady (class_named lattice.now) (order lattice.now) image.now
+        → result ≡ None }
 {
-    for _ in 0..=image.slots {
-        if !sweep(lattice, image, classes) {
-            return;
+    loop {
+        let swept = sweep(lattice, image, classes);
+        if !swept.has_risen {
+            return swept.flow;
         }
     }
 }

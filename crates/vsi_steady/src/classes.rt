@@ -1,9 +1,11 @@
 //! The classes of an image's slots.
 
-ghost use Rattle.std.specs.Prelude.{ℕ, ◌≤◌, ◌<◌, length, IfOk, IfErr};
+ghost use Rattle.std.specs.Prelude.{◌≡◌, ℕ, ◌≤◌, ◌<◌, false, true};
+ghost use Rattle.std.specs.Prelude.{length, slice_index, IfOk, IfErr};
 ghost use Rattle.vsi_image.specs.Valid.{IsValid};
 ghost use Rattle.vsi_lattice.specs.LatticeView.{class_named, order};
-ghost use Rattle.vsi_lattice.specs.Order.{Below, IsClass};
+ghost use Rattle.vsi_lattice.specs.Order.{Below, IsClass, IsJoin};
+ghost use Rattle.vsi_steady.specs.Least.{AreLeast, Rises};
 ghost use Rattle.vsi_steady.specs.Refusal.{Refuses};
 ghost use Rattle.vsi_steady.specs.Steady.{HaveClasses};
 
@@ -21,7 +23,10 @@ pub(crate) fn first_classes(
     requires { IsValid image.now }
     ensures classes { IfOk result
         (λ cs. HaveClasses (class_named lattice.now) (order lattice.now) image.now cs.items) }
-    ensures refused { IfErr result (Refuses (class_named lattice.now) image.now) }
+    ensures least { IfOk result
+        (λ cs. AreLeast (class_named lattice.now) (order lattice.now) image.now cs.items) }
+    ensures refused { IfErr result (Refuses (class_named lattice.now) (order lattice.now)
+        image.now) }
 {
     let globals = image.globals.as_slice();
     let mut classes = Vec::new(alloc);
@@ -42,6 +47,7 @@ pub(crate) fn joined(lattice: &Lattice, a: Class, b: Class) -> Class
     ensures class { IsClass (order lattice.now) result }
     ensures first { Below (order lattice.now) a result }
     ensures second { Below (order lattice.now) b result }
+    ensures join { IsJoin (order lattice.now).count (Below (order lattice.now)) a b result }
 {
     if lattice.leq(a, b) {
         return b;
@@ -64,6 +70,10 @@ pub(crate) fn raise(
     requires class { IsClass (order lattice.now) class }
     ensures classes { HaveClasses (class_named lattice.now) (order lattice.now) image.now
         classes.new }
+    ensures found { length image.now.globals.items ≤ slot
+        → Below (order lattice.now) class (slice_index classes.new slot) }
+    ensures same { result ≡ false → classes.new ≡ classes.old }
+    ensures risen { result ≡ true → Rises (order lattice.now) classes.old slot class classes.new }
 {
     if slot < image.globals.len() {
         return false;

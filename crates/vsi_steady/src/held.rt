@@ -6,6 +6,7 @@ ghost use Rattle.vsi_image.specs.Effects.{left};
 ghost use Rattle.vsi_image.specs.Valid.{IsFine};
 ghost use Rattle.vsi_lattice.specs.LatticeView.{class_named, order};
 ghost use Rattle.vsi_lattice.specs.Order.{IsClass};
+ghost use Rattle.vsi_steady.specs.Least.{Finds, Joins, Leads};
 ghost use Rattle.vsi_steady.specs.Steady.{HaveClasses, Operates, Passes};
 
 use crate::classes::joined;
@@ -34,6 +35,7 @@ pub(crate) fn top(lattice: &Lattice, held: &Held, depth: usize) -> Class
     ensures top { reverse (take depth held.now) ≡ result ∷ reverse (take (depth - 1) held.now) }
     ensures class { IsClass (order lattice.now) result }
 {
+    // What `bottom` ensures says that it is a class, which the proofs ask for.
     let _bottom = lattice.bottom();
     held[depth - 1]
 }
@@ -47,6 +49,7 @@ fn put(lattice: &Lattice, held: &mut Held, depth: usize, class: Class)
     ensures top { reverse (take (depth + 1) held.new) ≡ class ∷ reverse (take depth held.old) }
     ensures held { All (IsClass (order lattice.now)) held.new }
 {
+    // What `bottom` ensures says that it is a class, which the proofs ask for.
     let _bottom = lattice.bottom();
     held[depth] = class;
 }
@@ -57,6 +60,8 @@ fn operate(lattice: &Lattice, held: &mut Held, depth: usize)
     requires within { depth ≤ CAPACITY }
     requires held { All (IsClass (order lattice.now)) held.old }
     ensures operates { Operates (order lattice.now) (reverse (take depth held.old))
+        (reverse (take (depth - 1) held.new)) }
+    ensures joins { Joins (order lattice.now) (reverse (take depth held.old))
         (reverse (take (depth - 1) held.new)) }
     ensures held { All (IsClass (order lattice.now)) held.new }
 {
@@ -95,6 +100,10 @@ pub(crate) fn pass(
     ensures passes { result.is_met ≡ true
         → Passes (order lattice.now) classes.now instr (reverse (take depth held.old))
         (reverse (take result.depth held.new)) }
+    ensures leads { Leads (order lattice.now) classes.now instr (reverse (take depth held.old))
+        (reverse (take result.depth held.new)) }
+    ensures found { Finds (order lattice.now) classes.now instr (reverse (take depth held.old))
+        → result.is_met ≡ true }
     ensures depth { result.depth ≡ left instr depth }
     ensures held { All (IsClass (order lattice.now)) held.new }
 {

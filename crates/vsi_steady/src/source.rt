@@ -1,12 +1,18 @@
 //! A text that is compiled to a steady image.
 
-ghost use Rattle.std.specs.Prelude.{IfOk, IfErr};
+ghost use Rattle.std.specs.Prelude.{◌≡◌, IfOk, IfErr};
 ghost use Rattle.vsi_lattice.specs.LatticeView.{class_named, order};
 ghost use Rattle.vsi_types.specs.declared.rules.Profile.TheVariants.{Strict};
 ghost use Rattle.vsi_compiler.specs.Headline.{IsCompiled};
 ghost use Rattle.vsi_steady.specs.Laws.{RunsAlike, ViewsAlike};
-ghost use Rattle.vsi_steady.specs.Source.{HasSteadyFlows, RefusesSteady, ExplainsWatchedWalk};
+ghost use Rattle.vsi_steady.specs.Source.{
+  HasSteadyFlows,
+  IsSteadilyAccepted,
+  RefusesSteady,
+  ExplainsWatchedWalk,
+};
 ghost use Rattle.vsi_steady.specs.Steady.{IsSteady};
+ghost use Rattle.vsi_steady.specs.declared.unsteady.UnsteadyError.TheVariants.{Memory};
 
 use crate::steady::steady_in;
 use crate::unsteady::UnsteadyError;
@@ -19,7 +25,8 @@ use vsi_lattice::Lattice;
 use vsi_types::Profile;
 
 /// The image of a text that is accepted under the strict profile, and in which each guard, that of
-/// a choice too, has the bottom class. The image is `compile_in`'s.
+/// a choice too, has the bottom class. The image is `compile_in`'s. A text of which this holds and
+/// whose image is steady is refused for want of memory alone.
 ///
 /// # Errors
 ///
@@ -40,6 +47,8 @@ pub fn compile_steady(
     ensures views { IfOk result (ViewsAlike (class_named lattice.now) (order lattice.now)) }
     ensures refused { IfErr result
         (RefusesSteady (class_named lattice.now) (order lattice.now) text.now) }
+    ensures exact { IsSteadilyAccepted (class_named lattice.now) (order lattice.now) text.now
+        → IfErr result (λ e. e ≡ Memory) }
 {
     let resolved = resolved_program(alloc, lattice, text)?;
     let watched = watched_program(alloc, &resolved)?;

@@ -1,20 +1,22 @@
 //! The judgement of an image.
 
-ghost use Rattle.std.specs.Prelude.{IfErr, OnOk};
+ghost use Rattle.std.specs.Prelude.{◌≡◌, IfErr, OnOk};
 ghost use Rattle.vsi_lattice.specs.LatticeView.{class_named, order};
 ghost use Rattle.vsi_steady.specs.Laws.{RunsAlike, ViewsAlike};
 ghost use Rattle.vsi_steady.specs.Refusal.{Refuses};
 ghost use Rattle.vsi_steady.specs.Steady.{IsSteady};
+ghost use Rattle.vsi_steady.specs.declared.error.SteadyError.TheVariants.{Memory};
 
-use crate::check::{first_flow, settle};
+use crate::check::settle;
 use crate::classes::first_classes;
 use crate::error::SteadyError;
 use std::alloc::Global;
 use vsi_image::Verified;
 use vsi_lattice::Lattice;
 
-/// Judges an image by the policy that its class names say. Where it is accepted, nothing above a
-/// class shows in the number of instructions, in the writes or at the end.
+/// Judges an image by the policy that its class names say: it is accepted where it is steady, and
+/// nowhere else. Then nothing above a class shows in the number of instructions, in the writes or
+/// at the end.
 ///
 /// # Errors
 ///
@@ -27,12 +29,14 @@ pub fn steady_in(alloc: Global, lattice: &Lattice, image: &Verified) -> Result<(
         (RunsAlike (class_named lattice.now) (order lattice.now) image.now) }
     ensures views { OnOk result
         (ViewsAlike (class_named lattice.now) (order lattice.now) image.now) }
-    ensures refused { IfErr result (Refuses (class_named lattice.now) image.now) }
+    ensures refused { IfErr result
+        (Refuses (class_named lattice.now) (order lattice.now) image.now) }
+    ensures exact { IsSteady (class_named lattice.now) (order lattice.now) image.now
+        → IfErr result (λ e. e ≡ Memory) }
 {
     let image = image.image();
     let mut classes = first_classes(alloc, lattice, image)?;
-    settle(lattice, image, &mut classes);
-    match first_flow(lattice, image, &classes) {
+    match settle(lattice, image, &mut classes) {
         None => Ok(()),
         Some(place) => Err(SteadyError::Flow(place)),
     }

@@ -4,6 +4,8 @@
 //! globals it names; `store_text` prints words as the lines of a store; `view` runs an image and
 //! prints the lines that a class sees, and `compare` runs it from two stores and prints them side
 //! by side. Their clauses cite `specs/File`, `specs/Text`, `specs/View` and `specs/Compare`.
+//!
+//! To be believed: all files of `specs/`.
 #![tactic(auto)]
 
 mod comparing;

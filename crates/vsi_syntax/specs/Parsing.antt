@@ -1,7 +1,6 @@
--- Reading an expression from the left, as a function on lexemes. This is a stepping stone of the proof alone: the code
--- is
--- compared with it, and it is proved to find exactly the levelled trees of a bounded depth that write the lexemes. What
--- `parse` promises speaks of `write_program`, levels and depth, and of none of the readers here.
+-- Reading an expression from the left, as a function on lexemes. This is a stepping stone of the proof: the code is
+-- compared with it, and it finds exactly the levelled trees of a bounded depth that write the lexemes. What `parse`
+-- promises speaks of `write_program`, levels and depth, and of none of the readers here.
 use Rattle.std.specs.Prelude.{◌≡◌, ℕ, zero, suc, Bool, ◌&&◌, nat_le, nat_lt, if◌then◌else◌, List, [], ◌∷◌, Option, Some, None, Result, Ok, Err}
 use Rattle.vsi_syntax.specs.declared.token.Kind.{Kind}
 use Rattle.vsi_syntax.specs.declared.token.Kind.TheVariants as k

@@ -5,6 +5,11 @@
 //! tokens, `print` exactly the canonical text. `laws` states what follows from the definitions
 //! alone: one text has one cut and one program, and what is printed reads back as the same program.
 //! `Op::apply` is the meaning of the operators for all layers above.
+//!
+//! To be believed: `specs/Apart`, `specs/Canon`, `specs/CommandView`, `specs/Cut`,
+//! `specs/FaultPlaces`, `specs/Lines`, `specs/Operators`, `specs/ProgramView`, `specs/Spelling`,
+//! `specs/Tree`, `specs/View`, `specs/Words`, and `Fails` and `Gives` of `specs/Parsing`; its other
+//! definitions and the other files of `specs/` are stepping stones of proofs.
 #![tactic(auto)]
 
 pub mod laws;

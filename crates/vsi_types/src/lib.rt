@@ -9,6 +9,9 @@
 //! A walk of another crate over the same flow steps stands at a [`Walker`]: its scope begins as
 //! `first_variables`, `push_reads` adds what a guard reads, and `loops` says whether a loop stands
 //! under one.
+//!
+//! To be believed: `specs/Security`, `specs/Steps`, `specs/Typing`, `specs/Walks`, and `TellsWhy`
+//! of `specs/Checking`; its other definitions and `specs/Walker` are stepping stones of proofs.
 #![tactic(auto)]
 
 mod checker;

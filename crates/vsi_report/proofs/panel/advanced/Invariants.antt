@@ -1,4 +1,4 @@
-use Rattle.std.proofs.Common.{◌≡◌, ◌≤◌, ◌-◌, length}
+use Rattle.std.proofs.Common.{◌≡◌, ◌-◌}
 use Rattle.vsi_report.proofs.panel.advanced.Given as goal
 
 abbrev pub invariant-loop-panel : goal.invariant-loop-panel

@@ -1,47 +1,46 @@
-use Rattle.std.proofs.Common.{◌≡◌, ◌∙◌, [], length, sym, ap, subst, arith}
-use Rattle.std.specs.Prelude.{is_some}
+use Rattle.std.proofs.Common.{sym, subst}
+use Rattle.std.proofs.lemmas.Result.{err_from_is_err_and}
 use Rattle.vsi_image.specs.Valid.{IsValid}
 use Rattle.vsi_lattice.specs.LatticeView.{class_named, order}
 use Rattle.vsi_lattice.specs.Laws.{lawful_is_lattice}
 use Rattle.vsi_steady.specs.Laws.{RunsAlike, ViewsAlike}
-use Rattle.vsi_steady.specs.Steady.{GoesThrough}
+use Rattle.vsi_steady.specs.Steady.{IsSteady}
+use Rattle.vsi_steady.proofs.First.{only_memory}
 use Rattle.vsi_steady.proofs.Seen.{steady_views_alike}
 use Rattle.vsi_steady.proofs.Together.{steady_runs_alike}
-use Rattle.vsi_steady.proofs.Walking.{written}
 use Rattle.vsi_steady.proofs.steady.steady_in.Goals as goal
 
 pub returns-in-None-clause-alike : goal.returns-in-None-clause-alike
 returns-in-None-clause-alike c =
     let l = c.args.lattice.now in
     let same = c.image-image.ensures.same in
-    let first = c.in_ok-classes.classes in
-    let full : first.len ≡ length c.settle.new.classes =
-    omega (arith, first.ok, c.in_ok-classes.ensures.classes.count, c.settle.ensures.count) in
     subst (λ im. RunsAlike (class_named l) (order l) im) same
     (steady_runs_alike (class_named l) (order l) c.image-image.result.now (lawful_is_lattice (order l) l.order.lawful)
     (subst IsValid (sym same) c.image-image.ensures.valid)
     (record {
       slots = c.settle.new.classes;
-      have = c.settle.ensures;
-      code = subst (λ cs. GoesThrough (order l) cs c.image-image.result.now.code.items [])
-          (c.deref.ensures.value ∙ written first.len c.settle.new.classes _ full)
-          (c.first_flow.ensures (ap is_some c.in-None.is));
+      have = c.settle.ensures.classes;
+      code = c.settle.ensures.through c.in-None.is;
     }))
 
 pub returns-in-None-clause-views : goal.returns-in-None-clause-views
 returns-in-None-clause-views c =
     let l = c.args.lattice.now in
     let same = c.image-image.ensures.same in
-    let first = c.in_ok-classes.classes in
-    let full : first.len ≡ length c.settle.new.classes =
-    omega (arith, first.ok, c.in_ok-classes.ensures.classes.count, c.settle.ensures.count) in
     subst (λ im. ViewsAlike (class_named l) (order l) im) same
     (steady_views_alike (class_named l) (order l) c.image-image.result.now (lawful_is_lattice (order l) l.order.lawful)
     (subst IsValid (sym same) c.image-image.ensures.valid)
     (record {
       slots = c.settle.new.classes;
-      have = c.settle.ensures;
-      code = subst (λ cs. GoesThrough (order l) cs c.image-image.result.now.code.items [])
-          (c.deref.ensures.value ∙ written first.len c.settle.new.classes _ full)
-          (c.first_flow.ensures (ap is_some c.in-None.is));
+      have = c.settle.ensures.classes;
+      code = c.settle.ensures.through c.in-None.is;
     }))
+
+pub returns-in_err-classes-clause-exact : goal.returns-in_err-classes-clause-exact
+returns-in_err-classes-clause-exact c = λ steady.
+    let l = c.args.lattice.now in
+    let p = err_from_is_err_and c.from_residual.result c.from_residual.ensures.1 in
+    rw (p.1, p.2)
+    (only_memory (class_named l) (order l) c.image-image.result.now c.in_err-classes.field-0.0
+    c.in_err-classes.ensures.refused
+    (subst (λ im. IsSteady (class_named l) (order l) im) (sym c.image-image.ensures.same) steady))

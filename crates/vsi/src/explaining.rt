@@ -1,0 +1,397 @@
+//! What stands behind a refusal for a person, of what was read.
+
+use crate::desk::{Desk, Kept};
+use crate::files::{Files, Kind};
+use crate::reading::TWO_CLASSES;
+use crate::stop::{STREAM, Stop};
+use crate::subcommands::profile;
+use std::alloc::{AllocError, Global};
+use vsi_advice::advice;
+use vsi_answers::Cause;
+use vsi_arguments::{Colour, Request};
+use vsi_audit::AuditError;
+use vsi_blame::refused_flows;
+use vsi_caret::{Manner, put_safe};
+use vsi_compiler::CompileError;
+use vsi_conform::InterfaceError;
+use vsi_drive::{LineFault, StartFault};
+use vsi_faults::Fault;
+use vsi_image::{Image, decode};
+use vsi_lattice::{Lattice, read_lattice};
+use vsi_steady::{SteadyError, UnsteadyError};
+use vsi_store::StoreError;
+use vsi_telling::{Refused, class_list, explanation};
+use vsi_types::Profile;
+
+/// What a run that is out of budget is told.
+const SPENT: &[u8] = b"\
+The run did not halt within its budget. Give a larger --budget, or look for a
+loop whose guard never becomes 0.
+";
+
+/// What a text is told whose image isn't steady.
+const UNSTEADY: &[u8] = b"\
+With --steady each `if` counts as a `while`: a variable that a guard reads must
+have the least class. Compute both results and select one by arithmetic, as in
+`out := g * a + (1 - g) * b` for a guard g that is 0 or 1.
+";
+
+/// How an explanation is made: its colours, and the profile that judges a source text.
+#[derive(Clone, Copy)]
+pub(crate) struct Explaining {
+    pub(crate) manner: Manner,
+    pub(crate) profile: Profile,
+}
+
+impl Explaining {
+    /// How a request's refusal is explained.
+    pub(crate) fn new<F: Files>(request: &Request<'_>, colour: Colour, files: &mut F) -> Self {
+        let is_coloured = match colour {
+            Colour::Always => true,
+            Colour::Never => false,
+            Colour::Auto => files.wants_colour(),
+        };
+        Explaining {
+            manner: if is_coloured {
+                Manner::Coloured
+            } else {
+                Manner::Plain
+            },
+            profile: profile(is_strict(request)),
+        }
+    }
+}
+
+/// Whether the strict profile judges the source text.
+fn is_strict(request: &Request<'_>) -> bool {
+    match request {
+        Request::Check(asked) => asked.compilation.is_strict || asked.is_steady,
+        Request::Classes(compilation)
+        | Request::Build(compilation, _)
+        | Request::Report(compilation)
+        | Request::Flows { compilation, .. } => compilation.is_strict,
+        Request::Draw(drawing) => drawing.is_strict,
+        _ => false,
+    }
+}
+
+/// What stands behind the text of a stop.
+pub(crate) fn explained<'a, F: Files>(
+    alloc: Global,
+    explaining: Explaining,
+    desk: &mut Desk<'a, F>,
+    stop: &Stop<'_>,
+) -> Result<Vec<u8>, AllocError> {
+    match stop {
+        Stop::Refused(text, cause) => {
+            let mut lines = match cause {
+                Some(cause) => of_cause(alloc, explaining, desk, cause)?,
+                None => Vec::new(alloc),
+            };
+            push_page(&mut lines, text)?;
+            Ok(lines)
+        }
+        Stop::Interface(_, error) => of_interface(alloc, explaining, desk, error),
+        Stop::Audit(text, error) => {
+            let mut lines = of_audit(alloc, explaining, desk, error)?;
+            push_page(&mut lines, text)?;
+            Ok(lines)
+        }
+        Stop::Unsteady(text, error) => {
+            let mut lines = of_unsteady(alloc, explaining, desk, text, error)?;
+            push_page(&mut lines, text)?;
+            Ok(lines)
+        }
+        Stop::FileFault(path) => of_fault(alloc, desk, path),
+        Stop::LostFile(path) => of_fault(alloc, desk, path.as_str()),
+        Stop::OutOfBudget => Vec::from_slice(alloc, SPENT),
+        Stop::NoClass(_) => of_class(alloc, desk),
+        Stop::Differs | Stop::Usage(_) | Stop::Memory => Ok(Vec::new(alloc)),
+    }
+}
+
+/// Tells which page has more, where the text begins with a number.
+fn push_page(lines: &mut Vec<u8>, text: &[u8]) -> Result<(), AllocError> {
+    let Some(rest) = text.strip_prefix(b"refused: ") else {
+        return Ok(());
+    };
+    lines.extend_from_slice(b"More: vsi explain ")?;
+    for byte in rest {
+        if !byte.is_ascii_digit() {
+            break;
+        }
+        lines.push(*byte)?;
+    }
+    lines.push(b'\n')?;
+    Ok(())
+}
+
+/// Why a file can't be used.
+fn of_fault<'a, F: Files>(
+    alloc: Global,
+    desk: &mut Desk<'a, F>,
+    path: &str,
+) -> Result<Vec<u8>, AllocError> {
+    let mut lines = Vec::new(alloc);
+    if path == STREAM {
+        lines.extend_from_slice(b"A standard stream can't be read or written.\n")?;
+        return Ok(lines);
+    }
+    put_safe(&mut lines, path.as_bytes())?;
+    match desk.trouble(path) {
+        Some(sentence) => {
+            lines.extend_from_slice(b": ")?;
+            lines.extend_from_slice(sentence.as_bytes())?;
+            lines.extend_from_slice(b"\n")?;
+        }
+        None => lines.extend_from_slice(b" can't be opened, read or written.\n")?,
+    }
+    Ok(lines)
+}
+
+/// What stands behind a refusal with this cause.
+fn of_cause<'a, F: Files>(
+    alloc: Global,
+    explaining: Explaining,
+    desk: &Desk<'a, F>,
+    cause: &Cause,
+) -> Result<Vec<u8>, AllocError> {
+    match cause {
+        Cause::Source(error) => of_source(alloc, explaining, desk, error),
+        Cause::Steady(UnsteadyError::Compile(CompileError::Flow(_)) | UnsteadyError::Image(_)) => {
+            Vec::from_slice(alloc, UNSTEADY)
+        }
+        Cause::Steady(UnsteadyError::Compile(error)) => of_source(alloc, explaining, desk, error),
+        Cause::File(Fault::Store(error)) => of_store(alloc, explaining, desk, error),
+        Cause::File(fault) => of_file(alloc, explaining, desk, fault),
+        Cause::Start(fault) => of_start(alloc, explaining, desk, *fault),
+        Cause::Steady(UnsteadyError::Memory) => Ok(Vec::new(alloc)),
+    }
+}
+
+/// The lattice that was read, or `L` below `H` where none was.
+fn policy<'a, F: Files>(alloc: Global, desk: &Desk<'a, F>) -> Option<Lattice> {
+    let text = match desk.last(Kind::Lattice) {
+        Some(kept) => kept.bytes.as_slice(),
+        None => TWO_CLASSES,
+    };
+    read_lattice(alloc, text).ok()
+}
+
+/// What stands behind the name of a class that the lattice lacks.
+fn of_class<'a, F: Files>(alloc: Global, desk: &Desk<'a, F>) -> Result<Vec<u8>, AllocError> {
+    match policy(alloc, desk) {
+        Some(lattice) => class_list(alloc, &lattice),
+        None => Err(AllocError),
+    }
+}
+
+/// What stands behind the refusal of a source text.
+fn of_source<'a, F: Files>(
+    alloc: Global,
+    explaining: Explaining,
+    desk: &Desk<'a, F>,
+    error: &CompileError,
+) -> Result<Vec<u8>, AllocError> {
+    let Some(kept) = desk.last(Kind::Source) else {
+        return Ok(Vec::new(alloc));
+    };
+    let Some(lattice) = policy(alloc, desk) else {
+        return Err(AllocError);
+    };
+    if let CompileError::Flow(_) = error {
+        let path = str::from_utf8(&kept.path).unwrap_or("");
+        let told = refused_flows(alloc, explaining.profile, &lattice, path, &kept.bytes);
+        return told.map_err(|_| AllocError);
+    }
+    let refused = Refused::Source {
+        path: &kept.path,
+        bytes: &kept.bytes,
+        lattice: &lattice,
+        error,
+    };
+    explanation(alloc, explaining.manner, &refused)
+}
+
+/// The image that was read.
+fn read_image<'a, F: Files>(alloc: Global, desk: &Desk<'a, F>) -> Option<Image> {
+    decode(alloc, desk.last(Kind::Image)?.bytes.as_slice()).ok()
+}
+
+/// What stands behind the refusal of a store file.
+fn of_store<'a, F: Files>(
+    alloc: Global,
+    explaining: Explaining,
+    desk: &Desk<'a, F>,
+    error: &StoreError,
+) -> Result<Vec<u8>, AllocError> {
+    let Some(kept) = desk.last(Kind::Store) else {
+        return Ok(Vec::new(alloc));
+    };
+    let Some(image) = read_image(alloc, desk) else {
+        return Err(AllocError);
+    };
+    let refused = Refused::Store {
+        path: &kept.path,
+        bytes: &kept.bytes,
+        image: &image,
+        error,
+    };
+    explanation(alloc, explaining.manner, &refused)
+}
+
+/// The last file of a kind; an interface stands for a lattice file where it has classes itself.
+fn of_kind<'d, 'a, F: Files>(desk: &'d Desk<'a, F>, kind: Kind) -> Option<&'d Kept> {
+    match desk.last(kind) {
+        Some(kept) => Some(kept),
+        None if kind == Kind::Lattice => desk.last(Kind::Interface),
+        None => None,
+    }
+}
+
+/// What stands behind the refusal of a lattice file or of an image.
+fn of_file<'a, F: Files>(
+    alloc: Global,
+    explaining: Explaining,
+    desk: &Desk<'a, F>,
+    fault: &Fault,
+) -> Result<Vec<u8>, AllocError> {
+    let kind = match fault {
+        Fault::Lattice(_) => Kind::Lattice,
+        Fault::Store(_) => Kind::Store,
+        Fault::Decode(_) | Fault::Verify(_) | Fault::View(_) => Kind::Image,
+    };
+    let Some(kept) = of_kind(desk, kind) else {
+        return Ok(Vec::new(alloc));
+    };
+    let refused = Refused::File {
+        path: &kept.path,
+        bytes: &kept.bytes,
+        fault,
+    };
+    explanation(alloc, explaining.manner, &refused)
+}
+
+/// The lattice of a file that was read.
+fn read_policy<'a, F: Files>(alloc: Global, desk: &Desk<'a, F>) -> Option<Lattice> {
+    read_lattice(alloc, desk.last(Kind::Lattice)?.bytes.as_slice()).ok()
+}
+
+/// What stands behind the refusal of an interface.
+fn of_interface<'a, F: Files>(
+    alloc: Global,
+    explaining: Explaining,
+    desk: &Desk<'a, F>,
+    error: &InterfaceError,
+) -> Result<Vec<u8>, AllocError> {
+    let Some(kept) = desk.last(Kind::Interface) else {
+        return Ok(Vec::new(alloc));
+    };
+    if desk.last(Kind::Lattice).is_none() {
+        return interface_advice(alloc, explaining, kept, None, error);
+    }
+    let Some(lattice) = read_policy(alloc, desk) else {
+        return Err(AllocError);
+    };
+    interface_advice(alloc, explaining, kept, Some(&lattice), error)
+}
+
+/// What stands behind the refusal of this interface, whose lattice is there where it was read.
+fn interface_advice<'d>(
+    alloc: Global,
+    explaining: Explaining,
+    kept: &'d Kept,
+    lattice: Option<&'d Lattice>,
+    error: &'d InterfaceError,
+) -> Result<Vec<u8>, AllocError> {
+    let refused = vsi_advice::Refused::Interface {
+        bytes: &kept.bytes,
+        lattice,
+        error,
+    };
+    advice(alloc, explaining.manner, &kept.path, refused)
+}
+
+/// What was read that a run can't begin with: a setting, the store file, or else the image.
+fn faulty_start<'d, 'a, F: Files>(desk: &'d Desk<'a, F>, fault: StartFault) -> Option<&'d Kept> {
+    match fault {
+        StartFault::Setting(
+            LineFault::BadSetting(number)
+            | LineFault::UnknownGlobal(number)
+            | LineFault::AboveClass(number)
+            | LineFault::NotANumber(number),
+        ) => desk.behind(Kind::Setting, number),
+        StartFault::Setting(LineFault::TooLong) => None,
+        StartFault::Unnamed(_) => match desk.last(Kind::Store) {
+            Some(kept) => Some(kept),
+            None => desk.last(Kind::Image),
+        },
+    }
+}
+
+/// What stands behind the refusal of a run that doesn't begin.
+fn of_start<'a, F: Files>(
+    alloc: Global,
+    explaining: Explaining,
+    desk: &Desk<'a, F>,
+    fault: StartFault,
+) -> Result<Vec<u8>, AllocError> {
+    let Some(kept) = faulty_start(desk, fault) else {
+        return Ok(Vec::new(alloc));
+    };
+    let Some(image) = read_image(alloc, desk) else {
+        return Err(AllocError);
+    };
+    let refused = vsi_advice::Refused::Start {
+        bytes: &kept.bytes,
+        image: &image,
+        fault,
+    };
+    advice(alloc, explaining.manner, &kept.path, refused)
+}
+
+/// What stands behind the refusal of an image's commands.
+fn of_audit<'a, F: Files>(
+    alloc: Global,
+    explaining: Explaining,
+    desk: &Desk<'a, F>,
+    error: &AuditError,
+) -> Result<Vec<u8>, AllocError> {
+    let (Some(kept), Some(image), Some(lattice)) = (
+        desk.last(Kind::Image),
+        read_image(alloc, desk),
+        policy(alloc, desk),
+    ) else {
+        return Err(AllocError);
+    };
+    let refused = vsi_advice::Refused::Audit {
+        lattice: &lattice,
+        image: &image,
+        error,
+    };
+    advice(alloc, explaining.manner, &kept.path, refused)
+}
+
+/// What stands behind the refusal of an image that isn't steady.
+fn of_unsteady<'a, F: Files>(
+    alloc: Global,
+    explaining: Explaining,
+    desk: &Desk<'a, F>,
+    refusal: &[u8],
+    error: &SteadyError,
+) -> Result<Vec<u8>, AllocError> {
+    let (Some(kept), Some(image), Some(lattice)) = (
+        desk.last(Kind::Image),
+        read_image(alloc, desk),
+        policy(alloc, desk),
+    ) else {
+        return Err(AllocError);
+    };
+    let refused = vsi_advice::Refused::Steady {
+        lattice: &lattice,
+        image: &image,
+        refusal,
+        error,
+    };
+    advice(alloc, explaining.manner, &kept.path, refused)
+}

@@ -1,0 +1,51 @@
+//! What standard error is told besides the text of a stop.
+
+use crate::stop::Stop;
+use std::alloc::{AllocError, Global};
+use std::io::Write;
+use vsi_devices::{Counted, write_out};
+
+/// What is told behind a stop, or behind what is done.
+#[derive(Drop)]
+pub(crate) struct Told {
+    /// Whether a refusal is explained.
+    pub(crate) is_explained: bool,
+    /// The lines that are told.
+    pub(crate) note: Vec<u8>,
+}
+
+impl Told {
+    /// Nothing yet, and no explanation is asked for.
+    pub(crate) fn new(alloc: Global) -> Told {
+        Told {
+            is_explained: false,
+            note: Vec::new(alloc),
+        }
+    }
+
+    /// Puts lines behind those that are told.
+    pub(crate) fn put(&mut self, lines: Result<Vec<u8>, AllocError>) -> Result<(), AllocError> {
+        self.note.extend_from_slice(&lines?)
+    }
+
+    /// Writes what is told.
+    pub(crate) fn tell<E: Write>(&self, error: &mut Counted<E>) {
+        if !self.note.is_empty() {
+            say(&self.note, error);
+        }
+    }
+}
+
+/// Writes a text to standard error, whose faults change nothing.
+pub(crate) fn say<E: Write>(text: &[u8], error: &mut Counted<E>) {
+    if error.faults() < u64::MAX {
+        let _ = write_out(text, error);
+    }
+}
+
+/// Writes the text of a stop to standard error, whose faults change nothing.
+pub(crate) fn tell_stop<E: Write>(stop: &Stop<'_>, error: &mut Counted<E>) {
+    if error.faults() < u64::MAX {
+        let _ = stop.tell(error);
+    }
+}

@@ -1,0 +1,211 @@
+//! What is told of an image that is judged and refused.
+
+use crate::Telling;
+use std::alloc::{AllocError, Global};
+use vsi_audit::AuditError;
+use vsi_image::{Image, Instr, listing};
+use vsi_infer::Walk;
+use vsi_lattice::{Classes, Lattice};
+use vsi_steady::SteadyError;
+use vsi_telling::names::{class_names, put_decimal, put_names, put_quoted};
+
+/// An image that is refused, and the lattice by which it was judged.
+#[derive(Clone, Copy)]
+pub(crate) struct Judged<'a> {
+    pub(crate) alloc: Global,
+    pub(crate) lattice: &'a Lattice,
+    pub(crate) image: &'a Image,
+}
+
+/// The line of a listing that begins with this number and `: `.
+fn line_of<'l>(listing: &'l [u8], start: &[u8]) -> Option<&'l [u8]> {
+    for line in listing.split(|byte| *byte == b'\n') {
+        if line.starts_with(start) {
+            return Some(line);
+        }
+    }
+    None
+}
+
+/// What the commands of an image ask of an instruction.
+fn rule_of(instruction: Option<&Instr>) -> &'static str {
+    match instruction {
+        Some(Instr::Jz(_)) => {
+            "A JZ is that of an `if` or of a `while`: the instruction before its target is a JMP, \
+            which ends the first branch or the body.\n"
+        }
+        Some(Instr::Jmp(_)) => {
+            "A JMP ends the first branch of an `if`, or leads from the end of a body back to the \
+            guard of its `while`, and stands nowhere else.\n"
+        }
+        Some(Instr::Halt) => "HALT is the last instruction, and stands nowhere else.\n",
+        Some(Instr::Load(_)) => {
+            "A LOAD reads a global, or a local that a STORE in front of it has set in the same \
+            branch or around it; an expression is nested 200 deep at most.\n"
+        }
+        Some(Instr::Store(_)) => {
+            "A STORE ends an assignment. It takes the only operand that is there, which reads no \
+            local that isn't set; locals are set first in the order of their slots.\n"
+        }
+        _ =>
+            "An operand is taken within its command, and an expression is nested 200 deep at most.\n",
+    }
+}
+
+impl Judged<'_> {
+    /// Adds the line of an instruction in the listing.
+    fn put_line(&self, words: &mut Vec<u8>, number: usize) -> Result<(), AllocError> {
+        let text = listing(self.alloc, self.image)?;
+        let mut start = Vec::new(self.alloc);
+        put_decimal(&mut start, number)?;
+        start.extend_from_slice(b": ")?;
+        if let Some(line) = line_of(&text, &start) {
+            words.extend_from_slice(b"  ")?;
+            words.extend_from_slice(line)?;
+            words.extend_from_slice(b"\n")?;
+        }
+        Ok(())
+    }
+
+    /// Adds what is told of a global whose class the lattice lacks.
+    fn put_class(&self, words: &mut Vec<u8>, number: usize) -> Result<(), AllocError> {
+        let Some((name, class)) = self.image.globals.get(number) else {
+            return Ok(());
+        };
+        words.extend_from_slice(b"The global ")?;
+        put_quoted(words, name)?;
+        words.extend_from_slice(b" has the class ")?;
+        put_quoted(words, class)?;
+        words.extend_from_slice(b", which the lattice file lacks: its classes are ")?;
+        put_names(words, &class_names(self.alloc, self.lattice)?)?;
+        words.extend_from_slice(
+            b".\nHint: name the lattice file with which the image was built; `vsi list IMAGE` \
+            shows each global with its class.\n",
+        )
+    }
+
+    /// Adds what is told of code that isn't that of commands.
+    fn put_code(&self, words: &mut Vec<u8>, number: usize) -> Result<(), AllocError> {
+        words.extend_from_slice(
+            b"The image is valid, and its code isn't that of commands from here on:\n",
+        )?;
+        self.put_line(words, number)?;
+        words.extend_from_slice(rule_of(self.image.code.get(number)).as_bytes())?;
+        words.extend_from_slice(
+            b"Hint: build the image again from its source text. Code without commands is judged by \
+            `vsi audit LATTICE IMAGE --steady`.\n",
+        )
+    }
+
+    /// Adds what is told of fields that the code doesn't need.
+    fn put_fields(&self, words: &mut Vec<u8>) -> Result<(), AllocError> {
+        words.extend_from_slice(b"The fields of the image are slots ")?;
+        put_decimal(words, self.image.slots as usize)?;
+        words.extend_from_slice(b" and stack ")?;
+        put_decimal(words, self.image.stack as usize)?;
+        words.extend_from_slice(
+            b", and its commands need another number in one of them.\n\
+            Hint: `vsi source IMAGE` writes the commands as a text; build the image of that.\n",
+        )
+    }
+
+    /// Adds what is told of a flow that breaks the policy.
+    fn put_flow(&self, words: &mut Vec<u8>, walk: &Walk) -> Result<(), AllocError> {
+        let (Some(first), Some(last)) = (walk.steps.first(), walk.steps.last()) else {
+            return Ok(());
+        };
+        let (from, to) = (first.read.start, last.written.start);
+        words.extend_from_slice(
+            b"The numbers are those of instructions: what reads, and what writes. It begins at\n",
+        )?;
+        self.put_line(words, from)?;
+        if to != from {
+            words.extend_from_slice(b"and ends at\n")?;
+            self.put_line(words, to)?;
+        }
+        words.extend_from_slice(
+            b"Hint: `vsi source IMAGE` writes the image as a text, and `vsi check LATTICE TEXT \
+            --explain` shows there each step of the flow.\n",
+        )
+    }
+
+    /// Adds what is told of a jump or a global into which something flows that may not.
+    fn put_unsteady(
+        &self,
+        words: &mut Vec<u8>,
+        number: usize,
+        source: &[u8],
+    ) -> Result<(), AllocError> {
+        if let Some(Instr::Store(_)) = self.image.code.get(number) {
+            words.extend_from_slice(b"This instruction writes what depends on ")?;
+            put_quoted(words, source)?;
+            words.extend_from_slice(b":\n")?;
+            self.put_line(words, number)?;
+            return words.extend_from_slice(
+                b"Hint: give the global that it writes a class at or above that one, or write \
+                there what doesn't depend on it.\n",
+            );
+        }
+        words.extend_from_slice(b"This jump depends on ")?;
+        put_quoted(words, source)?;
+        words.extend_from_slice(b":\n")?;
+        self.put_line(words, number)?;
+        words.extend_from_slice(
+            b"With --steady a jump depends on nothing above the least class, which is ",
+        )?;
+        put_quoted(words, self.lattice.name(self.lattice.bottom()))?;
+        words.extend_from_slice(
+            b".\nHint: compute both results and select one by arithmetic, as in \
+            `out := g * a + (1 - g) * b` for a guard g that is 0 or 1, and build the image \
+            again.\n",
+        )
+    }
+}
+
+/// What the last line of a refusal names in front of `may not flow to`.
+fn source_in(refusal: &[u8]) -> &[u8] {
+    let mut source: &[u8] = b"(something)";
+    for line in refusal.split(|byte| *byte == b'\n') {
+        for at in 0..line.len() {
+            if line[at..].starts_with(b" may not flow to ") {
+                source = &line[..at];
+                break;
+            }
+        }
+    }
+    source
+}
+
+/// What is told of an image whose commands are judged.
+pub(crate) fn of_audit(judged: &Judged, error: &AuditError) -> Result<Telling, AllocError> {
+    let mut words = Vec::new(judged.alloc);
+    match error {
+        AuditError::Memory => return Err(AllocError),
+        AuditError::UnknownClass(number) => judged.put_class(&mut words, *number)?,
+        AuditError::Unstructured(number) => judged.put_code(&mut words, *number)?,
+        AuditError::WrongFields => judged.put_fields(&mut words)?,
+        AuditError::NoText => words.extend_from_slice(
+            b"The commands of the code are more, or are nested deeper, than a text may have them.\n\
+            Hint: `vsi list IMAGE` shows the instructions.\n",
+        )?,
+        AuditError::Flow(walk) => judged.put_flow(&mut words, walk)?,
+    }
+    Ok(Telling { place: None, words })
+}
+
+/// What is told of an image that isn't steady, of which this was told.
+pub(crate) fn of_steady(
+    judged: &Judged,
+    refusal: &[u8],
+    error: &SteadyError,
+) -> Result<Telling, AllocError> {
+    let mut words = Vec::new(judged.alloc);
+    match error {
+        SteadyError::Memory => return Err(AllocError),
+        SteadyError::UnknownClass(number) => judged.put_class(&mut words, *number)?,
+        SteadyError::Flow(number) => {
+            judged.put_unsteady(&mut words, *number, source_in(refusal))?;
+        }
+    }
+    Ok(Telling { place: None, words })
+}

@@ -1,0 +1,157 @@
+//! Where something stands in an interface file.
+
+use toml::Table;
+use vsi_syntax::Span;
+use vsi_telling::finding::{key_place, quoted_place};
+use vsi_telling::names::part_of;
+use vsi_telling::tables::value_in;
+
+/// What stands before each run.
+const RUN: &[u8] = b"[[runs]]";
+
+/// A part of a file that was found behind so many of its bytes.
+fn behind(from: usize, span: Span) -> Span {
+    Span {
+        start: from.saturating_add(span.start),
+        stop: from.saturating_add(span.stop),
+    }
+}
+
+/// The text at a place of a pair of `globals`.
+pub(crate) fn text_in(table: &Table, number: usize, side: usize) -> Option<&[u8]> {
+    let pair = value_in(table, "globals", number)?;
+    let array = pair.as_array()?;
+    let text = array.as_slice().get(side)?;
+    let text = text.as_str()?;
+    Some(text.as_bytes())
+}
+
+/// How many pairs `globals` has.
+pub(crate) fn pairs_in(table: &Table) -> usize {
+    let Some(value) = table.get("globals") else {
+        return 0;
+    };
+    match value.as_array() {
+        Some(array) => array.len(),
+        None => 0,
+    }
+}
+
+/// The pair of a name, behind so many others.
+pub(crate) fn pair_named(table: &Table, name: &[u8], others: usize) -> Option<usize> {
+    let mut left = others;
+    for number in 0..pairs_in(table) {
+        if text_in(table, number, 0) != Some(name) {
+            continue;
+        }
+        if left == 0 {
+            return Some(number);
+        }
+        left -= 1;
+    }
+    None
+}
+
+/// How often a text stands in `globals` before a place of a pair.
+fn times_before(table: &Table, number: usize, side: usize, text: &[u8]) -> usize {
+    let mut times: usize = 0;
+    for before in 0..number {
+        for place in 0..2 {
+            if text_in(table, before, place) == Some(text) {
+                times = times.saturating_add(1);
+            }
+        }
+    }
+    if side > 0 && text_in(table, number, 0) == Some(text) {
+        times = times.saturating_add(1);
+    }
+    times
+}
+
+/// Where the text at a place of a pair of `globals` stands.
+pub(crate) fn pair_place(bytes: &[u8], table: &Table, number: usize, side: usize) -> Option<Span> {
+    let key = key_place(bytes, b"globals")?;
+    let text = text_in(table, number, side)?;
+    let rest = Span {
+        start: key.stop,
+        stop: bytes.len(),
+    };
+    let others = times_before(table, number, side, text);
+    let found = quoted_place(part_of(bytes, rest), text, others)?;
+    Some(behind(key.stop, found))
+}
+
+/// Where the run of this number, from 1, begins.
+pub(crate) fn run_place(bytes: &[u8], number: usize) -> Option<Span> {
+    let mut left = number;
+    let mut is_at_beginning = true;
+    for at in 0..bytes.len() {
+        if is_at_beginning && bytes[at..].starts_with(RUN) {
+            if left <= 1 {
+                return Some(Span {
+                    start: at,
+                    stop: at.saturating_add(RUN.len()),
+                });
+            }
+            left -= 1;
+        }
+        is_at_beginning = match bytes[at] {
+            b'\n' => true,
+            b' ' | b'\t' => is_at_beginning,
+            _ => false,
+        };
+    }
+    None
+}
+
+/// What stands in the run of this number.
+fn run_part(bytes: &[u8], number: usize) -> Option<Span> {
+    let run = run_place(bytes, number)?;
+    let stop = match run_place(bytes, number.saturating_add(1)) {
+        Some(next) => next.start,
+        None => bytes.len(),
+    };
+    Some(Span {
+        start: run.stop,
+        stop,
+    })
+}
+
+/// Where a key of a run stands, or else where the run begins.
+pub(crate) fn run_key_place(bytes: &[u8], number: usize, key: &[u8]) -> Option<Span> {
+    let part = run_part(bytes, number)?;
+    match key_place(part_of(bytes, part), key) {
+        Some(found) => Some(behind(part.start, found)),
+        None => run_place(bytes, number),
+    }
+}
+
+/// Whether bytes begin with a name, with a quote behind it or not, and `=`.
+fn begins_entry(bytes: &[u8], name: &[u8]) -> bool {
+    let Some(rest) = bytes.strip_prefix(name) else {
+        return false;
+    };
+    let rest = match rest {
+        [b'"' | b'\'', rest @ ..] => rest,
+        _ => rest,
+    };
+    rest.trim_ascii_start().first() == Some(&b'=')
+}
+
+/// Where a run gives a name a word, or else where the run begins.
+pub(crate) fn entry_place(bytes: &[u8], number: usize, name: &[u8]) -> Option<Span> {
+    let part = run_part(bytes, number)?;
+    let text = part_of(bytes, part);
+    let mut is_within = false;
+    for at in 0..text.len() {
+        if !is_within && begins_entry(&text[at..], name) {
+            let found = Span {
+                start: at,
+                stop: at.saturating_add(name.len()),
+            };
+            return Some(behind(part.start, found));
+        }
+        is_within = text[at].is_ascii_alphanumeric() || text[at] == b'_';
+    }
+    run_place(bytes, number)
+}

@@ -1,0 +1,188 @@
+//! What is told of a faulty run of an interface file.
+
+use crate::interface_places::{entry_place, pairs_in, run_key_place, run_place, text_in};
+use crate::interfaces::{Page, RUN_KEYS, is_run_key};
+use std::alloc::{AllocError, Global};
+use toml::{Table, Value};
+use vsi_conform::InterfaceError;
+use vsi_syntax::Span;
+use vsi_telling::finding::key_place;
+use vsi_telling::names::put_names;
+use vsi_telling::tables::value_in;
+
+/// What a run looks like.
+const SHAPE: &str = "A run is written so:\n  [[runs]]\n  store = { key = 7 }\n  \
+    budget = 1000\n  expect = { out = 3 }\n";
+
+/// The value of a key of the run of this number, from 1.
+fn run_value<'t>(table: &'t Table, number: usize, key: &str) -> Option<&'t Value> {
+    let run = value_in(table, "runs", number.saturating_sub(1))?;
+    let run = run.as_table()?;
+    run.get(key)
+}
+
+/// The first key of a run that no run has.
+fn other_key(table: &Table, number: usize) -> Option<&[u8]> {
+    let run = value_in(table, "runs", number.saturating_sub(1))?;
+    for (key, _) in run.as_table()? {
+        if !is_run_key(key.as_bytes()) {
+            return Some(key.as_bytes());
+        }
+    }
+    None
+}
+
+/// The names of the globals of an interface.
+fn global_names(alloc: Global, table: &Table) -> Result<Vec<&[u8]>, AllocError> {
+    let mut names = Vec::new(alloc);
+    for number in 0..pairs_in(table) {
+        if let Some(name) = text_in(table, number, 0) {
+            names.push(name)?;
+        }
+    }
+    Ok(names)
+}
+
+/// The first name of a table whose value is no whole number.
+fn wordless<'t>(value: &'t Value) -> Option<&'t [u8]> {
+    for (name, word) in value.as_table()? {
+        if word.as_integer().is_none() {
+            return Some(name.as_bytes());
+        }
+    }
+    None
+}
+
+impl Page<'_> {
+    /// Adds a part, the run's number and a part.
+    fn run(&mut self, before: &str, number: usize, behind: &str) -> Result<(), AllocError> {
+        self.put(before)?;
+        self.count(number)?;
+        self.put(behind)
+    }
+
+    /// Tells of runs that are none.
+    fn runs(&mut self) -> Result<Option<Span>, AllocError> {
+        self.put(
+            "The value of `runs` is no array of tables. Hint: write a line `[[runs]]` before the \
+            keys of each run.\n",
+        )?;
+        self.put(SHAPE)?;
+        match key_place(self.bytes, b"runs") {
+            Some(place) => Ok(Some(place)),
+            None => Ok(key_place(self.bytes, b"[runs")),
+        }
+    }
+
+    /// Tells of a run that is no table or has another key.
+    fn other(&mut self, number: usize) -> Result<Option<Span>, AllocError> {
+        let Some(key) = other_key(self.table, number) else {
+            self.run("Run ", number, " is no table.\n")?;
+            self.put(SHAPE)?;
+            return Ok(run_place(self.bytes, number));
+        };
+        self.run("Run ", number, " has a key ")?;
+        self.quote(key)?;
+        self.put(", which is none of a run: these are ")?;
+        put_names(self.words, &RUN_KEYS)?;
+        self.put(".\n")?;
+        self.hint(
+            key,
+            &RUN_KEYS,
+            "Hint: leave it out; a key of the whole interface stands before the first run.\n",
+        )?;
+        Ok(run_key_place(self.bytes, number, key))
+    }
+
+    /// Tells of a table of words that is none.
+    fn table(&mut self, number: usize, key: &str) -> Result<Option<Span>, AllocError> {
+        let faulty = run_value(self.table, number, key).and_then(|value| wordless(value));
+        if let Some(name) = faulty {
+            self.put("The word of ")?;
+            self.quote(name)?;
+            self.put(" in ")?;
+            self.quote(key.as_bytes())?;
+            self.run(" of run ", number, " is no whole number. ")?;
+            self.put(
+                "Hint: write digits, behind a `-` where it is below 0, without quotes and without \
+                a point.\n",
+            )?;
+            return Ok(entry_place(self.bytes, number, name));
+        }
+        self.put("The value of ")?;
+        self.quote(key.as_bytes())?;
+        self.run(" in run ", number, " is no table of whole numbers.\n")?;
+        self.put(SHAPE)?;
+        Ok(run_key_place(self.bytes, number, key.as_bytes()))
+    }
+
+    /// Tells of a budget that is none.
+    fn budget(&mut self, number: usize) -> Result<Option<Span>, AllocError> {
+        if run_value(self.table, number, "budget").is_none() {
+            self.run("Run ", number, " has no budget. ")?;
+            self.put(
+                "Hint: write how many instructions it may do at most, as in `budget = 1000`.\n",
+            )?;
+        } else {
+            self.run(
+                "The budget of run ",
+                number,
+                " is no whole number of at least 0. ",
+            )?;
+            self.put("Hint: write digits alone, as in `budget = 1000`.\n")?;
+        }
+        Ok(run_key_place(self.bytes, number, b"budget"))
+    }
+
+    /// Tells of a run that expects nothing, or two things.
+    fn expect(&mut self, number: usize) -> Result<Option<Span>, AllocError> {
+        let has_halts = run_value(self.table, number, "halts").is_some();
+        if run_value(self.table, number, "expect").is_none() {
+            self.run("Run ", number, " has neither `expect` nor `halts = true`. ")?;
+            self.put(
+                "Hint: write the words that globals end with, as in `expect = { out = 3 }`, or \
+                `halts = true` where it only has to halt.\n",
+            )?;
+            return Ok(run_key_place(self.bytes, number, b"halts"));
+        }
+        if has_halts {
+            self.run("Run ", number, " has both `expect` and `halts`. ")?;
+            self.put("Hint: leave `halts` out: what ends with these words halts.\n")?;
+            return Ok(run_key_place(self.bytes, number, b"halts"));
+        }
+        self.table(number, "expect")
+    }
+
+    /// Tells of a name that is no global.
+    fn global(&mut self, number: usize, name: &[u8]) -> Result<Option<Span>, AllocError> {
+        let names = global_names(self.alloc, self.table)?;
+        self.run("Run ", number, " names ")?;
+        self.quote(name)?;
+        if names.is_empty() {
+            self.put(", and the interface has no global.\n")?;
+        } else {
+            self.put(", which is no global of the interface: these are ")?;
+            put_names(self.words, &names)?;
+            self.put(".\n")?;
+        }
+        self.hint(
+            name,
+            &names,
+            "Hint: add it to `globals` with its class, or leave it out of the run.\n",
+        )?;
+        Ok(entry_place(self.bytes, number, name))
+    }
+}
+
+/// Adds what is told of the runs of an interface, and answers where it stands.
+pub(crate) fn of_run(page: &mut Page, error: &InterfaceError) -> Result<Option<Span>, AllocError> {
+    match error {
+        InterfaceError::BadRuns => page.runs(),
+        InterfaceError::BadRun(number) => page.other(*number),
+        InterfaceError::BadStore(number) => page.table(*number, "store"),
+        InterfaceError::NoBudget(number) => page.budget(*number),
+        InterfaceError::NothingExpected(number) => page.expect(*number),
+        InterfaceError::UnknownGlobal(number, name) => page.global(*number, name),
+        _ => Ok(None),
+    }
+}

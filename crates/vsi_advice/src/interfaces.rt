@@ -1,0 +1,321 @@
+//! What is told of a refused interface file.
+
+use crate::Telling;
+use crate::interface_places::{pair_named, pair_place, pairs_in, text_in};
+use crate::interface_runs::of_run;
+use std::alloc::{AllocError, Global};
+use toml::Table;
+use vsi_conform::InterfaceError;
+use vsi_lattice::Lattice;
+use vsi_syntax::Span;
+use vsi_telling::finding::{key_place, quoted_place};
+use vsi_telling::names::{class_names, put_decimal, put_names, put_quoted};
+use vsi_telling::nearest::put_nearest;
+use vsi_telling::tables::{put_syntax, table_in, value_in};
+
+/// What the head of an interface looks like.
+const SHAPE: &[u8] = b"An interface begins so:\n  lattice = \"two.toml\"\n  \
+    profile = \"base\"\n  globals = [[\"key\", \"H\"], [\"out\", \"L\"]]\n";
+
+/// The keys of an interface.
+const KEYS: [&[u8]; 7] = [
+    b"lattice", b"classes", b"below", b"profile", b"order", b"globals", b"runs",
+];
+
+/// The keys of a run.
+pub(crate) const RUN_KEYS: [&[u8]; 4] = [b"store", b"budget", b"expect", b"halts"];
+
+/// Whether a key is one of a run.
+pub(crate) fn is_run_key(key: &[u8]) -> bool {
+    for known in RUN_KEYS {
+        if known == key {
+            return true;
+        }
+    }
+    false
+}
+
+/// The profiles.
+const PROFILES: [&[u8]; 3] = [b"base", b"strict", b"steady"];
+
+/// The orders.
+const ORDERS: [&[u8]; 2] = [b"exact", b"set"];
+
+/// An interface file that is refused, and what is told of it so far.
+#[derive(Drop)]
+pub(crate) struct Page<'p> {
+    pub(crate) alloc: Global,
+    pub(crate) bytes: &'p [u8],
+    pub(crate) table: &'p Table,
+    pub(crate) words: &'p mut Vec<u8>,
+}
+
+/// Adds what is told where the file is no TOML, and answers where.
+fn put_not_toml(
+    alloc: Global,
+    words: &mut Vec<u8>,
+    bytes: &[u8],
+) -> Result<Option<Span>, AllocError> {
+    let place = put_syntax(alloc, words, bytes)?;
+    let start = bytes.trim_ascii_start();
+    if start.starts_with(b"VSI") {
+        words.extend_from_slice(b"Hint: this is an image. The interface is named first.\n")?;
+    } else if start.starts_with(b"var") || start.starts_with(b"letvar") {
+        words.extend_from_slice(
+            b"Hint: this looks like a source text. The interface is named first, and the source \
+            text behind it: `vsi conform INTERFACE SOURCE`.\n",
+        )?;
+    }
+    words.extend_from_slice(SHAPE)?;
+    Ok(place)
+}
+
+impl Page<'_> {
+    /// Adds words.
+    pub(crate) fn put(&mut self, text: &str) -> Result<(), AllocError> {
+        self.words.extend_from_slice(text.as_bytes())
+    }
+
+    /// Adds a word between back quotes.
+    pub(crate) fn quote(&mut self, word: &[u8]) -> Result<(), AllocError> {
+        put_quoted(self.words, word)
+    }
+
+    /// Adds a number.
+    pub(crate) fn count(&mut self, number: usize) -> Result<(), AllocError> {
+        put_decimal(self.words, number)
+    }
+
+    /// Adds which of the words was perhaps meant, or else a hint.
+    pub(crate) fn hint(
+        &mut self,
+        written: &[u8],
+        choices: &[&[u8]],
+        otherwise: &str,
+    ) -> Result<(), AllocError> {
+        if put_nearest(self.alloc, self.words, written, choices)? {
+            return Ok(());
+        }
+        self.put(otherwise)
+    }
+
+    /// Tells of a key that no interface has.
+    fn key(&mut self, key: &[u8]) -> Result<Option<Span>, AllocError> {
+        self.put("An interface has no key ")?;
+        self.quote(key)?;
+        if is_run_key(key) {
+            self.put(
+                " of its own. Hint: it is a key of a run, and stands behind a line `[[runs]]`.\n",
+            )?;
+            return Ok(key_place(self.bytes, key));
+        }
+        self.put(": its keys are ")?;
+        put_names(self.words, &KEYS)?;
+        self.put(".\n")?;
+        self.hint(key, &KEYS, "Hint: leave the line out.\n")?;
+        Ok(key_place(self.bytes, key))
+    }
+
+    /// Tells of a lattice that is missing, named twice or no text.
+    fn lattice(&mut self) -> Result<Option<Span>, AllocError> {
+        if self.table.get("lattice").is_none() {
+            self.put(
+                "The interface has no lattice. Hint: name a lattice file that lies beside it, as \
+                in `lattice = \"two.toml\"`, or write `classes` and `below` as in such a file.\n",
+            )?;
+            self.words.extend_from_slice(SHAPE)?;
+            return Ok(None);
+        }
+        if self.table.get("classes").is_some() || self.table.get("below").is_some() {
+            self.put(
+                "The interface names a lattice file and has classes of its own. Hint: leave out \
+                `lattice`, or leave out `classes` and `below`.\n",
+            )?;
+        } else {
+            self.put(
+                "The value of `lattice` is no text. Hint: write the path of a lattice file between \
+                quotes, as in `lattice = \"two.toml\"`.\n",
+            )?;
+        }
+        Ok(key_place(self.bytes, b"lattice"))
+    }
+
+    /// Tells of a key whose value is none of the words.
+    fn choice(
+        &mut self,
+        key: &str,
+        noun: &str,
+        choices: &[&[u8]],
+    ) -> Result<Option<Span>, AllocError> {
+        let value = self.table.get(key);
+        let Some(text) = value.and_then(|value| value.as_str()) else {
+            self.put("The key `")?;
+            self.put(key)?;
+            self.put(if value.is_some() {
+                "` is to have one of the words "
+            } else {
+                "` is missing. It has one of the words "
+            })?;
+            put_names(self.words, choices)?;
+            self.put(", between quotes.\n")?;
+            self.words.extend_from_slice(SHAPE)?;
+            return Ok(key_place(self.bytes, key.as_bytes()));
+        };
+        self.quote(text.as_bytes())?;
+        self.put(noun)?;
+        put_names(self.words, choices)?;
+        self.put(".\n")?;
+        put_nearest(self.alloc, self.words, text.as_bytes(), choices)?;
+        Ok(quoted_place(self.bytes, text.as_bytes(), 0))
+    }
+
+    /// Tells of `globals` that aren't an array of pairs of texts.
+    fn globals(&mut self) -> Result<Option<Span>, AllocError> {
+        let Some(value) = self.table.get("globals") else {
+            self.put(
+                "The key `globals` is missing. Hint: name each global with its class, in the order \
+                in which a text is to declare them.\n",
+            )?;
+            self.words.extend_from_slice(SHAPE)?;
+            return Ok(None);
+        };
+        let is_array = value.as_array().is_some();
+        if is_array {
+            self.put("Entry ")?;
+            self.count(faulty_pair(self.table).saturating_add(1))?;
+            self.put(" of `globals` is no pair of a name and a class.")?;
+        } else {
+            self.put("The value of `globals` is no array.")?;
+        }
+        self.put(" Hint: write `[\"x\", \"L\"]` for each global `var x : L`.\n")?;
+        self.words.extend_from_slice(SHAPE)?;
+        Ok(key_place(self.bytes, b"globals"))
+    }
+
+    /// Tells of a name of a global.
+    fn name(&mut self, name: &[u8], others: usize, text: &str) -> Result<Option<Span>, AllocError> {
+        self.quote(name)?;
+        self.put(text)?;
+        let Some(number) = pair_named(self.table, name, others) else {
+            return Ok(None);
+        };
+        Ok(pair_place(self.bytes, self.table, number, 0))
+    }
+
+    /// Tells of the class of a global that is none.
+    fn class(
+        &mut self,
+        name: &[u8],
+        lattice: Option<&Lattice>,
+    ) -> Result<Option<Span>, AllocError> {
+        let Some(number) = pair_named(self.table, name, 0) else {
+            return Ok(None);
+        };
+        let Some(class) = text_in(self.table, number, 1) else {
+            return Ok(None);
+        };
+        let classes = match lattice {
+            Some(lattice) => class_names(self.alloc, lattice)?,
+            None => own_classes(self.alloc, self.table)?,
+        };
+        self.put("The class ")?;
+        self.quote(class)?;
+        self.put(" of the global ")?;
+        self.quote(name)?;
+        self.put(" is none of the lattice. Its classes are ")?;
+        put_names(self.words, &classes)?;
+        self.put(".\n")?;
+        self.hint(
+            class,
+            &classes,
+            "Hint: give the global one of these, or declare the class in the lattice.\n",
+        )?;
+        Ok(pair_place(self.bytes, self.table, number, 1))
+    }
+}
+
+/// The classes that an interface has of its own.
+fn own_classes(alloc: Global, table: &Table) -> Result<Vec<&[u8]>, AllocError> {
+    let mut names = Vec::new(alloc);
+    for place in 0..64 {
+        let Some(value) = value_in(table, "classes", place) else {
+            break;
+        };
+        if let Some(name) = value.as_str() {
+            names.push(name.as_bytes())?;
+        }
+    }
+    Ok(names)
+}
+
+/// The first entry of `globals` that is no pair of texts.
+fn faulty_pair(table: &Table) -> usize {
+    for number in 0..pairs_in(table) {
+        let length = value_in(table, "globals", number)
+            .and_then(|value| value.as_array())
+            .map(|array| array.len());
+        let is_pair = text_in(table, number, 0).is_some() && text_in(table, number, 1).is_some();
+        if length != Some(2) || !is_pair {
+            return number;
+        }
+    }
+    0
+}
+
+/// Adds what is told of a fault, and answers where it stands.
+fn put_fault(
+    page: &mut Page,
+    lattice: Option<&Lattice>,
+    error: &InterfaceError,
+) -> Result<Option<Span>, AllocError> {
+    match error {
+        InterfaceError::UnknownKey(key) => page.key(key),
+        InterfaceError::BadLattice => page.lattice(),
+        InterfaceError::BadProfile => {
+            page.choice("profile", " is no profile: these are ", &PROFILES)
+        }
+        InterfaceError::BadOrder => page.choice("order", " is no order: these are ", &ORDERS),
+        InterfaceError::BadGlobals => page.globals(),
+        InterfaceError::BadName(name) => page.name(
+            name,
+            0,
+            " is no name. Hint: a name begins with a letter, goes on with letters, digits and `_`, \
+            has at most 32 of them, and is no keyword.\n",
+        ),
+        InterfaceError::RepeatedGlobal(name) => {
+            page.name(
+                name,
+                1,
+                " stands twice in `globals`. Hint: leave one out.\n",
+            )
+        }
+        InterfaceError::UnknownClass(name) => page.class(name, lattice),
+        other => of_run(page, other),
+    }
+}
+
+/// What is told of a refused interface file. The lattice is that of the file that it names.
+pub(crate) fn of_interface(
+    alloc: Global,
+    bytes: &[u8],
+    lattice: Option<&Lattice>,
+    error: &InterfaceError,
+) -> Result<Telling, AllocError> {
+    if let InterfaceError::Memory = error {
+        return Err(AllocError);
+    }
+    let mut words = Vec::new(alloc);
+    let place = match table_in(alloc, bytes)? {
+        None => put_not_toml(alloc, &mut words, bytes)?,
+        Some(table) => {
+            let mut page = Page {
+                alloc,
+                bytes,
+                table: &table,
+                words: &mut words,
+            };
+            put_fault(&mut page, lattice, error)?
+        }
+    };
+    Ok(Telling { place, words })
+}

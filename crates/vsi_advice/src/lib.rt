@@ -1,0 +1,138 @@
+//! What stands behind the refusal of an interface, of a setting or of an image that is judged, for
+//! a person: where it is wrong, what is wanted there, and what to do.
+//!
+//! Its sentences are composed freely. `advice` hands them to `vsi_telling::shown`, whose clause
+//! says that no byte of a file drives a terminal.
+#![tactic(auto)]
+
+ghost use Rattle.std.specs.Prelude.{◌≡◌, IfOk, IfSome, true};
+ghost use Rattle.vsi_caret.specs.declared.manner.Manner.TheVariants.{Plain};
+ghost use Rattle.vsi_caret.specs.Safe.{all_plain};
+
+mod audits;
+mod interface_places;
+mod interface_runs;
+mod interfaces;
+mod settings;
+
+use audits::{Judged, of_audit, of_steady};
+use std::alloc::{AllocError, Global};
+use vsi_audit::AuditError;
+use vsi_caret::Manner;
+use vsi_conform::InterfaceError;
+use vsi_drive::StartFault;
+use vsi_image::Image;
+use vsi_lattice::Lattice;
+use vsi_steady::SteadyError;
+use vsi_syntax::Span;
+use vsi_telling::shown;
+
+/// What was refused, and why.
+#[derive(Clone, Copy)]
+pub enum Refused<'a> {
+    /// An interface file, with the lattice of the file that it names, where that was read.
+    Interface {
+        bytes: &'a [u8],
+        lattice: Option<&'a Lattice>,
+        error: &'a InterfaceError,
+    },
+    /// A run of an image that doesn't begin: for a setting, whose bytes these are, or for a global
+    /// that has no word.
+    Start {
+        bytes: &'a [u8],
+        image: &'a Image,
+        fault: StartFault,
+    },
+    /// An image whose commands are judged.
+    Audit {
+        lattice: &'a Lattice,
+        image: &'a Image,
+        error: &'a AuditError,
+    },
+    /// An image that is to be steady, and the text of its refusal.
+    Steady {
+        lattice: &'a Lattice,
+        image: &'a Image,
+        refusal: &'a [u8],
+        error: &'a SteadyError,
+    },
+}
+
+/// What is told of a refusal: a part of the file, if one is known, and words.
+#[derive(Drop)]
+pub(crate) struct Telling {
+    pub(crate) place: Option<Span>,
+    pub(crate) words: Vec<u8>,
+}
+
+/// What is told of a refusal.
+fn telling_of(alloc: Global, refused: Refused) -> Result<Telling, AllocError> {
+    match refused {
+        Refused::Interface {
+            bytes,
+            lattice,
+            error,
+        } => interfaces::of_interface(alloc, bytes, lattice, error),
+        Refused::Start {
+            bytes,
+            image,
+            fault,
+        } => settings::of_start(alloc, bytes, image, fault),
+        Refused::Audit {
+            lattice,
+            image,
+            error,
+        } => {
+            let judged = Judged {
+                alloc,
+                lattice,
+                image,
+            };
+            of_audit(&judged, error)
+        }
+        Refused::Steady {
+            lattice,
+            image,
+            refusal,
+            error,
+        } => {
+            let judged = Judged {
+                alloc,
+                lattice,
+                image,
+            };
+            of_steady(&judged, refusal, error)
+        }
+    }
+}
+
+/// The bytes in which the places of a refusal are; of an image none is told.
+fn bytes_of<'a>(refused: Refused<'a>) -> &'a [u8] {
+    match refused {
+        Refused::Interface { bytes, .. } | Refused::Start { bytes, .. } => bytes,
+        Refused::Audit { .. } | Refused::Steady { .. } => b"",
+    }
+}
+
+/// What stands behind a refusal: the place in the file of this path, its line and carets where a
+/// place is known, then in whole sentences of at most 80 columns what is wrong, what is wanted, and
+/// what to do.
+pub fn advice(
+    alloc: Global,
+    manner: Manner,
+    path: &[u8],
+    refused: Refused,
+) -> Result<Vec<u8>, AllocError>
+    // Without colours no byte drives a terminal.
+    ensures plain { manner ≡ Plain → IfOk result (λ text. all_plain text.items ≡ true) }
+{
+    let telling = telling_of(alloc, refused)?;
+    shown(
+        alloc,
+        manner,
+        path,
+        bytes_of(refused),
+        telling.place,
+        &telling.words,
+    )
+}

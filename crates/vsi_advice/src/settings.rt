@@ -1,0 +1,164 @@
+//! What is told of a setting, and of a store that isn't full.
+
+use crate::Telling;
+use std::alloc::{AllocError, Global};
+use vsi_drive::{LineFault, StartFault};
+use vsi_image::Image;
+use vsi_syntax::Span;
+use vsi_telling::names::{part_of, put_quoted};
+use vsi_telling::nearest::put_nearest;
+use vsi_telling::stores::{names_of, put_no_global};
+
+/// The part of a setting that isn't blank at its ends.
+fn trimmed(setting: &[u8], part: Span) -> Span {
+    let text = part_of(setting, part);
+    let left = text.trim_ascii_start();
+    let start = part
+        .start
+        .saturating_add(text.len().saturating_sub(left.len()));
+    Span {
+        start,
+        stop: start.saturating_add(left.trim_ascii_end().len()),
+    }
+}
+
+/// The parts of a setting in front of its first `=` and behind it.
+fn sides(setting: &[u8]) -> (Span, Span) {
+    let length = setting.len();
+    let mut at = length;
+    for place in 0..length {
+        if setting[place] == b'=' {
+            at = place;
+            break;
+        }
+    }
+    let name = Span { start: 0, stop: at };
+    let value = Span {
+        start: length.min(at.saturating_add(1)),
+        stop: length,
+    };
+    (trimmed(setting, name), trimmed(setting, value))
+}
+
+/// What to do with a setting that isn't of the form.
+fn form_hint(setting: &[u8], name: &[u8], value: &[u8]) -> &'static str {
+    if name.ends_with(b":") {
+        return "Hint: leave the `:` out, since a setting is no assignment.\n";
+    }
+    if value.contains(&b'=') {
+        return "Hint: give each global a `--set` of its own.\n";
+    }
+    if !setting.contains(&b'=') || value.is_empty() {
+        return "Hint: write the number behind a `=`, as in `--set x=1`.\n";
+    }
+    if name.is_empty() {
+        return "Hint: write the name of a global in front of the `=`, as in `--set x=1`.\n";
+    }
+    "Hint: write one name and one number, as in `--set x=1`.\n"
+}
+
+/// Whether a text is digits alone, one at least.
+fn is_digits(text: &[u8]) -> bool {
+    !text.is_empty() && text.iter().all(|byte| byte.is_ascii_digit())
+}
+
+/// What to do with a value that is no number.
+fn number_hint(value: &[u8]) -> &'static str {
+    if value.starts_with(b"+") {
+        return "Hint: leave the `+` out.\n";
+    }
+    let digits = value.strip_prefix(b"-").unwrap_or(value);
+    if is_digits(digits) {
+        return "Hint: take a number that has 64 bits; greater ones don't fit a word.\n";
+    }
+    if value.contains(&b'.') {
+        return "Hint: leave the point out, since there are whole numbers alone.\n";
+    }
+    "Hint: write digits, behind a `-` where it is below 0; a setting takes no name and no \
+    expression.\n"
+}
+
+/// Adds what is told of a setting that isn't of the form.
+fn put_form(words: &mut Vec<u8>, setting: &[u8]) -> Result<Option<Span>, AllocError> {
+    let (name, value) = sides(setting);
+    words.extend_from_slice(
+        b"A setting is NAME=NUMBER: the name of a global, `=`, and a whole number.\n",
+    )?;
+    let hint = form_hint(setting, part_of(setting, name), part_of(setting, value));
+    words.extend_from_slice(hint.as_bytes())?;
+    Ok(Some(Span {
+        start: 0,
+        stop: setting.len(),
+    }))
+}
+
+/// Adds what is told of a setting whose name is no global.
+fn put_name(
+    alloc: Global,
+    words: &mut Vec<u8>,
+    setting: &[u8],
+    image: &Image,
+) -> Result<Option<Span>, AllocError> {
+    let (place, _value) = sides(setting);
+    let name = part_of(setting, place);
+    let names = names_of(alloc, &image.globals)?;
+    put_no_global(words, name, &names)?;
+    if !put_nearest(alloc, words, name, &names)? {
+        words.extend_from_slice(
+            b"Hint: leave the setting out; a local variable has no word before the run.\n",
+        )?;
+    }
+    Ok(Some(place))
+}
+
+/// Adds what is told of a setting whose number is none.
+fn put_number(words: &mut Vec<u8>, setting: &[u8]) -> Result<Option<Span>, AllocError> {
+    let (_name, place) = sides(setting);
+    let value = part_of(setting, place);
+    put_quoted(words, value)?;
+    words.extend_from_slice(
+        b" is no whole number from -9223372036854775808 to 9223372036854775807.\n",
+    )?;
+    words.extend_from_slice(number_hint(value).as_bytes())?;
+    Ok(Some(place))
+}
+
+/// Adds what is told of a global that has no word.
+fn put_unnamed(words: &mut Vec<u8>, image: &Image, number: usize) -> Result<(), AllocError> {
+    let name = match image.globals.get(number) {
+        Some(global) => global.0.as_slice(),
+        None => b"",
+    };
+    words.extend_from_slice(b"The global ")?;
+    put_quoted(words, name)?;
+    words.extend_from_slice(
+        b" has no word. With --full-store each global has a line in the store file or a `--set`.\n\
+        Hint: add `--set ",
+    )?;
+    words.extend_from_slice(name)?;
+    words.extend_from_slice(b"=0` to the command, or the line `")?;
+    words.extend_from_slice(name)?;
+    words.extend_from_slice(b" = 0` to a store file, with the word that is meant.\n")
+}
+
+/// What is told of a run of an image that doesn't begin.
+pub(crate) fn of_start(
+    alloc: Global,
+    setting: &[u8],
+    image: &Image,
+    fault: StartFault,
+) -> Result<Telling, AllocError> {
+    let mut words = Vec::new(alloc);
+    let place = match fault {
+        StartFault::Unnamed(number) => {
+            put_unnamed(&mut words, image, number)?;
+            None
+        }
+        StartFault::Setting(LineFault::UnknownGlobal(_)) => {
+            put_name(alloc, &mut words, setting, image)?
+        }
+        StartFault::Setting(LineFault::NotANumber(_)) => put_number(&mut words, setting)?,
+        StartFault::Setting(_) => put_form(&mut words, setting)?,
+    };
+    Ok(Telling { place, words })
+}

@@ -1,0 +1,48 @@
+-- What a refusal of one error says of a kind of errors.
+use Rattle.std.proofs.Common.{◌≡◌, ◌≢◌, ℕ, List, Ok, Err, sym, subst, ◌∙◌}
+use Rattle.vsi_lattice.specs.declared.lattice.Lattice.{Lattice}
+use Rattle.vsi_compiler.specs.declared.error.CompileError.{CompileError}
+use Rattle.vsi_compiler.specs.declared.error.CompileError.TheVariants as compiler
+use Rattle.vsi_faults.specs.declared.texts.Fault.{Fault}
+use Rattle.vsi_drive.specs.declared.starts.StartFault.{StartFault}
+use Rattle.vsi_answers.specs.declared.unanswered.Unanswered.{Unanswered}
+use Rattle.vsi_answers.specs.declared.unanswered.Unanswered.TheVariants.{Refused, OutOfBudget, Memory}
+use Rattle.vsi_answers.specs.declared.unanswered.Cause.TheVariants.{Source, File, Start, Steady}
+use Rattle.vsi_answers.specs.Answers.{Because}
+use Rattle.vsi_lattice.specs.LatticeView.{class_named, order}
+use Rattle.vsi_types.specs.declared.rules.Profile.TheVariants.{Base}
+use Rattle.vsi_image.specs.declared.instr.Image.{Image}
+use Rattle.vsi_compiler.specs.Headline.{IsCompiled}
+use Rattle.vsi_answers.specs.Judged.{TellsFault, TellsSource}
+use Rattle.vsi_answers.specs.Requests.{Answer, RunsSourceTo, RunsTo, zeros}
+
+-- The refusal of a source text for one error is a refusal for an error of the kind that it is of.
+pub source_told : (Kind : CompileError → Type 0) (l : Lattice) (source : List ℕ) (error : CompileError) →
+    (error ≢ compiler.Memory → Kind error) → (u : Unanswered) →
+    Because (TellsSource (λ e. e ≡ error) l source) ⊥ u → Because (TellsSource Kind l source) ⊥ u
+source_told Kind l source error kind (Refused text (Source e)) told =
+    (told.0, subst Kind (sym told.1) (kind (λ m. told.0 (told.1 ∙ m))), told.2)
+source_told Kind l source error kind (Refused text (File f)) told = absurd told
+source_told Kind l source error kind (Refused text (Start f)) told = absurd told
+source_told Kind l source error kind (Refused text (Steady e)) told = absurd told
+source_told Kind l source error kind OutOfBudget told = absurd told
+source_told Kind l source error kind Memory told = tt
+
+-- The refusal of a file for one fault is a refusal for a fault of the kind that it is of.
+pub fault_told : (Kind : Fault → Type 0) (fault : Fault) → Kind fault → (spent : Type 0) → (u : Unanswered) →
+    Because (TellsFault (λ f. f ≡ fault)) ⊥ u → Because (TellsFault Kind) spent u
+fault_told Kind fault kind spent (Refused text (Source e)) told = absurd told
+fault_told Kind fault kind spent (Refused text (File f)) told = (subst Kind (sym told.0) kind, told.1)
+fault_told Kind fault kind spent (Refused text (Start f)) told = absurd told
+fault_told Kind fault kind spent (Refused text (Steady e)) told = absurd told
+fault_told Kind fault kind spent OutOfBudget told = absurd told
+fault_told Kind fault kind spent Memory told = tt
+
+-- What is answered of the run of a compiled image is answered of its source.
+pub run_told : (l : Lattice) (source : List ℕ) (im : Image) (budget : ℕ) →
+    IsCompiled (class_named l) (order l) Base source im → (answer : Answer) → RunsTo im (zeros im) budget answer →
+    RunsSourceTo l source budget answer
+run_told l source im budget compiled (Ok text) ran = (im, compiled, ran)
+run_told l source im budget compiled (Err (Refused text cause)) ran = absurd ran
+run_told l source im budget compiled (Err OutOfBudget) ran = (im, compiled, ran)
+run_told l source im budget compiled (Err Memory) ran = tt

@@ -1,0 +1,4 @@
+pub mod Answers
+pub mod Judged
+pub mod Requests
+pub mod Laws

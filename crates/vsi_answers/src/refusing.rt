@@ -1,0 +1,51 @@
+//! The text of a refusal, with its cause.
+
+ghost use Rattle.std.specs.Prelude.{◌≡◌};
+ghost use Rattle.vsi_answers.specs.Answers.{Because};
+ghost use Rattle.vsi_answers.specs.Judged.{TellsFault, TellsSource, TellsStartFault};
+
+use crate::unanswered::{Cause, Unanswered};
+use std::alloc::Global;
+use vsi_compiler::CompileError;
+use vsi_drive::{StartFault, start_fault_line};
+use vsi_faults::{Fault, fault_text, refusal_text};
+use vsi_lattice::Lattice;
+
+/// Why a request for a source text that is refused with this error has no answer.
+pub fn refused_source(
+    alloc: Global,
+    lattice: &Lattice,
+    source: &[u8],
+    error: CompileError,
+) -> Unanswered
+    ensures { Because (TellsSource (λ e. e ≡ error) lattice.now source.now) ⊥ result }
+{
+    if let CompileError::Memory = &error {
+        return Unanswered::Memory;
+    }
+    match refusal_text(alloc, lattice, source, &error) {
+        Ok(text) => Unanswered::Refused(text, Cause::Source(error)),
+        Err(_) => Unanswered::Memory,
+    }
+}
+
+/// Why a request for another file that is refused for this fault has no answer. The fault isn't to
+/// be want of memory.
+pub fn refused_file(alloc: Global, fault: Fault) -> Unanswered
+    ensures { Because (TellsFault (λ f. f ≡ fault)) ⊥ result }
+{
+    match fault_text(alloc, &fault) {
+        Ok(text) => Unanswered::Refused(text, Cause::File(fault)),
+        Err(_) => Unanswered::Memory,
+    }
+}
+
+/// Why a run that doesn't begin for this fault has no answer.
+pub(crate) fn refused_start(alloc: Global, fault: StartFault) -> Unanswered
+    ensures { Because (TellsStartFault (λ f. f ≡ fault)) ⊥ result }
+{
+    match start_fault_line(alloc, fault) {
+        Ok(text) => Unanswered::Refused(text, Cause::Start(fault)),
+        Err(_) => Unanswered::Memory,
+    }
+}

@@ -1,0 +1,93 @@
+//! What is answered of a source text whose image is to be steady.
+
+ghost use Rattle.std.specs.Prelude.{◌≡◌, IfOk};
+ghost use Rattle.vsi_answers.specs.Answers.{Because};
+ghost use Rattle.vsi_answers.specs.Judged.{IsSteadyText, IsWatchedText, TellsSteady};
+ghost use Rattle.vsi_answers.specs.Requests.{ChecksSteadyTo};
+
+use crate::texts::ACCEPTED;
+use crate::unanswered::{Cause, Unanswered};
+use std::alloc::{AllocError, Global};
+use vsi_compiler::{CompileError, unjudged_image};
+use vsi_faults::refusal_text;
+use vsi_infer::Walk;
+use vsi_lattice::Lattice;
+use vsi_steady::{SteadyError, UnsteadyError, compile_steady, steady_explanation, steady_text};
+
+/// The text of a walk where each choice is a loop.
+fn watched_text(
+    alloc: Global,
+    lattice: &Lattice,
+    source: &[u8],
+    walk: &Walk,
+) -> Result<Vec<u8>, AllocError>
+    ensures { IfOk result
+        (λ text. IsWatchedText lattice.now source.now walk.now.steps.items text.items) }
+{
+    let mut text = Vec::from_slice(alloc, b"refused: 25 Refused\n")?;
+    let lines = steady_explanation(alloc, lattice, source, walk)?;
+    text.extend_from_slice(&lines)?;
+    Ok(text)
+}
+
+/// The text of a refused image of a text.
+fn image_text(
+    alloc: Global,
+    lattice: &Lattice,
+    source: &[u8],
+    error: &SteadyError,
+) -> Result<Vec<u8>, AllocError> {
+    match unjudged_image(alloc, lattice, source) {
+        Ok(verified) => steady_text(alloc, lattice, verified.image(), error),
+        Err(_) => Err(AllocError),
+    }
+}
+
+/// The text of a refusal of a text whose image is to be steady.
+fn unsteady_text(
+    alloc: Global,
+    lattice: &Lattice,
+    source: &[u8],
+    error: &UnsteadyError,
+) -> Result<Vec<u8>, AllocError>
+    ensures { IfOk result
+        (λ text. IsSteadyText lattice.now source.now error.now text.items) }
+{
+    match error {
+        UnsteadyError::Compile(CompileError::Flow(walk)) => {
+            watched_text(alloc, lattice, source, walk)
+        }
+        UnsteadyError::Compile(error) => refusal_text(alloc, lattice, source, error),
+        UnsteadyError::Image(error) => image_text(alloc, lattice, source, error),
+        UnsteadyError::Memory => Err(AllocError),
+    }
+}
+
+/// Why a request for a text whose image is to be steady has no answer.
+pub(crate) fn refused_steady(
+    alloc: Global,
+    lattice: &Lattice,
+    source: &[u8],
+    error: UnsteadyError,
+) -> Unanswered
+    ensures { Because (TellsSteady (λ e. e ≡ error) lattice.now source.now) ⊥ result }
+{
+    if let UnsteadyError::Memory = &error {
+        return Unanswered::Memory;
+    }
+    match unsteady_text(alloc, lattice, source, &error) {
+        Ok(text) => Unanswered::Refused(text, Cause::Steady(error)),
+        Err(_) => Unanswered::Memory,
+    }
+}
+
+/// `accepted` and a line feed, where the text is accepted under the strict profile and the number
+/// of its image's instructions tells nothing.
+pub fn check_steady(alloc: Global, lattice: &Lattice, source: &[u8]) -> Result<Vec<u8>, Unanswered>
+    ensures checks { ChecksSteadyTo lattice.now source.now result }
+{
+    match compile_steady(alloc, lattice, source) {
+        Ok(_verified) => Ok(Vec::from_slice(alloc, ACCEPTED)?),
+        Err(error) => Err(refused_steady(alloc, lattice, source, error)),
+    }
+}

@@ -1,0 +1,117 @@
+//! What is answered of a source text under a lattice.
+
+ghost use Rattle.vsi_answers.specs.Requests.{BuildsTo, ChecksFilesTo, ChecksTo, ClassesTo, FlowsTo, FormatsTo, WalksTo};
+
+use crate::files::declared_lattice;
+use crate::refusing::refused_source;
+use crate::unanswered::Unanswered;
+use std::alloc::Global;
+use vsi_compiler::{classes_text_in, compile_in, format_text};
+use vsi_devices::{EngineError, image_bytes};
+use vsi_flows::{flows_text_in, walks_text_in};
+use vsi_lattice::Lattice;
+use vsi_types::Profile;
+
+/// What is told of a text that is accepted.
+pub(crate) const ACCEPTED: &[u8] = b"accepted\n";
+
+/// `accepted` and a line feed, where the text is accepted under a profile.
+pub fn check(
+    alloc: Global,
+    profile: Profile,
+    lattice: &Lattice,
+    source: &[u8],
+) -> Result<Vec<u8>, Unanswered>
+    ensures checks { ChecksTo lattice.now profile source.now result }
+{
+    match compile_in(alloc, profile, lattice, source) {
+        Ok(_verified) => Ok(Vec::from_slice(alloc, ACCEPTED)?),
+        Err(error) => Err(refused_source(alloc, lattice, source, error)),
+    }
+}
+
+/// `check` of the bytes of a lattice file and of a text.
+pub fn check_files(
+    alloc: Global,
+    profile: Profile,
+    policy: &[u8],
+    source: &[u8],
+) -> Result<Vec<u8>, Unanswered>
+    ensures checks { ChecksFilesTo profile policy.now source.now result }
+{
+    match declared_lattice(alloc, policy) {
+        Ok(lattice) => check(alloc, profile, &lattice, source),
+        Err(unanswered) => Err(unanswered),
+    }
+}
+
+/// The class of each declaration of the text.
+pub fn classes(
+    alloc: Global,
+    profile: Profile,
+    lattice: &Lattice,
+    source: &[u8],
+) -> Result<Vec<u8>, Unanswered>
+    ensures classes { ClassesTo lattice.now profile source.now result }
+{
+    match classes_text_in(alloc, profile, lattice, source) {
+        Ok(lines) => Ok(lines),
+        Err(error) => Err(refused_source(alloc, lattice, source, error)),
+    }
+}
+
+/// The flows between the declared variables of the text.
+pub fn flows(
+    alloc: Global,
+    profile: Profile,
+    lattice: &Lattice,
+    source: &[u8],
+) -> Result<Vec<u8>, Unanswered>
+    ensures flows { FlowsTo lattice.now profile source.now result }
+{
+    match flows_text_in(alloc, profile, lattice, source) {
+        Ok(lines) => Ok(lines),
+        Err(error) => Err(refused_source(alloc, lattice, source, error)),
+    }
+}
+
+/// The flows between the declared variables of the text, each with a walk.
+pub fn walks(
+    alloc: Global,
+    profile: Profile,
+    lattice: &Lattice,
+    source: &[u8],
+) -> Result<Vec<u8>, Unanswered>
+    ensures walks { WalksTo lattice.now profile source.now result }
+{
+    match walks_text_in(alloc, profile, lattice, source) {
+        Ok(lines) => Ok(lines),
+        Err(error) => Err(refused_source(alloc, lattice, source, error)),
+    }
+}
+
+/// The bytes of the image of the text.
+pub fn build(
+    alloc: Global,
+    profile: Profile,
+    lattice: &Lattice,
+    source: &[u8],
+) -> Result<Vec<u8>, Unanswered>
+    ensures builds { BuildsTo lattice.now profile source.now result }
+{
+    match image_bytes(alloc, profile, lattice, source) {
+        Ok(bytes) => Ok(bytes),
+        Err(EngineError::Compile(error)) => Err(refused_source(alloc, lattice, source, error)),
+        Err(_) => Err(Unanswered::Memory),
+    }
+}
+
+/// The canonical text of the text. The lattice is looked at by no refusal that comes here.
+pub fn format(alloc: Global, lattice: &Lattice, source: &[u8]) -> Result<Vec<u8>, Unanswered>
+    ensures formats { FormatsTo lattice.now source.now result }
+{
+    match format_text(alloc, source) {
+        Ok(text) => Ok(text),
+        Err(error) => Err(refused_source(alloc, lattice, source, error)),
+    }
+}

@@ -1,0 +1,3 @@
+pub mod RefusedLemmas
+pub mod WalkLemmas
+pub mod TellingLemmas

@@ -1,0 +1,61 @@
+//! The refused flows of a source text.
+
+ghost use Rattle.std.specs.Prelude.{◌≡◌, List, true, IfOk, IfErr};
+ghost use Rattle.vsi_caret.specs.Safe.{all_plain};
+ghost use Rattle.vsi_syntax.specs.Tree.{Whole};
+ghost use Rattle.vsi_scope.specs.Language.{Command};
+ghost use Rattle.vsi_scope.specs.Resolving.{IsResolution};
+ghost use Rattle.vsi_lattice.specs.LatticeView.{class_named};
+ghost use Rattle.vsi_compiler.specs.Source.{Reads};
+ghost use Rattle.vsi_compiler.specs.declared.error.CompileError.TheVariants.{Memory};
+ghost use Rattle.vsi_compiler.specs.Refusal.{RefusesProgram};
+ghost use Rattle.vsi_blame.specs.Telling.{TellsRefused};
+
+use crate::refused::refused_pairs;
+use crate::sentences::Page;
+use crate::telling::{count_text, told_of};
+use crate::walking::walks_of;
+use std::alloc::Global;
+use vsi_caret::put_text;
+use vsi_compiler::{CompileError, resolved_program};
+use vsi_lattice::Lattice;
+use vsi_types::Profile;
+
+/// How many pairs are told.
+const TOLD: usize = 20;
+
+/// What is told a person of the refused flows of a source text under a profile, and what would mend
+/// them: at most 20 pairs, each with the steps of a shortest walk, and how many there are if more.
+///
+/// # Errors
+///
+/// The refusals of the words, the tree, the scope and the size, as `compile_in`; no flow is refused
+/// here.
+pub fn refused_flows(
+    alloc: Global,
+    profile: Profile,
+    lattice: &Lattice,
+    path: &str,
+    source: &[u8],
+) -> Result<Vec<u8>, CompileError>
+    ensures told { IfOk result (λ out. TellsRefused lattice.now profile source.now out.items) }
+    ensures plain { IfOk result (λ out. all_plain out.items ≡ true) }
+    ensures refused { IfErr result (RefusesProgram (class_named lattice.now) source.now) }
+    ensures exact { (tree : Whole) (commands : List Command) → Reads source.now tree
+        → IsResolution (class_named lattice.now) tree commands → IfErr result (λ e. e ≡ Memory) }
+{
+    let resolved = resolved_program(alloc, lattice, source)?;
+    let pairs = refused_pairs(alloc, profile, lattice, &resolved)?;
+    let first = &pairs[..pairs.len().min(TOLD)];
+    let walks = walks_of(alloc, profile, lattice, &resolved, first)?;
+    let page = Page {
+        path: path.as_bytes(),
+        source,
+    };
+    let mut text = told_of(alloc, lattice, &page, &resolved, &walks)?;
+    let count = count_text(alloc, pairs.len(), walks.len())?;
+    text.extend_from_slice(&count)?;
+    let mut answer = Vec::new(alloc);
+    put_text(&mut answer, &text)?;
+    Ok(answer)
+}

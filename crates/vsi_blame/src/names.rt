@@ -1,0 +1,143 @@
+//! Variables and classes in sentences.
+
+ghost use Rattle.std.specs.Prelude.{◌≡◌, ◌++◌, OnOk};
+ghost use Rattle.std.specs.List.{All};
+ghost use Rattle.vsi_lattice.specs.Order.{IsClass};
+ghost use Rattle.vsi_lattice.specs.LatticeView.{order};
+ghost use Rattle.vsi_types.specs.Security.{program as program_of};
+ghost use Rattle.vsi_infer.specs.Explanation.{name_of};
+ghost use Rattle.vsi_infer.specs.Inference.{AreClasses};
+ghost use Rattle.vsi_blame.specs.Telling as spec;
+
+use std::alloc::AllocError;
+use vsi_caret::put_safe;
+use vsi_infer::declared_class;
+use vsi_lattice::Lattice;
+use vsi_scope::{Resolved, Var};
+use vsi_types::LOOP;
+
+/// The name of a variable.
+fn name<'a>(program: &'a Resolved<'_>, variable: Var) -> &'a [u8]
+    ensures { result.now ≡ name_of program.now variable }
+{
+    if variable == LOOP {
+        return b"(loop)";
+    }
+    let number = variable.0 as usize;
+    let globals = program.globals();
+    if number < globals.len() {
+        return globals[number].name;
+    }
+    match program.letvars().get(number - globals.len()) {
+        Some(entry) => entry.name,
+        None => b"",
+    }
+}
+
+/// Adds a variable as it stands in a sentence.
+pub(crate) fn put_variable(
+    text: &mut Vec<u8>,
+    program: &Resolved<'_>,
+    variable: Var,
+) -> Result<(), AllocError>
+    ensures { OnOk result
+        (text.new.items ≡ text.old.items ++ spec.variable_words program.now variable) }
+{
+    if variable == LOOP {
+        return text.extend_from_slice(b"the ending of loops");
+    }
+    text.extend_from_slice(b"`")?;
+    put_safe(text, name(program, variable))?;
+    text.extend_from_slice(b"`")
+}
+
+/// Adds the name of a variable's declared class.
+pub(crate) fn put_class_of(
+    text: &mut Vec<u8>,
+    lattice: &Lattice,
+    program: &Resolved<'_>,
+    variable: Var,
+) -> Result<(), AllocError>
+    requires globals { All (IsClass (order lattice.now)) (program_of program.now).globals }
+    requires declared { AreClasses (order lattice.now) (program_of program.now).declared }
+    ensures { OnOk result
+        (text.new.items ≡ text.old.items ++ spec.class_words lattice.now program.now variable) }
+{
+    match declared_class(lattice, program, variable) {
+        Some(class) => put_safe(text, lattice.name(class)),
+        None => Ok(()),
+    }
+}
+
+/// Adds from where a pair flows to where.
+fn put_flow(
+    text: &mut Vec<u8>,
+    program: &Resolved<'_>,
+    source: Var,
+    target: Var,
+) -> Result<(), AllocError>
+    ensures { OnOk result
+        (text.new.items ≡ text.old.items ++ spec.flow_words program.now source target) }
+{
+    put_variable(text, program, source)?;
+    text.extend_from_slice(b" flows to ")?;
+    put_variable(text, program, target)?;
+    text.extend_from_slice(b": ")
+}
+
+/// Adds which class a variable has.
+fn put_has(
+    text: &mut Vec<u8>,
+    lattice: &Lattice,
+    program: &Resolved<'_>,
+    variable: Var,
+) -> Result<(), AllocError>
+    requires globals { All (IsClass (order lattice.now)) (program_of program.now).globals }
+    requires declared { AreClasses (order lattice.now) (program_of program.now).declared }
+    ensures { OnOk result
+        (text.new.items ≡ text.old.items ++ spec.has_words lattice.now program.now variable) }
+{
+    put_variable(text, program, variable)?;
+    text.extend_from_slice(b" is ")?;
+    put_class_of(text, lattice, program, variable)
+}
+
+/// Adds how the classes of a pair stand to each other.
+fn put_order(
+    text: &mut Vec<u8>,
+    lattice: &Lattice,
+    program: &Resolved<'_>,
+    source: Var,
+    target: Var,
+) -> Result<(), AllocError>
+    requires globals { All (IsClass (order lattice.now)) (program_of program.now).globals }
+    requires declared { AreClasses (order lattice.now) (program_of program.now).declared }
+    ensures { OnOk result
+        (text.new.items ≡ text.old.items ++ spec.order_words lattice.now program.now source target) }
+{
+    put_class_of(text, lattice, program, source)?;
+    text.extend_from_slice(b" is not at or below ")?;
+    put_class_of(text, lattice, program, target)?;
+    text.extend_from_slice(b".\n")
+}
+
+/// Adds what is at odds about a pair.
+pub(crate) fn put_odds(
+    text: &mut Vec<u8>,
+    lattice: &Lattice,
+    program: &Resolved<'_>,
+    source: Var,
+    target: Var,
+) -> Result<(), AllocError>
+    requires globals { All (IsClass (order lattice.now)) (program_of program.now).globals }
+    requires declared { AreClasses (order lattice.now) (program_of program.now).declared }
+    ensures { OnOk result
+        (text.new.items ≡ text.old.items ++ spec.odds lattice.now program.now source target) }
+{
+    put_flow(text, program, source, target)?;
+    put_has(text, lattice, program, source)?;
+    text.extend_from_slice(b" and ")?;
+    put_has(text, lattice, program, target)?;
+    text.extend_from_slice(b", and ")?;
+    put_order(text, lattice, program, source, target)
+}

@@ -1,0 +1,4 @@
+pub mod Safe
+pub mod Colours
+pub mod Window
+pub mod Place

@@ -1,0 +1,21 @@
+//! Places of a text shown to a person.
+//!
+//! A path, a text and a part of it come in. `put_place` writes `PATH:LINE:COLUMN`, the line of the
+//! text, and carets below that part; `placed` of `specs/Place` is that layout. Every byte of a path
+//! or a text comes into an answer by `put_safe`, whose clause `printable` says that it can't drive
+//! a terminal; the clauses `plain` say the same of whole answers.
+//!
+//! To be believed: all files of `specs/`.
+#![tactic(auto)]
+
+mod manner;
+mod place;
+mod safe;
+#[cfg(test)]
+mod tests;
+mod window;
+
+pub use manner::Manner;
+pub use place::{put_place, put_place_in};
+pub use safe::{put_number, put_safe, put_text};
+pub use window::Window;

@@ -1,0 +1,35 @@
+//! With colours or without.
+
+ghost use Rattle.std.specs.Prelude.{◌≡◌, ◌++◌, OnOk};
+ghost use Rattle.vsi_caret.specs.Colours as spec;
+
+use std::alloc::AllocError;
+
+/// How a text is shown.
+#[derive(Clone, Copy, Debug, PartialEq, Eq)]
+pub enum Manner {
+    /// Without colours: every byte is printable ASCII or a line feed.
+    Plain,
+    /// With the fixed sequences of bytes that turn colours of a terminal on and off.
+    Coloured,
+}
+
+/// Adds what turns a colour on.
+pub(crate) fn put_on(text: &mut Vec<u8>, manner: Manner) -> Result<(), AllocError>
+    ensures { OnOk result (text.new.items ≡ text.old.items ++ spec.turned_on manner) }
+{
+    match manner {
+        Manner::Plain => Ok(()),
+        Manner::Coloured => text.extend_from_slice(b"\x1b[1;31m"),
+    }
+}
+
+/// Adds what turns every colour off.
+pub(crate) fn put_off(text: &mut Vec<u8>, manner: Manner) -> Result<(), AllocError>
+    ensures { OnOk result (text.new.items ≡ text.old.items ++ spec.turned_off manner) }
+{
+    match manner {
+        Manner::Plain => Ok(()),
+        Manner::Coloured => text.extend_from_slice(b"\x1b[0m"),
+    }
+}

@@ -1,0 +1,181 @@
+//! A place of a text, its line and its carets.
+
+ghost use Rattle.std.specs.Prelude.{◌≡◌, ◌++◌, ◌≤◌, ◌<◌, OnOk, IfOk, true, length, replicate, ℕ};
+ghost use Rattle.std.specs.Prelude.{max};
+ghost use Rattle.vsi_caret.specs.declared.window.Window.{Window};
+ghost use Rattle.vsi_caret.specs.declared.manner.Manner.TheVariants.{Plain};
+ghost use Rattle.vsi_caret.specs.Safe.{all_plain};
+ghost use Rattle.vsi_caret.specs.Window.{IsWindow};
+ghost use Rattle.vsi_caret.specs.Place as spec;
+
+use crate::manner::{Manner, put_off, put_on};
+use crate::safe::{put_number, put_safe};
+use crate::window::{Window, begins_line, ends_line, window_at};
+use std::alloc::AllocError;
+use vsi_syntax::line_column;
+
+/// Adds a byte again and again.
+fn put_repeated(text: &mut Vec<u8>, byte: u8, count: usize) -> Result<(), AllocError>
+    ensures { OnOk result (text.new.items ≡ text.old.items ++ replicate count byte) }
+{
+    for done in 0..count {
+        text.push(byte)?;
+    }
+    Ok(())
+}
+
+/// Adds the path, the line and the column.
+fn put_heading(
+    text: &mut Vec<u8>,
+    path: &[u8],
+    line: usize,
+    column: usize,
+) -> Result<(), AllocError>
+    ensures { OnOk result
+        (text.new.items ≡ text.old.items ++ spec.heading_at path.now line column) }
+{
+    put_safe(text, path)?;
+    text.extend_from_slice(b":")?;
+    put_number(text, line)?;
+    text.extend_from_slice(b":")?;
+    put_number(text, column)?;
+    text.extend_from_slice(b"\n")
+}
+
+/// Adds the margin of a line, and answers how many bytes it has.
+fn put_margin(text: &mut Vec<u8>, line: usize) -> Result<usize, AllocError>
+    ensures items { OnOk result (text.new.items ≡ text.old.items ++ spec.margin line) }
+    ensures width { IfOk result (λ width. width ≡ length (spec.margin line)) }
+{
+    let begin = text.len();
+    text.extend_from_slice(b"  ")?;
+    put_number(text, line)?;
+    Ok(text.len() - begin)
+}
+
+/// Adds what of a line stands before the place, and answers how many bytes that is.
+fn put_before(text: &mut Vec<u8>, source: &[u8], window: Window) -> Result<usize, AllocError>
+    requires from { window.from ≤ window.start }
+    requires start { window.start ≤ length source.now }
+    ensures items { OnOk result (text.new.items ≡ text.old.items ++ spec.before source.now window) }
+    ensures width { IfOk result (λ width. width ≡ length (spec.before source.now window)) }
+{
+    let begin = text.len();
+    if !begins_line(source, window.from) {
+        text.extend_from_slice(b"..")?;
+    }
+    put_safe(text, &source[window.from..window.start])?;
+    Ok(text.len() - begin)
+}
+
+/// Adds what stands at the place, and answers how many bytes that is.
+fn put_standing(text: &mut Vec<u8>, source: &[u8], window: Window) -> Result<usize, AllocError>
+    requires start { window.start ≤ window.stop }
+    requires stop { window.stop ≤ length source.now }
+    ensures items { OnOk result
+        (text.new.items ≡ text.old.items ++ spec.standing source.now window) }
+    ensures width { IfOk result (λ width. width ≡ length (spec.standing source.now window)) }
+{
+    let begin = text.len();
+    put_safe(text, &source[window.start..window.stop])?;
+    Ok(text.len() - begin)
+}
+
+/// Adds what of a line stands behind the place.
+fn put_behind(text: &mut Vec<u8>, source: &[u8], window: Window) -> Result<(), AllocError>
+    requires stop { window.stop ≤ window.end }
+    requires end { window.end ≤ length source.now }
+    ensures { OnOk result (text.new.items ≡ text.old.items ++ spec.behind source.now window) }
+{
+    put_safe(text, &source[window.stop..window.end])?;
+    if !ends_line(source, window.end) {
+        text.extend_from_slice(b"..")?;
+    }
+    Ok(())
+}
+
+/// Adds the line of the carets.
+fn put_carets(
+    text: &mut Vec<u8>,
+    manner: Manner,
+    margin: usize,
+    before: usize,
+    standing: usize,
+) -> Result<(), AllocError>
+    ensures { OnOk result
+        (text.new.items ≡ text.old.items ++ spec.carets manner margin before standing) }
+{
+    put_repeated(text, b' ', margin)?;
+    text.extend_from_slice(b" | ")?;
+    put_repeated(text, b' ', before)?;
+    put_on(text, manner)?;
+    put_repeated(text, b'^', standing.max(1))?;
+    put_off(text, manner)?;
+    text.extend_from_slice(b"\n")?;
+    Ok(())
+}
+
+/// Adds the line of a window and the line of the carets.
+fn put_lines(
+    text: &mut Vec<u8>,
+    manner: Manner,
+    source: &[u8],
+    window: Window,
+    line: usize,
+) -> Result<(), AllocError>
+    requires before { window.from ≤ window.start }
+    requires standing { window.start ≤ window.stop }
+    requires behind { window.stop ≤ window.end }
+    requires within { window.end ≤ length source.now }
+    ensures { OnOk result
+        (text.new.items ≡ text.old.items ++ spec.lines_at manner source.now window line) }
+{
+    let margin = put_margin(text, line)?;
+    text.extend_from_slice(b" | ")?;
+    let before = put_before(text, source, window)?;
+    let standing = put_standing(text, source, window)?;
+    put_behind(text, source, window)?;
+    text.extend_from_slice(b"\n")?;
+    put_carets(text, manner, margin, before, standing)?;
+    Ok(())
+}
+
+/// Adds a place of a text in a manner: `PATH:LINE:COLUMN`, the line behind a margin with its
+/// number, and carets below the bytes from `start` up to before `stop`, one at least. Of a long
+/// line a part round the place is shown, with `..` where it is cut. A place beyond the text is its
+/// end.
+pub fn put_place_in(
+    text: &mut Vec<u8>,
+    manner: Manner,
+    path: &[u8],
+    source: &[u8],
+    start: usize,
+    stop: usize,
+) -> Result<(), AllocError>
+    ensures placed { OnOk result ((w : Window) × (IsWindow source.now start w
+        × (text.new.items ≡ text.old.items ++ spec.placed manner path.now source.now w))) }
+    ensures plain { manner ≡ Plain → all_plain text.old.items ≡ true
+        → OnOk result (all_plain text.new.items ≡ true) }
+{
+    let window = window_at(source, start, stop);
+    let (line, column) = line_column(source, window.start);
+    put_heading(text, path, line, column)?;
+    put_lines(text, manner, source, window, line)?;
+    Ok(())
+}
+
+/// Adds a place of a text without colours.
+pub fn put_place(
+    text: &mut Vec<u8>,
+    path: &[u8],
+    source: &[u8],
+    start: usize,
+    stop: usize,
+) -> Result<(), AllocError>
+    ensures placed { OnOk result ((w : Window) × (IsWindow source.now start w
+        × (text.new.items ≡ text.old.items ++ spec.placed Plain path.now source.now w))) }
+    ensures plain { all_plain text.old.items ≡ true
+        → OnOk result (all_plain text.new.items ≡ true) }
+{
+    put_place_in(text, Manner::Plain, path, source, start, stop)
+}

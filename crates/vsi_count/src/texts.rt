@@ -1,0 +1,64 @@
+//! What is told of a count.
+
+ghost use Rattle.std.specs.Prelude.{◌≡◌, ◌++◌, IfOk, OnOk, decimal, false};
+ghost use Rattle.vsi_count.specs.Texts as spec;
+
+use crate::counting::Count;
+use itoa::Buffer;
+use std::alloc::{AllocError, Global};
+
+/// Adds a number in decimal.
+fn put_number(text: &mut Vec<u8>, number: u64) -> Result<(), AllocError>
+    ensures { OnOk result (text.new.items ≡ text.old.items ++ decimal number) }
+{
+    let mut buffer = Buffer::new();
+    text.extend_from_slice(buffer.format(number).as_bytes())
+}
+
+/// The noun behind a number of instructions.
+fn noun(number: u64) -> &'static [u8]
+    ensures { result.now ≡ spec.noun number }
+{
+    if number == 1 {
+        b" instruction"
+    } else {
+        b" instructions"
+    }
+}
+
+/// The line of a number of instructions.
+pub fn count_text(alloc: Global, instructions: u64) -> Result<Vec<u8>, AllocError>
+    ensures { IfOk result (λ text. text.items ≡ spec.count_line instructions) }
+{
+    let mut text = Vec::new(alloc);
+    text.extend_from_slice(b"instructions: ")?;
+    put_number(&mut text, instructions)?;
+    text.extend_from_slice(b"\n")?;
+    Ok(text)
+}
+
+/// Adds a number of instructions with its noun.
+fn put_instructions(text: &mut Vec<u8>, number: u64) -> Result<(), AllocError>
+    ensures { OnOk result (text.new.items ≡ text.old.items ++ spec.number_of number) }
+{
+    put_number(text, number)?;
+    text.extend_from_slice(noun(number))
+}
+
+/// Where a run stands whose budget is spent: how many instructions were done, and the trace line of
+/// the next one. Of a machine that has halted nothing is told.
+pub fn stop_text(alloc: Global, count: &Count<'_>) -> Result<Vec<u8>, AllocError>
+    ensures { IfOk result (λ text. text.items ≡
+        spec.stop_lines count.now.machine.image count.now.machine.state count.now.instructions) }
+{
+    let mut text = Vec::new(alloc);
+    let Some(line) = count.machine.trace_line(alloc)? else {
+        return Ok(text);
+    };
+    text.extend_from_slice(b"After ")?;
+    put_instructions(&mut text, count.instructions)?;
+    text.extend_from_slice(b" the budget is spent. The next one is\n  ")?;
+    text.extend_from_slice(&line)?;
+    text.extend_from_slice(b"\n")?;
+    Ok(text)
+}

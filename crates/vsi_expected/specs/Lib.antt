@@ -1,0 +1,5 @@
+pub mod Sorts
+pub mod Goes
+pub mod Rules
+pub mod Told
+pub mod Words

@@ -1,0 +1,9 @@
+-- Which sorts a list tells.
+use Rattle.std.specs.Prelude.{Bool, false, ◌||◌, List, [], ◌∷◌}
+use Rattle.vsi_expected.specs.declared.sort.Sort.{Sort}
+use Rattle.vsi_expected.specs.Rules.{same}
+
+-- The sort is one of these.
+abbrev pub told : List Sort → Sort → Bool
+told [] s = false
+told (t ∷ ts) s = same t s || told ts s

@@ -1,0 +1,78 @@
+//! Reads tokens, with what is still wanted behind them.
+
+ghost use Rattle.std.specs.Prelude.{◌≡◌, ◌∷◌, [], IfOk, is_some, reverse, map, option_map};
+ghost use Rattle.vsi_syntax.specs.View.{lexemes};
+ghost use Rattle.vsi_expected.specs.Sorts.{lexeme_sort};
+ghost use Rattle.vsi_expected.specs.Rules as spec;
+
+use crate::rules::put_rule;
+use crate::sort::Sort;
+use crate::wanted::Wanted;
+use std::alloc::{AllocError, Global};
+use vsi_syntax::Token;
+
+/// Reads a token of this sort, and tells whether one may stand here.
+fn step(ahead: &mut Vec<Wanted>, sort: Sort) -> Result<bool, AllocError>
+    ensures { IfOk result (λ stands. spec.step (reverse ahead.old.items) sort
+        ≡ spec.reached stands (reverse ahead.new.items)) }
+{
+    while let Some(wanted) = ahead.pop() {
+        if put_rule(ahead, wanted, sort)? {
+            return Ok(true);
+        }
+        if !wanted.may_be_empty() {
+            return Ok(false);
+        }
+    }
+    Ok(false)
+}
+
+/// Whether a token of this sort may stand here.
+pub(crate) fn may_stand(alloc: Global, ahead: &[Wanted], sort: Sort) -> Result<bool, AllocError>
+    ensures { IfOk result (λ stands. is_some (spec.step (reverse ahead.now) sort) ≡ stands) }
+{
+    let mut parts = Vec::new(alloc);
+    for i in 0..ahead.len() {
+        let wanted = ahead[ahead.len() - 1 - i];
+        if put_rule(&mut parts, wanted, sort)? {
+            return Ok(true);
+        }
+        if !wanted.may_be_empty() {
+            return Ok(false);
+        }
+    }
+    Ok(false)
+}
+
+/// Whether all that is wanted may be left out.
+pub(crate) fn can_end(ahead: Vec<Wanted>) -> bool
+    ensures { result ≡ spec.can_end (reverse ahead.items) }
+{
+    let mut ahead = ahead;
+    while let Some(wanted) = ahead.pop() {
+        if !wanted.may_be_empty() {
+            return false;
+        }
+    }
+    true
+}
+
+/// What is wanted behind these tokens, or nothing where no program begins with them.
+pub(crate) fn read<'a>(
+    alloc: Global,
+    tokens: &[Token<'a>],
+) -> Result<Option<Vec<Wanted>>, AllocError>
+    ensures { IfOk result (λ found. option_map (λ ahead. reverse ahead.items) found
+        ≡ spec.run spec.start (map lexeme_sort (lexemes tokens.now))) }
+{
+    let mut ahead = Vec::new(alloc);
+    ahead.push(Wanted::Rest)?;
+    ahead.push(Wanted::Command)?;
+    ahead.push(Wanted::Globals)?;
+    for token in tokens {
+        if !step(&mut ahead, Sort::of(token.kind))? {
+            return Ok(None);
+        }
+    }
+    Ok(Some(ahead))
+}

@@ -1,0 +1,243 @@
+-- By one rule, the rows of a command's parts make the rows of the command.
+use Rattle.std.proofs.Common.{◌≡◌, ℕ, ◌+◌, ◌<◌, ◌≤◌, ◌==◌, Bool, true, false, ◌&&◌, ◌||◌, List, [], ◌∷◌, ◌++◌, take, length, get_or, refl, sym, ap, ◌∙◌, subst, arith}
+use Rattle.std.specs.Prelude.{slice_index}
+use Rattle.std.specs.List.{All}
+use Rattle.std.proofs.lemmas.List.{take_more, take_all, length_push}
+use Rattle.std.proofs.lemmas.List.Elements.{All-push}
+use Rattle.std.proofs.Math.Bool.{or-false, or_assoc}
+use Rattle.std.proofs.Math.Seq.{take-append_seam}
+use Rattle.vsi_syntax.specs.declared.token.Span.{Span}
+use Rattle.vsi_scope.specs.declared.program.Cmd.{Cmd}
+use Rattle.vsi_scope.specs.Language.{Expression, Command, Skip, Assign, Sequence, If, While, Letvar, letvars, has_loop, HasPlaces}
+use Rattle.vsi_scope.specs.View.{command, sequence}
+use Rattle.vsi_types.specs.declared.rules.Profile.{Profile}
+use Rattle.vsi_infer.specs.FlowRows.{flow_has}
+use Rattle.vsi_types.specs.declared.rules.Rule.{Rule}
+use Rattle.vsi_types.specs.declared.rules.Rule.TheVariants as typing
+use Rattle.vsi_infer.specs.Leading.{observes_ending, Position, IsReady}
+use Rattle.vsi_report.specs.ByRule.{leads_under, inside_by, reads_by, IsNotedBy}
+
+-- Tests.
+or_swap : (x y z : Bool) → ((x || y) || z) ≡ (x || (z || y))
+or_swap true y z = refl
+or_swap false true true = refl
+or_swap false true false = refl
+or_swap false false true = refl
+or_swap false false false = refl
+
+-- What is added twice under one condition is added at once.
+both_to : (x t r g : Bool) → ((x || (t && r)) || (t && g)) ≡ (x || (t && (r || g)))
+both_to true t r g = refl
+both_to false true r g = refl
+both_to false false r g = refl
+
+-- Guards that read the same.
+pub leads_same : (R : Rule) (P : Profile) (k : ℕ) (f g : ℕ → Bool) → ((v : ℕ) → f v ≡ g v)
+    → (scope : List ℕ) (n : ℕ) (c : Command) (a b : ℕ) → leads_under R P k f scope n c a b
+    ≡ leads_under R P k g scope n c a b
+leads_same R P k f g h scope n Skip a b = refl
+leads_same R P k f g h scope n (Assign l s e) a b =
+    ap (λ x. (b == slice_index scope l) && (reads_by R typing.Assign scope e a || x)) (h a)
+leads_same R P k f g h scope n (Sequence c d) a b =
+    ap (λ x. x || leads_under R P k f scope (n + letvars c) d a b) (leads_same R P k f g h scope n c a b)
+    ∙ ap (λ x. leads_under R P k g scope n c a b || x) (leads_same R P k f g h scope (n + letvars c) d a b)
+leads_same R P k f g h scope n (If e c d) a b =
+    let more : (v : ℕ) → inside_by R typing.If f scope e v ≡ inside_by R typing.If g scope e v = λ v. ap
+    (λ x. x || reads_by R typing.If scope e v) (h v) in
+    ap (λ x. (observes_ending P (has_loop c || has_loop d) && ((b == k) && reads_by R typing.Loop scope e a)) ||
+    (x || leads_under R P k (inside_by R typing.If f scope e) scope (n + letvars c) d a b))
+    (leads_same R P k (inside_by R typing.If f scope e) (inside_by R typing.If g scope e) more scope n c a b)
+    ∙ ap (λ x. (observes_ending P (has_loop c || has_loop d) && ((b == k) && reads_by R typing.Loop scope e a)) ||
+    (leads_under R P k (inside_by R typing.If g scope e) scope n c a b || x)) (leads_same R P k
+    (inside_by R typing.If f scope e)
+    (inside_by R typing.If g scope e) more scope (n + letvars c) d a b)
+leads_same R P k f g h scope n (While e c) a b =
+    let more : (v : ℕ) → inside_by R typing.While f scope e v ≡ inside_by R typing.While g scope e v = λ v. ap
+    (λ x. x || reads_by R typing.While scope e v) (h v) in
+    ap (λ x. (observes_ending P true && ((b == k) && reads_by R typing.Loop scope e a)) || x)
+    (leads_same R P k (inside_by R typing.While f scope e) (inside_by R typing.While g scope e) more scope n c a b)
+leads_same R P k f g h scope n (Letvar e c) a b =
+    ap (λ x. ((b == n) && reads_by R typing.Letvar scope e a) || x) (leads_same R P k f g h (scope ++ n ∷ [])
+    (n + 1) c a b)
+
+-- One command more of a list.
+module _ (R : Rule) (P : Profile) (k : ℕ) (around : ℕ → Bool) (scope : List ℕ) (a b : ℕ) where
+  -- A sequence leads by a rule where its commands do, one after the other.
+  leads_push : (n : ℕ) (cs : List Cmd) (c : Cmd) → leads_under R P k around scope n (sequence (cs ++ c ∷ [])) a b ≡
+      (leads_under R P k around scope n (sequence cs) a b || leads_under R P k around scope (n + letvars (sequence cs))
+      (command c) a b)
+  leads_push n [] c =
+      let e : n ≡ n + 0 = omega arith in
+      or-false (leads_under R P k around scope n (command c) a b)
+      ∙ ap (λ m. leads_under R P k around scope m (command c) a b) e
+  leads_push n (x ∷ cs) c =
+      let e : n + letvars (command x) + letvars (sequence cs) ≡ n + (letvars (command x) + letvars (sequence cs)) =
+      omega arith in
+      ap (λ t. leads_under R P k around scope n (command x) a b || t) (leads_push (n + letvars (command x)) cs c)
+      ∙ sym (or_assoc (leads_under R P k around scope n (command x) a b)
+      (leads_under R P k around scope (n + letvars (command x)) (sequence cs) a b) _)
+      ∙ ap (λ m. (leads_under R P k around scope n (command x) a b || leads_under R P k around scope (n + letvars
+      (command x))
+      (sequence cs) a b) || leads_under R P k around scope m (command c) a b) e
+
+  -- One more command leads where it does by the rule.
+  pub leads_more : (n : ℕ) (cs : List Cmd) (i : ℕ) (c : Cmd) → i < length cs → c ≡ get_or cs i c
+      → leads_under R P k around scope n (sequence (take (i + 1) cs)) a b ≡
+      (leads_under R P k around scope n (sequence (take i cs)) a b || leads_under R P k around scope
+      (n + letvars (sequence (take i cs))) (command c) a b)
+  leads_more n cs i c lt is =
+      ap (λ l. leads_under R P k around scope n (sequence l) a b) (take_more cs i c lt)
+      ∙ leads_push n (take i cs) (get_or cs i c)
+      ∙ ap (λ y. leads_under R P k around scope n (sequence (take i cs)) a b || leads_under R P k around scope
+      (n + letvars (sequence (take i cs))) (command y) a b) (sym is)
+
+-- A position: rows, the variable of each location, the next declaration.
+abbrev pub position : List ℕ → List ℕ → ℕ → Position
+position r s n = record { rows = r; scope = s; next = n }
+
+module _ (R : Rule) (P : Profile) (k : ℕ) (around : ℕ → Bool) where
+  -- The same places lead the same by the rule.
+  moved : (s s' : List ℕ) (n n' : ℕ) (c : Command) (x y : ℕ) → s ≡ s' → n ≡ n'
+      → leads_under R P k around s n c x y ≡ leads_under R P k around s' n' c x y
+  moved s s' n n' c x y p q = ap (λ z. leads_under R P k around z n c x y) p ∙ ap
+      (λ m. leads_under R P k around s' m c x y) q
+
+  -- Nothing yet.
+  pub noted_none : (a : Position) → IsNotedBy R P k around a Skip a
+  noted_none a = record {
+    scope = refl;
+    next = omega arith;
+    room = refl;
+    rows =
+        λ x y. sym (or-false (flow_has a.rows y x));
+  }
+
+  -- One command after another.
+  pub noted_then : (a b d : Position) (c₁ c₂ : Command) → IsNotedBy R P k around a c₁ b → IsNotedBy R P k around b c₂ d
+      → IsNotedBy R P k around a (Sequence c₁ c₂) d
+  noted_then a b d c₁ c₂ h g = record {
+    scope = g.scope ∙ h.scope;
+    next = omega (arith, g.next, h.next);
+    room = g.room ∙ h.room;
+    rows = λ x y.
+        g.rows x y ∙ ap (λ t. t || leads_under R P k around b.scope b.next c₂ x y) (h.rows x y)
+        ∙ ap (λ t. (flow_has a.rows y x || leads_under R P k around a.scope a.next c₁ x y) || t)
+        (moved b.scope a.scope b.next (a.next + letvars c₁) c₂ x y h.scope h.next)
+        ∙ or_assoc (flow_has a.rows y x) (leads_under R P k around a.scope a.next c₁ x y) _;
+  }
+
+  -- A list of commands, up to a place in it.
+  pub noted_more : (a b d : Position) (cs : List Cmd) (i : ℕ) (c : Cmd) → i < length cs → c ≡ get_or cs i c
+      → letvars (sequence (take (i + 1) cs)) ≡ letvars (sequence (take i cs)) + letvars (command c)
+      → IsNotedBy R P k around a (sequence (take i cs)) b → IsNotedBy R P k around b (command c) d
+      → IsNotedBy R P k around a (sequence (take (i + 1) cs)) d
+  noted_more a b d cs i c lt is count h g =
+      let both = noted_then a b d (sequence (take i cs)) (command c) h g in
+      record {
+        scope = both.scope;
+        next = omega (arith, both.next, count);
+        room = both.room;
+        rows = λ x y. both.rows x y ∙ ap (λ t. flow_has a.rows y x || t)
+            (sym (leads_more R P k around a.scope x y a.next cs i c lt is));
+      }
+
+  -- At the end the whole sequence is noted by the rule.
+  pub noted_all : (a b : Position) (cs : List Cmd) (i : ℕ) → length cs ≤ i
+      → IsNotedBy R P k around a (sequence (take i cs)) b → IsNotedBy R P k around a (sequence cs) b
+  noted_all a b cs i le h = subst (λ l. IsNotedBy R P k around a (sequence l) b) (take_all i cs le) h
+
+  -- An assignment.
+  pub noted_put : (a b : Position) (mid : List ℕ) (l : ℕ) (s : Span) (e : Expression) (to : ℕ) → to
+      ≡ slice_index a.scope l
+      → b.scope ≡ a.scope → b.next ≡ a.next → length b.rows ≡ length a.rows
+      → ((x y : ℕ) → flow_has mid y x ≡ (flow_has a.rows y x || ((y == to) && reads_by R typing.Assign a.scope e x)))
+      → ((x y : ℕ) → flow_has b.rows y x ≡ (flow_has mid y x || ((y == to) && around x)))
+      → IsNotedBy R P k around a (Assign l s e) b
+  noted_put a b mid l s e to at sc ne len f g = record {
+    scope = sc;
+    next = omega (arith, ne);
+    room = len;
+    rows = λ x y. g x y ∙ ap (λ t. t || ((y == to) && around x)) (f x y)
+        ∙ both_to (flow_has a.rows y x) (y == to) (reads_by R typing.Assign a.scope e x) (around x)
+        ∙ ap (λ (t : ℕ). flow_has a.rows y x || ((y == t) && (reads_by R typing.Assign a.scope e x || around x))) at;
+  }
+
+  -- A choice: both branches under its guard, and then its ending.
+  pub noted_if : (inner : ℕ → Bool) (a b d : Position) (e : Expression) (c₁ c₂ : Command) (looping : Bool)
+      → ((v : ℕ) → inner v ≡ inside_by R typing.If around a.scope e v) → looping ≡ (has_loop c₁ || has_loop c₂)
+      → IsNotedBy R P k inner a (Sequence c₁ c₂) b → d.scope ≡ b.scope → d.next ≡ b.next → length d.rows
+      ≡ length b.rows
+      → ((x y : ℕ) → flow_has d.rows y x ≡ (flow_has b.rows y x ||
+      (observes_ending P looping && ((y == k) && reads_by R typing.Loop b.scope e x)))) → IsNotedBy R P k around a
+      (If e c₁ c₂) d
+  noted_if inner a b d e c₁ c₂ looping same loops h sc ne len f = record {
+    scope = sc ∙ h.scope;
+    next = omega (arith, ne, h.next);
+    room = len ∙ h.room;
+    rows = λ x y.
+        f x y ∙ ap (λ t. t || (observes_ending P looping && ((y == k) && reads_by R typing.Loop b.scope e x)))
+        (h.rows x y)
+        ∙ ap (λ s. (flow_has a.rows y x || leads_under R P k inner a.scope a.next (Sequence c₁ c₂) x y) ||
+        (observes_ending P looping && ((y == k) && reads_by R typing.Loop s e x))) h.scope
+        ∙ ap (λ t. (flow_has a.rows y x || leads_under R P k inner a.scope a.next (Sequence c₁ c₂) x y) ||
+        (observes_ending P t && ((y == k) && reads_by R typing.Loop a.scope e x))) loops
+        ∙ or_swap (flow_has a.rows y x) (leads_under R P k inner a.scope a.next (Sequence c₁ c₂) x y)
+        (observes_ending P (has_loop c₁ || has_loop c₂) && ((y == k) && reads_by R typing.Loop a.scope e x))
+        ∙ ap (λ t. flow_has a.rows y x || ((observes_ending P (has_loop c₁ || has_loop c₂)
+        && ((y == k) && reads_by R typing.Loop a.scope e x)) || t)) (leads_same R P k inner
+        (inside_by R typing.If around a.scope e) same a.scope a.next (Sequence c₁ c₂) x y);
+  }
+
+  -- A loop: its ending, and then its body under its guard.
+  pub noted_while : (inner : ℕ → Bool) (a b d : Position) (e : Expression) (c : Command)
+      → ((v : ℕ) → inner v ≡ inside_by R typing.While around b.scope e v) → b.scope ≡ a.scope → b.next ≡ a.next
+      → length b.rows ≡ length a.rows
+      → ((x y : ℕ) → flow_has b.rows y x ≡ (flow_has a.rows y x ||
+      (observes_ending P true && ((y == k) && reads_by R typing.Loop a.scope e x)))) → IsNotedBy R P k inner b c d
+      → IsNotedBy R P k around a (While e c) d
+  noted_while inner a b d e c same sc ne len f h = record {
+    scope = h.scope ∙ sc;
+    next = omega (arith, ne, h.next);
+    room = h.room ∙ len;
+    rows = λ x y.
+        h.rows x y ∙ ap (λ t. t || leads_under R P k inner b.scope b.next c x y) (f x y)
+        ∙ ap (λ t. (flow_has a.rows y x || (observes_ending P true &&
+        ((y == k) && reads_by R typing.Loop a.scope e x))) || t)
+        (leads_same R P k inner (inside_by R typing.While around b.scope e) same b.scope b.next c x y
+        ∙ ap (λ s. leads_under R P k (inside_by R typing.While around s e) s b.next c x y) sc
+        ∙ ap (λ n. leads_under R P k (inside_by R typing.While around a.scope e) a.scope n c x y) ne)
+        ∙ or_assoc (flow_has a.rows y x) _ _;
+  }
+
+  -- A letvar: its initial value, and then its body in a longer scope.
+  pub noted_letvar : (a b d f : Position) (e : Expression) (c : Command) → b.scope ≡ a.scope ++ a.next ∷ []
+      → b.next ≡ a.next + 1 → length b.rows ≡ length a.rows
+      → ((x y : ℕ) → flow_has b.rows y x ≡ (flow_has a.rows y x ||
+      ((y == a.next) && reads_by R typing.Letvar a.scope e x)))
+      → IsNotedBy R P k around b c d → f.scope ≡ take (length a.scope) d.scope → f.next ≡ d.next → f.rows ≡ d.rows
+      → IsNotedBy R P k around a (Letvar e c) f
+  noted_letvar a b d f e c sc ne len bits h fs fn fr = record {
+    scope = fs ∙ ap (take (length a.scope)) (h.scope ∙ sc) ∙ take-append_seam a.scope (a.next ∷ []);
+    next = omega (arith, fn, ne, h.next);
+    room = ap length fr ∙ h.room ∙ len;
+    rows = λ x y.
+        ap (λ r. flow_has r y x) fr ∙ h.rows x y ∙ ap (λ t. t || leads_under R P k around b.scope b.next c x y)
+        (bits x y)
+        ∙ ap (λ t. (flow_has a.rows y x || ((y == a.next) && reads_by R typing.Letvar a.scope e x)) || t)
+        (moved b.scope (a.scope ++ a.next ∷ []) b.next (a.next + 1) c x y sc ne)
+        ∙ or_assoc (flow_has a.rows y x) _ _;
+  }
+
+-- Where the rows have room for a command, they have it for its parts.
+module _ (k : ℕ) where
+  -- Behind one command a position is ready for the next.
+  pub ready_after : (R : Rule) (P : Profile) (around : ℕ → Bool) (a b : Position) (c c₁ d : Command) → HasPlaces
+      (length a.scope) d
+      → letvars c₁ + letvars d ≤ letvars c → IsReady k a c → IsNotedBy R P k around a c₁ b → IsReady k b d
+  ready_after R P around a b c c₁ d places le r h = record {
+    places = subst (λ s. HasPlaces (length s) d) (sym h.scope) places;
+    limit = omega (arith, r.limit, le, h.next);
+    scope = subst (All (λ v. v < k)) (sym h.scope) r.scope;
+    small = r.small;
+    room = omega (arith, r.room, h.room);
+  }

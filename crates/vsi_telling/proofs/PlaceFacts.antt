@@ -1,0 +1,39 @@
+-- Texts that begin with a place.
+use Rattle.std.proofs.Common.{◌≡◌, ℕ, List, [], ◌++◌, ap, sym, ◌∙◌, append_assoc}
+use Rattle.std.proofs.lemmas.List.{append-nil}
+use Rattle.vsi_caret.specs.declared.manner.Manner.{Manner}
+use Rattle.vsi_caret.specs.declared.window.Window.{Window}
+use Rattle.vsi_caret.specs.Window.{IsWindow}
+use Rattle.vsi_caret.specs.Place.{placed}
+use Rattle.vsi_telling.specs.Places.{BeginsAt}
+
+-- A place behind an empty text begins it.
+pub place_begins : (manner : Manner) (path bytes : List ℕ) (start : ℕ) (old text : List ℕ) → old ≡ []
+    → (w : Window) × (IsWindow bytes start w × (text ≡ old ++ placed manner path bytes w))
+    → BeginsAt manner path bytes start text
+place_begins manner path bytes start old text empty h = (
+  h.0,
+  (
+    h.1.0,
+    (
+      [],
+      h.1.1 ∙ ap (λ o. o ++ placed manner path bytes h.0) empty
+          ∙ sym (append-nil (placed manner path bytes h.0)),
+    ),
+  ),
+)
+
+-- What begins with a place does so with more behind it.
+pub more_begins : (manner : Manner) (path bytes : List ℕ) (start : ℕ) (text more : List ℕ)
+    → BeginsAt manner path bytes start text → BeginsAt manner path bytes start (text ++ more)
+more_begins manner path bytes start text more h = (
+  h.0,
+  (
+    h.1.0,
+    (
+      h.1.1.0 ++ more,
+      ap (λ t. t ++ more) h.1.1.1
+          ∙ append_assoc (placed manner path bytes h.0) h.1.1.0 more,
+    ),
+  ),
+)

@@ -1,0 +1,12 @@
+use Rattle.std.proofs.Common.{sym, subst}
+use Rattle.vsi_telling.specs.Places.{BeginsAt}
+use Rattle.vsi_telling.proofs.PlaceFacts.{more_begins}
+use Rattle.vsi_telling.proofs.shown_at.Goals as goal
+
+pub returns-clause-place : goal.returns-clause-place
+returns-clause-place c =
+    let path = c.args.path.now in
+    let bytes = c.args.bytes.now in
+    let start = c.args.span.start in
+    subst (λ t. BeginsAt c.args.manner path bytes start t) (sym c.in_ok-put_text.ensures.told)
+    (more_begins c.args.manner path bytes start _ _ c.in_ok-text.ensures.place)

@@ -1,0 +1,221 @@
+//! Hints for the commonest mistakes.
+
+use crate::spot::Spot;
+use vsi_syntax::Kind;
+
+/// Whether a text begins with a word, and behind blanks with a symbol.
+fn begins_with(text: &[u8], word: &[u8], symbol: u8) -> bool {
+    let Some(rest) = text.trim_ascii_start().strip_prefix(word) else {
+        return false;
+    };
+    rest.trim_ascii_start().first() == Some(&symbol)
+}
+
+/// The hint where another sort of file stands in the place of a source text.
+pub(crate) fn file_hint(text: &[u8]) -> Option<&'static str> {
+    if let [b'V', b'S', b'I', 0..=31, ..] = text {
+        return Some(
+            "Hint: this is an image and no source text: do it by `vsi run IMAGE`, and name the \
+            text that it was built from here.\n",
+        );
+    }
+    if begins_with(text, b"classes", b'=') || begins_with(text, b"below", b'=') {
+        return Some(
+            "Hint: this looks like a lattice file. The lattice file is named first, and the source \
+            text behind it: `vsi check LATTICE SOURCE`.\n",
+        );
+    }
+    None
+}
+
+/// The hint for a word of other languages.
+pub(crate) fn word_hint(word: &[u8]) -> Option<&'static str> {
+    match word {
+        b"true" | b"True" | b"TRUE" => Some("Hint: there is no `true`: write `1`.\n"),
+        b"false" | b"False" | b"FALSE" => Some("Hint: there is no `false`: write `0`.\n"),
+        b"begin" | b"end" | b"BEGIN" | b"END" => {
+            Some("Hint: several commands stand between `{` and `}`: `{ x := 1; y := 2 }`.\n")
+        }
+        b"elif" | b"elsif" | b"elseif" => Some("Hint: write `else if`.\n"),
+        b"for" | b"repeat" | b"until" => {
+            Some("Hint: a loop is written `while x < 9 do { x := x + 1 }`.\n")
+        }
+        b"return" | b"print" | b"printf" => {
+            Some("Hint: a program ends with its last command, and its globals are its answer.\n")
+        }
+        _ => None,
+    }
+}
+
+/// Whether a word declares a variable in other languages.
+pub(crate) fn is_type(word: &[u8]) -> bool {
+    match word {
+        b"let" | b"const" | b"local" | b"auto" | b"int" | b"long" | b"unsigned" => true,
+        b"float" | b"double" | b"bool" | b"boolean" | b"char" | b"string" => true,
+        _ => false,
+    }
+}
+
+/// Whether a word does nothing in other languages.
+pub(crate) fn is_idle(word: &[u8]) -> bool {
+    match word {
+        b"skip" | b"pass" | b"nop" | b"noop" | b"nothing" | b"SKIP" => true,
+        _ => false,
+    }
+}
+
+/// The hint for a symbol behind a name with which a command begins.
+fn target_hint(spot: &Spot) -> Option<&'static str> {
+    if !spot.is_behind_target() {
+        return None;
+    }
+    match spot.kind() {
+        Some(Kind::Equal) => Some("Hint: `=` compares. An assignment is written `:=`.\n"),
+        Some(Kind::Colon) => Some(
+            "Hint: an assignment is written `:=`, without a blank in it; a declaration begins with \
+            `var`.\n",
+        ),
+        Some(Kind::Plus | Kind::Minus | Kind::Star) => {
+            Some("Hint: a command assigns, as `x := x + 1` does.\n")
+        }
+        Some(Kind::Open) => Some("Hint: there are no functions: a command assigns, as `x := 1`.\n"),
+        _ => Some("Hint: a command that begins with a name assigns to it, as `x := 1`.\n"),
+    }
+}
+
+/// The hint for a declaration that isn't whole.
+fn declaration_hint(spot: &Spot) -> Option<&'static str> {
+    if spot.kind_before(2) == Some(Kind::Var) && spot.kind_before(1) == Some(Kind::Name) {
+        return Some(
+            "Hint: a declaration gives the variable a class and no value: write `var x : L;`, and \
+            assign to it in the body.\n",
+        );
+    }
+    if spot.kind_before(2) == Some(Kind::Letvar) && spot.kind() == Some(Kind::Equal) {
+        return Some("Hint: the initial value stands behind `:=`.\n");
+    }
+    if spot.kind_before(2) == Some(Kind::Colon) && spot.kind_before(4) == Some(Kind::Var) {
+        return Some("Hint: a `;` stands behind each declaration.\n");
+    }
+    if spot.kind() == Some(Kind::Var) {
+        return Some("Hint: all declarations stand at the head, before the first command.\n");
+    }
+    None
+}
+
+/// The hint for a symbol where an operand is wanted.
+fn operand_hint(spot: &Spot) -> Option<&'static str> {
+    match (spot.kind_before(1), spot.kind()) {
+        (Some(Kind::Less), Some(Kind::Less)) => Some("Hint: there are no shifts.\n"),
+        (Some(Kind::Assign | Kind::Plus | Kind::Star | Kind::Equal), Some(Kind::Minus)) => {
+            Some("Hint: there is no minus sign before a number: write `0 - 1` for -1.\n")
+        }
+        (Some(Kind::Less | Kind::Open | Kind::If | Kind::While), Some(Kind::Minus)) => {
+            Some("Hint: there is no minus sign before a number: write `0 - 1` for -1.\n")
+        }
+        (Some(Kind::Minus), Some(Kind::Minus)) => {
+            Some("Hint: there is no minus sign before a number: write `(0 - 1)` for -1.\n")
+        }
+        _ => None,
+    }
+}
+
+/// The hint for a `;`, or a command that lacks one.
+fn separator_hint(spot: &Spot) -> Option<&'static str> {
+    match (spot.kind_before(1), spot.kind()) {
+        (None, None) => {
+            Some("Hint: a program has one command at least, as `var x : L; x := 1`.\n")
+        }
+        (Some(Kind::Semicolon), None) => {
+            if spot.kind_before(5) == Some(Kind::Var) && spot.kind_before(3) == Some(Kind::Colon) {
+                return Some(
+                    "Hint: behind the declarations stands one command at least, as `x := 1`.\n",
+                );
+            }
+            None
+        }
+        (Some(Kind::Semicolon), Some(Kind::Semicolon)) => {
+            Some("Hint: one `;` stands between two commands: this one is too many.\n")
+        }
+        (_, Some(Kind::Semicolon)) => {
+            if spot.kind_behind() == Some(Kind::Else) {
+                return Some("Hint: this `;` is one too many: none stands before `else`.\n");
+            }
+            None
+        }
+        _ => None,
+    }
+}
+
+/// The hint where a guard or an initial value has ended without the word behind it.
+fn guard_hint(spot: &Spot) -> Option<&'static str> {
+    if !spot.is_behind_operand() {
+        return None;
+    }
+    match spot.last_word() {
+        Some(Kind::If) => Some("Hint: behind the guard of an `if` stands `then`.\n"),
+        Some(Kind::While) => Some("Hint: behind the guard of a `while` stands `do`.\n"),
+        Some(Kind::Letvar) => Some(
+            "Hint: behind the initial value of a `letvar` stands `in`, and the command in which \
+            the variable holds.\n",
+        ),
+        _ => None,
+    }
+}
+
+/// The hint for a comparison behind a comparison, or an assignment within an expression.
+fn comparison_hint(spot: &Spot) -> Option<&'static str> {
+    match spot.kind() {
+        Some(Kind::Equal | Kind::Less) => Some(
+            "Hint: each comparison wants brackets of its own, as in `(P < Q) * (Q < R)`.\n",
+        ),
+        Some(Kind::Assign) => Some("Hint: `:=` assigns. Two numbers are compared by `=`.\n"),
+        _ => None,
+    }
+}
+
+/// The hint where commands stand side by side.
+fn command_hint(spot: &Spot) -> Option<&'static str> {
+    match spot.kind() {
+        Some(Kind::Name | Kind::If | Kind::While | Kind::Letvar | Kind::OpenBrace) => {
+            Some("Hint: a `;` stands between two commands.\n")
+        }
+        Some(Kind::Number(_) | Kind::Open) => {
+            Some("Hint: an operator stands between two operands: `2 * x`, not `2 x`.\n")
+        }
+        _ => None,
+    }
+}
+
+/// The hint for the place of an unexpected token, where none is known by names. `lacks_else` says
+/// whether an `if` before it still wants its `else`, of which is told elsewhere.
+pub(crate) fn place_hint(spot: &Spot, lacks_else: bool) -> Option<&'static str> {
+    if let Some(hint) = separator_hint(spot) {
+        return Some(hint);
+    }
+    if let Some(hint) = declaration_hint(spot) {
+        return Some(hint);
+    }
+    if let Some(hint) = operand_hint(spot) {
+        return Some(hint);
+    }
+    if let Some(hint) = target_hint(spot) {
+        return Some(hint);
+    }
+    if !spot.is_behind_operand() {
+        return None;
+    }
+    if let Some(hint) = comparison_hint(spot) {
+        return Some(hint);
+    }
+    if spot.has_open_bracket() {
+        return Some("Hint: a `(` in front of this place has no `)` yet.\n");
+    }
+    if let Some(hint) = guard_hint(spot) {
+        return Some(hint);
+    }
+    if lacks_else {
+        return None;
+    }
+    command_hint(spot)
+}

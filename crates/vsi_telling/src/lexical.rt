@@ -1,0 +1,129 @@
+//! What is told of bytes and words that are none of the language.
+
+use crate::hints::file_hint;
+use crate::names::{part_of, put_decimal, put_quoted};
+use crate::operands::{put_division, put_operator};
+use std::alloc::{AllocError, Global};
+use vsi_syntax::LexError;
+
+/// The largest number of bytes of a name.
+const LONGEST_NAME: usize = 32;
+
+/// The hint for a byte that is told by its number.
+fn strange_hint(byte: u8, next: Option<u8>) -> &'static str {
+    match (byte, next) {
+        (0xEF, Some(0xBB)) => {
+            "Hint: a byte order mark stands there: save the text without one, as plain UTF-8 or \
+            ASCII.\n"
+        }
+        (0xC2, Some(0xA0)) => {
+            "Hint: a blank that doesn't break a line stands there: write a common blank.\n"
+        }
+        (0xE2, Some(0x80)) => {
+            "Hint: a quote, a dash or a blank of another program stands there: write it anew. The \
+            minus sign is `-`.\n"
+        }
+        (128..=255, _) => {
+            "Hint: outside of comments only ASCII is read: no letters with accents, and no \
+            symbols that aren't on every keyboard.\n"
+        }
+        _ => {
+            "Hint: the symbols of the language are `:=` `:` `;` `+` `-` `*` `=` `<` `(` `)` `{` `}` \
+            and no others.\n"
+        }
+    }
+}
+
+/// The sign of other languages that begins with a byte.
+fn sign_of(byte: u8, next: Option<u8>) -> &'static [u8] {
+    match (byte, next) {
+        (b'>', Some(b'=')) => b">=",
+        (b'>', _) => b">",
+        (b'!', Some(b'=')) => b"!=",
+        (b'!', _) => b"!",
+        (b'&', Some(b'&')) => b"&&",
+        (b'&', _) => b"&",
+        (b'|', Some(b'|')) => b"||",
+        (b'|', _) => b"|",
+        _ => b"",
+    }
+}
+
+/// The hint for a byte.
+fn byte_hint(byte: u8, next: Option<u8>) -> &'static str {
+    match (byte, next) {
+        (b'/', Some(b'/' | b'*')) => {
+            "Hint: a comment begins with `#`, and ends with its line.\n"
+        }
+        (b'"' | b'\'', _) => "Hint: there are no texts: each variable holds a whole number.\n",
+        (b',', _) => "Hint: each variable is declared by itself: `var a : L; var b : L;`.\n",
+        (b'.', _) => "Hint: numbers are whole ones: write cents in place of 1.50.\n",
+        (b'[' | b']', _) => "Hint: there are no arrays: each variable holds one number.\n",
+        (b'^', _) => "Hint: there are no powers: write `a * a`.\n",
+        _ => strange_hint(byte, next),
+    }
+}
+
+/// Adds what is told of a byte.
+fn put_byte(words: &mut Vec<u8>, source: &[u8], at: usize) -> Result<(), AllocError> {
+    let Some(byte) = source.get(at).copied() else {
+        return Ok(());
+    };
+    let next = source.get(at.saturating_add(1)).copied();
+    put_quoted(words, &[byte])?;
+    words.extend_from_slice(b" is no sign of this language.\n")?;
+    if let Some(hint) = file_hint(source) {
+        return words.extend_from_slice(hint.as_bytes());
+    }
+    if put_operator(words, source, sign_of(byte, next), at)? {
+        return Ok(());
+    }
+    match (byte, next) {
+        (b'/', Some(b'/' | b'*')) => {}
+        (b'/' | b'%', _) => return put_division(words, source, at, byte == b'%'),
+        _ => {}
+    }
+    words.extend_from_slice(byte_hint(byte, next).as_bytes())
+}
+
+/// Adds what is told of a word that is none.
+fn put_word(words: &mut Vec<u8>, word: &[u8]) -> Result<(), AllocError> {
+    put_quoted(words, word)?;
+    words.extend_from_slice(b" is no name, keyword or number.\n")?;
+    match word.first() {
+        Some(b'0'..=b'9') => words.extend_from_slice(
+            b"Hint: a number is digits alone, without `_` and letters, and a name begins with a \
+            letter.\n",
+        ),
+        Some(b'_') => words.extend_from_slice(b"Hint: a name begins with a letter.\n"),
+        _ => {
+            words.extend_from_slice(b"Hint: this name has ")?;
+            put_decimal(words, word.len())?;
+            words.extend_from_slice(b" letters, digits and `_`. A name has at most ")?;
+            put_decimal(words, LONGEST_NAME)?;
+            words.extend_from_slice(b" of them: shorten it.\n")
+        }
+    }
+}
+
+/// What is told of a text without tokens.
+pub(crate) fn of_words(
+    alloc: Global,
+    source: &[u8],
+    error: LexError,
+) -> Result<Vec<u8>, AllocError> {
+    let mut words = Vec::new(alloc);
+    match error {
+        LexError::Memory => return Err(AllocError),
+        LexError::TooLong => words.extend_from_slice(
+            b"The text has more than 1048576 bytes. Hint: check that this is the file that you \
+            meant.\n",
+        )?,
+        LexError::BadByte(at) => put_byte(&mut words, source, at)?,
+        LexError::BadWord(span) => put_word(&mut words, part_of(source, span))?,
+        LexError::BadNumber(_) => words.extend_from_slice(
+            b"The largest number is 9223372036854775807. Hint: use a smaller one.\n",
+        )?,
+    }
+    Ok(words)
+}

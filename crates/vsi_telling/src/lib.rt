@@ -1,0 +1,258 @@
+//! What stands behind the refusal of a file, for a person: where it is wrong, what stands there,
+//! what could stand there, and what to do.
+//!
+//! To be believed: `specs/Places`.
+#![tactic(auto)]
+
+ghost use Rattle.std.specs.Prelude.{◌≡◌, IfOk, IfSome, option_map, true};
+ghost use Rattle.vsi_caret.specs.declared.manner.Manner.TheVariants.{Plain};
+ghost use Rattle.vsi_caret.specs.Safe.{all_plain};
+ghost use Rattle.vsi_telling.specs.Places.{BeginsAt, start_of};
+
+pub mod finding;
+mod hints;
+mod images;
+mod lattices;
+mod lexical;
+pub mod names;
+pub mod nearest;
+mod operands;
+mod orders;
+mod scoping;
+mod spot;
+pub mod stores;
+mod syntactic;
+pub mod tables;
+mod wrapping;
+
+use std::alloc::{AllocError, Global};
+use vsi_caret::{Manner, put_place_in, put_safe, put_text};
+use vsi_compiler::CompileError;
+use vsi_faults::Fault;
+use vsi_image::Image;
+use vsi_lattice::Lattice;
+use vsi_store::StoreError;
+use vsi_syntax::{LexError, ParseError, Span};
+
+/// What was refused: a file by its path and its bytes, and why.
+#[derive(Clone, Copy)]
+pub enum Refused<'a> {
+    /// A source text over a lattice.
+    Source {
+        path: &'a [u8],
+        bytes: &'a [u8],
+        lattice: &'a Lattice,
+        error: &'a CompileError,
+    },
+    /// A store file for an image.
+    Store {
+        path: &'a [u8],
+        bytes: &'a [u8],
+        image: &'a Image,
+        error: &'a StoreError,
+    },
+    /// A lattice file, an image, or another file.
+    File {
+        path: &'a [u8],
+        bytes: &'a [u8],
+        fault: &'a Fault,
+    },
+}
+
+/// What is told of a file: a part of it, if one is known, and words.
+#[derive(Drop)]
+pub(crate) struct Telling {
+    pub(crate) place: Option<Span>,
+    pub(crate) words: Vec<u8>,
+}
+
+/// The place of a file as text.
+fn begun_at(
+    alloc: Global,
+    manner: Manner,
+    path: &[u8],
+    bytes: &[u8],
+    span: Span,
+) -> Result<Vec<u8>, AllocError>
+    ensures plain { manner ≡ Plain → IfOk result (λ text. all_plain text.items ≡ true) }
+    ensures place { IfOk result
+        (λ text. BeginsAt manner path.now bytes.now span.start text.items) }
+{
+    let mut text = Vec::new(alloc);
+    put_place_in(&mut text, manner, path, bytes, span.start, span.stop)?;
+    Ok(text)
+}
+
+/// The path of a file as text.
+fn begun(alloc: Global, path: &[u8]) -> Result<Vec<u8>, AllocError>
+    ensures { IfOk result (λ text. all_plain text.items ≡ true) }
+{
+    let mut text = Vec::new(alloc);
+    put_safe(&mut text, path)?;
+    put_text(&mut text, b":\n")?;
+    Ok(text)
+}
+
+/// A place of a file and lines as text.
+fn shown_at(
+    alloc: Global,
+    manner: Manner,
+    path: &[u8],
+    bytes: &[u8],
+    span: Span,
+    lines: &[u8],
+) -> Result<Vec<u8>, AllocError>
+    ensures plain { manner ≡ Plain → IfOk result (λ text. all_plain text.items ≡ true) }
+    ensures place { IfOk result
+        (λ text. BeginsAt manner path.now bytes.now span.start text.items) }
+{
+    let mut text = begun_at(alloc, manner, path, bytes, span)?;
+    put_text(&mut text, lines)?;
+    Ok(text)
+}
+
+/// A place of a file and words as text: a line is at most 80 columns long. Without a place the
+/// path alone is told.
+pub fn shown(
+    alloc: Global,
+    manner: Manner,
+    path: &[u8],
+    bytes: &[u8],
+    place: Option<Span>,
+    words: &[u8],
+) -> Result<Vec<u8>, AllocError>
+    ensures plain { manner ≡ Plain → IfOk result (λ text. all_plain text.items ≡ true) }
+    ensures place { IfSome place (λ span.
+        IfOk result (λ text. BeginsAt manner path.now bytes.now span.start text.items)) }
+{
+    let lines = wrapping::wrapped(alloc, words)?;
+    match place {
+        Some(span) => shown_at(alloc, manner, path, bytes, span, &lines),
+        None => {
+            let mut text = begun(alloc, path)?;
+            put_text(&mut text, &lines)?;
+            Ok(text)
+        }
+    }
+}
+
+/// The part of one byte.
+fn one_byte(at: usize) -> Span
+    ensures { result.start ≡ at }
+{
+    Span {
+        start: at,
+        stop: at.saturating_add(1),
+    }
+}
+
+/// Where a source text is refused.
+fn place_of(error: &CompileError) -> Option<Span>
+    ensures { option_map (λ span. span.start) result ≡ start_of error.now }
+{
+    match error {
+        CompileError::Lex(LexError::BadByte(at)) => Some(one_byte(*at)),
+        CompileError::Lex(LexError::BadWord(span) | LexError::BadNumber(span)) => Some(*span),
+        CompileError::Lex(LexError::Memory | LexError::TooLong) => None,
+        CompileError::Parse(ParseError::Unexpected(span) | ParseError::TooDeep(span)) => {
+            Some(*span)
+        }
+        CompileError::Parse(ParseError::Memory) => None,
+        CompileError::Scope(inner) => scoping::place_of(*inner),
+        CompileError::Flow(_) | CompileError::Memory => None,
+    }
+}
+
+/// What is told of a refused source text.
+fn of_source(
+    alloc: Global,
+    lattice: &Lattice,
+    source: &[u8],
+    error: &CompileError,
+) -> Result<Vec<u8>, AllocError> {
+    match error {
+        CompileError::Lex(inner) => lexical::of_words(alloc, source, *inner),
+        CompileError::Parse(inner) => syntactic::of_tree(alloc, source, inner),
+        CompileError::Scope(inner) => scoping::of_scopes(alloc, lattice, source, *inner),
+        CompileError::Flow(_) => Vec::from_slice(alloc, b"A flow breaks the policy.\n"),
+        CompileError::Memory => Err(AllocError),
+    }
+}
+
+/// What stands behind the refusal of a source text, as `explanation` tells it.
+pub fn source_explanation(
+    alloc: Global,
+    manner: Manner,
+    path: &[u8],
+    lattice: &Lattice,
+    source: &[u8],
+    error: &CompileError,
+) -> Result<Vec<u8>, AllocError>
+    // Without colours no byte drives a terminal.
+    ensures plain { manner ≡ Plain → IfOk result (λ text. all_plain text.items ≡ true) }
+    // It begins with the place at which the text is refused.
+    ensures place { IfSome (start_of error.now) (λ start.
+        IfOk result (λ text. BeginsAt manner path.now source.now start text.items)) }
+{
+    let words = of_source(alloc, lattice, source, error)?;
+    shown(alloc, manner, path, source, place_of(error), &words)
+}
+
+/// What is told of a refused lattice file, image or other file.
+fn of_file(alloc: Global, path: &[u8], bytes: &[u8], fault: &Fault) -> Result<Telling, AllocError> {
+    match fault {
+        Fault::Lattice(error) => lattices::of_lattice(alloc, path, bytes, *error),
+        Fault::Decode(error) => images::of_bytes(alloc, path, bytes, *error),
+        Fault::Verify(error) => images::of_image(alloc, error),
+        Fault::Store(error) => stores::of_store(alloc, bytes, &[], error),
+        Fault::View(error) => images::of_view(alloc, error),
+    }
+}
+
+/// What stands behind a refusal: the place in the file, its line and carets where a place is
+/// known, then in whole sentences of at most 80 columns what stands there, what could stand there,
+/// and what to do. Behind `CompileError::Flow` it says only that a flow breaks the policy.
+pub fn explanation<'a>(
+    alloc: Global,
+    manner: Manner,
+    refused: &Refused<'a>,
+) -> Result<Vec<u8>, AllocError>
+    ensures plain { manner ≡ Plain → IfOk result (λ text. all_plain text.items ≡ true) }
+{
+    match refused {
+        Refused::Source {
+            path,
+            bytes,
+            lattice,
+            error,
+        } => { source_explanation(alloc, manner, path, lattice, bytes, error) }
+        Refused::Store {
+            path,
+            bytes,
+            image,
+            error,
+        } => {
+            let telling = stores::of_store(alloc, bytes, &image.globals, error)?;
+            shown(alloc, manner, path, bytes, telling.place, &telling.words)
+        }
+        Refused::File { path, bytes, fault } => {
+            let telling = of_file(alloc, path, bytes, fault)?;
+            shown(alloc, manner, path, bytes, telling.place, &telling.words)
+        }
+    }
+}
+
+/// The classes of a lattice in a sentence, for who named one that it lacks.
+pub fn class_list(alloc: Global, lattice: &Lattice) -> Result<Vec<u8>, AllocError>
+    ensures plain { IfOk result (λ text. all_plain text.items ≡ true) }
+{
+    let classes = names::class_names(alloc, lattice)?;
+    let mut words = Vec::new(alloc);
+    words.extend_from_slice(b"The classes of the lattice file: ")?;
+    names::put_names(&mut words, &classes)?;
+    words.extend_from_slice(b".\n")?;
+    let sentence = wrapping::wrapped(alloc, &words)?;
+    let mut text = Vec::new(alloc);
+    put_text(&mut text, &sentence)?;
+    Ok(text)
+}

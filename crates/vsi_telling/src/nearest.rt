@@ -1,0 +1,85 @@
+//! What a word may have been meant for.
+
+use crate::names::put_quoted;
+use std::alloc::{AllocError, Global};
+use std::str::from_utf8;
+use strsim::osa_distance;
+
+/// The longest word that is compared.
+const LONGEST: usize = 40;
+
+/// The keywords.
+pub(crate) const KEYWORDS: [&[u8]; 8] = [
+    b"var", b"letvar", b"in", b"if", b"then", b"else", b"while", b"do",
+];
+
+/// How many letters at most differ where two words of this length are near.
+fn limit(length: usize) -> usize {
+    if length >= 5 {
+        2
+    } else if length >= 2 {
+        1
+    } else {
+        0
+    }
+}
+
+/// How far a word is from another one, where it is near it: 0 where only capital and small letters
+/// differ.
+fn distance(alloc: Global, written: &[u8], meant: &[u8]) -> Result<Option<usize>, AllocError> {
+    if written == meant || written.len() > LONGEST || meant.len() > LONGEST {
+        return Ok(None);
+    }
+    if written.eq_ignore_ascii_case(meant) {
+        return Ok(Some(0));
+    }
+    let Ok(written_text) = from_utf8(written) else {
+        return Ok(None);
+    };
+    let Ok(meant_text) = from_utf8(meant) else {
+        return Ok(None);
+    };
+    let far = osa_distance(alloc, written_text, meant_text)?;
+    if far > limit(written.len().min(meant.len())) {
+        return Ok(None);
+    }
+    Ok(Some(far))
+}
+
+/// The nearest of the words, of those as near the first.
+pub(crate) fn nearest<'w>(
+    alloc: Global,
+    written: &[u8],
+    words: &[&'w [u8]],
+) -> Result<Option<&'w [u8]>, AllocError> {
+    let mut best = None;
+    let mut least: usize = LONGEST;
+    for word in words {
+        let Some(far) = distance(alloc, written, word)? else {
+            continue;
+        };
+        if far < least {
+            least = far;
+            best = Some(*word);
+        }
+    }
+    Ok(best)
+}
+
+/// Adds which of the words was perhaps meant, and answers whether one was.
+pub fn put_nearest(
+    alloc: Global,
+    words: &mut Vec<u8>,
+    written: &[u8],
+    choices: &[&[u8]],
+) -> Result<bool, AllocError> {
+    let Some(meant) = nearest(alloc, written, choices)? else {
+        return Ok(false);
+    };
+    words.extend_from_slice(b"Hint: perhaps ")?;
+    put_quoted(words, meant)?;
+    words.extend_from_slice(b" was meant in place of ")?;
+    put_quoted(words, written)?;
+    words.extend_from_slice(b".\n")?;
+    Ok(true)
+}

@@ -1,0 +1,319 @@
+//! Signs and words of other languages between operands, and how they are written here.
+
+use crate::names::{part_of, put_quoted};
+use std::alloc::AllocError;
+use vsi_syntax::Span;
+
+/// How many bytes of an operand are told at most.
+const LONGEST: usize = 40;
+
+/// What is said where a comparison is turned into its opposite.
+const OPPOSITE: &str = ": the brackets stay. A comparison is 1 where it holds, and else 0";
+
+/// What is said where besides the sides change places.
+const SWAPPED: &str =
+    ": the sides change places, and the brackets stay. A comparison is 1 where it holds, and else 0";
+
+/// What is said of signs that join two guards.
+const JOINED: &str = ", where each is 0 or 1: the brackets stay";
+
+/// What is said of a sign that negates a guard.
+const NEGATED: &str = ", where P is 0 or 1: the brackets stay";
+
+/// How a sign stands between P and Q, how that is written here, and what is said of it.
+fn form_of(sign: &[u8]) -> Option<(&'static str, &'static str, &'static str)> {
+    match sign {
+        b"==" => Some(("P == Q", "P = Q", "")),
+        b">" => Some(("P > Q", "Q < P", ": the sides change places")),
+        b"<=" => Some(("P <= Q", "1 - (Q < P)", SWAPPED)),
+        b">=" => Some(("P >= Q", "1 - (P < Q)", OPPOSITE)),
+        b"!=" => Some(("P != Q", "1 - (P = Q)", OPPOSITE)),
+        b"and" | b"AND" => Some(("P and Q", "(P) * (Q)", JOINED)),
+        b"&&" => Some(("P && Q", "(P) * (Q)", JOINED)),
+        b"&" => Some(("P & Q", "(P) * (Q)", JOINED)),
+        b"or" | b"OR" => Some(("P or Q", "0 < (P) + (Q)", JOINED)),
+        b"||" => Some(("P || Q", "0 < (P) + (Q)", JOINED)),
+        b"|" => Some(("P | Q", "0 < (P) + (Q)", JOINED)),
+        b"not" | b"NOT" => Some(("not P", "(1 - (P))", NEGATED)),
+        b"!" => Some(("!P", "(1 - (P))", NEGATED)),
+        _ => None,
+    }
+}
+
+/// Whether a byte belongs to a name, a keyword or a number.
+fn is_part(byte: u8) -> bool {
+    byte.is_ascii_alphanumeric() || byte == b'_'
+}
+
+/// The word that begins at a place; it has no byte where none does.
+fn word_at(source: &[u8], at: usize) -> &[u8] {
+    if at > 0 {
+        if let Some(byte) = source.get(at - 1) {
+            if is_part(*byte) {
+                return b"";
+            }
+        }
+    }
+    for place in at..source.len() {
+        if !is_part(source[place]) {
+            return &source[at..place];
+        }
+    }
+    &source[at.min(source.len())..]
+}
+
+/// Where the operand that ends before a place begins, if it does on the same line.
+fn operand_start(source: &[u8], at: usize) -> Option<usize> {
+    let end = at.min(source.len());
+    let mut closed: usize = 0;
+    for done in 0..end {
+        let place = end - 1 - done;
+        let behind = place.saturating_add(1);
+        match source[place] {
+            b')' => closed = closed.saturating_add(1),
+            b'(' => {
+                if closed == 0 {
+                    return Some(behind);
+                }
+                closed = closed.saturating_sub(1);
+            }
+            b'=' => {
+                if closed == 0 && place > 0 && source[place - 1] == b':' {
+                    return Some(behind);
+                }
+            }
+            b'&' | b'|' | b'!' => return None,
+            b';' | b'{' | b'}' | b'#' | b'\n' => return None,
+            _ => {
+                let word = word_at(source, place);
+                match word {
+                    b"if" | b"while" | b"and" | b"or" | b"not" => {
+                        if closed == 0 {
+                            return Some(place.saturating_add(word.len()));
+                        }
+                    }
+                    _ => {}
+                }
+            }
+        }
+    }
+    None
+}
+
+/// Whether nothing of an operand stands behind the end of its line.
+fn ends_with_line(rest: &[u8]) -> bool {
+    match rest.trim_ascii_start().first() {
+        Some(byte) => byte.is_ascii_alphabetic() || *byte == b'}',
+        None => true,
+    }
+}
+
+/// Where the operand that begins at a place ends, if it does on the same line.
+fn operand_stop(source: &[u8], at: usize) -> Option<usize> {
+    let mut open: usize = 0;
+    for place in at..source.len() {
+        let is_end = match source[place] {
+            b'(' => {
+                open = open.saturating_add(1);
+                false
+            }
+            b')' => {
+                if open == 0 {
+                    return Some(place);
+                }
+                open = open.saturating_sub(1);
+                false
+            }
+            b'#' | b'!' => return None,
+            b'\n' => {
+                if !ends_with_line(&source[place..]) {
+                    return None;
+                }
+                true
+            }
+            b';' | b'{' | b'}' | b'&' | b'|' => true,
+            _ => match word_at(source, place) {
+                b"then" | b"do" | b"in" | b"else" | b"and" | b"or" => true,
+                _ => false,
+            },
+        };
+        if is_end {
+            return if open == 0 { Some(place) } else { None };
+        }
+    }
+    if open == 0 { Some(source.len()) } else { None }
+}
+
+/// The part of a text between two places, without blanks at its ends, where it is short.
+fn operand(source: &[u8], start: usize, stop: usize) -> Option<&[u8]> {
+    let part = part_of(source, Span { start, stop }).trim_ascii();
+    if part.is_empty() || part.len() > LONGEST || part.contains(&b':') {
+        return None;
+    }
+    Some(part)
+}
+
+/// Whether an operand has a comparison in it.
+fn compares(part: &[u8]) -> bool {
+    for byte in part {
+        match *byte {
+            b'<' | b'=' | b'>' => return true,
+            _ => {}
+        }
+    }
+    false
+}
+
+/// The operands on both sides of a sign.
+fn operands<'s>(source: &'s [u8], at: usize, behind: usize) -> Option<(&'s [u8], &'s [u8])> {
+    let left = operand(source, operand_start(source, at)?, at)?;
+    let right = operand(source, behind, operand_stop(source, behind)?)?;
+    match source.get(at) {
+        Some(b'<' | b'>' | b'!' | b'=') => {
+            if compares(left) || compares(right) {
+                return None;
+            }
+        }
+        _ => {}
+    }
+    Some((left, right))
+}
+
+/// What stands in brackets behind a sign that negates, where that is a whole guard or value.
+fn negated(source: &[u8], at: usize, behind: usize) -> Option<&[u8]> {
+    let start = operand_start(source, at)?;
+    if operand(source, start, at).is_some() {
+        return None;
+    }
+    let part = operand(source, behind, operand_stop(source, behind)?)?;
+    let inner = part.strip_prefix(b"(")?.strip_suffix(b")")?;
+    if inner.contains(&b'(') || inner.contains(&b')') || !compares(inner) {
+        return None;
+    }
+    Some(inner)
+}
+
+/// Adds a pattern with its operands in the places of P and Q.
+pub(crate) fn put_pattern(
+    words: &mut Vec<u8>,
+    pattern: &str,
+    left: &[u8],
+    right: &[u8],
+) -> Result<(), AllocError> {
+    for byte in pattern.as_bytes() {
+        match *byte {
+            b'P' => words.extend_from_slice(left)?,
+            b'Q' => words.extend_from_slice(right)?,
+            other => words.extend_from_slice(&[other])?,
+        }
+    }
+    Ok(())
+}
+
+/// Adds a form with its operands in it, between back quotes.
+fn put_form(words: &mut Vec<u8>, form: &str, left: &[u8], right: &[u8]) -> Result<(), AllocError> {
+    words.extend_from_slice(b"`")?;
+    put_pattern(words, form, left, right)?;
+    words.extend_from_slice(b"`")
+}
+
+/// Adds how a sign or a word of other languages is written here, and answers whether it is one.
+pub(crate) fn put_operator(
+    words: &mut Vec<u8>,
+    source: &[u8],
+    sign: &[u8],
+    at: usize,
+) -> Result<bool, AllocError> {
+    let Some(form) = form_of(sign) else {
+        return Ok(false);
+    };
+    let behind = at.saturating_add(sign.len());
+    let (mut meant, mut written, mut rest) = form;
+    let mut sides: (&[u8], &[u8]) = (b"P", b"Q");
+    if rest == NEGATED {
+        if let Some(inner) = negated(source, at, behind) {
+            sides = (inner, b"");
+            meant = if sign.len() == 1 { "!(P)" } else { "not (P)" };
+            written = "1 - (P)";
+            rest = OPPOSITE;
+        }
+    } else if let Some(own) = operands(source, at, behind) {
+        sides = own;
+    }
+    words.extend_from_slice(b"Hint: there is no ")?;
+    put_quoted(words, sign)?;
+    words.extend_from_slice(b". ")?;
+    put_form(words, meant, sides.0, sides.1)?;
+    words.extend_from_slice(b" is written ")?;
+    put_form(words, written, sides.0, sides.1)?;
+    words.extend_from_slice(rest.as_bytes())?;
+    words.extend_from_slice(b".\n")?;
+    Ok(true)
+}
+
+/// Whether an operand is one name or number.
+fn is_word(part: &[u8]) -> bool {
+    word_at(part, 0).len() == part.len()
+}
+
+/// The name to which the value that begins at a place is assigned.
+fn target_before(source: &[u8], start: usize) -> Option<&[u8]> {
+    let before = source.get(..start)?.strip_suffix(b":=")?.trim_ascii_end();
+    for at in 0..before.len() {
+        let word = word_at(before, at);
+        if !word.is_empty() && at.saturating_add(word.len()) == before.len() {
+            return Some(word);
+        }
+    }
+    None
+}
+
+/// What is divided, by what, and the name that the value is for; where one isn't a single word, P,
+/// Q and another name.
+fn division_parts(source: &[u8], at: usize) -> (&[u8], &[u8], &[u8]) {
+    let Some((left, right)) = operands(source, at, at.saturating_add(1)) else {
+        return (b"P", b"Q", b"n");
+    };
+    if !is_word(left) || !is_word(right) {
+        return (b"P", b"Q", b"n");
+    }
+    match target_before(source, operand_start(source, at).unwrap_or(0)) {
+        Some(name) if name != left && name != right => (left, right, name),
+        _ => (left, right, b"n"),
+    }
+}
+
+/// Adds the loop that divides.
+pub(crate) fn put_division(
+    words: &mut Vec<u8>,
+    source: &[u8],
+    at: usize,
+    is_remainder: bool,
+) -> Result<(), AllocError> {
+    let (left, right, name) = division_parts(source, at);
+    words.extend_from_slice(if is_remainder {
+        b"Hint: there is no remainder. `"
+    } else {
+        b"Hint: there is no division. `"
+    })?;
+    if is_remainder {
+        let form = "letvar r := P in { while Q - 1 < r do r := r - Q; ";
+        put_pattern(words, form, left, right)?;
+        words.extend_from_slice(name)?;
+        words.extend_from_slice(b" := r }` puts into ")?;
+    } else {
+        let form = "letvar r := P in while Q - 1 < r do { r := r - Q; ";
+        put_pattern(words, form, left, right)?;
+        words.extend_from_slice(name)?;
+        words.extend_from_slice(b" := ")?;
+        words.extend_from_slice(name)?;
+        words.extend_from_slice(b" + 1 }` adds to ")?;
+    }
+    words.extend_from_slice(name)?;
+    let told = if is_remainder {
+        " what is left of P when Q is taken away as often as it can be.\n"
+    } else {
+        " how often Q is in P.\n"
+    };
+    put_pattern(words, told, left, right)
+}

@@ -1,0 +1,278 @@
+//! What is told of tokens that are no program.
+
+use crate::hints::{file_hint, is_idle, is_type, place_hint, word_hint};
+use crate::names::{is_declared, part_of, put_quoted};
+use crate::nearest::{KEYWORDS, put_nearest};
+use crate::operands::put_operator;
+use crate::scoping::put_line_column;
+use crate::spot::{Spot, spot_at};
+use std::alloc::{AllocError, Global};
+use vsi_expected::expected_after;
+use vsi_syntax::{Kind, ParseError, Span, Token, lex};
+
+/// Whether an `if` among the tokens, in the block that they end in, still wants its `else`.
+fn lacks_else(alloc: Global, tokens: &[Token]) -> Result<bool, AllocError> {
+    let mut outer = Vec::new(alloc);
+    let mut wanted: usize = 0;
+    for token in tokens {
+        match token.kind {
+            Kind::Then => wanted = wanted.saturating_add(1),
+            Kind::Else => wanted = wanted.saturating_sub(1),
+            Kind::OpenBrace => {
+                outer.push(wanted)?;
+                wanted = 0;
+            }
+            Kind::CloseBrace => wanted = outer.pop().unwrap_or(0),
+            _ => {}
+        }
+    }
+    Ok(wanted > 0)
+}
+
+/// Adds what could stand behind the tokens in front of a place.
+fn put_expected(alloc: Global, words: &mut Vec<u8>, tokens: &[Token]) -> Result<(), AllocError> {
+    let expected = expected_after(alloc, tokens)?;
+    let list = expected.words(alloc)?;
+    if list.is_empty() {
+        return Ok(());
+    }
+    words.extend_from_slice(b"Here could stand: ")?;
+    words.extend_from_slice(&list)?;
+    words.extend_from_slice(b".\n")
+}
+
+/// Adds what stands at a place.
+fn put_standing(words: &mut Vec<u8>, spot: &Spot) -> Result<(), AllocError> {
+    match spot.here() {
+        Some(token) => {
+            put_quoted(words, token.text)?;
+            words.extend_from_slice(b" can't stand here.\n")
+        }
+        None => words.extend_from_slice(b"The text ends here, before the program is whole.\n"),
+    }
+}
+
+/// The token, where it is a name that the text declares nowhere.
+fn strange<'a>(spot: &Spot<'a, '_>, token: Option<Token<'a>>) -> Option<Token<'a>> {
+    let token = token?;
+    if token.kind != Kind::Name || is_declared(spot.tokens, token.text) {
+        return None;
+    }
+    Some(token)
+}
+
+/// Adds how a variable is declared, in place of a word of other languages.
+fn put_declaration(words: &mut Vec<u8>, word: &[u8], name: &[u8]) -> Result<(), AllocError> {
+    words.extend_from_slice(b"Hint: there is no ")?;
+    put_quoted(words, word)?;
+    words.extend_from_slice(b". Each variable holds a whole number, and is declared by `var ")?;
+    words.extend_from_slice(name)?;
+    words.extend_from_slice(
+        b" : L;` at the beginning of the text, where L is a class of the lattice file.\n",
+    )
+}
+
+/// Adds what does nothing.
+fn put_idle(words: &mut Vec<u8>, spot: &Spot, before: &[u8]) -> Result<(), AllocError> {
+    let name = spot.last_target().unwrap_or(b"x");
+    words.extend_from_slice(b" To do nothing there write `")?;
+    words.extend_from_slice(before)?;
+    words.extend_from_slice(name)?;
+    words.extend_from_slice(b" := ")?;
+    words.extend_from_slice(name)?;
+    words.extend_from_slice(b"`.\n")
+}
+
+/// Adds a hint by a word of other languages, and answers whether the token is one.
+fn put_foreign(
+    words: &mut Vec<u8>,
+    source: &[u8],
+    spot: &Spot,
+    token: Option<Token>,
+) -> Result<bool, AllocError> {
+    let Some(token) = strange(spot, token) else {
+        return Ok(false);
+    };
+    if put_operator(words, source, token.text, token.span.start)? {
+        return Ok(true);
+    }
+    if is_type(token.text) {
+        let name = spot.name_behind(token).unwrap_or(b"x");
+        put_declaration(words, token.text, name)?;
+        return Ok(true);
+    }
+    if is_idle(token.text) {
+        words.extend_from_slice(b"Hint: there is no ")?;
+        put_quoted(words, token.text)?;
+        words.extend_from_slice(b".")?;
+        put_idle(words, spot, b"")?;
+        return Ok(true);
+    }
+    match word_hint(token.text) {
+        Some(hint) => {
+            words.extend_from_slice(hint.as_bytes())?;
+            Ok(true)
+        }
+        None => Ok(false),
+    }
+}
+
+/// Adds a hint where the tokens in front of a place are misread, and answers whether they are: what
+/// could stand there is then of no use.
+fn put_misread(
+    alloc: Global,
+    words: &mut Vec<u8>,
+    source: &[u8],
+    spot: &Spot,
+) -> Result<bool, AllocError> {
+    if let (Some(first), Some(Kind::Equal)) = (spot.before(1), spot.kind()) {
+        if first.kind == Kind::Equal {
+            return put_operator(words, source, b"==", first.span.start);
+        }
+        if first.kind == Kind::Less {
+            return put_operator(words, source, b"<=", first.span.start);
+        }
+    }
+    if put_foreign(words, source, spot, spot.before(1))? {
+        return Ok(true);
+    }
+    match strange(spot, spot.before(1)) {
+        Some(token) if spot.is_behind_target() => {
+            put_nearest(alloc, words, token.text, &KEYWORDS)
+        }
+        _ => Ok(false),
+    }
+}
+
+/// Adds a hint for a `;` in front of a place that is one too many, and answers whether it is.
+fn put_superfluous(words: &mut Vec<u8>, source: &[u8], spot: &Spot) -> Result<bool, AllocError> {
+    let Some(last) = spot.before(1) else {
+        return Ok(false);
+    };
+    if last.kind != Kind::Semicolon {
+        return Ok(false);
+    }
+    match spot.kind() {
+        Some(Kind::CloseBrace | Kind::Else) | None => {}
+        _ => return Ok(false),
+    }
+    words.extend_from_slice(b"Hint: the `;` before it, at ")?;
+    put_line_column(words, source, last.span.start)?;
+    words.extend_from_slice(
+        b", is one too many: a `;` stands between two commands, not behind the last one.\n",
+    )?;
+    Ok(true)
+}
+
+/// Adds a hint where a branch or a block is empty, and answers whether it is.
+fn put_empty(words: &mut Vec<u8>, spot: &Spot) -> Result<bool, AllocError> {
+    let is_block_end = spot.kind() == Some(Kind::CloseBrace);
+    match spot.kind_before(1) {
+        Some(Kind::Else) => {
+            words.extend_from_slice(b"Hint: behind `else` stands a command.")?;
+            put_idle(words, spot, b"")?;
+            Ok(true)
+        }
+        Some(Kind::OpenBrace) if is_block_end => {
+            words.extend_from_slice(b"Hint: a block has one command at least.")?;
+            put_idle(words, spot, b"")?;
+            Ok(true)
+        }
+        _ => Ok(false),
+    }
+}
+
+/// Adds a hint for an `else` that is missing.
+fn put_missing_else(words: &mut Vec<u8>, spot: &Spot) -> Result<(), AllocError> {
+    words.extend_from_slice(b"Hint: every `if` has an `else`.")?;
+    if spot.kind() == Some(Kind::Semicolon) {
+        words.extend_from_slice(b" Put { } round several commands of a branch.")?;
+    }
+    put_idle(words, spot, b"else ")
+}
+
+/// Adds a hint by the place alone, where one is known.
+fn put_place_hint(
+    alloc: Global,
+    words: &mut Vec<u8>,
+    source: &[u8],
+    spot: &Spot,
+) -> Result<(), AllocError> {
+    if put_empty(words, spot)? {
+        return Ok(());
+    }
+    let before = &spot.tokens[..spot.at.min(spot.tokens.len())];
+    let wants_else = lacks_else(alloc, before)?;
+    if let Some(hint) = place_hint(spot, wants_else) {
+        return words.extend_from_slice(hint.as_bytes());
+    }
+    if put_superfluous(words, source, spot)? {
+        return Ok(());
+    }
+    if wants_else && spot.is_behind_operand() {
+        return put_missing_else(words, spot);
+    }
+    Ok(())
+}
+
+/// Adds what could stand at a place, and a hint, where they are known.
+fn put_advice(
+    alloc: Global,
+    words: &mut Vec<u8>,
+    source: &[u8],
+    spot: &Spot,
+) -> Result<(), AllocError> {
+    if let Some(hint) = file_hint(source) {
+        return words.extend_from_slice(hint.as_bytes());
+    }
+    if put_foreign(words, source, spot, spot.here())? {
+        return Ok(());
+    }
+    if put_misread(alloc, words, source, spot)? {
+        return Ok(());
+    }
+    put_expected(alloc, words, &spot.tokens[..spot.at.min(spot.tokens.len())])?;
+    if let Some(token) = strange(spot, spot.here()) {
+        if put_nearest(alloc, words, token.text, &KEYWORDS)? {
+            return Ok(());
+        }
+    }
+    put_place_hint(alloc, words, source, spot)
+}
+
+/// What is told where a token stands that can't.
+fn of_unexpected(alloc: Global, source: &[u8], span: Span) -> Result<Vec<u8>, AllocError> {
+    let Ok(tokens) = lex(alloc, source) else {
+        return Err(AllocError);
+    };
+    let spot = spot_at(&tokens, span);
+    let mut words = Vec::new(alloc);
+    put_standing(&mut words, &spot)?;
+    put_advice(alloc, &mut words, source, &spot)?;
+    Ok(words)
+}
+
+/// What is told where a program is nested too deep.
+fn of_too_deep(alloc: Global, source: &[u8], span: Span) -> Result<Vec<u8>, AllocError> {
+    let mut words = Vec::new(alloc);
+    put_quoted(&mut words, part_of(source, span))?;
+    words.extend_from_slice(
+        b" stands here more than 200 levels deep: in brackets, blocks, `if`, `while` and `letvar`, \
+        and in operators one behind the other.\nHint: compute a part of it before, into a variable \
+        of its own.\n",
+    )?;
+    Ok(words)
+}
+
+/// What is told of tokens that are no program.
+pub(crate) fn of_tree(
+    alloc: Global,
+    source: &[u8],
+    error: &ParseError,
+) -> Result<Vec<u8>, AllocError> {
+    match error {
+        ParseError::Memory => Err(AllocError),
+        ParseError::Unexpected(span) => of_unexpected(alloc, source, *span),
+        ParseError::TooDeep(span) => of_too_deep(alloc, source, *span),
+    }
+}
