@@ -1,1 +1,4 @@
 pub mod Answered
+pub mod Written
+pub mod Stopped
+pub mod Checked

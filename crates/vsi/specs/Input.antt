@@ -1,11 +1,17 @@
--- What the run without words writes.
-use Rattle.std.specs.Prelude.{ℕ, List, Option, Ok, codes}
+-- What the run without words writes, and what it tells where it writes nothing.
+use Rattle.std.specs.Prelude.{◌≡◌, ◌⊎◌, ◌++◌, [], ℕ, List, Option, Ok, Err, codes}
 use Rattle.std.specs.Global.{Vec}
 use Rattle.std.specs.Io.KnownBytes.{Appends}
 use Rattle.vsi_lattice.specs.declared.lattice.Lattice.{Lattice}
 use Rattle.vsi_devices.specs.Engine.{IsReadFrom}
 use Rattle.vsi_answers.specs.Judged.{Declares}
 use Rattle.vsi_answers.specs.Requests.{RunsSourceTo}
+use Rattle.vsi_answers.specs.declared.unanswered.Cause.{Cause}
+use Rattle.vsi_answers.specs.declared.unanswered.Unanswered.{Unanswered}
+use Rattle.vsi_answers.specs.declared.unanswered.Unanswered.TheVariants.{Refused, OutOfBudget}
+use Rattle.vsi_devices.specs.declared.counted.Counted.{Counted}
+use Rattle.vsi.specs.declared.stop.Stop.{Stop}
+use Rattle.vsi.specs.Stops.{Gets, note_behind, status_of, text_of_stop}
 
 -- The lattice file of one class below another, under which the input is compiled.
 abbrev pub two_classes : List ℕ
@@ -24,3 +30,42 @@ pub record WritesRun (remaining old new : Option (List ℕ)) : Type 0 where
   pub lattice : Lattice
   pub declared : Declares two_classes lattice
   pub writes : WritesRunOf lattice source old new
+
+-- A source is read of what a reader gives, and this is why its run under the two classes has no answer.
+pub record StopsRun (remaining : Option (List ℕ)) (reason : Unanswered) : Type 0 where
+  pub source : List ℕ
+  pub given : IsReadFrom remaining source
+  pub lattice : Lattice
+  pub declared : Declares two_classes lattice
+  pub stopped : RunsSourceTo lattice source 1000000 (Err reason)
+
+-- A source that is read of what a reader gives is refused, and this is so of the text of the refusal.
+abbrev pub RefusesRun : Option (List ℕ) → (List ℕ → Type 0) → Type 0
+RefusesRun remaining told =
+    (text : Vec ℕ) × (cause : Cause) × StopsRun remaining (Refused text cause) × told text.items
+
+-- The image of a source that is read of what a reader gives hasn't halted within a million instructions, and this is so
+-- of the text that tells it.
+abbrev pub SpendsRun : Option (List ℕ) → (List ℕ → Type 0) → Type 0
+SpendsRun remaining told = StopsRun remaining OutOfBudget × told (codes "out of budget\n")
+
+-- What a person is told at a terminal.
+abbrev pub greeting : List ℕ
+greeting = codes "vsi reads a source text from the terminal until Ctrl-D; `vsi --help` tells more.\n"
+
+-- A writer has got this text, behind the greeting or behind nothing, unless a call of it failed.
+abbrev pub Hears : {E : Type 0} → (E → Option (List ℕ)) → Counted E → Counted E → List ℕ → Type 0
+Hears contents old new text = Gets contents old new text ⊎ Gets contents old new (greeting ++ text)
+
+-- A writer has got that a standard stream fails, or nothing, as where nobody is there to take the output.
+abbrev pub HearsFault : {E : Type 0} → (E → Option (List ℕ)) → Counted E → Counted E → Type 0
+HearsFault contents old new = Hears contents old new [] ⊎ Hears contents old new (codes "file fault: -\n")
+
+-- A writer has got the text of a stop that has this status, with a note behind it, or at a file fault nothing.
+pub record TellsStop {E : Type 0} (status : ℕ) (contents : E → Option (List ℕ)) (old new : Counted E) : Type 0 where
+  pub stop : Stop
+  pub note : List ℕ
+  pub stopped : status ≡ status_of stop
+  pub told :
+      Hears contents old new (text_of_stop stop ++ note_behind stop note)
+      ⊎ ((status ≡ 4) × Hears contents old new [])

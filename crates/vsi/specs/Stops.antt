@@ -1,7 +1,10 @@
--- What the program ends with where it stops early.
-use Rattle.std.specs.Prelude.{◌≡◌, ◌<◌, ℕ, Some, Result, IsErrAnd}
+-- What the program ends with where it stops early, and what it tells then.
+use Rattle.std.specs.Prelude.{◌≡◌, ◌<◌, ◌-◌, ◌^◌, ◌==◌, ◌++◌, ◌∷◌, [], ℕ, List, Option, Some, None, Result, IsErrAnd, codes, if◌then◌else◌, string_bytes}
+use Rattle.std.specs.Io.KnownBytes.{Appends}
 use Rattle.vsi_answers.specs.declared.unanswered.Unanswered.{Unanswered}
 use Rattle.vsi_answers.specs.declared.unanswered.Unanswered.TheVariants as unanswered
+use Rattle.vsi_devices.specs.Counted.{device_of, faults_of}
+use Rattle.vsi_devices.specs.declared.counted.Counted.{Counted}
 use Rattle.vsi.specs.declared.stop.Stop.{Stop}
 use Rattle.vsi.specs.declared.stop.Stop.TheVariants.{Refused, Interface, Audit, Unsteady, Differs, Usage, NoClass, OutOfBudget, FileFault, LostFile, Memory}
 
@@ -28,3 +31,50 @@ stop_of unanswered.Memory = Memory
 -- Where a stream's count of faults rose, the answer is a file fault.
 abbrev pub TellsFault : {T : Type 0} → ℕ → ℕ → Result T Stop → Type 0
 TellsFault old new answer = old < new → IsErrAnd answer (λ stop. status_of stop ≡ 4)
+
+-- A start and a word on a line.
+abbrev pub line_of : List ℕ → List ℕ → List ℕ
+line_of start word = start ++ word ++ 10 ∷ []
+
+-- The text of a stop.
+abbrev pub text_of_stop : Stop → List ℕ
+text_of_stop (Refused text cause) = text.items
+text_of_stop (Interface text error) = text.items
+text_of_stop (Audit text error) = text.items
+text_of_stop (Unsteady text error) = text.items
+text_of_stop Differs = []
+text_of_stop (Usage text) = string_bytes text
+text_of_stop (NoClass name) = line_of (codes "no class ") name.now
+text_of_stop OutOfBudget = codes "out of budget\n"
+text_of_stop (FileFault path) = line_of (codes "file fault: ") path.now
+text_of_stop (LostFile path) = line_of (codes "file fault: ") (string_bytes path)
+text_of_stop Memory = codes "out of memory\n"
+
+-- What is told behind the text of a stop: nothing where memory is wanted.
+abbrev pub note_behind : Stop → List ℕ → List ℕ
+note_behind stop note = if status_of stop == 5 then [] else note
+
+-- A writer has got this text, unless a call of it failed, or no more failures of it can be counted.
+abbrev pub Gets : {E : Type 0} → (E → Option (List ℕ)) → Counted E → Counted E → List ℕ → Type 0
+Gets contents old new text =
+    faults_of old < 2 ^ 64 - 1 → faults_of new ≡ faults_of old →
+    Appends (contents (device_of old)) (contents (device_of new)) text
+
+-- What a stop of the run without words means: why there is no answer, a fault at this path, or want of memory.
+abbrev pub StopsFor : (Unanswered → Type 0) → (List ℕ → Type 0) → Stop → Type 0
+StopsFor why faulted (Refused text (Some cause)) = why (unanswered.Refused text cause)
+StopsFor why faulted (Refused text None) = ⊥
+StopsFor why faulted (Interface text error) = ⊥
+StopsFor why faulted (Audit text error) = ⊥
+StopsFor why faulted (Unsteady text error) = ⊥
+StopsFor why faulted Differs = ⊥
+StopsFor why faulted (Usage text) = ⊥
+StopsFor why faulted (NoClass name) = ⊥
+StopsFor why faulted OutOfBudget = why unanswered.OutOfBudget
+StopsFor why faulted (FileFault path) = faulted path.now
+StopsFor why faulted (LostFile path) = ⊥
+StopsFor why faulted Memory = Unit {0}
+
+-- The path of a standard stream, where a device has failed.
+abbrev pub IsStreamFault : Type 0 → List ℕ → Type 0
+IsStreamFault faulted path = (path ≡ codes "-") × faulted

@@ -1,5 +1,8 @@
 //! What the subcommands that judge an image without its source answer.
 
+ghost use Rattle.std.specs.Prelude.{IfOk, OnOk};
+ghost use Rattle.vsi.specs.Performed.{AuditsFiles, Passes, SourceOfFile};
+
 use crate::files::Files;
 use crate::reading::{image_in, lattice_in, two_classes};
 use crate::stop::Stop;
@@ -49,7 +52,10 @@ fn judge<'a>(
     asked: Audit<'a>,
     classes: &Lattice,
     verified: &Verified,
-) -> Result<(), Stop<'a>> {
+) -> Result<(), Stop<'a>>
+    ensures { OnOk result
+        (Passes asked.entry.is_steady asked.entry.is_strict classes.now verified.now) }
+{
     if asked.is_steady {
         return match steady_in(alloc, classes, verified) {
             Ok(()) => Ok(()),
@@ -67,7 +73,9 @@ pub(crate) fn audit<'a, F: Files>(
     alloc: Global,
     asked: Audit<'a>,
     files: &mut F,
-) -> Result<(), Stop<'a>> {
+) -> Result<(), Stop<'a>>
+    ensures { OnOk result (AuditsFiles (F.holds files.old) asked.entry) }
+{
     let classes = lattice_in(alloc, asked.lattice, files)?;
     let verified = image_in(alloc, asked.image, files)?;
     judge(alloc, asked, &classes, &verified)
@@ -78,7 +86,9 @@ pub(crate) fn source<'a, F: Files>(
     alloc: Global,
     image: &'a str,
     files: &mut F,
-) -> Result<Vec<u8>, Stop<'a>> {
+) -> Result<Vec<u8>, Stop<'a>>
+    ensures { IfOk result (SourceOfFile (F.holds files.old) image.now) }
+{
     let verified = image_in(alloc, image, files)?;
     match source_text(alloc, &verified) {
         Ok(text) => Ok(text),

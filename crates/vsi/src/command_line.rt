@@ -1,31 +1,21 @@
 //! Does what a command line asks for.
 
-ghost use Rattle.std.specs.Prelude.{◌≡◌, ◌≢◌, ◌<◌, ◌≤◌, [], false, Ok, IfOk, IfErr, OnOk};
+ghost use Rattle.std.specs.Prelude.{◌≡◌, ◌≢◌, ◌<◌, ◌≤◌, ◌⊎◌, ◌++◌, [], false, Ok, Err, IfOk, IfErr, OnOk, codes};
 ghost use Rattle.std.specs.Io.KnownBytes.{Keeps};
-ghost use Rattle.vsi.specs.Input.{WritesRun, WritesRunOf};
-ghost use Rattle.vsi.specs.Stops.{status_of, TellsFault};
+ghost use Rattle.vsi.specs.Done.{Done};
+ghost use Rattle.vsi.specs.Input.{Hears, HearsFault, RefusesRun, SpendsRun, StopsRun, TellsStop, WritesRun, WritesRunOf};
+ghost use Rattle.vsi.specs.Stops.{note_behind, status_of, text_of_stop, Gets, IsStreamFault, StopsFor, TellsFault};
 ghost use Rattle.vsi.specs.Words as spec;
 ghost use Rattle.vsi_answers.specs.Requests.{RunsSourceTo};
 ghost use Rattle.vsi_devices.specs.Counted.{device_of, faults_of};
-ghost use Rattle.vsi_devices.specs.Running.{WrittenSome};
 
-use crate::auditing::{audit, source};
-use crate::comparing::compare;
-use crate::conformance::conform;
-use crate::desk::Desk;
-use crate::drawing::{draw, report};
-use crate::driving::drive;
-use crate::explaining::{Explaining, explained};
 use crate::files::Files;
-use crate::leaking::leak;
+use crate::obeying::obey;
 use crate::reading::{answered, device_stop, two_classes};
-use crate::running::{Running, run, view};
 use crate::stop::{STREAM, Stop, write};
-use crate::subcommands::{build, check, check_as_json, classes, flows, format, list};
 use crate::telling::{Told, say, tell_stop};
 use std::alloc::Global;
 use std::io::{Read, Write};
-use vsi_arguments::{ArgumentsError, Manner, Request, request_of};
 use vsi_devices::{Counted, read_all};
 use vsi_lattice::Lattice;
 
@@ -66,24 +56,89 @@ pub fn command<F: Files, R: Read, W: Write, E: Write>(
     ensures silent { words.now ≡ [] → result ≢ 0 → result ≢ 4
         → Keeps (W.contents (device_of output.old)) (W.contents (device_of output.new)) }
     ensures unread { words.now ≢ [] → spec.reads_input words.now ≡ false → input.new ≡ input.old }
+    ensures ran { words.now ≡ [] → result ≡ 0 → WritesRun (R.remaining (device_of input.old))
+        (W.contents (device_of output.old)) (W.contents (device_of output.new)) }
+    ensures refused { words.now ≡ [] → result ≡ 1
+        → RefusesRun (R.remaining (device_of input.old)) (Hears E.contents error.old error.new) }
+    ensures usage { words.now ≡ [] → result ≢ 2 }
+    ensures spent { words.now ≡ [] → result ≡ 3
+        → SpendsRun (R.remaining (device_of input.old)) (Hears E.contents error.old error.new) }
+    ensures faulted { words.now ≡ [] → result ≡ 4 → (faults_of input.old < faults_of input.new)
+        ⊎ (faults_of output.old < faults_of output.new) }
+    ensures fault_told { words.now ≡ [] → result ≡ 4
+        → HearsFault E.contents error.old error.new }
+    ensures quiet { words.now ≡ [] → result ≡ 0 → Hears E.contents error.old error.new [] }
+    ensures memory { result ≡ 5 → Hears E.contents error.old error.new (codes "out of memory\n") }
+    ensures told { result ≢ 0 → TellsStop result E.contents error.old error.new }
+    ensures done { words.now ≢ [] → result ≡ 0 → Done (F.holds files.old) words.now
+        (W.contents (device_of output.old)) (W.contents (device_of output.new)) }
 {
+    if words.is_empty() {
+        return without_words(alloc, files, input, output, error);
+    }
     let mut told = Told::new(alloc);
-    let answer = if words.is_empty() {
-        greet(files, error);
-        run_input(alloc, input, output)
-    } else if reads_input(words) {
-        obey(alloc, words, files, input, output, &mut told)
-    } else {
-        obey(
-            alloc,
-            words,
-            files,
-            &mut Counted::new(NOTHING),
-            output,
-            &mut told,
-        )
-    };
+    let answer = obeyed(alloc, words, files, input, output, &mut told);
     ended(answer, &told, output.is_closed(), error)
+}
+
+/// Does what is asked for without words, and gives the status.
+fn without_words<F: Files, R: Read, W: Write, E: Write>(
+    alloc: Global,
+    files: &mut F,
+    input: &mut Counted<R>,
+    output: &mut Counted<W>,
+    error: &mut Counted<E>,
+) -> u8
+    requires input { faults_of input.old < u64.MAX }
+    requires output { faults_of output.old < u64.MAX }
+    requires error { faults_of error.old < u64.MAX }
+    ensures status { result ≤ 5 }
+    ensures input_fault { faults_of input.old < faults_of input.new → result ≡ 4 }
+    ensures output_fault { faults_of output.old < faults_of output.new → result ≡ 4 }
+    ensures silent { result ≢ 0 → result ≢ 4
+        → Keeps (W.contents (device_of output.old)) (W.contents (device_of output.new)) }
+    ensures ran { result ≡ 0 → WritesRun (R.remaining (device_of input.old))
+        (W.contents (device_of output.old)) (W.contents (device_of output.new)) }
+    ensures refused { result ≡ 1
+        → RefusesRun (R.remaining (device_of input.old)) (Hears E.contents error.old error.new) }
+    ensures usage { result ≢ 2 }
+    ensures spent { result ≡ 3
+        → SpendsRun (R.remaining (device_of input.old)) (Hears E.contents error.old error.new) }
+    ensures faulted { result ≡ 4 → (faults_of input.old < faults_of input.new)
+        ⊎ (faults_of output.old < faults_of output.new) }
+    ensures fault_told { result ≡ 4 → HearsFault E.contents error.old error.new }
+    ensures quiet { result ≡ 0 → Hears E.contents error.old error.new [] }
+    ensures memory { result ≡ 5 → Hears E.contents error.old error.new (codes "out of memory\n") }
+    ensures told { result ≢ 0 → TellsStop result E.contents error.old error.new }
+{
+    greet(files, error);
+    let answer = run_input(alloc, input, output);
+    ended(answer, &Told::new(alloc), output.is_closed(), error)
+}
+
+/// Does what the words ask for, which get to read the input where they ask for the subcommand that
+/// reads it.
+fn obeyed<'a, F: Files, R: Read, W: Write>(
+    alloc: Global,
+    words: &'a [String],
+    files: &mut F,
+    input: &mut Counted<R>,
+    output: &mut Counted<W>,
+    told: &mut Told,
+) -> Result<(), Stop<'a>>
+    requires input { faults_of input.old < u64.MAX }
+    requires output { faults_of output.old < u64.MAX }
+    ensures input_fault { TellsFault (faults_of input.old) (faults_of input.new) result }
+    ensures output_fault { TellsFault (faults_of output.old) (faults_of output.new) result }
+    ensures unread { spec.reads_input words.now ≡ false → input.new ≡ input.old }
+    ensures done { OnOk result (Done (F.holds files.old) words.now
+        (W.contents (device_of output.old)) (W.contents (device_of output.new))) }
+{
+    if reads_input(words) {
+        return obey(alloc, words, files, input, output, told);
+    }
+    let mut nothing = Counted::new(NOTHING);
+    obey(alloc, words, files, &mut nothing, output, told)
 }
 
 /// Tells what is to be told of an answer, and gives its status.
@@ -96,6 +151,18 @@ fn ended<E: Write>(
     ensures bound { result ≤ 5 }
     ensures done { IfOk answer.entry (λ _. result ≡ 0) }
     ensures stopped { IfErr answer.entry (λ stop. result ≡ status_of stop) }
+    ensures count { faults_of error.old ≤ faults_of error.new }
+    ensures noted { IfOk answer.entry
+        (λ _. Gets E.contents error.old error.new told.now.note.items) }
+    ensures told { IfErr answer.entry (λ stop. (status_of stop ≢ 4) ⊎ (is_closed ≡ false)
+        → Gets E.contents error.old error.new
+        (text_of_stop stop ++ note_behind stop told.now.note.items)) }
+    ensures shut { IfErr answer.entry (λ stop.
+        ((status_of stop ≡ 4) × Gets E.contents error.old error.new [])
+        ⊎ Gets E.contents error.old error.new
+        (text_of_stop stop ++ note_behind stop told.now.note.items)) }
+    ensures memory { result ≡ 5
+        → Gets E.contents error.old error.new (codes "out of memory\n") }
 {
     match answer {
         Ok(()) => {
@@ -115,61 +182,12 @@ fn ended<E: Write>(
 }
 
 /// Tells a person at a terminal that a text is waited for.
-fn greet<F: Files, E: Write>(files: &mut F, error: &mut Counted<E>) {
+fn greet<F: Files, E: Write>(files: &mut F, error: &mut Counted<E>)
+    ensures count { faults_of error.old ≤ faults_of error.new }
+    ensures told { Hears E.contents error.old error.new [] }
+{
     if files.reads_terminal() {
         say(GREETING, error);
-    }
-}
-
-/// Does what the words ask for, or tells what is wrong with them.
-fn obey<'a, F: Files, R: Read, W: Write>(
-    alloc: Global,
-    words: &'a [String],
-    files: &mut F,
-    input: &mut Counted<R>,
-    output: &mut Counted<W>,
-    told: &mut Told,
-) -> Result<(), Stop<'a>>
-    requires input { faults_of input.old < u64.MAX }
-    requires output { faults_of output.old < u64.MAX }
-    ensures input_fault { TellsFault (faults_of input.old) (faults_of input.new) result }
-    ensures output_fault { TellsFault (faults_of output.old) (faults_of output.new) result }
-{
-    match request_of(alloc, words) {
-        Ok(asked) => match asked.manner {
-            Manner::Fixed => perform(alloc, asked.request, files, input, output, told),
-            Manner::Explained(colour) => {
-                let explaining = Explaining::new(&asked.request, colour, files);
-                obey_explaining(alloc, asked.request, explaining, files, input, output, told)
-            }
-        },
-        Err(error) => answer_arguments(error, output),
-    }
-}
-
-/// Does what is asked for, and puts an explanation behind what is told where it isn't done.
-fn obey_explaining<'a, F: Files, R: Read, W: Write>(
-    alloc: Global,
-    request: Request<'a>,
-    explaining: Explaining,
-    files: &mut F,
-    input: &mut Counted<R>,
-    output: &mut Counted<W>,
-    told: &mut Told,
-) -> Result<(), Stop<'a>>
-    requires input { faults_of input.old < u64.MAX }
-    requires output { faults_of output.old < u64.MAX }
-    ensures input_fault { TellsFault (faults_of input.old) (faults_of input.new) result }
-    ensures output_fault { TellsFault (faults_of output.old) (faults_of output.new) result }
-{
-    told.is_explained = true;
-    let mut desk = Desk::new(alloc, files);
-    match perform(alloc, request, &mut desk, input, output, told) {
-        Ok(()) => Ok(()),
-        Err(stop) => {
-            let lines = explained(alloc, explaining, &mut desk, &stop);
-            Err(stop.after(told.put(lines)))
-        }
     }
 }
 
@@ -180,21 +198,6 @@ fn reads_input(words: &[String]) -> bool
     match words {
         [first, ..] => first.as_bytes() == b"drive".as_slice(),
         [] => false,
-    }
-}
-
-/// Help goes to the output; what is wrong with the words is told by the stop.
-fn answer_arguments<'a, W: Write>(
-    error: ArgumentsError,
-    output: &mut Counted<W>,
-) -> Result<(), Stop<'a>>
-    requires { faults_of output.old < u64.MAX }
-    ensures fault { TellsFault (faults_of output.old) (faults_of output.new) result }
-{
-    match error {
-        ArgumentsError::Help(text) => write(text.as_bytes(), output),
-        ArgumentsError::Mistake(text) => Err(Stop::Usage(text)),
-        ArgumentsError::Memory => Err(Stop::Memory),
     }
 }
 
@@ -212,6 +215,9 @@ fn run_input<'a, R: Read, W: Write>(
         → Keeps (W.contents (device_of output.old)) (W.contents (device_of output.new))) }
     ensures ran { OnOk result (WritesRun (R.remaining (device_of input.old))
         (W.contents (device_of output.old)) (W.contents (device_of output.new))) }
+    ensures stopped { IfErr result (StopsFor (StopsRun (R.remaining (device_of input.old)))
+        (IsStreamFault ((faults_of input.old < faults_of input.new)
+        ⊎ (faults_of output.old < faults_of output.new)))) }
 {
     let lattice = two_classes(alloc)?;
     match read_all(alloc, input) {
@@ -233,6 +239,9 @@ fn write_run<'a, W: Write>(
         → Keeps (W.contents (device_of output.old)) (W.contents (device_of output.new))) }
     ensures ran { OnOk result (WritesRunOf lattice.now source.now
         (W.contents (device_of output.old)) (W.contents (device_of output.new))) }
+    ensures stopped { IfErr result
+        (StopsFor (λ reason. RunsSourceTo lattice.now source.now 1000000 (Err reason))
+        (IsStreamFault (faults_of output.old < faults_of output.new))) }
 {
     let text = ran(alloc, lattice, source)?;
     write(text.as_slice(), output)
@@ -240,92 +249,12 @@ fn write_run<'a, W: Write>(
 
 /// The text of the store in which the run of a source text ends.
 fn ran<'a>(alloc: Global, lattice: &Lattice, source: &[u8]) -> Result<Vec<u8>, Stop<'a>>
-    ensures { IfOk result
+    ensures ran { IfOk result
         (λ text. RunsSourceTo lattice.now source.now 1000000 (Ok text)) }
+    ensures stopped { IfErr result
+        (StopsFor (λ reason. RunsSourceTo lattice.now source.now 1000000 (Err reason))
+        (λ path. ⊥)) }
 {
     let answer = vsi_answers::run_source(alloc, lattice, source, DEFAULT_BUDGET);
     answered(answer)
-}
-
-/// Writes `accepted` where nothing is wrong.
-fn accept<'a, W: Write>(
-    answer: Result<(), Stop<'a>>,
-    output: &mut Counted<W>,
-) -> Result<(), Stop<'a>>
-    requires { faults_of output.old < u64.MAX }
-    ensures fault { TellsFault (faults_of output.old) (faults_of output.new) result }
-{
-    answer?;
-    write(b"accepted\n", output)
-}
-
-/// Writes the text of an answer.
-fn put<'a, W: Write>(
-    answer: Result<Vec<u8>, Stop<'a>>,
-    output: &mut Counted<W>,
-) -> Result<(), Stop<'a>>
-    requires { faults_of output.old < u64.MAX }
-    ensures fault { TellsFault (faults_of output.old) (faults_of output.new) result }
-{
-    let text = answer?;
-    write(text.as_slice(), output)
-}
-
-/// Does one subcommand.
-fn perform<'a, F: Files, R: Read, W: Write>(
-    alloc: Global,
-    request: Request<'a>,
-    files: &mut F,
-    input: &mut Counted<R>,
-    output: &mut Counted<W>,
-    told: &mut Told,
-) -> Result<(), Stop<'a>>
-    requires input { faults_of input.old < u64.MAX }
-    requires output { faults_of output.old < u64.MAX }
-    ensures input_fault { TellsFault (faults_of input.old) (faults_of input.new) result }
-    ensures output_fault { TellsFault (faults_of output.old) (faults_of output.new) result }
-{
-    match request {
-        Request::Check(asked) if asked.is_json => check_as_json(alloc, asked, files, output),
-        Request::Check(asked) => put(check(alloc, asked, files), output),
-        Request::Conform(asked) => conform(alloc, asked, files, output),
-        Request::Classes(compilation) => put(classes(alloc, compilation, files), output),
-        Request::Flows {
-            compilation,
-            has_walks,
-        } => put(flows(alloc, compilation, has_walks, files), output),
-        Request::Build(compilation, image) => build(alloc, compilation, image, files),
-        Request::List(image) => put(list(alloc, image, files), output),
-        Request::Audit(asked) => accept(audit(alloc, asked, files), output),
-        Request::Source(image) => put(source(alloc, image, files), output),
-        Request::Run {
-            execution,
-            outset,
-            has_trace,
-            has_count,
-        } => {
-            let is_explained = told.is_explained;
-            let asked = Running {
-                execution,
-                outset,
-                has_trace,
-                has_count,
-                is_explained,
-            };
-            run(alloc, &asked, files, output, &mut told.note)
-        }
-        Request::View {
-            lattice,
-            class,
-            execution,
-            outset,
-        } => view(alloc, lattice, class, execution, &outset, files, output),
-        Request::Drive(driving) => drive(alloc, driving, files, input, output),
-        Request::Compare(comparison) => compare(alloc, comparison, files, output),
-        Request::Leak(search) => put(leak(alloc, search, files), output),
-        Request::Report(compilation) => put(report(alloc, compilation, files), output),
-        Request::Draw(drawing) => put(draw(alloc, drawing, files), output),
-        Request::Format(source) => put(format(alloc, source, files), output),
-        Request::Explain(page) => write(page.as_bytes(), output),
-    }
 }

@@ -1,8 +1,10 @@
 //! Two runs side by side.
 
-ghost use Rattle.std.specs.Prelude.{◌<◌};
+ghost use Rattle.std.specs.Prelude.{◌<◌, IfOk, OnOk};
+ghost use Rattle.vsi.specs.Performed.{ComparesFiles, PerformsCompare};
+ghost use Rattle.vsi.specs.Silent.{IsSilent};
 ghost use Rattle.vsi.specs.Stops.{TellsFault};
-ghost use Rattle.vsi_devices.specs.Counted.{faults_of};
+ghost use Rattle.vsi_devices.specs.Counted.{device_of, faults_of};
 
 use crate::driving::stored_words;
 use crate::files::Files;
@@ -18,7 +20,9 @@ fn compared<'a, F: Files>(
     alloc: Global,
     asked: Comparison<'a>,
     files: &mut F,
-) -> Result<vsi_store::Comparison, Stop<'a>> {
+) -> Result<vsi_store::Comparison, Stop<'a>>
+    ensures { IfOk result (ComparesFiles (F.holds files.old) asked.entry) }
+{
     let classes = lattice_in(alloc, asked.lattice, files)?;
     let class = class_in(&classes, asked.class)?;
     let verified = image_in(alloc, asked.image, files)?;
@@ -45,6 +49,10 @@ pub(crate) fn compare<'a, F: Files, W: Write>(
 ) -> Result<(), Stop<'a>>
     requires { faults_of output.old < u64.MAX }
     ensures fault { TellsFault (faults_of output.old) (faults_of output.new) result }
+    ensures silent { IsSilent result (W.contents (device_of output.old))
+        (W.contents (device_of output.new)) }
+    ensures performed { OnOk result (PerformsCompare (F.holds files.old) asked.entry
+        (W.contents (device_of output.old)) (W.contents (device_of output.new))) }
 {
     let found = compared(alloc, asked, files)?;
     write(&found.text, output)?;

@@ -1,8 +1,11 @@
 //! A source text beside an interface that is fixed from outside.
 
-ghost use Rattle.std.specs.Prelude.{◌<◌};
+ghost use Rattle.std.specs.Prelude.{◌≡◌, ◌<◌, true, IfOk, OnOk};
+ghost use Rattle.vsi.specs.Performed.{ConformsFiles, IsAskedAt, IsDeclared};
+ghost use Rattle.vsi.specs.Silent.{IsSilent};
 ghost use Rattle.vsi.specs.Stops.{TellsFault};
-ghost use Rattle.vsi_devices.specs.Counted.{faults_of};
+ghost use Rattle.vsi_conform.specs.Conforms as spec;
+ghost use Rattle.vsi_devices.specs.Counted.{device_of, faults_of};
 
 use crate::files::{Files, Kind};
 use crate::reading::{bytes_in, declared_lattice, settings_in};
@@ -34,7 +37,9 @@ fn named_bytes<'a, F: Files>(
     interface: &str,
     path: &[u8],
     files: &mut F,
-) -> Result<Vec<u8>, Stop<'a>> {
+) -> Result<Vec<u8>, Stop<'a>>
+    ensures { F.holds files.new ≡ F.holds files.old }
+{
     let beside = path_beside(alloc, interface, path)?;
     match settings_in(alloc, Kind::Lattice, beside.as_str(), files) {
         Ok(bytes) => return Ok(bytes),
@@ -50,7 +55,10 @@ fn lattice_of<'a, F: Files>(
     interface: &str,
     policy: &Policy,
     files: &mut F,
-) -> Result<Lattice, Stop<'a>> {
+) -> Result<Lattice, Stop<'a>>
+    ensures kept { F.holds files.new ≡ F.holds files.old }
+    ensures declared { IfOk result IsDeclared }
+{
     match policy {
         Policy::File(path) => {
             let bytes = named_bytes(alloc, interface, path, files)?;
@@ -65,7 +73,10 @@ fn interface_in<'a, F: Files>(
     alloc: Global,
     path: &'a str,
     files: &mut F,
-) -> Result<Asked, Stop<'a>> {
+) -> Result<Asked, Stop<'a>>
+    ensures kept { F.holds files.new ≡ F.holds files.old }
+    ensures asked { IfOk result (IsAskedAt (F.holds files.old) path.now) }
+{
     let bytes = settings_in(alloc, Kind::Interface, path, files)?;
     match read_interface(alloc, &bytes) {
         Ok(asked) => Ok(asked),
@@ -96,7 +107,10 @@ fn answer_of<'a>(
     lattice: &Lattice,
     text: &[u8],
     interface: &Interface,
-) -> Result<(bool, Vec<u8>), Stop<'a>> {
+) -> Result<(bool, Vec<u8>), Stop<'a>>
+    ensures { IfOk result
+        (λ pair. pair.0 ≡ true → spec.Conforms lattice.now text.now interface.now) }
+{
     let answer = vsi_conform::conform(alloc, lattice, text, interface)?;
     let written = if is_json {
         points_json(alloc, lattice, text, interface, &answer)?
@@ -111,7 +125,10 @@ fn judged<'a, F: Files>(
     alloc: Global,
     asked: Conformance<'a>,
     files: &mut F,
-) -> Result<(bool, Vec<u8>), Stop<'a>> {
+) -> Result<(bool, Vec<u8>), Stop<'a>>
+    ensures { IfOk result
+        (λ pair. pair.0 ≡ true → ConformsFiles (F.holds files.old) asked.entry) }
+{
     let found = interface_in(alloc, asked.interface, files)?;
     let lattice = lattice_of(alloc, asked.interface, &found.policy, files)?;
     know_classes(alloc, &lattice, &found.interface)?;
@@ -128,6 +145,9 @@ pub(crate) fn conform<'a, F: Files, W: Write>(
 ) -> Result<(), Stop<'a>>
     requires { faults_of output.old < u64.MAX }
     ensures fault { TellsFault (faults_of output.old) (faults_of output.new) result }
+    ensures silent { IsSilent result (W.contents (device_of output.old))
+        (W.contents (device_of output.new)) }
+    ensures performed { OnOk result (ConformsFiles (F.holds files.old) asked.entry) }
 {
     let (conforms, text) = judged(alloc, asked, files)?;
     write(&text, output)?;

@@ -1,5 +1,7 @@
 //! The files of a command line whose refusal is explained.
 
+ghost use Rattle.std.specs.Prelude.{◌≡◌};
+
 use crate::files::{Files, Kind};
 use std::alloc::{AllocError, Global};
 
@@ -21,7 +23,9 @@ pub(crate) struct Desk<'a, F: Files> {
 
 impl<'a, F: Files> Desk<'a, F> {
     /// A desk over these files, of which nothing is read yet.
-    pub(crate) fn new(alloc: Global, files: &'a mut F) -> Desk<'a, F> {
+    pub(crate) fn new(alloc: Global, files: &'a mut F) -> Desk<'a, F>
+        ensures { F.holds result.files.now ≡ F.holds files.old }
+    {
         Desk {
             alloc,
             files,
@@ -60,6 +64,8 @@ impl<F: Files> Files for Desk<'_, F> {
     type Input = F::Input;
 
     type Output = F::Output;
+
+    ghost holds = { λ desk. F.holds desk.files.now };
 
     fn open_file(&mut self, path: &str) -> Option<F::Input> {
         self.files.open_file(path)

@@ -1,5 +1,8 @@
 //! Pages and pictures.
 
+ghost use Rattle.std.specs.Prelude.{Some, IfOk};
+ghost use Rattle.vsi.specs.Performed.{DrawsFiles, OfFiles, ToldFlowsGraph, ToldPage};
+
 use crate::files::{Files, Kind};
 use crate::reading::{bytes_in, lattice_in, refused};
 use crate::stop::Stop;
@@ -14,7 +17,9 @@ pub(crate) fn report<'a, F: Files>(
     alloc: Global,
     compilation: Compilation<'a>,
     files: &mut F,
-) -> Result<Vec<u8>, Stop<'a>> {
+) -> Result<Vec<u8>, Stop<'a>>
+    ensures { IfOk result (OfFiles (F.holds files.old) compilation.entry ToldPage) }
+{
     let classes = lattice_in(alloc, compilation.lattice, files)?;
     let text = bytes_in(alloc, Kind::Source, compilation.source, files)?;
     let profile = profile(compilation.is_strict);
@@ -28,11 +33,31 @@ fn flows_graph<'a, F: Files>(
     source: &'a str,
     is_strict: bool,
     files: &mut F,
-) -> Result<Vec<u8>, Stop<'a>> {
+) -> Result<Vec<u8>, Stop<'a>>
+    ensures { IfOk result (λ graph. ToldFlowsGraph (F.holds files.old) (Some source.entry) is_strict
+        classes.now graph.items) }
+{
     let text = bytes_in(alloc, Kind::Source, source, files)?;
     match flows_dot(alloc, profile(is_strict), classes, text.as_slice()) {
         Ok(graph) => Ok(graph),
         Err(error) => Err(refused(alloc, classes, text.as_slice(), error)),
+    }
+}
+
+/// The graph of the flows of a source text, and nothing where none is given.
+fn flows_behind<'a, F: Files>(
+    alloc: Global,
+    classes: &Lattice,
+    source: Option<&'a str>,
+    is_strict: bool,
+    files: &mut F,
+) -> Result<Vec<u8>, Stop<'a>>
+    ensures { IfOk result (λ graph. ToldFlowsGraph (F.holds files.old) source.entry is_strict
+        classes.now graph.items) }
+{
+    match source {
+        Some(source) => flows_graph(alloc, classes, source, is_strict, files),
+        None => Ok(Vec::new(alloc)),
     }
 }
 
@@ -41,12 +66,12 @@ pub(crate) fn draw<'a, F: Files>(
     alloc: Global,
     drawing: Drawing<'a>,
     files: &mut F,
-) -> Result<Vec<u8>, Stop<'a>> {
+) -> Result<Vec<u8>, Stop<'a>>
+    ensures { IfOk result (DrawsFiles (F.holds files.old) drawing.entry) }
+{
     let classes = lattice_in(alloc, drawing.lattice, files)?;
     let mut graphs = lattice_dot(alloc, &classes)?;
-    if let Some(source) = drawing.source {
-        let flows = flows_graph(alloc, &classes, source, drawing.is_strict, files)?;
-        graphs.extend_from_slice(&flows)?;
-    }
+    let flows = flows_behind(alloc, &classes, drawing.source, drawing.is_strict, files)?;
+    graphs.extend_from_slice(&flows)?;
     Ok(graphs)
 }

@@ -1,8 +1,10 @@
 //! Drives an image, a cycle for each line of the input.
 
-ghost use Rattle.std.specs.Prelude.{◌≡◌, ◌<◌, ◌≤◌, length, IfOk, OnOk};
-ghost use Rattle.vsi.specs.Stops.{TellsFault};
-ghost use Rattle.vsi_devices.specs.Counted.{faults_of};
+ghost use Rattle.std.specs.Prelude.{◌≡◌, ◌<◌, ◌≤◌, length, IfOk, IfErr, OnOk};
+ghost use Rattle.vsi.specs.Performed.{IsStoredAt};
+ghost use Rattle.vsi.specs.Silent.{IsSilent};
+ghost use Rattle.vsi.specs.Stops.{TellsFault, status_of};
+ghost use Rattle.vsi_devices.specs.Counted.{device_of, faults_of};
 ghost use Rattle.vsi_drive.specs.Control.{control};
 
 use crate::files::Files;
@@ -34,6 +36,8 @@ pub(crate) fn drive<'a, F: Files, R: Read, W: Write>(
     requires output { faults_of output.old < u64.MAX }
     ensures input_fault { TellsFault (faults_of input.old) (faults_of input.new) result }
     ensures output_fault { TellsFault (faults_of output.old) (faults_of output.new) result }
+    ensures silent { IsSilent result (W.contents (device_of output.old))
+        (W.contents (device_of output.new)) }
 {
     let classes = lattice_in(alloc, driving.lattice, files)?;
     let driver = class_in(&classes, driving.class)?;
@@ -55,6 +59,7 @@ fn save<'a, F: Files>(
     files: &mut F,
 ) -> Result<(), Stop<'a>>
     requires { length words.now ≡ length verified.now.globals.items }
+    ensures { IfErr result (λ stop. 3 < status_of stop) }
 {
     match path {
         Some(path) => {
@@ -72,7 +77,10 @@ pub(crate) fn stored_words<'a, F: Files>(
     path: Option<&'a str>,
     files: &mut F,
 ) -> Result<Vec<i64>, Stop<'a>>
-    ensures { IfOk result (λ words. length words.items ≡ length verified.now.globals.items) }
+    ensures kept { F.holds files.new ≡ F.holds files.old }
+    ensures len { IfOk result (λ words. length words.items ≡ length verified.now.globals.items) }
+    ensures stored { IfOk result (λ words.
+        IsStoredAt (F.holds files.old) path.entry verified.now words.items) }
 {
     let bytes = store_in(alloc, path, files)?;
     match read_store(alloc, verified.image(), bytes.as_slice()) {
@@ -94,6 +102,7 @@ fn drive_input<'a, R: Read, W: Write>(
     requires output { faults_of output.old < u64.MAX }
     ensures input_fault { TellsFault (faults_of input.old) (faults_of input.new) result }
     ensures output_fault { TellsFault (faults_of output.old) (faults_of output.new) result }
+    ensures stop { IfErr result (λ stop. 3 < status_of stop) }
 {
     let mut line = Vec::new(alloc);
     let mut chunk = [0; CHUNK];
@@ -125,6 +134,7 @@ fn drive_bytes<'a, W: Write>(
     requires words { length store.old ≡ length (control controller.now).image.globals.items }
     requires output { faults_of output.old < u64.MAX }
     ensures fault { TellsFault (faults_of output.old) (faults_of output.new) result }
+    ensures stop { IfErr result (λ stop. 3 < status_of stop) }
 {
     for byte in bytes {
         if *byte == b'\n' {
@@ -148,6 +158,7 @@ fn drive_line<'a, W: Write>(
     requires words { length store.old ≡ length (control controller.now).image.globals.items }
     requires output { faults_of output.old < u64.MAX }
     ensures fault { TellsFault (faults_of output.old) (faults_of output.new) result }
+    ensures stop { IfErr result (λ stop. 3 < status_of stop) }
 {
     match controller.cycle(alloc, line, store) {
         Ok((_ending, text)) => write(text.as_slice(), output),

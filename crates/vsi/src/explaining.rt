@@ -1,5 +1,7 @@
 //! What stands behind a refusal for a person, of what was read.
 
+ghost use Rattle.std.specs.Prelude.{◌≡◌};
+
 use crate::desk::{Desk, Kept};
 use crate::files::{Files, Kind};
 use crate::reading::TWO_CLASSES;
@@ -45,7 +47,9 @@ pub(crate) struct Explaining {
 
 impl Explaining {
     /// How a request's refusal is explained.
-    pub(crate) fn new<F: Files>(request: &Request<'_>, colour: Colour, files: &mut F) -> Self {
+    pub(crate) fn new<F: Files>(request: &Request<'_>, colour: Colour, files: &mut F) -> Self
+        ensures { F.holds files.new ≡ F.holds files.old }
+    {
         let is_coloured = match colour {
             Colour::Always => true,
             Colour::Never => false,

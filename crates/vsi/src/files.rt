@@ -1,5 +1,7 @@
 //! Where the paths of a command line lead.
 
+ghost use Rattle.std.specs.Prelude.{◌≡◌, ℕ, List, Option, Some, None, IfSome};
+
 use std::alloc::AllocError;
 use std::io::{Read, Write};
 
@@ -24,8 +26,14 @@ pub trait Files {
     /// What is written to.
     type Output: Write;
 
+    /// The bytes of the file at each path, where that is told.
+    ghost holds: { Self → List ℕ → Option (List ℕ) } = { λ _ _. None };
+
     /// The file at the path to read from, or nothing where it doesn't open.
-    fn open_file(&mut self, path: &str) -> Option<Self::Input>;
+    fn open_file(&mut self, path: &str) -> Option<Self::Input>
+        ensures gives { IfSome (holds self.old path.now)
+            (λ bytes. IfSome result (λ input. Self.Input.remaining input ≡ Some bytes)) }
+        ensures kept { holds self.new ≡ holds self.old };
 
     /// The file at the path to write to, emptied or made, or nothing where it doesn't open.
     fn create_file(&mut self, path: &str) -> Option<Self::Output>;
@@ -39,22 +47,30 @@ pub trait Files {
     }
 
     /// Is told of each file that was read, with its bytes, before they are judged.
-    fn keep(&mut self, _kind: Kind, _path: &str, _bytes: &[u8]) -> Result<(), AllocError> {
+    fn keep(&mut self, _kind: Kind, _path: &str, _bytes: &[u8]) -> Result<(), AllocError>
+        ensures kept { holds self.new ≡ holds self.old }
+    {
         Ok(())
     }
 
     /// Why the file at the path can't be used, in a sentence, where that is known.
-    fn trouble(&mut self, _path: &str) -> Option<&'static str> {
+    fn trouble(&mut self, _path: &str) -> Option<&'static str>
+        ensures kept { holds self.new ≡ holds self.old }
+    {
         None
     }
 
     /// Whether what is written to standard error may be coloured.
-    fn wants_colour(&mut self) -> bool {
+    fn wants_colour(&mut self) -> bool
+        ensures kept { holds self.new ≡ holds self.old }
+    {
         false
     }
 
     /// Whether standard input is a terminal, at which a person may wait.
-    fn reads_terminal(&mut self) -> bool {
+    fn reads_terminal(&mut self) -> bool
+        ensures kept { holds self.new ≡ holds self.old }
+    {
         false
     }
 

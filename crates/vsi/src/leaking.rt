@@ -1,6 +1,7 @@
 //! The search for leaks.
 
 ghost use Rattle.std.specs.Prelude.{IfOk, IfSome};
+ghost use Rattle.vsi.specs.Performed.{SearchesFiles};
 ghost use Rattle.vsi_lattice.specs.LatticeView.{order};
 ghost use Rattle.vsi_lattice.specs.Order.{IsClass};
 
@@ -28,7 +29,9 @@ pub(crate) fn leak<'a, F: Files>(
     alloc: Global,
     search: Search<'a>,
     files: &mut F,
-) -> Result<Vec<u8>, Stop<'a>> {
+) -> Result<Vec<u8>, Stop<'a>>
+    ensures { IfOk result (SearchesFiles (F.holds files.old) search.entry) }
+{
     let classes = lattice_in(alloc, search.lattice, files)?;
     let class = looking(&classes, search.class)?;
     let text = bytes_in(alloc, Kind::Source, search.source, files)?;

@@ -7,7 +7,8 @@
 //! file is refused. `command` does what the words of a command line ask for. What an error holds,
 //! as a `LexError` or a `Walk` of `Step`s, stands here beside it.
 //!
-//! To be believed: `specs/Words`; the other files of `specs/` are stepping stones of proofs.
+//! To be believed: of `specs/` `Words`, `Holding`, `Performed`, `Done`, `Input` and `Laws`, and of
+//! `Stops` all but `StopsFor`; `Silent` is a stepping stone of proofs.
 #![tactic(auto)]
 
 mod auditing;
@@ -19,7 +20,10 @@ mod drawing;
 mod driving;
 mod explaining;
 mod files;
+pub mod laws;
 mod leaking;
+mod obeying;
+mod performing;
 mod reading;
 mod running;
 mod stop;

@@ -1,11 +1,13 @@
 //! Files, read and judged.
 
-ghost use Rattle.std.specs.Prelude.{◌≡◌, IfOk, Ok, Err, MatchResult};
+ghost use Rattle.std.specs.Prelude.{◌≡◌, Some, IfOk, IfErr, Ok, Err, MatchResult};
+ghost use Rattle.vsi.specs.Holding.{IsImageAt, IsLatticeAt, IsReadAt, IsStoreAt};
 ghost use Rattle.vsi.specs.Input.{two_classes};
 ghost use Rattle.vsi.specs.Stops.{status_of, stop_of};
+ghost use Rattle.vsi.specs.declared.stop.Stop.TheVariants as stops;
 ghost use Rattle.vsi_answers.specs.Judged.{Declares};
-ghost use Rattle.vsi_devices.specs.declared.error.EngineError.TheVariants.{ReadFault, WriteFault};
-ghost use Rattle.vsi_lattice.specs.LatticeView.{order};
+ghost use Rattle.vsi_devices.specs.declared.error.EngineError.TheVariants.{ReadFault, WriteFault, Memory};
+ghost use Rattle.vsi_lattice.specs.LatticeView.{class_named, order};
 ghost use Rattle.vsi_lattice.specs.Order.{IsClass};
 
 use crate::files::{Files, Kind};
@@ -27,6 +29,8 @@ pub(crate) const TWO_CLASSES: &[u8] = b"classes = [\"L\", \"H\"]\nbelow = [[\"L\
 pub(crate) fn device_stop<'a>(alloc: Global, error: EngineError, path: &'a str) -> Stop<'a>
     ensures read { error ≡ ReadFault → status_of result ≡ 4 }
     ensures write { error ≡ WriteFault → status_of result ≡ 4 }
+    ensures path { error ≡ ReadFault → result ≡ stops.FileFault path.entry }
+    ensures memory { error ≡ Memory → result ≡ stops.Memory }
 {
     match error {
         EngineError::ReadFault => Stop::FileFault(path),
@@ -72,11 +76,11 @@ pub(crate) fn faulty<'a>(alloc: Global, fault: Fault) -> Stop<'a> {
 }
 
 /// A whole file, or its first `READ_LIMIT` bytes.
-fn whole_in<'a, F: Files>(
-    alloc: Global,
-    path: &'a str,
-    files: &mut F,
-) -> Result<Vec<u8>, Stop<'a>> {
+fn whole_in<'a, F: Files>(alloc: Global, path: &'a str, files: &mut F) -> Result<Vec<u8>, Stop<'a>>
+    ensures kept { F.holds files.new ≡ F.holds files.old }
+    ensures read { IfOk result
+        (λ bytes. IsReadAt (F.holds files.old) path.now bytes.items) }
+{
     let Some(file) = files.open_file(path) else {
         return Err(Stop::FileFault(path));
     };
@@ -90,7 +94,11 @@ pub(crate) fn bytes_in<'a, F: Files>(
     kind: Kind,
     path: &'a str,
     files: &mut F,
-) -> Result<Vec<u8>, Stop<'a>> {
+) -> Result<Vec<u8>, Stop<'a>>
+    ensures kept { F.holds files.new ≡ F.holds files.old }
+    ensures read { IfOk result
+        (λ bytes. IsReadAt (F.holds files.old) path.now bytes.items) }
+{
     let bytes = whole_in(alloc, path, files)?;
     files.keep(kind, path, bytes.as_slice())?;
     Ok(bytes)
@@ -102,7 +110,11 @@ pub(crate) fn settings_in<'a, F: Files>(
     kind: Kind,
     path: &'a str,
     files: &mut F,
-) -> Result<Vec<u8>, Stop<'a>> {
+) -> Result<Vec<u8>, Stop<'a>>
+    ensures kept { F.holds files.new ≡ F.holds files.old }
+    ensures read { IfOk result
+        (λ bytes. IsReadAt (F.holds files.old) path.now bytes.items) }
+{
     let bytes = bytes_in(alloc, kind, path, files)?;
     if bytes.len() >= READ_LIMIT {
         return Err(Stop::FileFault(path));
@@ -115,7 +127,11 @@ pub(crate) fn store_in<'a, F: Files>(
     alloc: Global,
     path: Option<&'a str>,
     files: &mut F,
-) -> Result<Vec<u8>, Stop<'a>> {
+) -> Result<Vec<u8>, Stop<'a>>
+    ensures kept { F.holds files.new ≡ F.holds files.old }
+    ensures read { IfOk result
+        (λ bytes. IsStoreAt (F.holds files.old) path.entry bytes.items) }
+{
     match path {
         Some(path) => settings_in(alloc, Kind::Store, path, files),
         None => Ok(Vec::new(alloc)),
@@ -131,9 +147,13 @@ pub(crate) fn declared_lattice<'a>(alloc: Global, text: &[u8]) -> Result<Lattice
 
 /// The lattice of `L` below `H`.
 pub(crate) fn two_classes<'a>(alloc: Global) -> Result<Lattice, Stop<'a>>
-    ensures { IfOk result (Declares two_classes) }
+    ensures declared { IfOk result (Declares two_classes) }
+    ensures memory { IfErr result (λ stop. stop ≡ stops.Memory) }
 {
-    declared_lattice(alloc, TWO_CLASSES)
+    match declared_lattice(alloc, TWO_CLASSES) {
+        Ok(lattice) => Ok(lattice),
+        Err(_) => Err(Stop::Memory),
+    }
 }
 
 /// The lattice of a file.
@@ -141,14 +161,18 @@ pub(crate) fn lattice_in<'a, F: Files>(
     alloc: Global,
     path: &'a str,
     files: &mut F,
-) -> Result<Lattice, Stop<'a>> {
+) -> Result<Lattice, Stop<'a>>
+    ensures kept { F.holds files.new ≡ F.holds files.old }
+    ensures read { IfOk result (IsLatticeAt (F.holds files.old) path.now) }
+{
     let bytes = settings_in(alloc, Kind::Lattice, path, files)?;
     declared_lattice(alloc, bytes.as_slice())
 }
 
 /// The class of this name.
 pub(crate) fn class_in<'a>(lattice: &Lattice, name: &'a str) -> Result<Class, Stop<'a>>
-    ensures { IfOk result (IsClass (order lattice.now)) }
+    ensures within { IfOk result (IsClass (order lattice.now)) }
+    ensures named { IfOk result (λ class. class_named lattice.now name.now ≡ Some class) }
 {
     match lattice.class_named(name.as_bytes()) {
         Some(class) => Ok(class),
@@ -161,7 +185,11 @@ pub(crate) fn image_in<'a, F: Files>(
     alloc: Global,
     path: &'a str,
     files: &mut F,
-) -> Result<Verified, Stop<'a>> {
+) -> Result<Verified, Stop<'a>>
+    ensures kept { F.holds files.new ≡ F.holds files.old }
+    ensures read { IfOk result (IsImageAt (F.holds files.old) path.now) }
+{
     let bytes = bytes_in(alloc, Kind::Image, path, files)?;
-    Ok(judged_image(alloc, bytes.as_slice())?)
+    let verified = judged_image(alloc, bytes.as_slice())?;
+    Ok(verified)
 }

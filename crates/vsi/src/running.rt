@@ -1,8 +1,14 @@
 //! Runs of images.
 
-ghost use Rattle.std.specs.Prelude.{◌≡◌, ◌<◌, length, IfOk};
-ghost use Rattle.vsi.specs.Stops.{TellsFault};
-ghost use Rattle.vsi_devices.specs.Counted.{faults_of};
+ghost use Rattle.std.specs.Prelude.{◌≡◌, ◌<◌, length, IfOk, IfErr, OnOk, Ok};
+ghost use Rattle.std.specs.Io.KnownBytes.{Appends};
+ghost use Rattle.vsi.specs.Performed.{BeginsAt, PerformsRun, PerformsView, ViewsFiles, shown};
+ghost use Rattle.vsi.specs.Silent.{IsSilent};
+ghost use Rattle.vsi.specs.Stops.{TellsFault, status_of};
+ghost use Rattle.vsi.specs.declared.stop.Stop.TheVariants.{Memory};
+ghost use Rattle.vsi_answers.specs.Requests.{BeginsWith};
+ghost use Rattle.vsi_devices.specs.Counted.{device_of, faults_of};
+ghost use Rattle.vsi_lattice.specs.NamePlaces.{texts};
 
 use crate::files::{Files, Kind};
 use crate::reading::{class_in, device_stop, image_in, lattice_in, store_in};
@@ -20,7 +26,9 @@ use vsi_machine::Outcome;
 const SETTING: &str = "--set";
 
 /// Tells the files of each setting.
-fn keep_settings<'a, F: Files>(outset: &Outset<'a>, files: &mut F) -> Result<(), Stop<'a>> {
+fn keep_settings<'a, F: Files>(outset: &Outset<'a>, files: &mut F) -> Result<(), Stop<'a>>
+    ensures { F.holds files.new ≡ F.holds files.old }
+{
     for setting in &outset.settings {
         files.keep(Kind::Setting, SETTING, setting)?;
     }
@@ -34,7 +42,9 @@ pub(crate) fn words_in<'a>(
     file: &[u8],
     outset: &Outset<'a>,
 ) -> Result<Vec<i64>, Stop<'a>>
-    ensures { IfOk result (λ words. length words.items ≡ length verified.now.globals.items) }
+    ensures len { IfOk result (λ words. length words.items ≡ length verified.now.globals.items) }
+    ensures begins { IfOk result (λ words. BeginsWith verified.now file.now
+        (texts outset.now.settings.items) outset.now.is_full (Ok words)) }
 {
     let settings = outset.settings.as_slice();
     Ok(start_words(alloc, verified, file, settings, outset.is_full)?)
@@ -50,6 +60,9 @@ fn deliver<'a, F: Files, W: Write>(
 ) -> Result<(), Stop<'a>>
     requires { faults_of output.old < u64.MAX }
     ensures fault { TellsFault (faults_of output.old) (faults_of output.new) result }
+    ensures stop { IfErr result (λ stop. 3 < status_of stop) }
+    ensures whole { OnOk result (Appends (W.contents (device_of output.old))
+        (W.contents (device_of output.new)) (shown out.entry text.now)) }
 {
     match out {
         Some(path) => replace(alloc, text, path, files),
@@ -63,7 +76,9 @@ pub(crate) fn replace<'a, F: Files>(
     text: &[u8],
     path: &'a str,
     files: &mut F,
-) -> Result<(), Stop<'a>> {
+) -> Result<(), Stop<'a>>
+    ensures { IfErr result (λ stop. 3 < status_of stop) }
+{
     let fresh = format!(in alloc; "{path}.new")?;
     match files.replace_file(path, fresh.as_str(), text) {
         Some(()) => Ok(()),
@@ -79,7 +94,9 @@ fn image_and_words<'a, F: Files>(
     outset: &Outset<'a>,
     files: &mut F,
 ) -> Result<(Verified, Vec<i64>), Stop<'a>>
-    ensures { IfOk result (λ pair. length pair.1.items ≡ length pair.0.globals.items) }
+    ensures len { IfOk result (λ pair. length pair.1.items ≡ length pair.0.globals.items) }
+    ensures begins { IfOk result (λ pair.
+        BeginsAt (F.holds files.old) execution.entry outset.now pair.0 pair.1.items) }
 {
     let file = store_in(alloc, execution.store, files)?;
     let verified = image_in(alloc, execution.image, files)?;
@@ -104,7 +121,9 @@ fn count_lines<'a>(
     verified: &Verified,
     words: &[i64],
     budget: u64,
-) -> Result<Vec<u8>, Stop<'a>> {
+) -> Result<Vec<u8>, Stop<'a>>
+    ensures { IfErr result (λ stop. stop ≡ Memory) }
+{
     let Ok(count) = counted(alloc, verified, words, budget) else {
         return Err(Stop::Memory);
     };
@@ -122,7 +141,9 @@ fn put_count<'a>(
     words: &[i64],
     budget: u64,
     note: &mut Vec<u8>,
-) -> Result<(), Stop<'a>> {
+) -> Result<(), Stop<'a>>
+    ensures { IfErr result (λ stop. stop ≡ Memory) }
+{
     if is_asked {
         let lines = count_lines(alloc, verified, words, budget)?;
         note.extend_from_slice(&lines)?;
@@ -140,6 +161,11 @@ pub(crate) fn run<'a, F: Files, W: Write>(
 ) -> Result<(), Stop<'a>>
     requires { faults_of output.old < u64.MAX }
     ensures fault { TellsFault (faults_of output.old) (faults_of output.new) result }
+    ensures silent { IsSilent result (W.contents (device_of output.old))
+        (W.contents (device_of output.new)) }
+    ensures performed { OnOk result (PerformsRun (F.holds files.old) asked.now.execution
+        asked.now.outset asked.now.has_trace
+        (W.contents (device_of output.old)) (W.contents (device_of output.new))) }
 {
     let budget = asked.execution.budget;
     let (verified, words) = image_and_words(alloc, asked.execution, &asked.outset, files)?;
@@ -164,7 +190,10 @@ fn seen<'a, F: Files>(
     execution: Execution<'a>,
     outset: &Outset<'a>,
     files: &mut F,
-) -> Result<Vec<u8>, Stop<'a>> {
+) -> Result<Vec<u8>, Stop<'a>>
+    ensures { IfOk result (ViewsFiles (F.holds files.old) lattice.now class.now execution.entry
+        outset.now) }
+{
     let classes = lattice_in(alloc, lattice, files)?;
     let viewer = class_in(&classes, class)?;
     let verified = image_in(alloc, execution.image, files)?;
@@ -187,6 +216,11 @@ pub(crate) fn view<'a, F: Files, W: Write>(
 ) -> Result<(), Stop<'a>>
     requires { faults_of output.old < u64.MAX }
     ensures fault { TellsFault (faults_of output.old) (faults_of output.new) result }
+    ensures silent { IsSilent result (W.contents (device_of output.old))
+        (W.contents (device_of output.new)) }
+    ensures performed { OnOk result (PerformsView (F.holds files.old) lattice.now class.now
+        execution.entry outset.now
+        (W.contents (device_of output.old)) (W.contents (device_of output.new))) }
 {
     let text = seen(alloc, lattice, class, execution, outset, files)?;
     deliver(alloc, &text, outset.out, files, output)

@@ -1,8 +1,8 @@
 //! Why a command line ends early, with the status and the text that tell so.
 
-ghost use Rattle.std.specs.Prelude.{◌≡◌, ◌<◌, ◌≤◌, IfErr, OnOk};
+ghost use Rattle.std.specs.Prelude.{◌≡◌, ◌<◌, ◌≤◌, ◌==◌, IfErr, OnOk, OnErr, IsTrue};
 ghost use Rattle.std.specs.Io.KnownBytes.{Appends};
-ghost use Rattle.vsi.specs.Stops.{status_of, TellsFault};
+ghost use Rattle.vsi.specs.Stops.{line_of, status_of, text_of_stop, IsStreamFault, StopsFor, TellsFault};
 ghost use Rattle.vsi.specs.declared.stop.Stop.TheVariants.{Memory};
 ghost use Rattle.vsi_devices.specs.Counted.{device_of, faults_of};
 
@@ -92,12 +92,17 @@ impl Stop<'_> {
     }
 
     /// Whether the stop is want of memory, behind which nothing else is told.
-    pub(crate) fn wants_memory(&self) -> bool {
+    pub(crate) fn wants_memory(&self) -> bool
+        ensures { result ≡ (status_of self.now == 5) }
+    {
         matches!(self, Stop::Memory)
     }
 
     /// Whether nobody is there to hear that standard output takes no more.
-    pub(crate) fn is_unheard(&self, is_closed: bool) -> bool {
+    pub(crate) fn is_unheard(&self, is_closed: bool) -> bool
+        ensures closed { IsTrue result → IsTrue is_closed }
+        ensures fault { IsTrue result → status_of self.now ≡ 4 }
+    {
         match self {
             Stop::FileFault(path) => is_closed && *path == STREAM,
             _ => false,
@@ -119,6 +124,10 @@ impl Stop<'_> {
     /// Writes what goes to standard error, for which no memory is taken.
     pub(crate) fn tell<E: Write>(&self, error: &mut Counted<E>) -> Result<(), EngineError>
         requires { faults_of error.old < u64.MAX }
+        ensures count { faults_of error.old ≤ faults_of error.new }
+        ensures failed { OnErr result (faults_of error.old < faults_of error.new) }
+        ensures whole { OnOk result (Appends (E.contents (device_of error.old))
+            (E.contents (device_of error.new)) (text_of_stop self.now)) }
     {
         match self {
             Stop::Refused(text, _)
@@ -141,6 +150,8 @@ pub(crate) fn write<'a, W: Write>(text: &[u8], output: &mut Counted<W>) -> Resul
     requires { faults_of output.old < u64.MAX }
     ensures fault { TellsFault (faults_of output.old) (faults_of output.new) result }
     ensures stop { IfErr result (λ stop. status_of stop ≡ 4) }
+    ensures stopped { IfErr result (StopsFor (λ reason. ⊥)
+        (IsStreamFault (faults_of output.old < faults_of output.new))) }
     ensures whole { OnOk result
         (Appends (W.contents (device_of output.old)) (W.contents (device_of output.new)) text.now) }
 {
@@ -150,6 +161,10 @@ pub(crate) fn write<'a, W: Write>(text: &[u8], output: &mut Counted<W>) -> Resul
 /// Writes the start and the word on a line.
 fn tell_line<E: Write>(start: &[u8], word: &str, error: &mut Counted<E>) -> Result<(), EngineError>
     requires { faults_of error.old < u64.MAX }
+    ensures count { faults_of error.old ≤ faults_of error.new }
+    ensures failed { OnErr result (faults_of error.old < faults_of error.new) }
+    ensures whole { OnOk result (Appends (E.contents (device_of error.old))
+        (E.contents (device_of error.new)) (line_of start.now word.now)) }
 {
     write_out(start, error)?;
     write_out(word.as_bytes(), error)?;

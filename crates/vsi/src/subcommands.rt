@@ -1,8 +1,11 @@
 //! What the subcommands that run nothing answer: the text to be written, or why there is none.
 
-ghost use Rattle.std.specs.Prelude.{◌<◌};
+ghost use Rattle.std.specs.Prelude.{◌≡◌, ◌<◌, true, IfOk, OnOk};
+ghost use Rattle.vsi.specs.Performed.{AreFiles, Builds, OfFile, OfFiles, ToldAccepted, ToldCanonical, ToldClasses, ToldFlows, ToldImage, ToldJson, ToldListing, Writes};
+ghost use Rattle.vsi.specs.Performed.{judgement_of, profile_of};
+ghost use Rattle.vsi.specs.Silent.{IsSilent};
 ghost use Rattle.vsi.specs.Stops.{TellsFault};
-ghost use Rattle.vsi_devices.specs.Counted.{faults_of};
+ghost use Rattle.vsi_devices.specs.Counted.{device_of, faults_of};
 
 use crate::files::{Files, Kind};
 use crate::reading::{answered, bytes_in, lattice_in, two_classes};
@@ -17,7 +20,9 @@ use vsi_lattice::Lattice;
 use vsi_types::Profile;
 
 /// The profile that judges a text or an image.
-pub(crate) fn profile(is_strict: bool) -> Profile {
+pub(crate) fn profile(is_strict: bool) -> Profile
+    ensures { result ≡ profile_of is_strict }
+{
     if is_strict {
         Profile::Strict
     } else {
@@ -30,7 +35,10 @@ fn policy_and_text<'a, F: Files>(
     alloc: Global,
     compilation: Compilation<'a>,
     files: &mut F,
-) -> Result<(Lattice, Vec<u8>), Stop<'a>> {
+) -> Result<(Lattice, Vec<u8>), Stop<'a>>
+    ensures { IfOk result
+        (λ pair. AreFiles (F.holds files.old) compilation.entry pair.0 pair.1.items) }
+{
     let classes = lattice_in(alloc, compilation.lattice, files)?;
     let text = bytes_in(alloc, Kind::Source, compilation.source, files)?;
     Ok((classes, text))
@@ -41,7 +49,10 @@ pub(crate) fn check<'a, F: Files>(
     alloc: Global,
     asked: Judging<'a>,
     files: &mut F,
-) -> Result<Vec<u8>, Stop<'a>> {
+) -> Result<Vec<u8>, Stop<'a>>
+    ensures { IfOk result (OfFiles (F.holds files.old) asked.entry.compilation
+        (ToldAccepted asked.entry.is_steady asked.entry.compilation.is_strict)) }
+{
     let (classes, text) = policy_and_text(alloc, asked.compilation, files)?;
     let answer = if asked.is_steady {
         vsi_answers::check_steady(alloc, &classes, text.as_slice())
@@ -53,7 +64,9 @@ pub(crate) fn check<'a, F: Files>(
 }
 
 /// What the source text is judged by.
-fn judgement(asked: Judging<'_>) -> Judgement {
+fn judgement(asked: Judging<'_>) -> Judgement
+    ensures { result ≡ judgement_of asked.entry }
+{
     if asked.is_steady {
         Judgement::Steady
     } else if asked.compilation.is_strict {
@@ -68,7 +81,10 @@ fn checked_line<'a, F: Files>(
     alloc: Global,
     asked: Judging<'a>,
     files: &mut F,
-) -> Result<(bool, Vec<u8>), Stop<'a>> {
+) -> Result<(bool, Vec<u8>), Stop<'a>>
+    ensures { IfOk result (λ pair. pair.0 ≡ true → OfFiles (F.holds files.old)
+        asked.entry.compilation (ToldJson (judgement_of asked.entry)) pair.1) }
+{
     let (classes, text) = policy_and_text(alloc, asked.compilation, files)?;
     let line = check_json(alloc, judgement(asked), &classes, text.as_slice())?;
     let is_accepted = line.as_slice() == b"{\"accepted\":true}\n".as_slice();
@@ -84,6 +100,11 @@ pub(crate) fn check_as_json<'a, F: Files, W: Write>(
 ) -> Result<(), Stop<'a>>
     requires { faults_of output.old < u64.MAX }
     ensures fault { TellsFault (faults_of output.old) (faults_of output.new) result }
+    ensures silent { IsSilent result (W.contents (device_of output.old))
+        (W.contents (device_of output.new)) }
+    ensures performed { OnOk result (Writes (OfFiles (F.holds files.old) asked.entry.compilation
+        (ToldJson (judgement_of asked.entry)))
+        (W.contents (device_of output.old)) (W.contents (device_of output.new))) }
 {
     let (is_accepted, line) = checked_line(alloc, asked, files)?;
     write(&line, output)?;
@@ -99,7 +120,10 @@ pub(crate) fn classes<'a, F: Files>(
     alloc: Global,
     compilation: Compilation<'a>,
     files: &mut F,
-) -> Result<Vec<u8>, Stop<'a>> {
+) -> Result<Vec<u8>, Stop<'a>>
+    ensures { IfOk result (OfFiles (F.holds files.old) compilation.entry
+        (ToldClasses compilation.entry.is_strict)) }
+{
     let (classes, text) = policy_and_text(alloc, compilation, files)?;
     let profile = profile(compilation.is_strict);
     answered(vsi_answers::classes(alloc, profile, &classes, text.as_slice()))
@@ -112,7 +136,10 @@ pub(crate) fn flows<'a, F: Files>(
     compilation: Compilation<'a>,
     has_walks: bool,
     files: &mut F,
-) -> Result<Vec<u8>, Stop<'a>> {
+) -> Result<Vec<u8>, Stop<'a>>
+    ensures { IfOk result (OfFiles (F.holds files.old) compilation.entry
+        (ToldFlows has_walks compilation.entry.is_strict)) }
+{
     let (classes, text) = policy_and_text(alloc, compilation, files)?;
     let profile = profile(compilation.is_strict);
     let answer = if has_walks {
@@ -128,7 +155,10 @@ fn built<'a, F: Files>(
     alloc: Global,
     compilation: Compilation<'a>,
     files: &mut F,
-) -> Result<Vec<u8>, Stop<'a>> {
+) -> Result<Vec<u8>, Stop<'a>>
+    ensures { IfOk result (OfFiles (F.holds files.old) compilation.entry
+        (ToldImage compilation.entry.is_strict)) }
+{
     let (classes, text) = policy_and_text(alloc, compilation, files)?;
     let profile = profile(compilation.is_strict);
     answered(vsi_answers::build(alloc, profile, &classes, text.as_slice()))
@@ -140,7 +170,9 @@ pub(crate) fn build<'a, F: Files>(
     compilation: Compilation<'a>,
     image: &'a str,
     files: &mut F,
-) -> Result<(), Stop<'a>> {
+) -> Result<(), Stop<'a>>
+    ensures { OnOk result (Builds (F.holds files.old) compilation.entry) }
+{
     let bytes = built(alloc, compilation, files)?;
     let Some(file) = files.create_file(image) else {
         return Err(Stop::FileFault(image));
@@ -156,7 +188,9 @@ pub(crate) fn list<'a, F: Files>(
     alloc: Global,
     image: &'a str,
     files: &mut F,
-) -> Result<Vec<u8>, Stop<'a>> {
+) -> Result<Vec<u8>, Stop<'a>>
+    ensures { IfOk result (OfFile (F.holds files.old) image.now ToldListing) }
+{
     let bytes = bytes_in(alloc, Kind::Image, image, files)?;
     Ok(vsi_answers::list(alloc, bytes.as_slice())?)
 }
@@ -166,7 +200,9 @@ pub(crate) fn format<'a, F: Files>(
     alloc: Global,
     source: &'a str,
     files: &mut F,
-) -> Result<Vec<u8>, Stop<'a>> {
+) -> Result<Vec<u8>, Stop<'a>>
+    ensures { IfOk result (OfFile (F.holds files.old) source.now ToldCanonical) }
+{
     let bytes = bytes_in(alloc, Kind::Source, source, files)?;
     let classes = two_classes(alloc)?;
     answered(vsi_answers::format(alloc, &classes, bytes.as_slice()))

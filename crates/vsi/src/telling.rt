@@ -1,5 +1,9 @@
 //! What standard error is told besides the text of a stop.
 
+ghost use Rattle.std.specs.Prelude.{◌≡◌, ◌≤◌, []};
+ghost use Rattle.vsi.specs.Stops.{Gets, text_of_stop};
+ghost use Rattle.vsi_devices.specs.Counted.{faults_of};
+
 use crate::stop::Stop;
 use std::alloc::{AllocError, Global};
 use std::io::Write;
@@ -16,7 +20,9 @@ pub(crate) struct Told {
 
 impl Told {
     /// Nothing yet, and no explanation is asked for.
-    pub(crate) fn new(alloc: Global) -> Told {
+    pub(crate) fn new(alloc: Global) -> Told
+        ensures { result.note.items ≡ [] }
+    {
         Told {
             is_explained: false,
             note: Vec::new(alloc),
@@ -29,7 +35,10 @@ impl Told {
     }
 
     /// Writes what is told.
-    pub(crate) fn tell<E: Write>(&self, error: &mut Counted<E>) {
+    pub(crate) fn tell<E: Write>(&self, error: &mut Counted<E>)
+        ensures count { faults_of error.old ≤ faults_of error.new }
+        ensures told { Gets E.contents error.old error.new self.now.note.items }
+    {
         if !self.note.is_empty() {
             say(&self.note, error);
         }
@@ -37,14 +46,20 @@ impl Told {
 }
 
 /// Writes a text to standard error, whose faults change nothing.
-pub(crate) fn say<E: Write>(text: &[u8], error: &mut Counted<E>) {
+pub(crate) fn say<E: Write>(text: &[u8], error: &mut Counted<E>)
+    ensures count { faults_of error.old ≤ faults_of error.new }
+    ensures told { Gets E.contents error.old error.new text.now }
+{
     if error.faults() < u64::MAX {
         let _ = write_out(text, error);
     }
 }
 
 /// Writes the text of a stop to standard error, whose faults change nothing.
-pub(crate) fn tell_stop<E: Write>(stop: &Stop<'_>, error: &mut Counted<E>) {
+pub(crate) fn tell_stop<E: Write>(stop: &Stop<'_>, error: &mut Counted<E>)
+    ensures count { faults_of error.old ≤ faults_of error.new }
+    ensures told { Gets E.contents error.old error.new (text_of_stop stop.now) }
+{
     if error.faults() < u64::MAX {
         let _ = stop.tell(error);
     }

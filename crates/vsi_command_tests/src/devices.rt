@@ -17,14 +17,8 @@ const TWO: &[u8] = b"classes = [\"L\", \"H\"]\nbelow = [[\"L\", \"H\"]]\n";
 const IMAGE: &[u8] = b"VSI\x02\x00\x01\x00\x01\x00\x01\x00\x00\x00\x03\x01x\x01L\
     \x01\x00\x00\x00\x00\x00\x00\x00\x03\x03\x00\x00\x0a";
 
-/// The files that can be read. `torn` fails at its ninth byte.
-const STORED: [(&str, &[u8]); 5] = [
-    ("two", TWO),
-    ("torn", TWO),
-    ("sum", SUM),
-    ("leak", b"var h : H; var l : L; l := h"),
-    ("image", IMAGE),
-];
+/// A text whose flow is refused.
+const LEAK: &[u8] = b"var h : H; var l : L; l := h";
 
 /// Gives one byte a call, and fails at one call, counted from 1.
 #[derive(Drop)]
@@ -35,7 +29,9 @@ pub(super) struct Drip<'a> {
 }
 
 impl<'a> Drip<'a> {
-    fn new(bytes: &'a [u8], fails_at: u64) -> Drip<'a> {
+    fn new(bytes: &'a [u8], fails_at: u64) -> Drip<'a>
+        ensures { result.bytes.now ≡ bytes.now }
+    {
         Drip {
             bytes,
             calls: 0,
@@ -90,7 +86,8 @@ impl Write for Scant {
     }
 }
 
-/// The files, with how many were opened to write and how many closed, and the last of these.
+/// The files that can be read, of which `torn` fails at its ninth byte, with how many were opened
+/// to write and how many closed, and the last of these.
 #[derive(Drop)]
 struct Shelf {
     alloc: Global,
@@ -101,18 +98,23 @@ struct Shelf {
 }
 
 impl Files for Shelf {
+    ghost use Rattle.vsi_command_tests.specs.Shelf.{stored};
+
     type Input = Drip<'static>;
 
     type Output = Scant;
 
+    ghost holds = { λ _ path. stored path };
+
     fn open_file(&mut self, path: &str) -> Option<Drip<'static>> {
-        for (name, bytes) in &STORED {
-            if *name == path {
-                let fails_at = if path == "torn" { 9 } else { 0 };
-                return Some(Drip::new(*bytes, fails_at));
-            }
+        match path {
+            "two" => Some(Drip::new(TWO, 0)),
+            "torn" => Some(Drip::new(TWO, 9)),
+            "sum" => Some(Drip::new(SUM, 0)),
+            "leak" => Some(Drip::new(LEAK, 0)),
+            "image" => Some(Drip::new(IMAGE, 0)),
+            _ => None,
         }
-        None
     }
 
     fn create_file(&mut self, _path: &str) -> Option<Scant> {

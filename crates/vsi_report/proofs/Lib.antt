@@ -5,3 +5,4 @@ pub mod ByRuleLemmas
 pub mod ByRuleSteps
 pub mod ByRuleRows
 pub mod FlowsGraphLemmas
+pub mod SizeLemmas

@@ -6,3 +6,4 @@ pub mod Page
 pub mod Graph
 pub mod ByRule
 pub mod FlowsGraph
+pub mod Size

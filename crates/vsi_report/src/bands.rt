@@ -13,7 +13,7 @@ const ROW: usize = 118;
 /// The space between two boxes.
 const GAP: usize = 34;
 /// Where the first box of a row begins.
-const LEFT: usize = 30;
+const LEFT: usize = 38;
 /// The width that a row is filled up to.
 const FULL: usize = 1080;
 

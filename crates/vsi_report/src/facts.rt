@@ -1,12 +1,14 @@
 //! What is known of a program that a page or a picture shows.
 
-ghost use Rattle.std.specs.Prelude.{IfOk};
+ghost use Rattle.std.specs.Prelude.{◌≡◌, IfOk};
 ghost use Rattle.std.specs.List.{All};
 ghost use Rattle.vsi_lattice.specs.Order.{IsClass};
 ghost use Rattle.vsi_lattice.specs.LatticeView.{order};
 ghost use Rattle.vsi_types.specs.Security.{program as program_of};
 ghost use Rattle.vsi_infer.specs.Inference.{AreClasses};
+ghost use Rattle.vsi_flows.specs.Table.{IsTable};
 ghost use Rattle.vsi_report.specs.FlowsGraph.{AreShown};
+ghost use Rattle.vsi_report.specs.Size.{AreFlows};
 
 use crate::by_rule::{Flows, flows_of, has_flow};
 use crate::walking::{MOST_DRAWN, Use, uses_of};
@@ -126,6 +128,8 @@ fn pairs_of(
 ) -> Result<Vec<Pair>, AllocError>
     requires globals { All (IsClass (order lattice.now)) (program_of program.now).globals }
     requires declared { AreClasses (order lattice.now) (program_of program.now).declared }
+    ensures { IfOk result (λ pairs.
+        IsTable (order lattice.now) profile (program_of program.now) pairs.items) }
 {
     match flows_in(alloc, profile, lattice, program) {
         Ok(pairs) => Ok(pairs),
@@ -162,7 +166,9 @@ fn gathered(
     program: &Resolved<'_>,
     inferred: &[Class],
     pairs: Vec<Pair>,
-) -> Result<Facts, AllocError> {
+) -> Result<Facts, AllocError>
+    ensures { IfOk result (λ facts. facts.pairs ≡ pairs) }
+{
     let variables = variables_of(alloc, program, inferred, lattice.bottom().index())?;
     let flows = drawn_flows(alloc, profile, program, variables.len())?;
     Ok(Facts {
@@ -183,7 +189,10 @@ pub(crate) fn facts_of(
     profile: Profile,
     lattice: &Lattice,
     source: &[u8],
-) -> Result<Facts, CompileError> {
+) -> Result<Facts, CompileError>
+    ensures { IfOk result (λ facts.
+        AreFlows lattice.now profile source.now facts.pairs.items) }
+{
     let program = resolved_program(alloc, lattice, source)?;
     let pairs = pairs_of(alloc, profile, lattice, &program)?;
     let inferred = inferred_classes(alloc, profile, lattice, &program)?;

@@ -5,20 +5,22 @@ use crate::facts::{Facts, flows_between, is_inferred, number_of, variable_class,
 use crate::lattice_picture::{put_box, put_kind, put_picture, spot_at};
 use crate::order::{Order, name_of};
 use crate::page::Page;
+use crate::passage::passage;
 use crate::walking::{RULES, bit_of, rule_name};
 use std::alloc::AllocError;
 use vsi_types::Step;
 
-/// The two ends of an arrow, the heights between which it bends, and how far it keeps to the right.
+/// The two ends of an arrow, and the points towards which it leaves one and comes to the other.
 #[derive(Clone, Copy)]
 struct Arrow {
-    side: usize,
     x1: usize,
     y1: usize,
     bend1: usize,
     bend2: usize,
     x2: usize,
     y2: usize,
+    /// The height of both points.
+    bend: usize,
 }
 
 /// The most arrows that are drawn beside those of a walk.
@@ -57,9 +59,41 @@ fn shift(rule: u8) -> usize {
     }
 }
 
-/// How far an arrow keeps to the right, which goes past the boxes of a band between.
-fn side_of(rise: usize) -> usize {
-    if rise > 140 { 96 } else { 0 }
+/// The arrow between two places of different rows, past the boxes of a row between.
+fn steep(picture: &Banded, x1: usize, y1: usize, x2: usize, y2: usize) -> Arrow {
+    let ends = x1.saturating_add(x2);
+    let bend = y1.saturating_add(y2) / 2;
+    let (bend1, bend2) = match passage(&picture.layout, y1.min(y2), y1.max(y2), ends / 2) {
+        Some(x) => {
+            let both = x.saturating_mul(8).saturating_sub(ends) / 6;
+            (both, both)
+        }
+        None => (x1, x2),
+    };
+    Arrow {
+        x1,
+        y1,
+        bend1,
+        bend2,
+        x2,
+        y2,
+        bend,
+    }
+}
+
+/// The arrow between two places of a row, above it.
+fn flat(x1: usize, x2: usize, y1: usize) -> Arrow {
+    let apart = x1.max(x2).saturating_sub(x1.min(x2));
+    let rise = (apart / 7).min(36).saturating_add(24);
+    Arrow {
+        x1,
+        y1,
+        bend1: x1,
+        bend2: x2,
+        x2,
+        y2: y1.saturating_sub(5),
+        bend: y1.saturating_sub(rise),
+    }
 }
 
 /// The arrow from a variable to another by a rule: upwards, downwards, or along a row.
@@ -70,48 +104,12 @@ fn arrow_of(picture: &Banded, source: usize, target: usize, rule: u8) -> Arrow {
     let x2 = to.x.saturating_add(shift(rule)).saturating_sub(11);
     if to.y < from.y {
         let y1 = from.y.saturating_sub(17);
-        let y2 = to.y.saturating_add(23);
-        let rise = y1.saturating_sub(y2);
-        let side = side_of(rise);
-        let bend = y1.saturating_sub(rise / 2);
-        Arrow {
-            side,
-            x1,
-            y1,
-            bend1: bend,
-            bend2: bend,
-            x2,
-            y2,
-        }
+        steep(picture, x1, y1, x2, to.y.saturating_add(23))
     } else if from.y < to.y {
         let y1 = from.y.saturating_add(17);
-        let y2 = to.y.saturating_sub(23);
-        let rise = y2.saturating_sub(y1);
-        let side = side_of(rise);
-        let bend = y1.saturating_add(rise / 2);
-        Arrow {
-            side,
-            x1,
-            y1,
-            bend1: bend,
-            bend2: bend,
-            x2,
-            y2,
-        }
+        steep(picture, x1, y1, x2, to.y.saturating_sub(23))
     } else {
-        let y1 = from.y.saturating_sub(17);
-        let apart = x1.max(x2).saturating_sub(x1.min(x2));
-        let rise = (apart / 7).min(36).saturating_add(24);
-        let bend = y1.saturating_sub(rise);
-        Arrow {
-            side: 0,
-            x1,
-            y1,
-            bend1: bend,
-            bend2: bend,
-            x2,
-            y2: y1.saturating_sub(5),
-        }
+        flat(x1, x2, from.y.saturating_sub(17))
     }
 }
 
@@ -120,8 +118,8 @@ fn put_curve(page: &mut Page, arrow: Arrow) -> Result<(), AllocError> {
     page.put(b" d=\"M")?;
     put_point(page, arrow.x1, arrow.y1)?;
     page.put(b"C")?;
-    put_point(page, arrow.x1.saturating_add(arrow.side), arrow.bend1)?;
-    put_point(page, arrow.x2.saturating_add(arrow.side), arrow.bend2)?;
+    put_point(page, arrow.bend1, arrow.bend)?;
+    put_point(page, arrow.bend2, arrow.bend)?;
     put_point(page, arrow.x2, arrow.y2)?;
     page.put(b"\"")
 }
@@ -208,6 +206,11 @@ fn put_step_arrow(
     page.put(b" marker-end=\"url(#told)\"/>")
 }
 
+/// The middle of a curve, of the sum of its ends and that of its bends.
+fn middle_of(ends: usize, bends: usize) -> usize {
+    ends.saturating_add(bends.saturating_mul(3)) / 8
+}
+
 /// Adds the number of a step of the walk, in the middle of its arrow.
 fn put_step_number(
     page: &mut Page,
@@ -219,11 +222,12 @@ fn put_step_number(
     let source = number_of(facts, step.source);
     let target = number_of(facts, step.target);
     let arrow = arrow_of(picture, source, target, bit_of(step.rule));
-    let middle = arrow.x1.saturating_add(arrow.x2) / 2;
-    let x = middle.saturating_add(arrow.side / 4 * 3);
-    let ends = arrow.y1.saturating_add(arrow.y2);
     let bends = arrow.bend1.saturating_add(arrow.bend2);
-    let y = ends.saturating_add(bends.saturating_mul(3)) / 8;
+    let x = middle_of(arrow.x1.saturating_add(arrow.x2), bends);
+    let y = middle_of(
+        arrow.y1.saturating_add(arrow.y2),
+        arrow.bend.saturating_mul(2),
+    );
     page.value(b"<g class=\"number\"><circle r=\"11\" cx=\"", x)?;
     page.value(b" cy=\"", y)?;
     page.value(b"/><text x=\"", x)?;

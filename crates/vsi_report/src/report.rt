@@ -1,7 +1,10 @@
 //! The page of a text.
 
-ghost use Rattle.std.specs.Prelude.{IfOk};
+ghost use Rattle.std.specs.Prelude.{[], IfOk};
+ghost use Rattle.vsi_image.specs.Fields.{fields};
+ghost use Rattle.vsi_image.specs.Listing.{listing as listing_of};
 ghost use Rattle.vsi_report.specs.Page.{HasPanel};
+ghost use Rattle.vsi_report.specs.Size.{IsShort, IsBounded};
 
 use crate::bands::bands_of;
 use crate::facts::{Facts, facts_of, is_drawn, is_strict};
@@ -10,6 +13,7 @@ use crate::lattice_picture::put_lattice;
 use crate::layout::lattice_layout;
 use crate::order::{Order, order_of};
 use crate::page::Page;
+use crate::size::check_size;
 use crate::source_view::{plain_panel, source_panel};
 use crate::style::{HEAD, STYLE};
 use crate::table::put_table;
@@ -220,12 +224,11 @@ fn put_all_flows(
 }
 
 /// Adds the listing of an image.
-fn put_listing(alloc: Global, page: &mut Page, verified: &Verified) -> Result<(), AllocError> {
-    let text = listing(alloc, verified.image())?;
+fn put_listing(page: &mut Page, lines: &[u8]) -> Result<(), AllocError> {
     page.put(b"<section><h2>Image</h2>\n")?;
     page.between(
         b"<pre class=\"listing\" tabindex=\"0\"><code>",
-        &text,
+        lines,
         b"</code></pre>\n",
     )?;
     page.put(b"</section>\n")
@@ -305,12 +308,15 @@ fn accepted_page(
     source: &[u8],
     verified: &Verified,
 ) -> Result<Vec<u8>, AllocError>
-    ensures { IfOk result (λ page. HasPanel page.items source.now) }
+    ensures panel { IfOk result (λ page. HasPanel page.items source.now) }
+    ensures bounded { IfOk result (λ page.
+        IsShort lattice.now profile source.now (listing_of (fields verified.now)) page.items) }
 {
     let Ok(facts) = facts_of(alloc, profile, lattice, source) else {
         return Err(AllocError);
     };
     let order = order_of(alloc, lattice)?;
+    let lines = listing(alloc, verified.image())?;
     let panel = source_panel(alloc, &order, &facts, &[], source)?;
     let mut before = Page::new(alloc);
     put_head(&mut before, true, profile)?;
@@ -318,7 +324,7 @@ fn accepted_page(
     put_before_source(&mut before)?;
     let mut page = Page::new(alloc);
     put_behind_source(&mut page, true)?;
-    put_listing(alloc, &mut page, verified)?;
+    put_listing(&mut page, &lines)?;
     page.put(b"</div>\n")?;
     page.put(b"<div class=\"beside\">\n")?;
     put_promise(&mut page, profile)?;
@@ -326,7 +332,9 @@ fn accepted_page(
     page.put(b"</div>\n")?;
     put_all_flows(alloc, &mut page, profile, &order, &facts, &[])?;
     put_foot(&mut page)?;
-    before.with_panel(&panel, &page)
+    let whole = before.with_panel(&panel, &page)?;
+    check_size(&whole, source.len(), facts.pairs.len(), lines.len())?;
+    Ok(whole)
 }
 
 /// The page of a text with a refused flow.
@@ -337,7 +345,9 @@ fn refused_page(
     source: &[u8],
     walk: &[Step],
 ) -> Result<Vec<u8>, AllocError>
-    ensures { IfOk result (λ page. HasPanel page.items source.now) }
+    ensures panel { IfOk result (λ page. HasPanel page.items source.now) }
+    ensures bounded { IfOk result (λ page.
+        IsShort lattice.now profile source.now [] page.items) }
 {
     let Ok(facts) = facts_of(alloc, profile, lattice, source) else {
         return Err(AllocError);
@@ -358,7 +368,9 @@ fn refused_page(
     page.put(b"</div>\n")?;
     put_all_flows(alloc, &mut page, profile, &order, &facts, walk)?;
     put_foot(&mut page)?;
-    before.with_panel(&panel, &page)
+    let whole = before.with_panel(&panel, &page)?;
+    check_size(&whole, source.len(), facts.pairs.len(), 0)?;
+    Ok(whole)
 }
 
 /// The page of a text that has no program.
@@ -369,7 +381,9 @@ fn faulty_page(
     source: &[u8],
     error: &CompileError,
 ) -> Result<Vec<u8>, AllocError>
-    ensures { IfOk result (λ page. HasPanel page.items source.now) }
+    ensures panel { IfOk result (λ page. HasPanel page.items source.now) }
+    ensures bounded { IfOk result (λ page.
+        IsShort lattice.now profile source.now [] page.items) }
 {
     let order = order_of(alloc, lattice)?;
     let panel = plain_panel(alloc, source)?;
@@ -389,7 +403,9 @@ fn faulty_page(
     put_behind_source(&mut page, false)?;
     put_policy(alloc, &mut page, &order)?;
     put_foot(&mut page)?;
-    before.with_panel(&panel, &page)
+    let whole = before.with_panel(&panel, &page)?;
+    check_size(&whole, source.len(), 0, 0)?;
+    Ok(whole)
 }
 
 /// The page of a text over a lattice under a profile: the verdict, the source, the lattice and the
@@ -398,7 +414,8 @@ fn faulty_page(
 ///
 /// # Errors
 ///
-/// Want of memory alone.
+/// Want of memory alone. It stands too for a page that is longer than its source, its flows and its
+/// listing allow, as `specs/Size` says; no text that was measured has such a page.
 pub fn report_page(
     alloc: Global,
     profile: Profile,
@@ -406,6 +423,8 @@ pub fn report_page(
     source: &[u8],
 ) -> Result<Vec<u8>, AllocError>
     ensures panel { IfOk result (λ page. HasPanel page.items source.now) }
+    ensures bounded { IfOk result (λ page.
+        IsBounded lattice.now profile source.now page.items) }
 {
     match compile_in(alloc, profile, lattice, source) {
         Ok(verified) => accepted_page(alloc, profile, lattice, source, &verified),

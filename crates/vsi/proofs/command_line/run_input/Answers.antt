@@ -1,7 +1,10 @@
-use Rattle.std.proofs.Common.{sym, subst}
-use Rattle.std.proofs.lemmas.Result.{on_ok_weaker}
+use Rattle.std.proofs.Common.{Err, inr, sym, subst}
+use Rattle.std.proofs.lemmas.Result.{IfErr-weaker, on_ok_weaker}
+use Rattle.vsi_answers.specs.Requests.{RunsSourceTo}
 use Rattle.vsi_devices.specs.Counted.{device_of}
 use Rattle.vsi_devices.specs.Engine.{IsReadFrom}
+use Rattle.vsi.specs.Input.{StopsRun}
+use Rattle.vsi.proofs.Stopped.{StopsFor-weaker}
 use Rattle.vsi.proofs.command_line.run_input.Goals as goal
 
 pub returns-in-Ok-clause-ran : goal.returns-in-Ok-clause-ran
@@ -12,7 +15,24 @@ returns-in-Ok-clause-ran g c =
       given = subst (IsReadFrom (g.R.Read.remaining (device_of c.args.input.now))) (sym c.as_slice.ensures.value)
           c.in-Ok.ensures.bytes;
       lattice = c.in_ok-lattice.lattice;
-      declared = c.in_ok-lattice.ensures;
+      declared = c.in_ok-lattice.ensures.declared;
       writes = writes;
     })
     c.write_run.ensures.ran
+
+pub returns-in-Ok-clause-stopped : goal.returns-in-Ok-clause-stopped
+returns-in-Ok-clause-stopped g c =
+    IfErr-weaker c.write_run.result _ _
+    (StopsFor-weaker
+    (λ reason. RunsSourceTo c.in_ok-lattice.lattice c.as_slice.result.now 1000000 (Err reason))
+    (StopsRun (g.R.Read.remaining (device_of c.args.input.now))) _ _
+    (λ reason why. record {
+      source = c.as_slice.result.now;
+      given = subst (IsReadFrom (g.R.Read.remaining (device_of c.args.input.now))) (sym c.as_slice.ensures.value)
+          c.in-Ok.ensures.bytes;
+      lattice = c.in_ok-lattice.lattice;
+      declared = c.in_ok-lattice.ensures.declared;
+      stopped = why;
+    })
+    (λ path fault. (fault.0, inr fault.1)))
+    c.write_run.ensures.stopped

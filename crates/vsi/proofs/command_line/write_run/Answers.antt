@@ -1,4 +1,4 @@
-use Rattle.std.proofs.Common.{sym, subst}
+use Rattle.std.proofs.Common.{subst}
 use Rattle.std.proofs.lemmas.Result.{on_ok_weaker}
 use Rattle.std.specs.Io.KnownBytes.{Appends}
 use Rattle.vsi_devices.specs.Counted.{device_of}
@@ -9,7 +9,7 @@ returns-clause-ran g c =
     on_ok_weaker c.write.result
     (λ written. record {
       text = c.in_ok-text.text;
-      ran = c.in_ok-text.ensures;
+      ran = c.in_ok-text.ensures.ran;
       written = subst (Appends (g.W.Write.contents (device_of c.args.output.now))
           (g.W.Write.contents (device_of c.write.new.output))) c.as_slice.ensures.value written;
     })

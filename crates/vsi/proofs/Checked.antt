@@ -1,0 +1,47 @@
+-- What is so where `check` is done to the end.
+use Rattle.std.proofs.Common.{ℕ, List, Option, Bool, subst, inl, inr}
+use Rattle.std.specs.Prelude.{Ok, codes, ◌≡◌, false}
+use Rattle.vsi_lattice.specs.LatticeView.{class_named, order}
+use Rattle.vsi_types.specs.declared.rules.Profile.TheVariants.{Base}
+use Rattle.vsi_compiler.specs.Acceptance.{IsAccepted}
+use Rattle.vsi_answers.specs.Requests.{ChecksTo}
+use Rattle.vsi_arguments.specs.declared.request.Judging.{Judging}
+use Rattle.vsi_arguments.specs.declared.request.Request.{Request}
+use Rattle.vsi_asked.specs.Laws.{IsPlainCheck}
+use Rattle.vsi_asked.proofs.Plain.{check_is_asked}
+use Rattle.vsi.specs.Holding.{Holding, IsReadAt}
+use Rattle.vsi.specs.Laws.{CheckedIsAccepted, IsAcceptedAt}
+use Rattle.vsi.specs.Performed.{OfFiles, Performs, PerformsCheck, ToldAccepted, Writes}
+
+-- Where a judgement of two files by the base profile has been performed, the source text is accepted.
+pub accepted_at : (holds : Holding) (judging : Judging) (lattice source : List ℕ) (old new : Option (List ℕ)) →
+    IsPlainCheck lattice source judging → PerformsCheck judging.is_json holds judging old new →
+    IsAcceptedAt holds lattice source
+accepted_at holds judging lattice source old new plain performed =
+    let strict = judging.compilation.is_strict in
+    let writes : Writes (OfFiles holds judging.compilation (ToldAccepted judging.is_steady strict)) old new =
+    subst (λ (b : Bool). PerformsCheck b holds judging old new) plain.plain performed in
+    let told = writes.is in
+    let unsteady : ToldAccepted false strict told.lattice told.source writes.text =
+    subst (λ (b : Bool). ToldAccepted b strict told.lattice told.source writes.text) plain.unsteady told.is in
+    let base : ChecksTo told.lattice Base told.source (Ok writes.text) =
+    subst (λ (b : Bool). ToldAccepted false b told.lattice told.source writes.text) plain.base unsteady in
+    record {
+      policy = told.files.lattice.policy;
+      lattice_read = subst (λ (p : List ℕ). IsReadAt holds p told.files.lattice.policy) plain.lattice_is
+          told.files.lattice.read;
+      text = told.source;
+      source_read = subst (λ (p : List ℕ). IsReadAt holds p told.source) plain.source_is told.files.read;
+      declared = told.lattice;
+      declares = told.files.lattice.declared;
+      accepted = base.0;
+    }
+
+-- The law.
+pub checked_is_accepted : CheckedIsAccepted
+checked_is_accepted holds words lattice source old new plain (inl help) =
+    absurd ((check_is_asked words lattice source plain).0 help)
+checked_is_accepted holds words lattice source old new plain (inr (request, asks, performed)) =
+    let found = (check_is_asked words lattice source plain).1 request asks in
+    accepted_at holds found.0 lattice source old new found.2
+    (subst (λ (r : Request). Performs holds r old new) found.1 performed)

@@ -1,0 +1,251 @@
+-- What a stop of the run without words means, and what is told of it.
+use Rattle.std.proofs.Common.{◌≡◌, ◌≢◌, ◌-◌, ◌^◌, ◌≤◌, ◌<◌, ◌⊎◌, ◌++◌, [], ℕ, List, Option, Some, None, Result, Ok, Err, inl, inr, sym, ap, subst, ◌∙◌, arith, append-nil}
+use Rattle.std.specs.Prelude.{IfOk, IfErr, IsTrue, OnOk, MatchResult, Bool, true, false, codes, ◌==◌, if◌then◌else◌}
+use Rattle.std.specs.Global.{Vec}
+use Rattle.std.proofs.KnownBytes.{Appends-nil, Appends-trans}
+use Rattle.vsi_answers.specs.declared.unanswered.Unanswered.{Unanswered}
+use Rattle.vsi_answers.specs.declared.unanswered.Unanswered.TheVariants as unanswered
+use Rattle.vsi_devices.specs.Counted.{device_of, faults_of}
+use Rattle.vsi_devices.specs.declared.counted.Counted.{Counted}
+use Rattle.vsi.specs.declared.stop.Stop.{Stop}
+use Rattle.vsi.specs.declared.stop.Stop.TheVariants.{Refused, Interface, Audit, Unsteady, Differs, Usage, NoClass, OutOfBudget, FileFault, LostFile, Memory}
+use Rattle.vsi.specs.Stops.{Gets, IsStreamFault, StopsFor, line_of, note_behind, status_of, stop_of, text_of_stop}
+use Rattle.vsi.specs.Input.{Hears, HearsFault, RefusesRun, SpendsRun, StopsRun, TellsStop, greeting}
+
+-- The stop that stands for why there is no answer means that.
+pub stop_of_why : (W : Unanswered → Type 0) (reason : Unanswered) → W reason →
+    StopsFor W (λ path. ⊥) (stop_of reason)
+stop_of_why W (unanswered.Refused text cause) why = why
+stop_of_why W unanswered.OutOfBudget why = why
+stop_of_why W unanswered.Memory why = tt
+
+-- What is told of an answer is what the stop means that stands for it.
+pub answered_stopped : (P : Result (Vec ℕ) Unanswered → Type 0) (answer : Result (Vec ℕ) Unanswered)
+    (result : Result (Vec ℕ) Stop) →
+    MatchResult answer (λ text. result ≡ Ok text) (λ reason. result ≡ Err (stop_of reason)) → P answer →
+    IfErr result (StopsFor (λ reason. P (Err reason)) (λ path. ⊥))
+answered_stopped P (Ok text) result is told =
+    subst (λ r. IfErr r (StopsFor (λ reason. P (Err reason)) (λ path. ⊥))) (sym is) tt
+answered_stopped P (Err reason) result is told =
+    subst (λ r. IfErr r (StopsFor (λ reason. P (Err reason)) (λ path. ⊥))) (sym is)
+    (stop_of_why (λ reason. P (Err reason)) reason told)
+
+-- A stop means what follows of what it means.
+pub StopsFor-weaker : (V W : Unanswered → Type 0) (F G : List ℕ → Type 0) →
+    ((reason : Unanswered) → V reason → W reason) → ((path : List ℕ) → F path → G path) →
+    (stop : Stop) → StopsFor V F stop → StopsFor W G stop
+StopsFor-weaker V W F G v f (Refused text (Some cause)) why = v (unanswered.Refused text cause) why
+StopsFor-weaker V W F G v f (Refused text None) why = absurd why
+StopsFor-weaker V W F G v f (Interface text error) why = absurd why
+StopsFor-weaker V W F G v f (Audit text error) why = absurd why
+StopsFor-weaker V W F G v f (Unsteady text error) why = absurd why
+StopsFor-weaker V W F G v f Differs why = absurd why
+StopsFor-weaker V W F G v f (Usage text) why = absurd why
+StopsFor-weaker V W F G v f (NoClass name) why = absurd why
+StopsFor-weaker V W F G v f OutOfBudget why = v unanswered.OutOfBudget why
+StopsFor-weaker V W F G v f (FileFault path) why = f path.now why
+StopsFor-weaker V W F G v f (LostFile path) why = absurd why
+StopsFor-weaker V W F G v f Memory why = tt
+
+-- What was done to its end was done where the status is 0.
+pub done_at_zero : {T P : Type 0} (answer : Result T Stop) (status : ℕ) → OnOk answer P →
+    IfErr answer (λ stop. status ≡ status_of stop) → status ≡ 0 → P
+done_at_zero (Ok x) status done stopped zero = done
+done_at_zero (Err (Refused text cause)) status done stopped zero = absurd (omega arith)
+done_at_zero (Err (Interface text error)) status done stopped zero = absurd (omega arith)
+done_at_zero (Err (Audit text error)) status done stopped zero = absurd (omega arith)
+done_at_zero (Err (Unsteady text error)) status done stopped zero = absurd (omega arith)
+done_at_zero (Err Differs) status done stopped zero = absurd (omega arith)
+done_at_zero (Err (Usage text)) status done stopped zero = absurd (omega arith)
+done_at_zero (Err (NoClass name)) status done stopped zero = absurd (omega arith)
+done_at_zero (Err OutOfBudget) status done stopped zero = absurd (omega arith)
+done_at_zero (Err (FileFault path)) status done stopped zero = absurd (omega arith)
+done_at_zero (Err (LostFile path)) status done stopped zero = absurd (omega arith)
+done_at_zero (Err Memory) status done stopped zero = absurd (omega arith)
+
+-- A writer that wasn't called has got nothing.
+pub Gets-nothing : {E : Type 0} (contents : E → Option (List ℕ)) (error : Counted E) → Gets contents error error []
+Gets-nothing contents error = λ room same. Appends-nil (contents (device_of error))
+
+-- One text behind another.
+pub Gets-trans : {E : Type 0} (contents : E → Option (List ℕ)) (old mid new : Counted E) (first second : List ℕ) →
+    faults_of old ≤ faults_of mid → faults_of mid ≤ faults_of new → Gets contents old mid first →
+    Gets contents mid new second → Gets contents old new (first ++ second)
+Gets-trans contents old mid new first second up more got gets = λ room same.
+    let begun : faults_of mid ≡ faults_of old = omega arith in
+    let ended : faults_of new ≡ faults_of mid = omega arith in
+    let still : faults_of mid < 2 ^ 64 - 1 = omega arith in
+    Appends-trans _ _ _ first second (got room begun) (gets still ended)
+
+-- A text behind what a person at a terminal is greeted with.
+pub Hears-behind : {E : Type 0} (contents : E → Option (List ℕ)) (old mid new : Counted E) (text : List ℕ) →
+    faults_of old ≤ faults_of mid → faults_of mid ≤ faults_of new → Hears contents old mid [] →
+    Gets contents mid new text → Hears contents old new text
+Hears-behind contents old mid new text up more (inl got) gets =
+    inl (Gets-trans contents old mid new [] text up more got gets)
+Hears-behind contents old mid new text up more (inr got) gets =
+    let greeted : Gets contents old mid greeting =
+    subst (Gets contents old mid) (append-nil greeting) got in
+    inr (Gets-trans contents old mid new greeting text up more greeted gets)
+
+-- Nothing is told behind a text either way.
+nothing_either : (wants : Bool) (text note : List ℕ) → note ≡ [] →
+    text ++ (if wants then [] else note) ≡ text
+nothing_either true text note none = append-nil text
+nothing_either false text note none = ap (λ l. text ++ l) none ∙ append-nil text
+
+-- The text of a stop and what is told behind it have been told, where memory isn't wanted.
+pub told_with_note : {E : Type 0} (contents : E → Option (List ℕ)) (old mid new : Counted E) (stop : Stop)
+    (note : List ℕ) (wants : Bool) → wants ≡ (status_of stop == 5) → wants ≡ false →
+    faults_of old ≤ faults_of mid → faults_of mid ≤ faults_of new → Gets contents old mid (text_of_stop stop) →
+    Gets contents mid new note → Gets contents old new (text_of_stop stop ++ note_behind stop note)
+told_with_note contents old mid new stop note wants is not up more got gets =
+    subst (λ b. Gets contents old new (text_of_stop stop ++ (if b then [] else note))) (sym not ∙ is)
+    (Gets-trans contents old mid new (text_of_stop stop) note up more got gets)
+
+-- The text of a stop has been told alone, where memory is wanted.
+pub told_alone : {E : Type 0} (contents : E → Option (List ℕ)) (old new : Counted E) (stop : Stop)
+    (note : List ℕ) (wants : Bool) → wants ≡ (status_of stop == 5) → wants ≡ true →
+    Gets contents old new (text_of_stop stop) → Gets contents old new (text_of_stop stop ++ note_behind stop note)
+told_alone contents old new stop note wants is yes_wants got =
+    subst (λ b. Gets contents old new (text_of_stop stop ++ (if b then [] else note))) (sym yes_wants ∙ is)
+    (subst (Gets contents old new) (sym (append-nil (text_of_stop stop))) got)
+
+-- Nothing keeps the text of a stop back that isn't the fault of a stream which is closed.
+pub never_unheard : {P : Type 0} (stop : Stop) (unheard is_closed : Bool) → (IsTrue unheard → IsTrue is_closed) →
+    (IsTrue unheard → status_of stop ≡ 4) → unheard ≡ true → (status_of stop ≢ 4) ⊎ (is_closed ≡ false) → P
+never_unheard stop unheard is_closed closed fault e (inl other) = absurd (other (fault e))
+never_unheard stop unheard is_closed closed fault e (inr reads) =
+    let shut : is_closed ≡ true = closed e in cc
+
+-- The text of a stop is heard behind the greeting, where it isn't a fault and nothing is told behind it.
+pub heard_stop : {T E : Type 0} (contents : E → Option (List ℕ)) (old mid new : Counted E) (note : List ℕ)
+    (is_closed : Bool) (answer : Result T Stop) → faults_of old ≤ faults_of mid → faults_of mid ≤ faults_of new →
+    Hears contents old mid [] → note ≡ [] →
+    IfErr answer (λ stop. (status_of stop ≢ 4) ⊎ (is_closed ≡ false) →
+    Gets contents mid new (text_of_stop stop ++ note_behind stop note)) →
+    IfErr answer (λ stop. status_of stop ≢ 4 → Hears contents old new (text_of_stop stop))
+heard_stop contents old mid new note is_closed (Ok x) up more greeted none told = tt
+heard_stop contents old mid new note is_closed (Err stop) up more greeted none told = λ other.
+    Hears-behind contents old mid new (text_of_stop stop) up more greeted
+    (subst (Gets contents mid new) (nothing_either (status_of stop == 5) (text_of_stop stop) note none)
+    (told (inl other)))
+
+-- At a status of 5 nothing but want of memory has been told.
+pub told_memory : {E : Type 0} (contents : E → Option (List ℕ)) (old new : Counted E) (stop : Stop)
+    (note : List ℕ) (is_closed : Bool) (status : ℕ) → status ≡ status_of stop → status ≡ 5 →
+    ((status_of stop ≢ 4) ⊎ (is_closed ≡ false) → Gets contents old new (text_of_stop stop ++ note_behind stop note)) →
+    Gets contents old new (codes "out of memory\n")
+told_memory contents old new (Refused text cause) note is_closed status is five told = absurd (omega arith)
+told_memory contents old new (Interface text error) note is_closed status is five told = absurd (omega arith)
+told_memory contents old new (Audit text error) note is_closed status is five told = absurd (omega arith)
+told_memory contents old new (Unsteady text error) note is_closed status is five told = absurd (omega arith)
+told_memory contents old new Differs note is_closed status is five told = absurd (omega arith)
+told_memory contents old new (Usage text) note is_closed status is five told = absurd (omega arith)
+told_memory contents old new (NoClass name) note is_closed status is five told = absurd (omega arith)
+told_memory contents old new OutOfBudget note is_closed status is five told = absurd (omega arith)
+told_memory contents old new (FileFault path) note is_closed status is five told = absurd (omega arith)
+told_memory contents old new (LostFile path) note is_closed status is five told = absurd (omega arith)
+told_memory contents old new Memory note is_closed status is five told = told (inl (λ e. omega arith))
+
+-- Nothing is heard but the greeting where all was done and the note is empty.
+pub heard_nothing : {T E : Type 0} (contents : E → Option (List ℕ)) (old mid new : Counted E) (note : List ℕ)
+    (answer : Result T Stop) (status : ℕ) → faults_of old ≤ faults_of mid → faults_of mid ≤ faults_of new →
+    Hears contents old mid [] → note ≡ [] → OnOk answer (Gets contents mid new note) →
+    IfErr answer (λ stop. status ≡ status_of stop) → status ≡ 0 → Hears contents old new []
+heard_nothing contents old mid new note answer status up more greeted none noted is zero =
+    Hears-behind contents old mid new [] up more greeted
+    (subst (Gets contents mid new) none (done_at_zero answer status noted is zero))
+
+-- The text of a stop with a status of 4 tells that a standard stream fails.
+stream_text : (W : Unanswered → Type 0) (F : Type 0) (stop : Stop) → StopsFor W (IsStreamFault F) stop →
+    status_of stop ≡ 4 → text_of_stop stop ≡ codes "file fault: -\n"
+stream_text W F (Refused text cause) why four = absurd (omega arith)
+stream_text W F (Interface text error) why four = absurd why
+stream_text W F (Audit text error) why four = absurd why
+stream_text W F (Unsteady text error) why four = absurd why
+stream_text W F Differs why four = absurd why
+stream_text W F (Usage text) why four = absurd why
+stream_text W F (NoClass name) why four = absurd why
+stream_text W F OutOfBudget why four = absurd (omega arith)
+stream_text W F (FileFault path) why four = ap (line_of (codes "file fault: ")) why.0
+stream_text W F (LostFile path) why four = absurd why
+stream_text W F Memory why four = absurd (omega arith)
+
+-- Where all or nothing is told of the fault of a standard stream, it is heard or nothing but the greeting.
+pub heard_fault : {T E : Type 0} (contents : E → Option (List ℕ)) (old mid new : Counted E) (note : List ℕ)
+    (W : Unanswered → Type 0) (F : Type 0) (answer : Result T Stop) (status : ℕ) →
+    faults_of old ≤ faults_of mid → faults_of mid ≤ faults_of new → Hears contents old mid [] → note ≡ [] →
+    IfOk answer (λ _. status ≡ 0) → IfErr answer (λ stop. status ≡ status_of stop) →
+    IfErr answer (StopsFor W (IsStreamFault F)) →
+    IfErr answer (λ stop. ((status_of stop ≡ 4) × Gets contents mid new [])
+    ⊎ Gets contents mid new (text_of_stop stop ++ note_behind stop note)) →
+    status ≡ 4 → HearsFault contents old new
+heard_fault contents old mid new note W F (Ok x) status up more greeted none done is why told four =
+    absurd (omega arith)
+heard_fault contents old mid new note W F (Err stop) status up more greeted none done is why (inl nothing) four =
+    inl (Hears-behind contents old mid new [] up more greeted nothing.1)
+heard_fault contents old mid new note W F (Err stop) status up more greeted none done is why (inr told) four =
+    inr (Hears-behind contents old mid new _ up more greeted
+    (subst (Gets contents mid new)
+    (nothing_either (status_of stop == 5) (text_of_stop stop) note none
+    ∙ stream_text W F stop why (sym is ∙ four)) told))
+
+-- Where all is told of a stop, or nothing of a file fault, it is told at a status that isn't 0.
+pub tells_stop : {T E : Type 0} (contents : E → Option (List ℕ)) (old mid new : Counted E) (note : List ℕ)
+    (answer : Result T Stop) (status : ℕ) → faults_of old ≤ faults_of mid → faults_of mid ≤ faults_of new →
+    Hears contents old mid [] → IfOk answer (λ _. status ≡ 0) → IfErr answer (λ stop. status ≡ status_of stop) →
+    IfErr answer (λ stop. ((status_of stop ≡ 4) × Gets contents mid new [])
+    ⊎ Gets contents mid new (text_of_stop stop ++ note_behind stop note)) →
+    status ≢ 0 → TellsStop status contents old new
+tells_stop contents old mid new note (Ok x) status up more greeted done is told other = absurd (other done)
+tells_stop contents old mid new note (Err stop) status up more greeted done is (inl nothing) other = record {
+  stop = stop;
+  note = note;
+  stopped = is;
+  told = inr (is ∙ nothing.0, Hears-behind contents old mid new [] up more greeted nothing.1);
+}
+tells_stop contents old mid new note (Err stop) status up more greeted done is (inr all) other = record {
+  stop = stop;
+  note = note;
+  stopped = is;
+  told = inl (Hears-behind contents old mid new _ up more greeted all);
+}
+
+-- A refusal is what a status of 1 means, and its text is told.
+pub refused_at_one : {T : Type 0} (remaining : Option (List ℕ)) (F : List ℕ → Type 0) (told : List ℕ → Type 0)
+    (answer : Result T Stop) (status : ℕ) → IfOk answer (λ _. status ≡ 0) →
+    IfErr answer (λ stop. status ≡ status_of stop) → IfErr answer (StopsFor (StopsRun remaining) F) →
+    IfErr answer (λ stop. status_of stop ≢ 4 → told (text_of_stop stop)) → status ≡ 1 → RefusesRun remaining told
+refused_at_one r F told (Ok x) status done is why tells one = absurd (omega arith)
+refused_at_one r F told (Err (Refused text (Some cause))) status done is why tells one =
+    (text, cause, why, tells (λ e. omega arith))
+refused_at_one r F told (Err (Refused text None)) status done is why tells one = absurd why
+refused_at_one r F told (Err (Interface text error)) status done is why tells one = absurd why
+refused_at_one r F told (Err (Audit text error)) status done is why tells one = absurd why
+refused_at_one r F told (Err (Unsteady text error)) status done is why tells one = absurd why
+refused_at_one r F told (Err Differs) status done is why tells one = absurd why
+refused_at_one r F told (Err (Usage text)) status done is why tells one = absurd why
+refused_at_one r F told (Err (NoClass name)) status done is why tells one = absurd why
+refused_at_one r F told (Err OutOfBudget) status done is why tells one = absurd (omega arith)
+refused_at_one r F told (Err (FileFault path)) status done is why tells one = absurd (omega arith)
+refused_at_one r F told (Err (LostFile path)) status done is why tells one = absurd why
+refused_at_one r F told (Err Memory) status done is why tells one = absurd (omega arith)
+
+-- A spent budget is what a status of 3 means, and it is told.
+pub spent_at_three : {T : Type 0} (remaining : Option (List ℕ)) (F : List ℕ → Type 0) (told : List ℕ → Type 0)
+    (answer : Result T Stop) (status : ℕ) → IfOk answer (λ _. status ≡ 0) →
+    IfErr answer (λ stop. status ≡ status_of stop) → IfErr answer (StopsFor (StopsRun remaining) F) →
+    IfErr answer (λ stop. status_of stop ≢ 4 → told (text_of_stop stop)) → status ≡ 3 → SpendsRun remaining told
+spent_at_three r F told (Ok x) status done is why tells three = absurd (omega arith)
+spent_at_three r F told (Err (Refused text cause)) status done is why tells three = absurd (omega arith)
+spent_at_three r F told (Err (Interface text error)) status done is why tells three = absurd why
+spent_at_three r F told (Err (Audit text error)) status done is why tells three = absurd why
+spent_at_three r F told (Err (Unsteady text error)) status done is why tells three = absurd why
+spent_at_three r F told (Err Differs) status done is why tells three = absurd why
+spent_at_three r F told (Err (Usage text)) status done is why tells three = absurd why
+spent_at_three r F told (Err (NoClass name)) status done is why tells three = absurd why
+spent_at_three r F told (Err OutOfBudget) status done is why tells three = (why, tells (λ e. omega arith))
+spent_at_three r F told (Err (FileFault path)) status done is why tells three = absurd (omega arith)
+spent_at_three r F told (Err (LostFile path)) status done is why tells three = absurd why
+spent_at_three r F told (Err Memory) status done is why tells three = absurd (omega arith)

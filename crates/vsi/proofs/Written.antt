@@ -1,0 +1,104 @@
+-- What is written of an answer, and what is left as it was.
+use Rattle.std.proofs.Common.{◌≡◌, ℕ, ◌<◌, List, Result, Ok, Err, ◌∙◌, sym, subst, inl, inr, arith}
+use Rattle.std.specs.Prelude.{Option, IfOk, IfErr, MatchResult, OnOk, IsOkAnd, codes}
+use Rattle.std.specs.Global.{Vec}
+use Rattle.std.specs.Io.KnownBytes.{Appends, Keeps}
+use Rattle.std.proofs.KnownBytes.{Keeps-refl}
+use Rattle.std.proofs.lemmas.Result.{IfOk-weaker, on_ok_weaker}
+use Rattle.vsi_lattice.specs.declared.lattice.Lattice.{Lattice}
+use Rattle.vsi_conform.specs.declared.interface.Judgement.{Judgement}
+use Rattle.vsi_types.specs.declared.rules.Profile.{Profile}
+use Rattle.vsi_answers.specs.declared.unanswered.Unanswered.{Unanswered}
+use Rattle.vsi_json.specs.Answer.{BeginApart, TellsAccepted, TellsAnswer, accepted_line}
+use Rattle.vsi_arguments.specs.declared.request.Audit.{Audit}
+use Rattle.vsi_arguments.specs.declared.request.Compilation.{Compilation}
+use Rattle.vsi.specs.declared.stop.Stop.{Stop}
+use Rattle.vsi.specs.Holding.{Holding}
+use Rattle.vsi.specs.Performed.{AreFiles, AuditsFiles, Builds, OfFiles, PerformsAudit, PerformsBuild, Writes, profile_of}
+use Rattle.vsi.specs.Silent.{IsSilent}
+use Rattle.vsi.specs.Stops.{status_of, stop_of}
+use Rattle.vsi.proofs.Answered.{answered_told}
+
+-- A text that is written is of the kind that the answer is.
+pub writes_of : (Kind : Vec ℕ → Type 0) (old new : Option (List ℕ)) (answer : Result (Vec ℕ) Stop) →
+    IfOk answer Kind → IsOkAnd answer (λ text. Appends old new text.items) → Writes Kind old new
+writes_of Kind old new (Ok text) is written = record { text = text; is = is; written = written }
+writes_of Kind old new (Err stop) is written = absurd written
+
+-- The same, where the text has been written.
+pub put_writes : {T : Type 0} (Kind : Vec ℕ → Type 0) (old new : Option (List ℕ)) (answer : Result (Vec ℕ) Stop)
+    (result : Result T Stop) → IfOk answer Kind →
+    OnOk result (IsOkAnd answer (λ text. Appends old new text.items)) → OnOk result (Writes Kind old new)
+put_writes Kind old new answer result is done = on_ok_weaker result (writes_of Kind old new answer is) done
+
+-- What holds where an answer is given holds where it is given and told.
+pub told_of : {T A W : Type 0} (answer : Result T Stop) → OnOk answer A → IsOkAnd answer (λ x. W) → A × W
+told_of (Ok x) holds told = (holds, told)
+told_of (Err stop) holds told = absurd told
+
+-- An image that passes its audit is told to be accepted.
+pub accept_performs : {T U : Type 0} (holds : Holding) (asked : Audit) (old new : Option (List ℕ))
+    (answer : Result U Stop) (result : Result T Stop) → OnOk answer (AuditsFiles holds asked) →
+    OnOk result (IsOkAnd answer (λ x. Appends old new (codes "accepted\n"))) →
+    OnOk result (PerformsAudit holds asked old new)
+accept_performs holds asked old new answer result passes done =
+    on_ok_weaker result
+    (λ told. let both : AuditsFiles holds asked × Appends old new (codes "accepted\n") = told_of answer passes told in
+    record { audits = both.0; written = both.1 })
+    done
+
+-- A build writes nothing to the output.
+pub build_performs : {T : Type 0} (holds : Holding) (c : Compilation) (old : Option (List ℕ)) (result : Result T Stop) →
+    OnOk result (Builds holds c) → OnOk result (PerformsBuild holds c old old)
+build_performs holds c old result builds =
+    on_ok_weaker result (λ bytes. record { builds = bytes; kept = Keeps-refl old }) builds
+
+-- Where nothing is written the output is as it was.
+pub silent_kept : {T : Type 0} (result : Result T Stop) (old : Option (List ℕ)) → IsSilent result old old
+silent_kept (Ok x) old = tt
+silent_kept (Err stop) old = λ other below. Keeps-refl old
+
+-- A stop of a greater status may have written something.
+pub silent_late : {T : Type 0} (result : Result T Stop) (old new : Option (List ℕ)) →
+    IfErr result (λ stop. 3 < status_of stop) → IsSilent result old new
+silent_late (Ok x) old new late = tt
+silent_late (Err stop) old new late = λ other below. absurd (omega arith)
+
+-- A fault of the output may have written something.
+pub silent_fault : {T : Type 0} (result : Result T Stop) (old new : Option (List ℕ)) →
+    IfErr result (λ stop. status_of stop ≡ 4) → IsSilent result old new
+silent_fault (Ok x) old new fault = tt
+silent_fault (Err stop) old new fault = λ other below. absurd (omega arith)
+
+-- A line that is that of an accepted text tells of one.
+pub accepted_told : BeginApart → (l : Lattice) (j : Judgement) (text out : List ℕ) → TellsAnswer l j text out →
+    out ≡ accepted_line → TellsAccepted l j text out
+accepted_told apart l j text out (inl told) is = told
+accepted_told apart l j text out (inr told) is = absurd (apart told.rest (sym is ∙ told.line))
+
+-- What is answered of a lattice and a source text is told of the files that hold them.
+pub told_files : (holds : Holding) (c : Compilation)
+    (Ask : Lattice → List ℕ → Result (Vec ℕ) Unanswered → Type 0) (l : Lattice) (text source : List ℕ)
+    (answer : Result (Vec ℕ) Unanswered) (result : Result (Vec ℕ) Stop) → AreFiles holds c l text → source ≡ text →
+    MatchResult answer (λ t. result ≡ Ok t) (λ reason. result ≡ Err (stop_of reason)) → Ask l source answer →
+    IfOk result (OfFiles holds c (λ m s t. Ask m s (Ok t)))
+told_files holds c Ask l text source answer result files same is told =
+    IfOk-weaker result (λ t. Ask l text (Ok t)) (OfFiles holds c (λ m s t. Ask m s (Ok t)))
+    (λ t so. record { lattice = l; source = text; files = files; is = so })
+    (answered_told (Ask l text) answer result is (subst (λ s. Ask l s answer) same told))
+
+-- The same, under the profile of a compilation.
+pub told_by : (holds : Holding) (c : Compilation)
+    (Ask : Lattice → Profile → List ℕ → Result (Vec ℕ) Unanswered → Type 0) (l : Lattice) (text source : List ℕ)
+    (P : Profile) (answer : Result (Vec ℕ) Unanswered) (result : Result (Vec ℕ) Stop) → AreFiles holds c l text →
+    source ≡ text → P ≡ profile_of c.is_strict →
+    MatchResult answer (λ t. result ≡ Ok t) (λ reason. result ≡ Err (stop_of reason)) → Ask l P source answer →
+    IfOk result (OfFiles holds c (λ m s t. Ask m (profile_of c.is_strict) s (Ok t)))
+told_by holds c Ask l text source P answer result files same by is told =
+    told_files holds c (λ m s a. Ask m (profile_of c.is_strict) s a) l text source answer result files same is
+    (subst (λ Q. Ask l Q source answer) by told)
+
+-- What holds anyway holds where an answer is given.
+pub on_ok_of : {T A : Type 0} (result : Result T Stop) → A → OnOk result A
+on_ok_of (Ok x) a = a
+on_ok_of (Err stop) a = tt

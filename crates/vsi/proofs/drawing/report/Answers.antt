@@ -1,0 +1,18 @@
+use Rattle.std.proofs.Common.{subst}
+use Rattle.vsi_report.specs.Page.{HasPanel}
+use Rattle.vsi.specs.Holding.{IsReadAt}
+use Rattle.vsi.proofs.drawing.report.Goals as goal
+
+pub returns : goal.returns
+returns g c =
+    record {
+      lattice = c.in_ok-classes.classes;
+      source = c.in_ok-text.text.items;
+      files = record {
+        lattice = c.in_ok-classes.ensures.read;
+        read = subst (λ h. IsReadAt h c.args.compilation.source.now c.in_ok-text.text.items)
+            c.in_ok-classes.ensures.kept c.in_ok-text.ensures.read;
+      };
+      is = subst (HasPanel c.in_ok-report_page.field-0.items) c.as_slice.ensures.value
+          c.in_ok-report_page.ensures.panel;
+    }

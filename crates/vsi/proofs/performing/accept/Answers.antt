@@ -1,0 +1,10 @@
+use Rattle.vsi.proofs.Written.{silent_fault, silent_kept}
+use Rattle.vsi.proofs.performing.accept.Goals as goal
+
+pub returns-in_err-answer-clause-silent : goal.returns-in_err-answer-clause-silent
+returns-in_err-answer-clause-silent g c =
+    silent_kept c.from_residual.result _
+
+pub returns-clause-silent : goal.returns-clause-silent
+returns-clause-silent g c =
+    silent_fault c.write.result _ _ c.write.ensures.stop

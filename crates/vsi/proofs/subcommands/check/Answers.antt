@@ -1,0 +1,26 @@
+use Rattle.std.proofs.Common.{◌≡◌, Ok, Err, subst}
+use Rattle.std.specs.Prelude.{MatchResult}
+use Rattle.vsi_answers.specs.Requests.{ChecksSteadyTo, ChecksTo}
+use Rattle.vsi.specs.Stops.{stop_of}
+use Rattle.vsi.proofs.Written.{told_by, told_files}
+use Rattle.vsi.proofs.subcommands.check.Goals.{then-asked, else-asked}
+use Rattle.vsi.proofs.subcommands.check.Goals as goal
+
+pub returns : goal.returns
+returns g c =
+    elim c.if-asked.branch [
+      | then-asked w ↦
+          rw w.if-asked.true
+          (told_files _ _ ChecksSteadyTo _ _ _ w.check_steady-answer.result c.answered.result c.in_ok-classes.ensures
+          w.as_slice.ensures.value
+          (subst (λ a. MatchResult a (λ t. c.answered.result ≡ Ok t) (λ reason. c.answered.result ≡ Err (stop_of reason)))
+          w.answer-is c.answered.ensures)
+          w.check_steady-answer.ensures.checks)
+      | else-asked w ↦
+          rw w.if-asked.false
+          (told_by _ _ (λ l P s a. ChecksTo l P s a) _ _ _ _ w.check-answer.result c.answered.result
+          c.in_ok-classes.ensures w.as_slice-else-asked.ensures.value w.profile-profile.ensures
+          (subst (λ a. MatchResult a (λ t. c.answered.result ≡ Ok t) (λ reason. c.answered.result ≡ Err (stop_of reason)))
+          w.answer-is c.answered.ensures)
+          w.check-answer.ensures.checks)
+    ]

@@ -1,0 +1,14 @@
+use Rattle.std.proofs.Common.{subst}
+use Rattle.std.specs.Io.KnownBytes.{Appends}
+use Rattle.vsi_devices.specs.Counted.{device_of}
+use Rattle.vsi.proofs.subcommands.check_as_json.Goals as goal
+
+pub returns-then-is_accepted-clause-performed : goal.returns-then-is_accepted-clause-performed
+returns-then-is_accepted-clause-performed g c =
+    record {
+      text = c.in_ok-is_accepted.line;
+      is = c.in_ok-is_accepted.ensures c.if-is_accepted.true;
+      written = subst
+          (Appends (g.W.Write.contents (device_of c.args.output.now)) (g.W.Write.contents (device_of c.write.new.output)))
+          c.deref.ensures.value c.in_ok-write.ensures.whole;
+    }

@@ -1,0 +1,9 @@
+//! The laws of command lines. Each function's contract is a law, and its body does nothing.
+
+ghost use Rattle.vsi.specs.Laws.{CheckedIsAccepted};
+
+/// Where the words `check`, a lattice file and a source text are obeyed to the end, the files at
+/// these paths hold a lattice and a text that is accepted under it.
+pub fn checked_is_accepted()
+    ensures { CheckedIsAccepted }
+{}

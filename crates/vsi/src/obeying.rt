@@ -1,0 +1,134 @@
+//! Does what words ask for.
+
+ghost use Rattle.std.specs.Prelude.{◌<◌, OnOk};
+ghost use Rattle.vsi.specs.Done.{Done};
+ghost use Rattle.vsi.specs.Performed.{Performs};
+ghost use Rattle.vsi.specs.Stops.{TellsFault};
+ghost use Rattle.vsi_asked.specs.Help.{AsksHelp};
+ghost use Rattle.vsi_devices.specs.Counted.{device_of, faults_of};
+
+use crate::desk::Desk;
+use crate::explaining::{Explaining, explained};
+use crate::files::Files;
+use crate::performing::perform;
+use crate::stop::{Stop, write};
+use crate::telling::Told;
+use std::alloc::Global;
+use std::io::{Read, Write};
+use vsi_arguments::{ArgumentsError, Asked, Manner, Request, request_of};
+use vsi_asked::{asks_for, asks_help};
+use vsi_devices::Counted;
+
+/// What is told where the words don't ask for what was read of them.
+const MISUNDERSTOOD: &str = "error: these words are not understood\n";
+
+/// Does what the words ask for, or tells what is wrong with them.
+pub(crate) fn obey<'a, F: Files, R: Read, W: Write>(
+    alloc: Global,
+    words: &'a [String],
+    files: &mut F,
+    input: &mut Counted<R>,
+    output: &mut Counted<W>,
+    told: &mut Told,
+) -> Result<(), Stop<'a>>
+    requires input { faults_of input.old < u64.MAX }
+    requires output { faults_of output.old < u64.MAX }
+    ensures input_fault { TellsFault (faults_of input.old) (faults_of input.new) result }
+    ensures output_fault { TellsFault (faults_of output.old) (faults_of output.new) result }
+    ensures done { OnOk result (Done (F.holds files.old) words.now
+        (W.contents (device_of output.old)) (W.contents (device_of output.new))) }
+{
+    match request_of(alloc, words) {
+        Ok(asked) => {
+            if !asks_for(words, &asked.request) {
+                return Err(misunderstood(alloc));
+            }
+            obey_asked(alloc, asked, files, input, output, told)
+        }
+        Err(error) => answer_arguments(alloc, words, error, output),
+    }
+}
+
+/// Does what is asked for, in the manner that is asked for.
+fn obey_asked<'a, F: Files, R: Read, W: Write>(
+    alloc: Global,
+    asked: Asked<'a>,
+    files: &mut F,
+    input: &mut Counted<R>,
+    output: &mut Counted<W>,
+    told: &mut Told,
+) -> Result<(), Stop<'a>>
+    requires input { faults_of input.old < u64.MAX }
+    requires output { faults_of output.old < u64.MAX }
+    ensures input_fault { TellsFault (faults_of input.old) (faults_of input.new) result }
+    ensures output_fault { TellsFault (faults_of output.old) (faults_of output.new) result }
+    ensures performed { OnOk result (Performs (F.holds files.old) asked.entry.request
+        (W.contents (device_of output.old)) (W.contents (device_of output.new))) }
+{
+    match asked.manner {
+        Manner::Fixed => perform(alloc, asked.request, files, input, output, told),
+        Manner::Explained(colour) => {
+            let explaining = Explaining::new(&asked.request, colour, files);
+            obey_explaining(alloc, asked.request, explaining, files, input, output, told)
+        }
+    }
+}
+
+/// The stop at words that don't ask for what was read of them.
+fn misunderstood<'a>(alloc: Global) -> Stop<'a> {
+    match String::from_str(alloc, MISUNDERSTOOD) {
+        Ok(text) => Stop::Usage(text),
+        Err(_) => Stop::Memory,
+    }
+}
+
+/// Does what is asked for, and puts an explanation behind what is told where it isn't done.
+fn obey_explaining<'a, F: Files, R: Read, W: Write>(
+    alloc: Global,
+    request: Request<'a>,
+    explaining: Explaining,
+    files: &mut F,
+    input: &mut Counted<R>,
+    output: &mut Counted<W>,
+    told: &mut Told,
+) -> Result<(), Stop<'a>>
+    requires input { faults_of input.old < u64.MAX }
+    requires output { faults_of output.old < u64.MAX }
+    ensures input_fault { TellsFault (faults_of input.old) (faults_of input.new) result }
+    ensures output_fault { TellsFault (faults_of output.old) (faults_of output.new) result }
+    ensures performed { OnOk result (Performs (F.holds files.old) request.entry
+        (W.contents (device_of output.old)) (W.contents (device_of output.new))) }
+{
+    told.is_explained = true;
+    let mut desk = Desk::new(alloc, files);
+    match perform(alloc, request, &mut desk, input, output, told) {
+        Ok(()) => Ok(()),
+        Err(stop) => {
+            let lines = explained(alloc, explaining, &mut desk, &stop);
+            Err(stop.after(told.put(lines)))
+        }
+    }
+}
+
+/// Help that the words ask for goes to the output; what is wrong with them is told by the stop.
+fn answer_arguments<'a, W: Write>(
+    alloc: Global,
+    words: &[String],
+    error: ArgumentsError,
+    output: &mut Counted<W>,
+) -> Result<(), Stop<'a>>
+    requires { faults_of output.old < u64.MAX }
+    ensures fault { TellsFault (faults_of output.old) (faults_of output.new) result }
+    ensures help { OnOk result (AsksHelp words.now) }
+{
+    match error {
+        ArgumentsError::Help(text) => {
+            if !asks_help(words) {
+                return Err(misunderstood(alloc));
+            }
+            write(text.as_bytes(), output)
+        }
+        ArgumentsError::Mistake(text) => Err(Stop::Usage(text)),
+        ArgumentsError::Memory => Err(Stop::Memory),
+    }
+}

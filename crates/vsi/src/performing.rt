@@ -1,0 +1,142 @@
+//! Does one subcommand.
+
+ghost use Rattle.std.specs.Prelude.{◌<◌, IsOkAnd, OnOk, codes};
+ghost use Rattle.std.specs.Io.KnownBytes.{Appends};
+ghost use Rattle.vsi.specs.Performed.{Performs, PerformsCheck};
+ghost use Rattle.vsi.specs.Silent.{IsSilent};
+ghost use Rattle.vsi.specs.Stops.{TellsFault};
+ghost use Rattle.vsi_devices.specs.Counted.{device_of, faults_of};
+
+use crate::auditing::{audit, source};
+use crate::comparing::compare;
+use crate::conformance::conform;
+use crate::drawing::{draw, report};
+use crate::driving::drive;
+use crate::files::Files;
+use crate::leaking::leak;
+use crate::running::{Running, run, view};
+use crate::stop::{Stop, write};
+use crate::subcommands::{build, check, check_as_json, classes, flows, format, list};
+use crate::telling::Told;
+use std::alloc::Global;
+use std::io::{Read, Write};
+use vsi_arguments::{Judging, Request};
+use vsi_devices::Counted;
+
+/// Writes `accepted` where nothing is wrong.
+fn accept<'a, W: Write>(
+    answer: Result<(), Stop<'a>>,
+    output: &mut Counted<W>,
+) -> Result<(), Stop<'a>>
+    requires { faults_of output.old < u64.MAX }
+    ensures fault { TellsFault (faults_of output.old) (faults_of output.new) result }
+    ensures silent { IsSilent result (W.contents (device_of output.old))
+        (W.contents (device_of output.new)) }
+    ensures done { OnOk result (IsOkAnd answer.entry (λ _.
+        Appends (W.contents (device_of output.old)) (W.contents (device_of output.new))
+        (codes "accepted\n"))) }
+{
+    answer?;
+    write(b"accepted\n", output)
+}
+
+/// Writes the text of an answer.
+fn put<'a, W: Write>(
+    answer: Result<Vec<u8>, Stop<'a>>,
+    output: &mut Counted<W>,
+) -> Result<(), Stop<'a>>
+    requires { faults_of output.old < u64.MAX }
+    ensures fault { TellsFault (faults_of output.old) (faults_of output.new) result }
+    ensures silent { IsSilent result (W.contents (device_of output.old))
+        (W.contents (device_of output.new)) }
+    ensures done { OnOk result (IsOkAnd answer.entry (λ text.
+        Appends (W.contents (device_of output.old)) (W.contents (device_of output.new))
+        text.items)) }
+{
+    let text = answer?;
+    write(text.as_slice(), output)
+}
+
+/// Writes that the source text is accepted, in the manner that is asked for.
+fn put_check<'a, F: Files, W: Write>(
+    alloc: Global,
+    asked: Judging<'a>,
+    files: &mut F,
+    output: &mut Counted<W>,
+) -> Result<(), Stop<'a>>
+    requires { faults_of output.old < u64.MAX }
+    ensures fault { TellsFault (faults_of output.old) (faults_of output.new) result }
+    ensures silent { IsSilent result (W.contents (device_of output.old))
+        (W.contents (device_of output.new)) }
+    ensures performed { OnOk result
+        (PerformsCheck asked.entry.is_json (F.holds files.old) asked.entry
+        (W.contents (device_of output.old)) (W.contents (device_of output.new))) }
+{
+    if asked.is_json {
+        check_as_json(alloc, asked, files, output)
+    } else {
+        put(check(alloc, asked, files), output)
+    }
+}
+
+/// Does one subcommand.
+pub(crate) fn perform<'a, F: Files, R: Read, W: Write>(
+    alloc: Global,
+    request: Request<'a>,
+    files: &mut F,
+    input: &mut Counted<R>,
+    output: &mut Counted<W>,
+    told: &mut Told,
+) -> Result<(), Stop<'a>>
+    requires input { faults_of input.old < u64.MAX }
+    requires output { faults_of output.old < u64.MAX }
+    ensures input_fault { TellsFault (faults_of input.old) (faults_of input.new) result }
+    ensures output_fault { TellsFault (faults_of output.old) (faults_of output.new) result }
+    ensures silent { IsSilent result (W.contents (device_of output.old))
+        (W.contents (device_of output.new)) }
+    ensures performed { OnOk result (Performs (F.holds files.old) request.entry
+        (W.contents (device_of output.old)) (W.contents (device_of output.new))) }
+{
+    match request {
+        Request::Check(asked) => put_check(alloc, asked, files, output),
+        Request::Conform(asked) => conform(alloc, asked, files, output),
+        Request::Classes(compilation) => put(classes(alloc, compilation, files), output),
+        Request::Flows {
+            compilation,
+            has_walks,
+        } => put(flows(alloc, compilation, has_walks, files), output),
+        Request::Build(compilation, image) => build(alloc, compilation, image, files),
+        Request::List(image) => put(list(alloc, image, files), output),
+        Request::Audit(asked) => accept(audit(alloc, asked, files), output),
+        Request::Source(image) => put(source(alloc, image, files), output),
+        Request::Run {
+            execution,
+            outset,
+            has_trace,
+            has_count,
+        } => {
+            let is_explained = told.is_explained;
+            let asked = Running {
+                execution,
+                outset,
+                has_trace,
+                has_count,
+                is_explained,
+            };
+            run(alloc, &asked, files, output, &mut told.note)
+        }
+        Request::View {
+            lattice,
+            class,
+            execution,
+            outset,
+        } => view(alloc, lattice, class, execution, &outset, files, output),
+        Request::Drive(driving) => drive(alloc, driving, files, input, output),
+        Request::Compare(comparison) => compare(alloc, comparison, files, output),
+        Request::Leak(search) => put(leak(alloc, search, files), output),
+        Request::Report(compilation) => put(report(alloc, compilation, files), output),
+        Request::Draw(drawing) => put(draw(alloc, drawing, files), output),
+        Request::Format(source) => put(format(alloc, source, files), output),
+        Request::Explain(page) => write(page.as_bytes(), output),
+    }
+}

@@ -1,0 +1,126 @@
+-- What a request is of the words of a command line.
+use Rattle.std.specs.Prelude.{◌≡◌, ℕ, Bool, false, List, [], ◌∷◌, Option, option_map, option_to_list, codes, String}
+use Rattle.std.specs.declared.alloc.Global.{Global}
+use Rattle.std.specs.Borrow.{Bor}
+use Rattle.vsi_arguments.specs.declared.request.Compilation.{Compilation}
+use Rattle.vsi_arguments.specs.declared.request.Execution.{Execution}
+use Rattle.vsi_arguments.specs.declared.request.Outset.{Outset}
+use Rattle.vsi_arguments.specs.declared.request.Request.{Request}
+use Rattle.vsi_arguments.specs.declared.request.Request.TheVariants.{Check, Conform, Classes, Flows, Build, List as Listing, Audit, Source, Run, View, Drive, Compare, Leak, Report, Draw, Format, Explain}
+use Rattle.vsi_asked.specs.Words.{has_flag, operands_in, shown, texts, values_in}
+
+-- The word of the subcommand.
+abbrev pub name_of : Request → List ℕ
+name_of (Check judging) = codes "check"
+name_of (Conform conformance) = codes "conform"
+name_of (Classes compilation) = codes "classes"
+name_of (Flows compilation has_walks) = codes "flows"
+name_of (Build compilation image) = codes "build"
+name_of (Listing image) = codes "list"
+name_of (Audit audit) = codes "audit"
+name_of (Source image) = codes "source"
+name_of (Run execution outset has_trace has_count) = codes "run"
+name_of (View lattice class execution outset) = codes "view"
+name_of (Drive driving) = codes "drive"
+name_of (Compare comparison) = codes "compare"
+name_of (Leak search) = codes "leak"
+name_of (Report compilation) = codes "report"
+name_of (Draw drawing) = codes "draw"
+name_of (Format source) = codes "fmt"
+name_of (Explain page) = codes "explain"
+
+-- A path that may be left out.
+abbrev pub given : Option (Bor (List ℕ)) → List (List ℕ)
+given path = option_to_list (option_map (λ p. p.now) path)
+
+-- The lattice file and the source text of a compilation.
+abbrev pub compiled : Compilation → List (List ℕ)
+compiled compilation = compilation.lattice.now ∷ compilation.source.now ∷ []
+
+-- The paths of a request that stand among the words as operands, in their order; the operand of `explain` is a number.
+abbrev pub operands_of : Request → List (List ℕ)
+operands_of (Check judging) = compiled judging.compilation
+operands_of (Conform conformance) = conformance.interface.now ∷ conformance.source.now ∷ []
+operands_of (Classes compilation) = compiled compilation
+operands_of (Flows compilation has_walks) = compiled compilation
+operands_of (Build compilation image) = compilation.lattice.now ∷ compilation.source.now ∷ image.now ∷ []
+operands_of (Listing image) = image.now ∷ []
+operands_of (Audit audit) = audit.lattice.now ∷ audit.image.now ∷ []
+operands_of (Source image) = image.now ∷ []
+operands_of (Run execution outset has_trace has_count) = execution.image.now ∷ []
+operands_of (View lattice class execution outset) = lattice.now ∷ execution.image.now ∷ []
+operands_of (Drive driving) = driving.execution.image.now ∷ driving.lattice.now ∷ []
+operands_of (Compare comparison) = comparison.lattice.now ∷ comparison.image.now ∷ []
+operands_of (Leak search) = search.lattice.now ∷ search.source.now ∷ []
+operands_of (Report compilation) = compiled compilation
+operands_of (Draw drawing) = drawing.lattice.now ∷ given drawing.source
+operands_of (Format source) = source.now ∷ []
+operands_of (Explain page) = []
+
+-- The flags of a request, each with whether it is set.
+abbrev pub flags_of : Request → List (List ℕ × Bool)
+flags_of (Check judging) =
+    (codes "--strict", judging.compilation.is_strict) ∷ (codes "--steady", judging.is_steady)
+    ∷ (codes "--json", judging.is_json) ∷ []
+flags_of (Conform conformance) = (codes "--json", conformance.is_json) ∷ []
+flags_of (Classes compilation) = (codes "--strict", compilation.is_strict) ∷ []
+flags_of (Flows compilation has_walks) =
+    (codes "--strict", compilation.is_strict) ∷ (codes "--walks", has_walks) ∷ []
+flags_of (Build compilation image) = (codes "--strict", compilation.is_strict) ∷ []
+flags_of (Listing image) = []
+flags_of (Audit audit) = (codes "--strict", audit.is_strict) ∷ (codes "--steady", audit.is_steady) ∷ []
+flags_of (Source image) = []
+flags_of (Run execution outset has_trace has_count) =
+    (codes "--full-store", outset.is_full) ∷ (codes "--trace", has_trace) ∷ (codes "--count", has_count) ∷ []
+flags_of (View lattice class execution outset) = (codes "--full-store", outset.is_full) ∷ []
+flags_of (Drive driving) = []
+flags_of (Compare comparison) = []
+flags_of (Leak search) = (codes "--endings", search.has_endings) ∷ (codes "--steps", search.has_steps) ∷ []
+flags_of (Report compilation) = (codes "--strict", compilation.is_strict) ∷ []
+flags_of (Draw drawing) = (codes "--strict", drawing.is_strict) ∷ []
+flags_of (Format source) = []
+flags_of (Explain page) = []
+
+-- The options of a run's beginning and end, each with what is given for it.
+abbrev pub starting : Execution → Outset → List (List ℕ × List (List ℕ))
+starting execution outset =
+    (codes "--store", given execution.store) ∷ (codes "--out", given outset.out)
+    ∷ (codes "--set", shown outset.settings.items) ∷ []
+
+-- The options of a request, each with what is given for it; numbers are left out.
+abbrev pub options_of : Request → List (List ℕ × List (List ℕ))
+options_of (Run execution outset has_trace has_count) = starting execution outset
+options_of (View lattice class execution outset) = (codes "--class", class.now ∷ []) ∷ starting execution outset
+options_of (Drive driving) =
+    (codes "--class", driving.class.now ∷ []) ∷ (codes "--store", given driving.execution.store)
+    ∷ (codes "--save", given driving.save) ∷ []
+options_of (Compare comparison) =
+    (codes "--class", comparison.class.now ∷ [])
+    ∷ (codes "--store", comparison.stores.0.now ∷ comparison.stores.1.now ∷ []) ∷ []
+options_of (Leak search) = (codes "--class", given search.class) ∷ []
+options_of request = []
+
+-- Each of these flags is among the words exactly where it is set.
+abbrev pub HasFlags : List (List ℕ) → List (List ℕ × Bool) → Type 0
+HasFlags words [] = Unit {0}
+HasFlags words (flag ∷ flags) = (has_flag flag.0 words ≡ flag.1) × HasFlags words flags
+
+-- The words give exactly these values for each of these options.
+abbrev pub HasOptions : List (List ℕ) → List (List ℕ × List (List ℕ)) → Type 0
+HasOptions words [] = Unit {0}
+HasOptions words (option ∷ options) = (values_in option.0 false words ≡ option.1) × HasOptions words options
+
+-- The first word is the name, and those behind it have exactly these operands, flags and values of options.
+pub record Asks (words : List (String Global)) (name : List ℕ) (operands : List (List ℕ))
+    (flags : List (List ℕ × Bool)) (options : List (List ℕ × List (List ℕ))) : Type 0 where
+  pub rest : List (List ℕ)
+  pub named : texts words ≡ name ∷ rest
+  pub has_operands : operands_in false rest ≡ operands
+  pub has_flags : HasFlags rest flags
+  pub has_options : HasOptions rest options
+
+-- The words are those of the request: its subcommand, and behind it its operands, its flags and its options. Of
+-- `explain` the subcommand alone is told.
+abbrev pub AsksFor : List (String Global) → Request → Type 0
+AsksFor words (Explain page) = (rest : List (List ℕ)) × (texts words ≡ codes "explain" ∷ rest)
+AsksFor words request = Asks words (name_of request) (operands_of request) (flags_of request) (options_of request)

@@ -1,0 +1,4 @@
+pub mod Words
+pub mod Asked
+pub mod Help
+pub mod Laws

@@ -1,0 +1,66 @@
+-- How the words behind a subcommand are read.
+use Rattle.std.specs.Prelude.{ℕ, ◌==◌, Bool, true, false, List, [], ◌∷◌, ◌++◌, Option, Some, None, option_to_list, map, bytes_eq, codes, if◌then◌else◌, String, string_bytes}
+use Rattle.std.specs.declared.alloc.Global.{Global}
+use Rattle.std.specs.Borrow.{Bor}
+
+-- The texts of words.
+abbrev pub texts : List (String Global) → List (List ℕ)
+texts words = map string_bytes words
+
+-- The texts that references show.
+abbrev pub shown : List (Bor (List ℕ)) → List (List ℕ)
+shown references = map (λ r. r.now) references
+
+-- The word behind which there are operands alone.
+abbrev pub is_end : List ℕ → Bool
+is_end word = bytes_eq word (codes "--")
+
+-- The word is one of these.
+abbrev pub is_among : List (List ℕ) → List ℕ → Bool
+is_among [] word = false
+is_among (name ∷ names) word = if bytes_eq word name then true else is_among names word
+
+-- The options behind which a value stands.
+abbrev pub VALUED : List (List ℕ)
+VALUED =
+    codes "--budget" ∷ codes "--class" ∷ codes "--color" ∷ codes "--out" ∷ codes "--save" ∷ codes "--seed"
+    ∷ codes "--set" ∷ codes "--store" ∷ codes "--tries" ∷ []
+
+-- The word begins with a hyphen, and something stands behind that.
+abbrev pub is_dashed : List ℕ → Bool
+is_dashed [] = false
+is_dashed (byte ∷ []) = false
+is_dashed (byte ∷ next ∷ rest) = byte == 45
+
+-- The operands among words, the first of which may be the value of an option: each that is neither an option nor its
+-- value, and behind the first `--` all.
+abbrev pub operands_in : Bool → List (List ℕ) → List (List ℕ)
+operands_in is_value [] = []
+operands_in true (word ∷ rest) = operands_in false rest
+operands_in false (word ∷ rest) =
+    if is_end word then rest
+    else (if is_among VALUED word then operands_in true rest
+    else (if is_dashed word then operands_in false rest else word ∷ operands_in false rest))
+
+-- The flag is one of the words in front of the first `--`.
+abbrev pub has_flag : List ℕ → List (List ℕ) → Bool
+has_flag flag [] = false
+has_flag flag (word ∷ rest) =
+    if is_end word then false else (if bytes_eq word flag then true else has_flag flag rest)
+
+-- What stands behind the option and `=` in a word.
+abbrev pub joined : List ℕ → List ℕ → Option (List ℕ)
+joined [] [] = None
+joined [] (byte ∷ value) = if byte == 61 then Some value else None
+joined (wanted ∷ more) [] = None
+joined (wanted ∷ more) (byte ∷ rest) = if byte == wanted then joined more rest else None
+
+-- What is given for an option by words in front of the first `--`, the first of which may be its value: the word behind
+-- the option, or what stands behind `=` in its word.
+abbrev pub values_in : List ℕ → Bool → List (List ℕ) → List (List ℕ)
+values_in option is_value [] = []
+values_in option true (word ∷ rest) = word ∷ values_in option false rest
+values_in option false (word ∷ rest) =
+    if is_end word then []
+    else (if bytes_eq word option then values_in option true rest
+    else option_to_list (joined option word) ++ values_in option false rest)

@@ -1,0 +1,320 @@
+//! Whether words ask for a request.
+
+ghost use Rattle.std.specs.Prelude.{◌≡◌, [], ◌∷◌, IfSome, codes, false, map, true};
+ghost use Rattle.vsi_arguments.specs.declared.request.Request.TheVariants as request;
+ghost use Rattle.vsi_asked.specs.Asked as spec;
+ghost use Rattle.vsi_asked.specs.Words.{operands_in, shown, texts, values_in};
+
+use crate::reading::{has_flag, has_operands, has_values};
+use vsi_arguments::{
+    Audit, Comparison, Compilation, Conformance, Drawing, Driving, Execution, Judging, Outset,
+    Request, Search,
+};
+
+/// Whether each of these flags is among words exactly where it is set.
+fn has_flags(words: &[String], flags: &[(&str, bool)]) -> bool
+    ensures { result ≡ true
+        → spec.HasFlags (texts words.now) (map (λ f. (f.0.now, f.1)) flags.now) }
+{
+    let mut rest = flags;
+    while let [(flag, is_set), behind @ ..] = rest {
+        if has_flag(words, flag.as_bytes()) != *is_set {
+            return false;
+        }
+        rest = behind;
+    }
+    true
+}
+
+/// Whether words give an option this value, or none.
+fn has_value(words: &[String], option: &str, value: Option<&str>) -> bool
+    ensures { result ≡ true
+        → values_in option.now false (texts words.now) ≡ spec.given value.entry }
+{
+    match value {
+        Some(value) => has_values(words, option.as_bytes(), [value.as_bytes()].as_slice()),
+        None => has_values(words, option.as_bytes(), &[]),
+    }
+}
+
+/// The words behind the first, where that is the name.
+fn behind_name<'a>(words: &'a [String], name: &str) -> Option<&'a [String]>
+    ensures { IfSome result (λ rest. texts words.now ≡ name.now ∷ texts rest.now) }
+{
+    match words {
+        [first, rest @ ..] if first.as_bytes() == name.as_bytes() => Some(rest),
+        _ => None,
+    }
+}
+
+/// The words behind the first, where that is the name and these have exactly these operands and
+/// flags.
+fn behind<'a>(
+    words: &'a [String],
+    name: &str,
+    operands: &[&[u8]],
+    flags: &[(&str, bool)],
+) -> Option<&'a [String]>
+    ensures named { IfSome result (λ rest. texts words.now ≡ name.now ∷ texts rest.now) }
+    ensures operands { IfSome result
+        (λ rest. operands_in false (texts rest.now) ≡ shown operands.now) }
+    ensures flags { IfSome result
+        (λ rest. spec.HasFlags (texts rest.now) (map (λ f. (f.0.now, f.1)) flags.now)) }
+{
+    let rest = behind_name(words, name)?;
+    if has_operands(rest, operands) && has_flags(rest, flags) {
+        Some(rest)
+    } else {
+        None
+    }
+}
+
+/// Whether words ask for a subcommand with these operands and flags, which has no options that
+/// count.
+fn asks(words: &[String], name: &str, operands: &[&[u8]], flags: &[(&str, bool)]) -> bool
+    ensures { result ≡ true → spec.Asks words.now name.now (shown operands.now)
+        (map (λ f. (f.0.now, f.1)) flags.now) [] }
+{
+    behind(words, name, operands, flags).is_some()
+}
+
+/// Whether words ask for a compilation.
+fn asks_compilation(
+    words: &[String],
+    name: &str,
+    compilation: &Compilation<'_>,
+    flags: &[(&str, bool)],
+) -> bool
+    ensures { result ≡ true → spec.Asks words.now name.now (spec.compiled compilation.now)
+        (map (λ f. (f.0.now, f.1)) flags.now) [] }
+{
+    let operands = [
+        compilation.lattice.as_bytes(),
+        compilation.source.as_bytes(),
+    ];
+    asks(words, name, operands.as_slice(), flags)
+}
+
+/// Whether words give what a run begins with, and where its text goes.
+fn has_outset(words: &[String], execution: &Execution<'_>, outset: &Outset<'_>) -> bool
+    ensures { result ≡ true
+        → spec.HasOptions (texts words.now) (spec.starting execution.now outset.now) }
+{
+    has_value(words, "--store", execution.store)
+        && has_value(words, "--out", outset.out)
+        && has_values(words, b"--set", outset.settings.as_slice())
+}
+
+/// Whether words ask for a run.
+fn asks_run(
+    words: &[String],
+    execution: &Execution<'_>,
+    outset: &Outset<'_>,
+    has_trace: bool,
+    has_count: bool,
+) -> bool
+    ensures { result ≡ true
+        → spec.AsksFor words.now (request.Run execution.now outset.now has_trace has_count) }
+{
+    let operands = [execution.image.as_bytes()];
+    let flags = [
+        ("--full-store", outset.is_full),
+        ("--trace", has_trace),
+        ("--count", has_count),
+    ];
+    let Some(rest) = behind(words, "run", operands.as_slice(), flags.as_slice()) else {
+        return false;
+    };
+    has_outset(rest, execution, outset)
+}
+
+/// Whether words ask for a view.
+fn asks_view(
+    words: &[String],
+    lattice: &str,
+    class: &str,
+    execution: &Execution<'_>,
+    outset: &Outset<'_>,
+) -> bool
+    ensures { result ≡ true → spec.AsksFor words.now
+        (request.View lattice.entry class.entry execution.now outset.now) }
+{
+    let operands = [lattice.as_bytes(), execution.image.as_bytes()];
+    let flags = [("--full-store", outset.is_full)];
+    let Some(rest) = behind(words, "view", operands.as_slice(), flags.as_slice()) else {
+        return false;
+    };
+    has_value(rest, "--class", Some(class)) && has_outset(rest, execution, outset)
+}
+
+/// Whether words ask to drive a controller.
+fn asks_drive(words: &[String], driving: &Driving<'_>) -> bool
+    ensures { result ≡ true → spec.AsksFor words.now (request.Drive driving.now) }
+{
+    let operands = [
+        driving.execution.image.as_bytes(),
+        driving.lattice.as_bytes(),
+    ];
+    let Some(rest) = behind(words, "drive", operands.as_slice(), &[]) else {
+        return false;
+    };
+    has_value(rest, "--class", Some(driving.class))
+        && has_value(rest, "--store", driving.execution.store)
+        && has_value(rest, "--save", driving.save)
+}
+
+/// Whether words ask for a comparison.
+fn asks_compare(words: &[String], comparison: &Comparison<'_>) -> bool
+    ensures { result ≡ true → spec.AsksFor words.now (request.Compare comparison.now) }
+{
+    let operands = [comparison.lattice.as_bytes(), comparison.image.as_bytes()];
+    let Some(rest) = behind(words, "compare", operands.as_slice(), &[]) else {
+        return false;
+    };
+    let (first, second) = comparison.stores;
+    let stores = [first.as_bytes(), second.as_bytes()];
+    has_value(rest, "--class", Some(comparison.class))
+        && has_values(rest, b"--store", stores.as_slice())
+}
+
+/// Whether words ask for a search.
+fn asks_leak(words: &[String], search: &Search<'_>) -> bool
+    ensures { result ≡ true → spec.AsksFor words.now (request.Leak search.now) }
+{
+    let operands = [search.lattice.as_bytes(), search.source.as_bytes()];
+    let flags = [
+        ("--endings", search.has_endings),
+        ("--steps", search.has_steps),
+    ];
+    let Some(rest) = behind(words, "leak", operands.as_slice(), flags.as_slice()) else {
+        return false;
+    };
+    has_value(rest, "--class", search.class)
+}
+
+/// Whether words ask to draw.
+fn asks_draw(words: &[String], drawing: &Drawing<'_>) -> bool
+    ensures { result ≡ true → spec.AsksFor words.now (request.Draw drawing.now) }
+{
+    let flags = [("--strict", drawing.is_strict)];
+    match drawing.source {
+        Some(source) => {
+            let operands = [drawing.lattice.as_bytes(), source.as_bytes()];
+            asks(words, "draw", operands.as_slice(), flags.as_slice())
+        }
+        None => asks(
+            words,
+            "draw",
+            [drawing.lattice.as_bytes()].as_slice(),
+            flags.as_slice(),
+        ),
+    }
+}
+
+/// Whether words ask for a judgement of a source text.
+fn asks_check(words: &[String], judging: &Judging<'_>) -> bool
+    ensures { result ≡ true → spec.AsksFor words.now (request.Check judging.now) }
+{
+    let flags = [
+        ("--strict", judging.compilation.is_strict),
+        ("--steady", judging.is_steady),
+        ("--json", judging.is_json),
+    ];
+    asks_compilation(words, "check", &judging.compilation, flags.as_slice())
+}
+
+/// Whether words ask for a judgement by an interface.
+fn asks_conform(words: &[String], conformance: &Conformance<'_>) -> bool
+    ensures { result ≡ true → spec.AsksFor words.now (request.Conform conformance.now) }
+{
+    let operands = [
+        conformance.interface.as_bytes(),
+        conformance.source.as_bytes(),
+    ];
+    let flags = [("--json", conformance.is_json)];
+    asks(words, "conform", operands.as_slice(), flags.as_slice())
+}
+
+/// Whether words ask for flows.
+fn asks_flows(words: &[String], compilation: &Compilation<'_>, has_walks: bool) -> bool
+    ensures { result ≡ true → spec.AsksFor words.now (request.Flows compilation.now has_walks) }
+{
+    let flags = [("--strict", compilation.is_strict), ("--walks", has_walks)];
+    asks_compilation(words, "flows", compilation, flags.as_slice())
+}
+
+/// Whether words ask for an image.
+fn asks_build(words: &[String], compilation: &Compilation<'_>, image: &str) -> bool
+    ensures { result ≡ true → spec.AsksFor words.now (request.Build compilation.now image.entry) }
+{
+    let operands = [
+        compilation.lattice.as_bytes(),
+        compilation.source.as_bytes(),
+        image.as_bytes(),
+    ];
+    let flags = [("--strict", compilation.is_strict)];
+    asks(words, "build", operands.as_slice(), flags.as_slice())
+}
+
+/// Whether words ask for an audit.
+fn asks_audit(words: &[String], audit: &Audit<'_>) -> bool
+    ensures { result ≡ true → spec.AsksFor words.now (request.Audit audit.now) }
+{
+    let operands = [audit.lattice.as_bytes(), audit.image.as_bytes()];
+    let flags = [("--strict", audit.is_strict), ("--steady", audit.is_steady)];
+    asks(words, "audit", operands.as_slice(), flags.as_slice())
+}
+
+/// Whether words ask for what a compilation judges by its profile alone.
+fn asks_judged(words: &[String], name: &str, compilation: &Compilation<'_>) -> bool
+    ensures { result ≡ true → spec.Asks words.now name.now (spec.compiled compilation.now)
+        ((codes "--strict", compilation.now.is_strict) ∷ []) [] }
+{
+    let flags = [("--strict", compilation.is_strict)];
+    asks_compilation(words, name, compilation, flags.as_slice())
+}
+
+/// Whether words ask for what is done with one file.
+fn asks_file(words: &[String], name: &str, path: &str) -> bool
+    ensures { result ≡ true → spec.Asks words.now name.now (path.now ∷ []) [] [] }
+{
+    asks(words, name, [path.as_bytes()].as_slice(), &[])
+}
+
+/// Whether words ask for a request.
+pub fn asks_for(words: &[String], request: &Request<'_>) -> bool
+    ensures asked { result ≡ true → spec.AsksFor words.now request.now }
+{
+    match request {
+        Request::Check(judging) => asks_check(words, judging),
+        Request::Conform(conformance) => asks_conform(words, conformance),
+        Request::Classes(compilation) => asks_judged(words, "classes", compilation),
+        Request::Flows {
+            compilation,
+            has_walks,
+        } => asks_flows(words, compilation, *has_walks),
+        Request::Build(compilation, image) => asks_build(words, compilation, image),
+        Request::List(image) => asks_file(words, "list", image),
+        Request::Audit(audit) => asks_audit(words, audit),
+        Request::Source(image) => asks_file(words, "source", image),
+        Request::Run {
+            execution,
+            outset,
+            has_trace,
+            has_count,
+        } => asks_run(words, execution, outset, *has_trace, *has_count),
+        Request::View {
+            lattice,
+            class,
+            execution,
+            outset,
+        } => asks_view(words, lattice, class, execution, outset),
+        Request::Drive(driving) => asks_drive(words, driving),
+        Request::Compare(comparison) => asks_compare(words, comparison),
+        Request::Leak(search) => asks_leak(words, search),
+        Request::Report(compilation) => asks_judged(words, "report", compilation),
+        Request::Draw(drawing) => asks_draw(words, drawing),
+        Request::Format(source) => asks_file(words, "fmt", source),
+        Request::Explain(_) => behind_name(words, "explain").is_some(),
+    }
+}

@@ -1,0 +1,173 @@
+//! Reads the words behind a subcommand.
+
+ghost use Rattle.std.specs.Prelude.{◌≡◌, ◌∷◌, ◌+◌, ◌<◌, ◌≤◌, drop, length, true, false};
+ghost use Rattle.std.specs.Prelude.{option_map};
+ghost use Rattle.vsi_asked.specs.Words as spec;
+
+/// The options behind which a value stands.
+const VALUED: [&[u8]; 9] = [
+    b"--budget",
+    b"--class",
+    b"--color",
+    b"--out",
+    b"--save",
+    b"--seed",
+    b"--set",
+    b"--store",
+    b"--tries",
+];
+
+/// Whether a word is the one behind which there are operands alone.
+fn is_end(word: &[u8]) -> bool
+    ensures { result ≡ spec.is_end word.now }
+{
+    word == b"--".as_slice()
+}
+
+/// Whether a value stands behind a word.
+fn is_valued(word: &[u8]) -> bool
+    ensures { result ≡ spec.is_among spec.VALUED word.now }
+{
+    let mut rest = VALUED.as_slice();
+    while let [name, behind @ ..] = rest {
+        if word == *name {
+            return true;
+        }
+        rest = behind;
+    }
+    false
+}
+
+/// Whether a word begins with a hyphen, and something stands behind that.
+fn is_dashed(word: &[u8]) -> bool
+    ensures { result ≡ spec.is_dashed word.now }
+{
+    match word {
+        [byte, _, ..] => *byte == b'-',
+        _ => false,
+    }
+}
+
+/// Whether a flag is one of the words in front of the first `--`.
+pub(crate) fn has_flag(words: &[String], flag: &[u8]) -> bool
+    ensures { result ≡ spec.has_flag flag.now (spec.texts words.now) }
+{
+    let mut rest = words;
+    while let [word, behind @ ..] = rest {
+        if is_end(word.as_bytes()) {
+            return false;
+        }
+        if word.as_bytes() == flag {
+            return true;
+        }
+        rest = behind;
+    }
+    false
+}
+
+/// Whether the text at a place is the word.
+fn is_at(texts: &[&[u8]], place: usize, word: &[u8]) -> bool
+    ensures within { result ≡ true → place < length texts.now }
+    ensures text { result ≡ true → drop place (spec.shown texts.now)
+        ≡ word.now ∷ drop (place + 1) (spec.shown texts.now) }
+{
+    if place >= texts.len() {
+        return false;
+    }
+    texts[place] == word
+}
+
+/// Whether these are the operands among words.
+pub(crate) fn has_operands(words: &[String], operands: &[&[u8]]) -> bool
+    ensures { result ≡ true
+        → spec.operands_in false (spec.texts words.now) ≡ spec.shown operands.now }
+{
+    let mut rest = words;
+    let mut done = 0;
+    let mut is_value = false;
+    while let [word, behind @ ..] = rest {
+        if is_value {
+            is_value = false;
+        } else if is_end(word.as_bytes()) {
+            return are_from(behind, operands, done);
+        } else if is_valued(word.as_bytes()) {
+            is_value = true;
+        } else if !is_dashed(word.as_bytes()) {
+            if !is_at(operands, done, word.as_bytes()) {
+                return false;
+            }
+            done += 1;
+        }
+        rest = behind;
+    }
+    done == operands.len()
+}
+
+/// Whether words are the texts from a place on.
+fn are_from(words: &[String], texts: &[&[u8]], place: usize) -> bool
+    requires { place ≤ length texts.now }
+    ensures { result ≡ true → spec.texts words.now ≡ drop place (spec.shown texts.now) }
+{
+    let mut rest = words;
+    let mut done = place;
+    while let [word, behind @ ..] = rest {
+        if !is_at(texts, done, word.as_bytes()) {
+            return false;
+        }
+        rest = behind;
+        done += 1;
+    }
+    done == texts.len()
+}
+
+/// What stands behind the option and `=` in a word.
+fn joined<'a>(option: &[u8], word: &'a [u8]) -> Option<&'a [u8]>
+    ensures { option_map (λ value. value.now) result ≡ spec.joined option.now word.now }
+{
+    let mut left = option;
+    let mut rest = word;
+    while let [wanted, more @ ..] = left {
+        let [byte, behind @ ..] = rest else {
+            return None;
+        };
+        if *byte != *wanted {
+            return None;
+        }
+        left = more;
+        rest = behind;
+    }
+    match rest {
+        [byte, value @ ..] if *byte == b'=' => Some(value),
+        _ => None,
+    }
+}
+
+/// Whether these are the values that words give for an option.
+pub(crate) fn has_values(words: &[String], option: &[u8], values: &[&[u8]]) -> bool
+    ensures { result ≡ true
+        → spec.values_in option.now false (spec.texts words.now) ≡ spec.shown values.now }
+{
+    let mut rest = words;
+    let mut done = 0;
+    let mut is_value = false;
+    while let [word, behind @ ..] = rest {
+        if is_value {
+            if !is_at(values, done, word.as_bytes()) {
+                return false;
+            }
+            is_value = false;
+            done += 1;
+        } else if is_end(word.as_bytes()) {
+            break;
+        } else if word.as_bytes() == option {
+            is_value = true;
+        } else if let Some(value) = joined(option, word.as_bytes()) {
+            if !is_at(values, done, value) {
+                return false;
+            }
+            done += 1;
+        }
+        rest = behind;
+    }
+    done == values.len()
+}

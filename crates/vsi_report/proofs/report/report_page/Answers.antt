@@ -1,0 +1,32 @@
+use Rattle.vsi_report.proofs.SizeLemmas.{bounded_with, bounded_without}
+use Rattle.vsi_report.proofs.report.report_page.Goals as goal
+
+pub returns-in-Ok-clause-bounded : goal.returns-in-Ok-clause-bounded
+returns-in-Ok-clause-bounded c =
+    let v = c.in-Ok.ensures in
+    bounded_with c.args.lattice.now c.args.profile c.args.source.now c.in-Ok.verified c.accepted_page.result
+    (record {
+      accepted = v.accepted;
+      globals = v.globals;
+      meaning = v.meaning;
+      noninterference = v.noninterference;
+      endings = v.endings;
+      coded = v.coded;
+      image = v.image;
+      size = v.size;
+    })
+    c.accepted_page.ensures.bounded
+
+pub returns-in-Err-Flow-clause-bounded : goal.returns-in-Err-Flow-clause-bounded
+returns-in-Err-Flow-clause-bounded c =
+    bounded_without c.args.lattice.now c.args.profile c.args.source.now c.refused_page.result
+    c.refused_page.ensures.bounded
+
+pub returns-in-Err : goal.returns-in-Err
+returns-in-Err c =
+    record {
+      panel = c.faulty_page.ensures.panel;
+      bounded =
+          bounded_without c.args.lattice.now c.args.profile c.args.source.now c.faulty_page.result
+          c.faulty_page.ensures.bounded;
+    }

@@ -1,0 +1,73 @@
+//! Where an arrow of a picture goes past the boxes of a row between its ends.
+
+use crate::layout::{Layout, Spot};
+
+/// The space between an arrow and a box beside which it passes: half of that between two boxes.
+const BESIDE: usize = 17;
+
+/// The least space between an arrow and a box that it passes.
+const CLEAR: usize = 15;
+
+/// How far two numbers are apart.
+fn apart(a: usize, b: usize) -> usize {
+    a.max(b).saturating_sub(a.min(b))
+}
+
+/// Half of a box's width, and a space beside it.
+fn reach(spot: &Spot, space: usize) -> usize {
+    (spot.wide / 2).saturating_add(space)
+}
+
+/// The row between two heights that is nearest to their middle, if there is one.
+fn row_between(layout: &Layout, top: usize, foot: usize) -> Option<usize> {
+    let middle = top.saturating_add(foot) / 2;
+    let mut found = None;
+    let mut nearest = usize::MAX;
+    for spot in &layout.spots {
+        let is_between = spot.wide > 0 && top < spot.y && spot.y < foot;
+        if is_between && apart(spot.y, middle) < nearest {
+            nearest = apart(spot.y, middle);
+            found = Some(spot.y);
+        }
+    }
+    found
+}
+
+/// Whether no box of a row is near to a place in it.
+fn is_free(layout: &Layout, row: usize, x: usize) -> bool {
+    for spot in &layout.spots {
+        if spot.wide > 0 && spot.y == row && apart(spot.x, x) < reach(spot, CLEAR) {
+            return false;
+        }
+    }
+    true
+}
+
+/// The free place in a row that is nearest to one: that place, or beside a box.
+fn free_in(layout: &Layout, row: usize, x: usize) -> usize {
+    if is_free(layout, row, x) {
+        return x;
+    }
+    let mut found = x;
+    let mut nearest = usize::MAX;
+    for spot in &layout.spots {
+        if spot.wide == 0 || spot.y != row {
+            continue;
+        }
+        let half = reach(spot, BESIDE);
+        for beside in [spot.x.saturating_sub(half), spot.x.saturating_add(half)] {
+            if apart(beside, x) < nearest && is_free(layout, row, beside) {
+                nearest = apart(beside, x);
+                found = beside;
+            }
+        }
+    }
+    found
+}
+
+/// Where an arrow between two heights passes the row in its middle, if one stands there; it would
+/// pass it at `x`.
+pub(crate) fn passage(layout: &Layout, top: usize, foot: usize, x: usize) -> Option<usize> {
+    let row = row_between(layout, top, foot)?;
+    Some(free_in(layout, row, x))
+}
