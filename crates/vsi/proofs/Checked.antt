@@ -1,9 +1,7 @@
 -- What is so where `check` is done to the end.
 use Rattle.std.proofs.Common.{ℕ, List, Option, Bool, subst, inl, inr}
-use Rattle.std.specs.Prelude.{Ok, codes, ◌≡◌, false}
-use Rattle.vsi_lattice.specs.LatticeView.{class_named, order}
+use Rattle.std.specs.Prelude.{Ok, false}
 use Rattle.vsi_types.specs.declared.rules.Profile.TheVariants.{Base}
-use Rattle.vsi_compiler.specs.Acceptance.{IsAccepted}
 use Rattle.vsi_answers.specs.Requests.{ChecksTo}
 use Rattle.vsi_arguments.specs.declared.request.Judging.{Judging}
 use Rattle.vsi_arguments.specs.declared.request.Request.{Request}

@@ -1,4 +1,9 @@
 pub mod Answered
+pub mod Reasons
+pub mod Seen
 pub mod Written
 pub mod Stopped
 pub mod Checked
+pub mod Obeyed
+pub mod Refused
+pub mod Unrun

@@ -192,22 +192,25 @@ heard_fault contents old mid new note W F (Err stop) status up more greeted none
     ∙ stream_text W F stop why (sym is ∙ four)) told))
 
 -- Where all is told of a stop, or nothing of a file fault, it is told at a status that isn't 0.
-pub tells_stop : {T E : Type 0} (contents : E → Option (List ℕ)) (old mid new : Counted E) (note : List ℕ)
-    (answer : Result T Stop) (status : ℕ) → faults_of old ≤ faults_of mid → faults_of mid ≤ faults_of new →
-    Hears contents old mid [] → IfOk answer (λ _. status ≡ 0) → IfErr answer (λ stop. status ≡ status_of stop) →
+pub tells_stop : {T E : Type 0} (So : Stop → Type 0) (contents : E → Option (List ℕ)) (old mid new : Counted E)
+    (note : List ℕ) (answer : Result T Stop) (status : ℕ) → IfErr answer So → faults_of old ≤ faults_of mid →
+    faults_of mid ≤ faults_of new → Hears contents old mid [] → IfOk answer (λ _. status ≡ 0) →
+    IfErr answer (λ stop. status ≡ status_of stop) →
     IfErr answer (λ stop. ((status_of stop ≡ 4) × Gets contents mid new [])
     ⊎ Gets contents mid new (text_of_stop stop ++ note_behind stop note)) →
-    status ≢ 0 → TellsStop status contents old new
-tells_stop contents old mid new note (Ok x) status up more greeted done is told other = absurd (other done)
-tells_stop contents old mid new note (Err stop) status up more greeted done is (inl nothing) other = record {
+    status ≢ 0 → TellsStop So status contents old new
+tells_stop So contents old mid new note (Ok x) status so up more greeted done is told other = absurd (other done)
+tells_stop So contents old mid new note (Err stop) status so up more greeted done is (inl nothing) other = record {
   stop = stop;
   note = note;
+  so = so;
   stopped = is;
   told = inr (is ∙ nothing.0, Hears-behind contents old mid new [] up more greeted nothing.1);
 }
-tells_stop contents old mid new note (Err stop) status up more greeted done is (inr all) other = record {
+tells_stop So contents old mid new note (Err stop) status so up more greeted done is (inr all) other = record {
   stop = stop;
   note = note;
+  so = so;
   stopped = is;
   told = inl (Hears-behind contents old mid new _ up more greeted all);
 }

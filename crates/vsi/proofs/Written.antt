@@ -2,7 +2,7 @@
 use Rattle.std.proofs.Common.{◌≡◌, ℕ, ◌<◌, List, Result, Ok, Err, ◌∙◌, sym, subst, inl, inr, arith}
 use Rattle.std.specs.Prelude.{Option, IfOk, IfErr, MatchResult, OnOk, IsOkAnd, codes}
 use Rattle.std.specs.Global.{Vec}
-use Rattle.std.specs.Io.KnownBytes.{Appends, Keeps}
+use Rattle.std.specs.Io.KnownBytes.{Appends}
 use Rattle.std.proofs.KnownBytes.{Keeps-refl}
 use Rattle.std.proofs.lemmas.Result.{IfOk-weaker, on_ok_weaker}
 use Rattle.vsi_lattice.specs.declared.lattice.Lattice.{Lattice}

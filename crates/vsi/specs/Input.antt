@@ -61,10 +61,13 @@ Hears contents old new text = Gets contents old new text ⊎ Gets contents old n
 abbrev pub HearsFault : {E : Type 0} → (E → Option (List ℕ)) → Counted E → Counted E → Type 0
 HearsFault contents old new = Hears contents old new [] ⊎ Hears contents old new (codes "file fault: -\n")
 
--- A writer has got the text of a stop that has this status, with a note behind it, or at a file fault nothing.
-pub record TellsStop {E : Type 0} (status : ℕ) (contents : E → Option (List ℕ)) (old new : Counted E) : Type 0 where
+-- A writer has got the text of a stop of which this is so and that has this status, with a note behind it, or at a file
+-- fault nothing.
+pub record TellsStop {E : Type 0} (So : Stop → Type 0) (status : ℕ) (contents : E → Option (List ℕ))
+    (old new : Counted E) : Type 0 where
   pub stop : Stop
   pub note : List ℕ
+  pub so : So stop
   pub stopped : status ≡ status_of stop
   pub told :
       Hears contents old new (text_of_stop stop ++ note_behind stop note)

@@ -4,5 +4,6 @@ pub mod Input
 pub mod Words
 pub mod Holding
 pub mod Performed
+pub mod Reasons
 pub mod Done
 pub mod Laws

@@ -5,6 +5,7 @@ use Rattle.std.specs.Global.{Vec}
 use Rattle.std.specs.Io.KnownBytes.{Appends, Keeps}
 use Rattle.vsi_lattice.specs.LatticeView.{class_named, order}
 use Rattle.vsi_lattice.specs.NamePlaces.{texts}
+use Rattle.vsi_lattice.specs.Order.{IsClass}
 use Rattle.vsi_lattice.specs.declared.lattice.Lattice.{Lattice}
 use Rattle.vsi_types.specs.declared.rules.Profile.{Profile}
 use Rattle.vsi_types.specs.declared.rules.Profile.TheVariants.{Base, Strict}
@@ -12,7 +13,7 @@ use Rattle.vsi_image.specs.declared.instr.Image.{Image}
 use Rattle.vsi_image.specs.Fields.{globals}
 use Rattle.vsi_store.specs.File.{Tells}
 use Rattle.vsi_store.specs.declared.comparison.Comparison as found
-use Rattle.vsi_compiler.specs.Observation.{EndsAlike, IsNoninterfering}
+use Rattle.vsi_compiler.specs.Observation.{EndsAlike, IsNoninterfering, IsStoreOf}
 use Rattle.vsi_compiler.specs.Readable.{HasProgram}
 use Rattle.vsi_compiler.specs.Source.{IsCanonicalText}
 use Rattle.vsi_steady.specs.Steady.{IsSteady}
@@ -84,6 +85,7 @@ pub record BeginsAt (holds : Holding) (e : Execution) (o : Outset) (im : Image) 
   pub file : List ℕ
   pub read : IsStoreAt holds e.store file
   pub begins : Begins im file (texts o.settings.items) o.is_full words
+  pub whole : IsStoreOf im words
 
 -- The words that a store file tells for an image.
 pub record IsStoredAt (holds : Holding) (path : Option (Bor (List ℕ))) (im : Image) (words : List ℤ) : Type 0 where
@@ -95,6 +97,7 @@ pub record IsStoredAt (holds : Holding) (path : Option (Bor (List ℕ))) (im : I
 pub record LooksAt (holds : Holding) (path name : List ℕ) (l : Lattice) (class : ℕ) : Type 0 where
   pub lattice : IsLatticeAt holds path l
   pub named : class_named l name ≡ Some class
+  pub is : IsClass (order l) class
 
 -- ---- what is told.
 

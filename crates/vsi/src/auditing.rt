@@ -1,7 +1,10 @@
 //! What the subcommands that judge an image without its source answer.
 
-ghost use Rattle.std.specs.Prelude.{IfOk, OnOk};
+ghost use Rattle.std.specs.Prelude.{◌≡◌, ◌⊎◌, ℕ, IfErr, IfOk, OnOk};
 ghost use Rattle.vsi.specs.Performed.{AuditsFiles, Passes, SourceOfFile};
+ghost use Rattle.vsi.specs.Reasons.{HasNoText, IsRefusedImage, RefusesAudit, RefusesImage, RefusesLattice, StopsBy};
+ghost use Rattle.vsi.specs.declared.stop.Stop.TheVariants as stops;
+ghost use Rattle.std.specs.Global.{Vec};
 
 use crate::files::Files;
 use crate::reading::{image_in, lattice_in, two_classes};
@@ -15,12 +18,10 @@ use vsi_lattice::Lattice;
 use vsi_steady::{SteadyError, steady_in, steady_text};
 
 /// What stands for the refusal of an image.
-fn refused_image<'a>(
-    alloc: Global,
-    lattice: &Lattice,
-    image: &Image,
-    error: AuditError,
-) -> Stop<'a> {
+fn refused_image<'a>(alloc: Global, lattice: &Lattice, image: &Image, error: AuditError) -> Stop<'a>
+    ensures { StopsBy (λ reason. ⊥)
+        (λ stop. (text : Vec ℕ) × (stop ≡ stops.Audit text error)) result }
+{
     if let AuditError::Memory = &error {
         return Stop::Memory;
     }
@@ -36,7 +37,10 @@ fn refused_unsteady<'a>(
     lattice: &Lattice,
     image: &Image,
     error: SteadyError,
-) -> Stop<'a> {
+) -> Stop<'a>
+    ensures { StopsBy (λ reason. ⊥)
+        (λ stop. (text : Vec ℕ) × (stop ≡ stops.Unsteady text error)) result }
+{
     if let SteadyError::Memory = &error {
         return Stop::Memory;
     }
@@ -53,8 +57,10 @@ fn judge<'a>(
     classes: &Lattice,
     verified: &Verified,
 ) -> Result<(), Stop<'a>>
-    ensures { OnOk result
+    ensures told { OnOk result
         (Passes asked.entry.is_steady asked.entry.is_strict classes.now verified.now) }
+    ensures stopped { IfErr result (StopsBy (λ reason. ⊥)
+        (IsRefusedImage asked.entry.is_strict classes.now verified.now)) }
 {
     if asked.is_steady {
         return match steady_in(alloc, classes, verified) {
@@ -74,7 +80,12 @@ pub(crate) fn audit<'a, F: Files>(
     asked: Audit<'a>,
     files: &mut F,
 ) -> Result<(), Stop<'a>>
-    ensures { OnOk result (AuditsFiles (F.holds files.old) asked.entry) }
+    ensures kept { F.holds files.new ≡ F.holds files.old }
+    ensures told { OnOk result (AuditsFiles (F.holds files.old) asked.entry) }
+    ensures stopped { IfErr result (StopsBy (λ reason.
+        RefusesLattice (F.holds files.old) asked.entry.lattice.now reason
+        ⊎ RefusesImage (F.holds files.old) asked.entry.image.now reason)
+        (RefusesAudit (F.holds files.old) asked.entry)) }
 {
     let classes = lattice_in(alloc, asked.lattice, files)?;
     let verified = image_in(alloc, asked.image, files)?;
@@ -87,7 +98,10 @@ pub(crate) fn source<'a, F: Files>(
     image: &'a str,
     files: &mut F,
 ) -> Result<Vec<u8>, Stop<'a>>
-    ensures { IfOk result (SourceOfFile (F.holds files.old) image.now) }
+    ensures kept { F.holds files.new ≡ F.holds files.old }
+    ensures told { IfOk result (SourceOfFile (F.holds files.old) image.now) }
+    ensures stopped { IfErr result
+        (StopsBy (RefusesImage (F.holds files.old) image.now) HasNoText) }
 {
     let verified = image_in(alloc, image, files)?;
     match source_text(alloc, &verified) {

@@ -2,7 +2,7 @@
 
 ghost use Rattle.std.specs.Prelude.{◌≡◌, ◌≢◌, ◌<◌, ◌≤◌, ◌⊎◌, ◌++◌, [], false, Ok, Err, IfOk, IfErr, OnOk, codes};
 ghost use Rattle.std.specs.Io.KnownBytes.{Keeps};
-ghost use Rattle.vsi.specs.Done.{Done};
+ghost use Rattle.vsi.specs.Done.{Done, Stopped, StopsAt};
 ghost use Rattle.vsi.specs.Input.{Hears, HearsFault, RefusesRun, SpendsRun, StopsRun, TellsStop, WritesRun, WritesRunOf};
 ghost use Rattle.vsi.specs.Stops.{note_behind, status_of, text_of_stop, Gets, IsStreamFault, StopsFor, TellsFault};
 ghost use Rattle.vsi.specs.Words as spec;
@@ -69,7 +69,9 @@ pub fn command<F: Files, R: Read, W: Write, E: Write>(
         → HearsFault E.contents error.old error.new }
     ensures quiet { words.now ≡ [] → result ≡ 0 → Hears E.contents error.old error.new [] }
     ensures memory { result ≡ 5 → Hears E.contents error.old error.new (codes "out of memory\n") }
-    ensures told { result ≢ 0 → TellsStop result E.contents error.old error.new }
+    ensures told { result ≢ 0 → TellsStop (StopsAt (F.holds files.old) words.now
+        (W.contents (device_of output.old)) (W.contents (device_of output.new)))
+        result E.contents error.old error.new }
     ensures done { words.now ≢ [] → result ≡ 0 → Done (F.holds files.old) words.now
         (W.contents (device_of output.old)) (W.contents (device_of output.new)) }
 {
@@ -109,7 +111,7 @@ fn without_words<F: Files, R: Read, W: Write, E: Write>(
     ensures fault_told { result ≡ 4 → HearsFault E.contents error.old error.new }
     ensures quiet { result ≡ 0 → Hears E.contents error.old error.new [] }
     ensures memory { result ≡ 5 → Hears E.contents error.old error.new (codes "out of memory\n") }
-    ensures told { result ≢ 0 → TellsStop result E.contents error.old error.new }
+    ensures told { result ≢ 0 → TellsStop (λ stop. Unit {0}) result E.contents error.old error.new }
 {
     greet(files, error);
     let answer = run_input(alloc, input, output);
@@ -132,6 +134,8 @@ fn obeyed<'a, F: Files, R: Read, W: Write>(
     ensures output_fault { TellsFault (faults_of output.old) (faults_of output.new) result }
     ensures unread { spec.reads_input words.now ≡ false → input.new ≡ input.old }
     ensures done { OnOk result (Done (F.holds files.old) words.now
+        (W.contents (device_of output.old)) (W.contents (device_of output.new))) }
+    ensures stopped { IfErr result (Stopped (F.holds files.old) words.now
         (W.contents (device_of output.old)) (W.contents (device_of output.new))) }
 {
     if reads_input(words) {

@@ -1,10 +1,11 @@
 //! Two runs side by side.
 
-ghost use Rattle.std.specs.Prelude.{◌<◌, IfOk, OnOk};
+ghost use Rattle.std.specs.Prelude.{◌≡◌, ◌<◌, IfErr, IfOk, OnOk};
 ghost use Rattle.vsi.specs.Performed.{ComparesFiles, PerformsCompare};
 ghost use Rattle.vsi.specs.Silent.{IsSilent};
 ghost use Rattle.vsi.specs.Stops.{TellsFault};
 ghost use Rattle.vsi_devices.specs.Counted.{device_of, faults_of};
+ghost use Rattle.vsi.specs.Reasons.{DiffersCompare, IsDifference, NoOther, StopsBy, WhyCompare};
 
 use crate::driving::stored_words;
 use crate::files::Files;
@@ -21,7 +22,9 @@ fn compared<'a, F: Files>(
     asked: Comparison<'a>,
     files: &mut F,
 ) -> Result<vsi_store::Comparison, Stop<'a>>
-    ensures { IfOk result (ComparesFiles (F.holds files.old) asked.entry) }
+    ensures kept { F.holds files.new ≡ F.holds files.old }
+    ensures told { IfOk result (ComparesFiles (F.holds files.old) asked.entry) }
+    ensures stopped { IfErr result (StopsBy (WhyCompare (F.holds files.old) asked.entry) NoOther) }
 {
     let classes = lattice_in(alloc, asked.lattice, files)?;
     let class = class_in(&classes, asked.class)?;
@@ -48,11 +51,15 @@ pub(crate) fn compare<'a, F: Files, W: Write>(
     output: &mut Counted<W>,
 ) -> Result<(), Stop<'a>>
     requires { faults_of output.old < u64.MAX }
+    ensures kept { F.holds files.new ≡ F.holds files.old }
     ensures fault { TellsFault (faults_of output.old) (faults_of output.new) result }
     ensures silent { IsSilent result (W.contents (device_of output.old))
         (W.contents (device_of output.new)) }
     ensures performed { OnOk result (PerformsCompare (F.holds files.old) asked.entry
         (W.contents (device_of output.old)) (W.contents (device_of output.new))) }
+    ensures stopped { IfErr result (StopsBy (WhyCompare (F.holds files.old) asked.entry)
+        (IsDifference (DiffersCompare (F.holds files.old) asked.entry
+        (W.contents (device_of output.old)) (W.contents (device_of output.new))))) }
 {
     let found = compared(alloc, asked, files)?;
     write(&found.text, output)?;

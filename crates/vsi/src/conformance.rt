@@ -1,11 +1,13 @@
 //! A source text beside an interface that is fixed from outside.
 
-ghost use Rattle.std.specs.Prelude.{◌≡◌, ◌<◌, true, IfOk, OnOk};
+ghost use Rattle.std.specs.Prelude.{◌≡◌, ◌<◌, true, false, IfErr, IfOk, OnOk};
 ghost use Rattle.vsi.specs.Performed.{ConformsFiles, IsAskedAt, IsDeclared};
 ghost use Rattle.vsi.specs.Silent.{IsSilent};
 ghost use Rattle.vsi.specs.Stops.{TellsFault};
 ghost use Rattle.vsi_conform.specs.Conforms as spec;
 ghost use Rattle.vsi_devices.specs.Counted.{device_of, faults_of};
+ghost use Rattle.vsi.specs.Reasons.{DiffersConform, DiffersFiles, IsUnusable, NoOther, RefusesSomeLattice, StopsBy};
+ghost use Rattle.vsi.specs.Stops.{status_of};
 
 use crate::files::{Files, Kind};
 use crate::reading::{bytes_in, declared_lattice, settings_in};
@@ -21,7 +23,9 @@ use vsi_devices::Counted;
 use vsi_lattice::Lattice;
 
 /// What stands for the refusal of an interface file.
-fn unusable<'a>(alloc: Global, error: InterfaceError) -> Stop<'a> {
+fn unusable<'a>(alloc: Global, error: InterfaceError) -> Stop<'a>
+    ensures { StopsBy (λ reason. ⊥) IsUnusable result }
+{
     if let InterfaceError::Memory = &error {
         return Stop::Memory;
     }
@@ -38,7 +42,8 @@ fn named_bytes<'a, F: Files>(
     path: &[u8],
     files: &mut F,
 ) -> Result<Vec<u8>, Stop<'a>>
-    ensures { F.holds files.new ≡ F.holds files.old }
+    ensures kept { F.holds files.new ≡ F.holds files.old }
+    ensures stopped { IfErr result (λ stop. 3 < status_of stop) }
 {
     let beside = path_beside(alloc, interface, path)?;
     match settings_in(alloc, Kind::Lattice, beside.as_str(), files) {
@@ -58,6 +63,7 @@ fn lattice_of<'a, F: Files>(
 ) -> Result<Lattice, Stop<'a>>
     ensures kept { F.holds files.new ≡ F.holds files.old }
     ensures declared { IfOk result IsDeclared }
+    ensures stopped { IfErr result (StopsBy RefusesSomeLattice NoOther) }
 {
     match policy {
         Policy::File(path) => {
@@ -76,6 +82,7 @@ fn interface_in<'a, F: Files>(
 ) -> Result<Asked, Stop<'a>>
     ensures kept { F.holds files.new ≡ F.holds files.old }
     ensures asked { IfOk result (IsAskedAt (F.holds files.old) path.now) }
+    ensures stopped { IfErr result (StopsBy (λ reason. ⊥) IsUnusable) }
 {
     let bytes = settings_in(alloc, Kind::Interface, path, files)?;
     match read_interface(alloc, &bytes) {
@@ -85,11 +92,9 @@ fn interface_in<'a, F: Files>(
 }
 
 /// Judges the classes of an interface.
-fn know_classes<'a>(
-    alloc: Global,
-    lattice: &Lattice,
-    interface: &Interface,
-) -> Result<(), Stop<'a>> {
+fn know_classes<'a>(alloc: Global, lattice: &Lattice, interface: &Interface) -> Result<(), Stop<'a>>
+    ensures { IfErr result (StopsBy (λ reason. ⊥) IsUnusable) }
+{
     let Some(number) = unknown_class(lattice, interface) else {
         return Ok(());
     };
@@ -108,8 +113,11 @@ fn answer_of<'a>(
     text: &[u8],
     interface: &Interface,
 ) -> Result<(bool, Vec<u8>), Stop<'a>>
-    ensures { IfOk result
+    ensures told { IfOk result
         (λ pair. pair.0 ≡ true → spec.Conforms lattice.now text.now interface.now) }
+    ensures differs { IfOk result
+        (λ pair. pair.0 ≡ false → ¬ (spec.Conforms lattice.now text.now interface.now)) }
+    ensures stopped { IfErr result (λ stop. 3 < status_of stop) }
 {
     let answer = vsi_conform::conform(alloc, lattice, text, interface)?;
     let written = if is_json {
@@ -126,8 +134,12 @@ fn judged<'a, F: Files>(
     asked: Conformance<'a>,
     files: &mut F,
 ) -> Result<(bool, Vec<u8>), Stop<'a>>
-    ensures { IfOk result
+    ensures kept { F.holds files.new ≡ F.holds files.old }
+    ensures told { IfOk result
         (λ pair. pair.0 ≡ true → ConformsFiles (F.holds files.old) asked.entry) }
+    ensures differs { IfOk result
+        (λ pair. pair.0 ≡ false → DiffersFiles (F.holds files.old) asked.entry) }
+    ensures stopped { IfErr result (StopsBy RefusesSomeLattice IsUnusable) }
 {
     let found = interface_in(alloc, asked.interface, files)?;
     let lattice = lattice_of(alloc, asked.interface, &found.policy, files)?;
@@ -144,10 +156,13 @@ pub(crate) fn conform<'a, F: Files, W: Write>(
     output: &mut Counted<W>,
 ) -> Result<(), Stop<'a>>
     requires { faults_of output.old < u64.MAX }
+    ensures kept { F.holds files.new ≡ F.holds files.old }
     ensures fault { TellsFault (faults_of output.old) (faults_of output.new) result }
     ensures silent { IsSilent result (W.contents (device_of output.old))
         (W.contents (device_of output.new)) }
     ensures performed { OnOk result (ConformsFiles (F.holds files.old) asked.entry) }
+    ensures stopped { IfErr result
+        (StopsBy RefusesSomeLattice (DiffersConform (F.holds files.old) asked.entry)) }
 {
     let (conforms, text) = judged(alloc, asked, files)?;
     write(&text, output)?;

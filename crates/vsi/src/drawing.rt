@@ -1,7 +1,8 @@
 //! Pages and pictures.
 
-ghost use Rattle.std.specs.Prelude.{Some, IfOk};
+ghost use Rattle.std.specs.Prelude.{◌≡◌, Some, IfErr, IfOk, IsSomeAnd};
 ghost use Rattle.vsi.specs.Performed.{DrawsFiles, OfFiles, ToldFlowsGraph, ToldPage};
+ghost use Rattle.vsi.specs.Reasons.{NoOther, RefusesLattice, RefusesProgramAt, StopsBy, WhyDraw};
 
 use crate::files::{Files, Kind};
 use crate::reading::{bytes_in, lattice_in, refused};
@@ -18,7 +19,10 @@ pub(crate) fn report<'a, F: Files>(
     compilation: Compilation<'a>,
     files: &mut F,
 ) -> Result<Vec<u8>, Stop<'a>>
-    ensures { IfOk result (OfFiles (F.holds files.old) compilation.entry ToldPage) }
+    ensures kept { F.holds files.new ≡ F.holds files.old }
+    ensures told { IfOk result (OfFiles (F.holds files.old) compilation.entry ToldPage) }
+    ensures stopped { IfErr result
+        (StopsBy (RefusesLattice (F.holds files.old) compilation.entry.lattice.now) NoOther) }
 {
     let classes = lattice_in(alloc, compilation.lattice, files)?;
     let text = bytes_in(alloc, Kind::Source, compilation.source, files)?;
@@ -34,8 +38,11 @@ fn flows_graph<'a, F: Files>(
     is_strict: bool,
     files: &mut F,
 ) -> Result<Vec<u8>, Stop<'a>>
-    ensures { IfOk result (λ graph. ToldFlowsGraph (F.holds files.old) (Some source.entry) is_strict
-        classes.now graph.items) }
+    ensures kept { F.holds files.new ≡ F.holds files.old }
+    ensures told { IfOk result (λ graph. ToldFlowsGraph (F.holds files.old)
+        (Some source.entry) is_strict classes.now graph.items) }
+    ensures stopped { IfErr result
+        (StopsBy (RefusesProgramAt (F.holds files.old) classes.now source.now) NoOther) }
 {
     let text = bytes_in(alloc, Kind::Source, source, files)?;
     match flows_dot(alloc, profile(is_strict), classes, text.as_slice()) {
@@ -52,8 +59,11 @@ fn flows_behind<'a, F: Files>(
     is_strict: bool,
     files: &mut F,
 ) -> Result<Vec<u8>, Stop<'a>>
-    ensures { IfOk result (λ graph. ToldFlowsGraph (F.holds files.old) source.entry is_strict
+    ensures kept { F.holds files.new ≡ F.holds files.old }
+    ensures told { IfOk result (λ graph. ToldFlowsGraph (F.holds files.old) source.entry is_strict
         classes.now graph.items) }
+    ensures stopped { IfErr result (StopsBy (λ reason. IsSomeAnd source.entry
+        (λ path. RefusesProgramAt (F.holds files.old) classes.now path.now reason)) NoOther) }
 {
     match source {
         Some(source) => flows_graph(alloc, classes, source, is_strict, files),
@@ -67,7 +77,10 @@ pub(crate) fn draw<'a, F: Files>(
     drawing: Drawing<'a>,
     files: &mut F,
 ) -> Result<Vec<u8>, Stop<'a>>
-    ensures { IfOk result (DrawsFiles (F.holds files.old) drawing.entry) }
+    ensures kept { F.holds files.new ≡ F.holds files.old }
+    ensures told { IfOk result (DrawsFiles (F.holds files.old) drawing.entry) }
+    ensures stopped { IfErr result (StopsBy
+        (WhyDraw (F.holds files.old) drawing.entry.lattice.now drawing.entry.source) NoOther) }
 {
     let classes = lattice_in(alloc, drawing.lattice, files)?;
     let mut graphs = lattice_dot(alloc, &classes)?;

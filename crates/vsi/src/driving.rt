@@ -1,11 +1,16 @@
 //! Drives an image, a cycle for each line of the input.
 
-ghost use Rattle.std.specs.Prelude.{◌≡◌, ◌<◌, ◌≤◌, length, IfOk, IfErr, OnOk};
+ghost use Rattle.std.specs.Prelude.{◌≡◌, ◌<◌, ◌≤◌, ℕ, List, length, IfOk, IfErr, OnOk};
 ghost use Rattle.vsi.specs.Performed.{IsStoredAt};
 ghost use Rattle.vsi.specs.Silent.{IsSilent};
 ghost use Rattle.vsi.specs.Stops.{TellsFault, status_of};
 ghost use Rattle.vsi_devices.specs.Counted.{device_of, faults_of};
 ghost use Rattle.vsi_drive.specs.Control.{control};
+ghost use Rattle.vsi.specs.Holding.{IsStoreAt};
+ghost use Rattle.vsi.specs.Reasons.{NoOther, StopsBy};
+ghost use Rattle.vsi_answers.specs.Answers.{Because};
+ghost use Rattle.vsi_answers.specs.Judged.{IsStoreFault};
+ghost use Rattle.vsi_answers.specs.Judged as judged;
 
 use crate::files::Files;
 use crate::reading::{class_in, faulty, image_in, lattice_in, store_in};
@@ -34,6 +39,8 @@ pub(crate) fn drive<'a, F: Files, R: Read, W: Write>(
 ) -> Result<(), Stop<'a>>
     requires input { faults_of input.old < u64.MAX }
     requires output { faults_of output.old < u64.MAX }
+    ensures unfilled { IfErr result (λ stop. status_of stop < 4
+        → F.holds files.new ≡ F.holds files.old) }
     ensures input_fault { TellsFault (faults_of input.old) (faults_of input.new) result }
     ensures output_fault { TellsFault (faults_of output.old) (faults_of output.new) result }
     ensures silent { IsSilent result (W.contents (device_of output.old))
@@ -81,6 +88,9 @@ pub(crate) fn stored_words<'a, F: Files>(
     ensures len { IfOk result (λ words. length words.items ≡ length verified.now.globals.items) }
     ensures stored { IfOk result (λ words.
         IsStoredAt (F.holds files.old) path.entry verified.now words.items) }
+    ensures stopped { IfErr result (StopsBy (λ reason.
+        (file : List ℕ) × IsStoreAt (F.holds files.old) path.entry file
+        × Because (judged.TellsFault (IsStoreFault verified.now file)) ⊥ reason) NoOther) }
 {
     let bytes = store_in(alloc, path, files)?;
     match read_store(alloc, verified.image(), bytes.as_slice()) {

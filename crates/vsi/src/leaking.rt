@@ -1,9 +1,10 @@
 //! The search for leaks.
 
-ghost use Rattle.std.specs.Prelude.{IfOk, IfSome};
+ghost use Rattle.std.specs.Prelude.{◌≡◌, ◌⊎◌, IfErr, IfOk, IfSome};
 ghost use Rattle.vsi.specs.Performed.{SearchesFiles};
 ghost use Rattle.vsi_lattice.specs.LatticeView.{order};
 ghost use Rattle.vsi_lattice.specs.Order.{IsClass};
+ghost use Rattle.vsi.specs.Reasons.{DiffersLeak, NoOther, RefusesLattice, RefusesSource, StopsBy};
 
 use crate::files::{Files, Kind};
 use crate::reading::{bytes_in, class_in, lattice_in, refused};
@@ -16,6 +17,7 @@ use vsi_leak::{Effort, Finding, Wanted, leak_of_text, leak_text};
 /// The class that looks, where one is named.
 fn looking<'a>(lattice: &Lattice, name: Option<&'a str>) -> Result<Option<Class>, Stop<'a>>
     ensures within { IfOk result (λ class. IfSome class (IsClass (order lattice.now))) }
+    ensures stopped { IfErr result (StopsBy (λ reason. ⊥) NoOther) }
 {
     let Some(name) = name else {
         return Ok(None);
@@ -30,7 +32,12 @@ pub(crate) fn leak<'a, F: Files>(
     search: Search<'a>,
     files: &mut F,
 ) -> Result<Vec<u8>, Stop<'a>>
-    ensures { IfOk result (SearchesFiles (F.holds files.old) search.entry) }
+    ensures kept { F.holds files.new ≡ F.holds files.old }
+    ensures told { IfOk result (SearchesFiles (F.holds files.old) search.entry) }
+    ensures stopped { IfErr result (StopsBy (λ reason.
+        RefusesLattice (F.holds files.old) search.entry.lattice.now reason
+        ⊎ RefusesSource (F.holds files.old) search.entry.lattice.now search.entry.source.now reason)
+        (DiffersLeak (F.holds files.old) search.entry)) }
 {
     let classes = lattice_in(alloc, search.lattice, files)?;
     let class = looking(&classes, search.class)?;

@@ -1,9 +1,10 @@
 //! Does what words ask for.
 
-ghost use Rattle.std.specs.Prelude.{◌<◌, OnOk};
-ghost use Rattle.vsi.specs.Done.{Done};
+ghost use Rattle.std.specs.Prelude.{◌≡◌, ◌<◌, ◌⊎◌, IfErr, OnOk};
+ghost use Rattle.std.specs.Io.KnownBytes.{Keeps};
+ghost use Rattle.vsi.specs.Done.{Done, IsStopOf, Stopped};
 ghost use Rattle.vsi.specs.Performed.{Performs};
-ghost use Rattle.vsi.specs.Stops.{TellsFault};
+ghost use Rattle.vsi.specs.Stops.{TellsFault, status_of};
 ghost use Rattle.vsi_asked.specs.Help.{AsksHelp};
 ghost use Rattle.vsi_devices.specs.Counted.{device_of, faults_of};
 
@@ -37,6 +38,8 @@ pub(crate) fn obey<'a, F: Files, R: Read, W: Write>(
     ensures output_fault { TellsFault (faults_of output.old) (faults_of output.new) result }
     ensures done { OnOk result (Done (F.holds files.old) words.now
         (W.contents (device_of output.old)) (W.contents (device_of output.new))) }
+    ensures stopped { IfErr result (Stopped (F.holds files.old) words.now
+        (W.contents (device_of output.old)) (W.contents (device_of output.new))) }
 {
     match request_of(alloc, words) {
         Ok(asked) => {
@@ -64,6 +67,8 @@ fn obey_asked<'a, F: Files, R: Read, W: Write>(
     ensures output_fault { TellsFault (faults_of output.old) (faults_of output.new) result }
     ensures performed { OnOk result (Performs (F.holds files.old) asked.entry.request
         (W.contents (device_of output.old)) (W.contents (device_of output.new))) }
+    ensures stopped { IfErr result (IsStopOf (F.holds files.old) asked.entry.request
+        (W.contents (device_of output.old)) (W.contents (device_of output.new))) }
 {
     match asked.manner {
         Manner::Fixed => perform(alloc, asked.request, files, input, output, told),
@@ -75,7 +80,9 @@ fn obey_asked<'a, F: Files, R: Read, W: Write>(
 }
 
 /// The stop at words that don't ask for what was read of them.
-fn misunderstood<'a>(alloc: Global) -> Stop<'a> {
+fn misunderstood<'a>(alloc: Global) -> Stop<'a>
+    ensures { (status_of result ≡ 2) ⊎ (3 < status_of result) }
+{
     match String::from_str(alloc, MISUNDERSTOOD) {
         Ok(text) => Stop::Usage(text),
         Err(_) => Stop::Memory,
@@ -97,6 +104,8 @@ fn obey_explaining<'a, F: Files, R: Read, W: Write>(
     ensures input_fault { TellsFault (faults_of input.old) (faults_of input.new) result }
     ensures output_fault { TellsFault (faults_of output.old) (faults_of output.new) result }
     ensures performed { OnOk result (Performs (F.holds files.old) request.entry
+        (W.contents (device_of output.old)) (W.contents (device_of output.new))) }
+    ensures stopped { IfErr result (IsStopOf (F.holds files.old) request.entry
         (W.contents (device_of output.old)) (W.contents (device_of output.new))) }
 {
     told.is_explained = true;
@@ -120,6 +129,9 @@ fn answer_arguments<'a, W: Write>(
     requires { faults_of output.old < u64.MAX }
     ensures fault { TellsFault (faults_of output.old) (faults_of output.new) result }
     ensures help { OnOk result (AsksHelp words.now) }
+    ensures stopped { IfErr result (λ stop. ((status_of stop ≡ 2)
+        × Keeps (W.contents (device_of output.old)) (W.contents (device_of output.new)))
+        ⊎ (3 < status_of stop)) }
 {
     match error {
         ArgumentsError::Help(text) => {

@@ -1,11 +1,12 @@
 //! Does one subcommand.
 
-ghost use Rattle.std.specs.Prelude.{◌<◌, IsOkAnd, OnOk, codes};
+ghost use Rattle.std.specs.Prelude.{◌≡◌, ◌<◌, ◌⊎◌, Err, IfErr, IsOkAnd, OnOk, codes};
 ghost use Rattle.std.specs.Io.KnownBytes.{Appends};
 ghost use Rattle.vsi.specs.Performed.{Performs, PerformsCheck};
 ghost use Rattle.vsi.specs.Silent.{IsSilent};
-ghost use Rattle.vsi.specs.Stops.{TellsFault};
+ghost use Rattle.vsi.specs.Stops.{TellsFault, status_of};
 ghost use Rattle.vsi_devices.specs.Counted.{device_of, faults_of};
+ghost use Rattle.vsi.specs.Reasons.{Why, WhyCheck};
 
 use crate::auditing::{audit, source};
 use crate::comparing::compare;
@@ -35,6 +36,7 @@ fn accept<'a, W: Write>(
     ensures done { OnOk result (IsOkAnd answer.entry (λ _.
         Appends (W.contents (device_of output.old)) (W.contents (device_of output.new))
         (codes "accepted\n"))) }
+    ensures stopped { IfErr result (λ stop. (answer.entry ≡ Err stop) ⊎ (3 < status_of stop)) }
 {
     answer?;
     write(b"accepted\n", output)
@@ -52,6 +54,7 @@ fn put<'a, W: Write>(
     ensures done { OnOk result (IsOkAnd answer.entry (λ text.
         Appends (W.contents (device_of output.old)) (W.contents (device_of output.new))
         text.items)) }
+    ensures stopped { IfErr result (λ stop. (answer.entry ≡ Err stop) ⊎ (3 < status_of stop)) }
 {
     let text = answer?;
     write(text.as_slice(), output)
@@ -65,11 +68,15 @@ fn put_check<'a, F: Files, W: Write>(
     output: &mut Counted<W>,
 ) -> Result<(), Stop<'a>>
     requires { faults_of output.old < u64.MAX }
+    ensures kept { F.holds files.new ≡ F.holds files.old }
     ensures fault { TellsFault (faults_of output.old) (faults_of output.new) result }
     ensures silent { IsSilent result (W.contents (device_of output.old))
         (W.contents (device_of output.new)) }
     ensures performed { OnOk result
         (PerformsCheck asked.entry.is_json (F.holds files.old) asked.entry
+        (W.contents (device_of output.old)) (W.contents (device_of output.new))) }
+    ensures stopped { IfErr result
+        (WhyCheck asked.entry.is_json (F.holds files.old) asked.entry
         (W.contents (device_of output.old)) (W.contents (device_of output.new))) }
 {
     if asked.is_json {
@@ -90,11 +97,15 @@ pub(crate) fn perform<'a, F: Files, R: Read, W: Write>(
 ) -> Result<(), Stop<'a>>
     requires input { faults_of input.old < u64.MAX }
     requires output { faults_of output.old < u64.MAX }
+    ensures unfilled { IfErr result (λ stop. status_of stop < 4
+        → F.holds files.new ≡ F.holds files.old) }
     ensures input_fault { TellsFault (faults_of input.old) (faults_of input.new) result }
     ensures output_fault { TellsFault (faults_of output.old) (faults_of output.new) result }
     ensures silent { IsSilent result (W.contents (device_of output.old))
         (W.contents (device_of output.new)) }
     ensures performed { OnOk result (Performs (F.holds files.old) request.entry
+        (W.contents (device_of output.old)) (W.contents (device_of output.new))) }
+    ensures stopped { IfErr result (Why (F.holds files.old) request.entry
         (W.contents (device_of output.old)) (W.contents (device_of output.new))) }
 {
     match request {

@@ -1,11 +1,14 @@
 //! Files, read and judged.
 
-ghost use Rattle.std.specs.Prelude.{◌≡◌, Some, IfOk, IfErr, Ok, Err, MatchResult};
+ghost use Rattle.std.specs.Prelude.{◌≡◌, ◌<◌, false, Some, IfOk, IfErr, Ok, Err, MatchResult};
 ghost use Rattle.vsi.specs.Holding.{IsImageAt, IsLatticeAt, IsReadAt, IsStoreAt};
 ghost use Rattle.vsi.specs.Input.{two_classes};
+ghost use Rattle.vsi.specs.Reasons.{IsNoMemory, NoOther, RefusesImage, RefusesLattice, StopsBy};
 ghost use Rattle.vsi.specs.Stops.{status_of, stop_of};
 ghost use Rattle.vsi.specs.declared.stop.Stop.TheVariants as stops;
-ghost use Rattle.vsi_answers.specs.Judged.{Declares};
+ghost use Rattle.vsi_answers.specs.Answers.{Because};
+ghost use Rattle.vsi_answers.specs.Judged.{Declares, TellsFault, TellsSource};
+ghost use Rattle.vsi_answers.specs.Requests.{ReadsLattice};
 ghost use Rattle.vsi_devices.specs.declared.error.EngineError.TheVariants.{ReadFault, WriteFault, Memory};
 ghost use Rattle.vsi_lattice.specs.LatticeView.{class_named, order};
 ghost use Rattle.vsi_lattice.specs.Order.{IsClass};
@@ -48,7 +51,10 @@ pub(crate) fn refused<'a>(
     lattice: &Lattice,
     source: &[u8],
     error: CompileError,
-) -> Stop<'a> {
+) -> Stop<'a>
+    ensures { StopsBy (Because (TellsSource (λ e. e ≡ error) lattice.now source.now) ⊥) NoOther
+        result }
+{
     Stop::from(refused_source(alloc, lattice, source, error))
 }
 
@@ -63,13 +69,24 @@ pub(crate) fn answered<'a>(answer: Result<Vec<u8>, Unanswered>) -> Result<Vec<u8
     }
 }
 
+/// Whether the fault is want of memory.
+fn wants_memory(fault: &Fault) -> bool
+    ensures { result ≡ false → IsNoMemory fault.now }
+{
+    matches!(
+        fault,
+        Fault::Lattice(LatticeError::Memory)
+            | Fault::Decode(DecodeError::Memory)
+            | Fault::Store(StoreError::Memory)
+            | Fault::View(ViewError::Memory)
+    )
+}
+
 /// What stands for the refusal of another file.
-pub(crate) fn faulty<'a>(alloc: Global, fault: Fault) -> Stop<'a> {
-    if let Fault::Lattice(LatticeError::Memory)
-    | Fault::Decode(DecodeError::Memory)
-    | Fault::Store(StoreError::Memory)
-    | Fault::View(ViewError::Memory) = &fault
-    {
+pub(crate) fn faulty<'a>(alloc: Global, fault: Fault) -> Stop<'a>
+    ensures { StopsBy (Because (TellsFault (λ f. (f ≡ fault) × IsNoMemory f)) ⊥) NoOther result }
+{
+    if wants_memory(&fault) {
         return Stop::Memory;
     }
     Stop::from(refused_file(alloc, fault))
@@ -80,6 +97,7 @@ fn whole_in<'a, F: Files>(alloc: Global, path: &'a str, files: &mut F) -> Result
     ensures kept { F.holds files.new ≡ F.holds files.old }
     ensures read { IfOk result
         (λ bytes. IsReadAt (F.holds files.old) path.now bytes.items) }
+    ensures stopped { IfErr result (λ stop. 3 < status_of stop) }
 {
     let Some(file) = files.open_file(path) else {
         return Err(Stop::FileFault(path));
@@ -98,6 +116,7 @@ pub(crate) fn bytes_in<'a, F: Files>(
     ensures kept { F.holds files.new ≡ F.holds files.old }
     ensures read { IfOk result
         (λ bytes. IsReadAt (F.holds files.old) path.now bytes.items) }
+    ensures stopped { IfErr result (λ stop. 3 < status_of stop) }
 {
     let bytes = whole_in(alloc, path, files)?;
     files.keep(kind, path, bytes.as_slice())?;
@@ -114,6 +133,7 @@ pub(crate) fn settings_in<'a, F: Files>(
     ensures kept { F.holds files.new ≡ F.holds files.old }
     ensures read { IfOk result
         (λ bytes. IsReadAt (F.holds files.old) path.now bytes.items) }
+    ensures stopped { IfErr result (λ stop. 3 < status_of stop) }
 {
     let bytes = bytes_in(alloc, kind, path, files)?;
     if bytes.len() >= READ_LIMIT {
@@ -131,6 +151,7 @@ pub(crate) fn store_in<'a, F: Files>(
     ensures kept { F.holds files.new ≡ F.holds files.old }
     ensures read { IfOk result
         (λ bytes. IsStoreAt (F.holds files.old) path.entry bytes.items) }
+    ensures stopped { IfErr result (λ stop. 3 < status_of stop) }
 {
     match path {
         Some(path) => settings_in(alloc, Kind::Store, path, files),
@@ -140,7 +161,9 @@ pub(crate) fn store_in<'a, F: Files>(
 
 /// The lattice that a text declares.
 pub(crate) fn declared_lattice<'a>(alloc: Global, text: &[u8]) -> Result<Lattice, Stop<'a>>
-    ensures { IfOk result (Declares text.now) }
+    ensures declared { IfOk result (Declares text.now) }
+    ensures stopped { IfErr result
+        (StopsBy (λ reason. ReadsLattice text.now (Err reason)) NoOther) }
 {
     Ok(vsi_answers::declared_lattice(alloc, text)?)
 }
@@ -164,6 +187,8 @@ pub(crate) fn lattice_in<'a, F: Files>(
 ) -> Result<Lattice, Stop<'a>>
     ensures kept { F.holds files.new ≡ F.holds files.old }
     ensures read { IfOk result (IsLatticeAt (F.holds files.old) path.now) }
+    ensures stopped { IfErr result
+        (StopsBy (RefusesLattice (F.holds files.old) path.now) NoOther) }
 {
     let bytes = settings_in(alloc, Kind::Lattice, path, files)?;
     declared_lattice(alloc, bytes.as_slice())
@@ -173,6 +198,7 @@ pub(crate) fn lattice_in<'a, F: Files>(
 pub(crate) fn class_in<'a>(lattice: &Lattice, name: &'a str) -> Result<Class, Stop<'a>>
     ensures within { IfOk result (IsClass (order lattice.now)) }
     ensures named { IfOk result (λ class. class_named lattice.now name.now ≡ Some class) }
+    ensures stopped { IfErr result (StopsBy (λ reason. ⊥) NoOther) }
 {
     match lattice.class_named(name.as_bytes()) {
         Some(class) => Ok(class),
@@ -188,6 +214,8 @@ pub(crate) fn image_in<'a, F: Files>(
 ) -> Result<Verified, Stop<'a>>
     ensures kept { F.holds files.new ≡ F.holds files.old }
     ensures read { IfOk result (IsImageAt (F.holds files.old) path.now) }
+    ensures stopped { IfErr result
+        (StopsBy (RefusesImage (F.holds files.old) path.now) NoOther) }
 {
     let bytes = bytes_in(alloc, Kind::Image, path, files)?;
     let verified = judged_image(alloc, bytes.as_slice())?;

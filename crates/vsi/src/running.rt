@@ -1,6 +1,6 @@
 //! Runs of images.
 
-ghost use Rattle.std.specs.Prelude.{◌≡◌, ◌<◌, length, IfOk, IfErr, OnOk, Ok};
+ghost use Rattle.std.specs.Prelude.{◌≡◌, ◌<◌, ◌⊎◌, length, IfOk, IfErr, OnOk, Ok, Err};
 ghost use Rattle.std.specs.Io.KnownBytes.{Appends};
 ghost use Rattle.vsi.specs.Performed.{BeginsAt, PerformsRun, PerformsView, ViewsFiles, shown};
 ghost use Rattle.vsi.specs.Silent.{IsSilent};
@@ -9,6 +9,7 @@ ghost use Rattle.vsi.specs.declared.stop.Stop.TheVariants.{Memory};
 ghost use Rattle.vsi_answers.specs.Requests.{BeginsWith};
 ghost use Rattle.vsi_devices.specs.Counted.{device_of, faults_of};
 ghost use Rattle.vsi_lattice.specs.NamePlaces.{texts};
+ghost use Rattle.vsi.specs.Reasons.{NoOther, RefusesImage, RefusesStart, StopsBy, WhyRun, WhyView};
 
 use crate::files::{Files, Kind};
 use crate::reading::{class_in, device_stop, image_in, lattice_in, store_in};
@@ -27,7 +28,8 @@ const SETTING: &str = "--set";
 
 /// Tells the files of each setting.
 fn keep_settings<'a, F: Files>(outset: &Outset<'a>, files: &mut F) -> Result<(), Stop<'a>>
-    ensures { F.holds files.new ≡ F.holds files.old }
+    ensures kept { F.holds files.new ≡ F.holds files.old }
+    ensures stopped { IfErr result (λ stop. stop ≡ Memory) }
 {
     for setting in &outset.settings {
         files.keep(Kind::Setting, SETTING, setting)?;
@@ -45,6 +47,8 @@ pub(crate) fn words_in<'a>(
     ensures len { IfOk result (λ words. length words.items ≡ length verified.now.globals.items) }
     ensures begins { IfOk result (λ words. BeginsWith verified.now file.now
         (texts outset.now.settings.items) outset.now.is_full (Ok words)) }
+    ensures stopped { IfErr result (StopsBy (λ reason. BeginsWith verified.now file.now
+        (texts outset.now.settings.items) outset.now.is_full (Err reason)) NoOther) }
 {
     let settings = outset.settings.as_slice();
     Ok(start_words(alloc, verified, file, settings, outset.is_full)?)
@@ -94,9 +98,13 @@ fn image_and_words<'a, F: Files>(
     outset: &Outset<'a>,
     files: &mut F,
 ) -> Result<(Verified, Vec<i64>), Stop<'a>>
+    ensures kept { F.holds files.new ≡ F.holds files.old }
     ensures len { IfOk result (λ pair. length pair.1.items ≡ length pair.0.globals.items) }
     ensures begins { IfOk result (λ pair.
         BeginsAt (F.holds files.old) execution.entry outset.now pair.0 pair.1.items) }
+    ensures stopped { IfErr result (StopsBy (λ reason.
+        RefusesImage (F.holds files.old) execution.entry.image.now reason
+        ⊎ RefusesStart (F.holds files.old) execution.entry outset.now reason) NoOther) }
 {
     let file = store_in(alloc, execution.store, files)?;
     let verified = image_in(alloc, execution.image, files)?;
@@ -160,12 +168,17 @@ pub(crate) fn run<'a, F: Files, W: Write>(
     note: &mut Vec<u8>,
 ) -> Result<(), Stop<'a>>
     requires { faults_of output.old < u64.MAX }
+    ensures unfilled { IfErr result (λ stop. status_of stop < 4
+        → F.holds files.new ≡ F.holds files.old) }
     ensures fault { TellsFault (faults_of output.old) (faults_of output.new) result }
     ensures silent { IsSilent result (W.contents (device_of output.old))
         (W.contents (device_of output.new)) }
     ensures performed { OnOk result (PerformsRun (F.holds files.old) asked.now.execution
         asked.now.outset asked.now.has_trace
         (W.contents (device_of output.old)) (W.contents (device_of output.new))) }
+    ensures stopped { IfErr result (StopsBy (WhyRun (F.holds files.old) asked.now.execution
+        asked.now.outset asked.now.has_trace
+        (W.contents (device_of output.old)) (W.contents (device_of output.new))) NoOther) }
 {
     let budget = asked.execution.budget;
     let (verified, words) = image_and_words(alloc, asked.execution, &asked.outset, files)?;
@@ -191,8 +204,11 @@ fn seen<'a, F: Files>(
     outset: &Outset<'a>,
     files: &mut F,
 ) -> Result<Vec<u8>, Stop<'a>>
-    ensures { IfOk result (ViewsFiles (F.holds files.old) lattice.now class.now execution.entry
+    ensures kept { F.holds files.new ≡ F.holds files.old }
+    ensures told { IfOk result (ViewsFiles (F.holds files.old) lattice.now class.now execution.entry
         outset.now) }
+    ensures stopped { IfErr result (StopsBy (WhyView (F.holds files.old) lattice.now class.now
+        execution.entry outset.now) NoOther) }
 {
     let classes = lattice_in(alloc, lattice, files)?;
     let viewer = class_in(&classes, class)?;
@@ -215,12 +231,16 @@ pub(crate) fn view<'a, F: Files, W: Write>(
     output: &mut Counted<W>,
 ) -> Result<(), Stop<'a>>
     requires { faults_of output.old < u64.MAX }
+    ensures unfilled { IfErr result (λ stop. status_of stop < 4
+        → F.holds files.new ≡ F.holds files.old) }
     ensures fault { TellsFault (faults_of output.old) (faults_of output.new) result }
     ensures silent { IsSilent result (W.contents (device_of output.old))
         (W.contents (device_of output.new)) }
     ensures performed { OnOk result (PerformsView (F.holds files.old) lattice.now class.now
         execution.entry outset.now
         (W.contents (device_of output.old)) (W.contents (device_of output.new))) }
+    ensures stopped { IfErr result (StopsBy (WhyView (F.holds files.old) lattice.now class.now
+        execution.entry outset.now) NoOther) }
 {
     let text = seen(alloc, lattice, class, execution, outset, files)?;
     deliver(alloc, &text, outset.out, files, output)

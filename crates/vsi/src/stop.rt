@@ -1,6 +1,6 @@
 //! Why a command line ends early, with the status and the text that tell so.
 
-ghost use Rattle.std.specs.Prelude.{◌≡◌, ◌<◌, ◌≤◌, ◌==◌, IfErr, OnOk, OnErr, IsTrue};
+ghost use Rattle.std.specs.Prelude.{◌≡◌, ◌<◌, ◌≤◌, ◌⊎◌, ◌==◌, IfErr, OnOk, OnErr, IsTrue};
 ghost use Rattle.std.specs.Io.KnownBytes.{Appends};
 ghost use Rattle.vsi.specs.Stops.{line_of, status_of, text_of_stop, IsStreamFault, StopsFor, TellsFault};
 ghost use Rattle.vsi.specs.declared.stop.Stop.TheVariants.{Memory};
@@ -112,7 +112,8 @@ impl Stop<'_> {
     /// This stop where an explanation could be added; where it wanted memory that is the stop, but
     /// for a fault of a file or a stream.
     pub(crate) fn after(self, added: Result<(), AllocError>) -> Self
-        ensures { status_of self.entry ≡ 4 → status_of result ≡ 4 }
+        ensures fault { status_of self.entry ≡ 4 → status_of result ≡ 4 }
+        ensures kept { (result ≡ self.entry) ⊎ (result ≡ Memory) }
     {
         if added.is_ok() || self.status() == 4 {
             self

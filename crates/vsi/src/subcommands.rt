@@ -1,10 +1,12 @@
 //! What the subcommands that run nothing answer: the text to be written, or why there is none.
 
-ghost use Rattle.std.specs.Prelude.{◌≡◌, ◌<◌, true, IfOk, OnOk};
+ghost use Rattle.std.specs.Prelude.{◌≡◌, ◌<◌, true, false, IfErr, IfOk, OnOk};
 ghost use Rattle.vsi.specs.Performed.{AreFiles, Builds, OfFile, OfFiles, ToldAccepted, ToldCanonical, ToldClasses, ToldFlows, ToldImage, ToldJson, ToldListing, Writes};
 ghost use Rattle.vsi.specs.Performed.{judgement_of, profile_of};
+ghost use Rattle.vsi.specs.Reasons.{AsksCanonical, AsksCheck, AsksClasses, AsksFlows, AsksImage, NoOther, RefusesFile, RefusesFiles, RefusesLattice, StopsBy, ToldRefusal, WhyCheck};
 ghost use Rattle.vsi.specs.Silent.{IsSilent};
-ghost use Rattle.vsi.specs.Stops.{TellsFault};
+ghost use Rattle.vsi.specs.Stops.{TellsFault, status_of};
+ghost use Rattle.vsi_answers.specs.Requests.{ListsTo};
 ghost use Rattle.vsi_devices.specs.Counted.{device_of, faults_of};
 
 use crate::files::{Files, Kind};
@@ -36,8 +38,11 @@ fn policy_and_text<'a, F: Files>(
     compilation: Compilation<'a>,
     files: &mut F,
 ) -> Result<(Lattice, Vec<u8>), Stop<'a>>
-    ensures { IfOk result
+    ensures kept { F.holds files.new ≡ F.holds files.old }
+    ensures told { IfOk result
         (λ pair. AreFiles (F.holds files.old) compilation.entry pair.0 pair.1.items) }
+    ensures stopped { IfErr result
+        (StopsBy (RefusesLattice (F.holds files.old) compilation.entry.lattice.now) NoOther) }
 {
     let classes = lattice_in(alloc, compilation.lattice, files)?;
     let text = bytes_in(alloc, Kind::Source, compilation.source, files)?;
@@ -50,8 +55,12 @@ pub(crate) fn check<'a, F: Files>(
     asked: Judging<'a>,
     files: &mut F,
 ) -> Result<Vec<u8>, Stop<'a>>
-    ensures { IfOk result (OfFiles (F.holds files.old) asked.entry.compilation
+    ensures kept { F.holds files.new ≡ F.holds files.old }
+    ensures told { IfOk result (OfFiles (F.holds files.old) asked.entry.compilation
         (ToldAccepted asked.entry.is_steady asked.entry.compilation.is_strict)) }
+    ensures stopped { IfErr result
+        (StopsBy (RefusesFiles (F.holds files.old) asked.entry.compilation
+        (AsksCheck asked.entry.is_steady asked.entry.compilation.is_strict)) NoOther) }
 {
     let (classes, text) = policy_and_text(alloc, asked.compilation, files)?;
     let answer = if asked.is_steady {
@@ -82,8 +91,13 @@ fn checked_line<'a, F: Files>(
     asked: Judging<'a>,
     files: &mut F,
 ) -> Result<(bool, Vec<u8>), Stop<'a>>
-    ensures { IfOk result (λ pair. pair.0 ≡ true → OfFiles (F.holds files.old)
+    ensures kept { F.holds files.new ≡ F.holds files.old }
+    ensures told { IfOk result (λ pair. pair.0 ≡ true → OfFiles (F.holds files.old)
         asked.entry.compilation (ToldJson (judgement_of asked.entry)) pair.1) }
+    ensures refused { IfOk result (λ pair. pair.0 ≡ false → OfFiles (F.holds files.old)
+        asked.entry.compilation (ToldRefusal (judgement_of asked.entry)) pair.1) }
+    ensures stopped { IfErr result (StopsBy
+        (RefusesLattice (F.holds files.old) asked.entry.compilation.lattice.now) NoOther) }
 {
     let (classes, text) = policy_and_text(alloc, asked.compilation, files)?;
     let line = check_json(alloc, judgement(asked), &classes, text.as_slice())?;
@@ -99,11 +113,14 @@ pub(crate) fn check_as_json<'a, F: Files, W: Write>(
     output: &mut Counted<W>,
 ) -> Result<(), Stop<'a>>
     requires { faults_of output.old < u64.MAX }
+    ensures kept { F.holds files.new ≡ F.holds files.old }
     ensures fault { TellsFault (faults_of output.old) (faults_of output.new) result }
     ensures silent { IsSilent result (W.contents (device_of output.old))
         (W.contents (device_of output.new)) }
     ensures performed { OnOk result (Writes (OfFiles (F.holds files.old) asked.entry.compilation
         (ToldJson (judgement_of asked.entry)))
+        (W.contents (device_of output.old)) (W.contents (device_of output.new))) }
+    ensures stopped { IfErr result (WhyCheck true (F.holds files.old) asked.entry
         (W.contents (device_of output.old)) (W.contents (device_of output.new))) }
 {
     let (is_accepted, line) = checked_line(alloc, asked, files)?;
@@ -121,8 +138,11 @@ pub(crate) fn classes<'a, F: Files>(
     compilation: Compilation<'a>,
     files: &mut F,
 ) -> Result<Vec<u8>, Stop<'a>>
-    ensures { IfOk result (OfFiles (F.holds files.old) compilation.entry
+    ensures kept { F.holds files.new ≡ F.holds files.old }
+    ensures told { IfOk result (OfFiles (F.holds files.old) compilation.entry
         (ToldClasses compilation.entry.is_strict)) }
+    ensures stopped { IfErr result (StopsBy (RefusesFiles (F.holds files.old) compilation.entry
+        (AsksClasses compilation.entry.is_strict)) NoOther) }
 {
     let (classes, text) = policy_and_text(alloc, compilation, files)?;
     let profile = profile(compilation.is_strict);
@@ -137,8 +157,11 @@ pub(crate) fn flows<'a, F: Files>(
     has_walks: bool,
     files: &mut F,
 ) -> Result<Vec<u8>, Stop<'a>>
-    ensures { IfOk result (OfFiles (F.holds files.old) compilation.entry
+    ensures kept { F.holds files.new ≡ F.holds files.old }
+    ensures told { IfOk result (OfFiles (F.holds files.old) compilation.entry
         (ToldFlows has_walks compilation.entry.is_strict)) }
+    ensures stopped { IfErr result (StopsBy (RefusesFiles (F.holds files.old) compilation.entry
+        (AsksFlows has_walks compilation.entry.is_strict)) NoOther) }
 {
     let (classes, text) = policy_and_text(alloc, compilation, files)?;
     let profile = profile(compilation.is_strict);
@@ -156,8 +179,11 @@ fn built<'a, F: Files>(
     compilation: Compilation<'a>,
     files: &mut F,
 ) -> Result<Vec<u8>, Stop<'a>>
-    ensures { IfOk result (OfFiles (F.holds files.old) compilation.entry
+    ensures kept { F.holds files.new ≡ F.holds files.old }
+    ensures told { IfOk result (OfFiles (F.holds files.old) compilation.entry
         (ToldImage compilation.entry.is_strict)) }
+    ensures stopped { IfErr result (StopsBy (RefusesFiles (F.holds files.old) compilation.entry
+        (AsksImage compilation.entry.is_strict)) NoOther) }
 {
     let (classes, text) = policy_and_text(alloc, compilation, files)?;
     let profile = profile(compilation.is_strict);
@@ -171,7 +197,11 @@ pub(crate) fn build<'a, F: Files>(
     image: &'a str,
     files: &mut F,
 ) -> Result<(), Stop<'a>>
-    ensures { OnOk result (Builds (F.holds files.old) compilation.entry) }
+    ensures unfilled { IfErr result (λ stop. status_of stop < 4
+        → F.holds files.new ≡ F.holds files.old) }
+    ensures told { OnOk result (Builds (F.holds files.old) compilation.entry) }
+    ensures stopped { IfErr result (StopsBy (RefusesFiles (F.holds files.old) compilation.entry
+        (AsksImage compilation.entry.is_strict)) NoOther) }
 {
     let bytes = built(alloc, compilation, files)?;
     let Some(file) = files.create_file(image) else {
@@ -189,7 +219,10 @@ pub(crate) fn list<'a, F: Files>(
     image: &'a str,
     files: &mut F,
 ) -> Result<Vec<u8>, Stop<'a>>
-    ensures { IfOk result (OfFile (F.holds files.old) image.now ToldListing) }
+    ensures kept { F.holds files.new ≡ F.holds files.old }
+    ensures told { IfOk result (OfFile (F.holds files.old) image.now ToldListing) }
+    ensures stopped { IfErr result
+        (StopsBy (RefusesFile (F.holds files.old) image.now ListsTo) NoOther) }
 {
     let bytes = bytes_in(alloc, Kind::Image, image, files)?;
     Ok(vsi_answers::list(alloc, bytes.as_slice())?)
@@ -201,7 +234,10 @@ pub(crate) fn format<'a, F: Files>(
     source: &'a str,
     files: &mut F,
 ) -> Result<Vec<u8>, Stop<'a>>
-    ensures { IfOk result (OfFile (F.holds files.old) source.now ToldCanonical) }
+    ensures kept { F.holds files.new ≡ F.holds files.old }
+    ensures told { IfOk result (OfFile (F.holds files.old) source.now ToldCanonical) }
+    ensures stopped { IfErr result
+        (StopsBy (RefusesFile (F.holds files.old) source.now AsksCanonical) NoOther) }
 {
     let bytes = bytes_in(alloc, Kind::Source, source, files)?;
     let classes = two_classes(alloc)?;

@@ -1,5 +1,8 @@
 use Rattle.std.proofs.Common.{subst}
 use Rattle.vsi_conform.specs.Reading.{IsReadAs}
+use Rattle.vsi.specs.Reasons.{IsUnusable, StopsBy}
+use Rattle.vsi.proofs.Reasons.{late_stops}
+use Rattle.vsi.proofs.Unrun.{handed}
 use Rattle.vsi.proofs.conformance.interface_in.Goals as goal
 
 pub returns-in-Ok-clause-asked : goal.returns-in-Ok-clause-asked
@@ -9,3 +12,9 @@ returns-in-Ok-clause-asked g c =
       read = c.in_ok-bytes.ensures.read;
       is = subst (λ b. IsReadAs b c.in-Ok.asked) c.deref.ensures.value c.in-Ok.ensures.read;
     }
+
+pub returns-in_err-bytes-clause-stopped : goal.returns-in_err-bytes-clause-stopped
+returns-in_err-bytes-clause-stopped g c =
+    handed (StopsBy (λ reason. ⊥) IsUnusable) c.in_err-bytes.field-0.0 c.from_residual.result
+    c.from_residual.ensures.1
+    (late_stops (λ reason. ⊥) IsUnusable c.in_err-bytes.field-0.0 c.in_err-bytes.ensures.stopped)

@@ -1,13 +1,22 @@
 use Rattle.std.proofs.Common.{sym, subst}
 use Rattle.vsi_report.specs.FlowsGraph.{IsFlowsGraph}
 use Rattle.vsi.specs.Holding.{IsReadAt}
+use Rattle.vsi.proofs.Refused.{refuses_program}
 use Rattle.vsi.proofs.drawing.flows_graph.Goals as goal
 
-pub returns-in-Ok : goal.returns-in-Ok
-returns-in-Ok g c = (
+pub returns-in-Ok-clause-told : goal.returns-in-Ok-clause-told
+returns-in-Ok-clause-told g c = (
   c.as_slice.result.now,
   subst (IsReadAt (g.F.Files.holds c.args.files.now) c.args.source.now) (sym c.as_slice.ensures.value)
       c.in_ok-text.ensures.read,
   subst (λ P. IsFlowsGraph c.args.classes.now P c.as_slice.result.now c.in-Ok.graph.items) c.profile.ensures
       c.in-Ok.ensures.graph,
 )
+
+pub returns-clause-stopped : goal.returns-clause-stopped
+returns-clause-stopped g c =
+    refuses_program (g.F.Files.holds c.args.files.now) c.args.classes.now c.args.source.now c.in_ok-text.text.items
+    c.as_slice.result.now c.as_slice-in-Err.result.now c.in-Err.error c.refused.result c.in_ok-text.ensures.read
+    c.as_slice.ensures.value c.as_slice-in-Err.ensures.value c.in-Err.ensures.refused
+    (λ program. c.in-Err.ensures.exact program.tree program.commands program.reads program.resolution)
+    c.refused.ensures

@@ -3,8 +3,8 @@ use Rattle.vsi_report.specs.Page.{HasPanel}
 use Rattle.vsi.specs.Holding.{IsReadAt}
 use Rattle.vsi.proofs.drawing.report.Goals as goal
 
-pub returns : goal.returns
-returns g c =
+pub returns-clause-told : goal.returns-clause-told
+returns-clause-told g c =
     record {
       lattice = c.in_ok-classes.classes;
       source = c.in_ok-text.text.items;

@@ -1,9 +1,14 @@
 use Rattle.std.proofs.Common.{rules, sym, subst, append_assoc}
+use Rattle.vsi_image.specs.Fields.{globals}
+use Rattle.vsi_lattice.specs.LatticeView.{class_named, order}
+use Rattle.vsi_leak.specs.Leaks.{IsFinding}
+use Rattle.vsi_leak.specs.Texts.{IsLeakText}
 use Rattle.vsi.specs.Holding.{IsReadAt}
+use Rattle.vsi.proofs.Refused.{leak_lattice, leak_nothing, leak_program}
 use Rattle.vsi.proofs.leaking.leak.Goals as goal
 
-pub returns : goal.returns
-returns g c =
+pub returns-clause-told : goal.returns-clause-told
+returns-clause-told g c =
     record {
       lattice = c.in_ok-classes.classes;
       declared = c.in_ok-classes.ensures.read;
@@ -14,4 +19,42 @@ returns g c =
       program = c.in-Ok.ensures.found;
       pairs = c.in-Nothing.pairs;
       line = rw c.into_bytes.ensures.value (search (rules, append_assoc));
+    }
+
+pub returns-in_err-classes-clause-stopped : goal.returns-in_err-classes-clause-stopped
+returns-in_err-classes-clause-stopped g c =
+    let holds = g.F.Files.holds c.args.files.now in
+    leak_lattice holds c.args.search c.from_residual.result c.in_err-classes.field-0.0 c.from_residual.ensures.1
+    c.in_err-classes.ensures.stopped
+
+pub returns-in_err-class-clause-stopped : goal.returns-in_err-class-clause-stopped
+returns-in_err-class-clause-stopped g c =
+    leak_nothing (g.F.Files.holds c.args.files.now) c.args.search c.from_residual-in_err-class.result
+    c.in_err-class.field-0.0 c.from_residual-in_err-class.ensures.1 c.in_err-class.ensures.stopped
+
+pub returns-in-Err-clause-stopped : goal.returns-in-Err-clause-stopped
+returns-in-Err-clause-stopped g c =
+    let holds = g.F.Files.holds c.args.files.now in
+    leak_program holds c.args.search c.in_ok-classes.classes c.in_ok-text.text.items c.as_slice.result.now
+    c.as_slice-in-Err.result.now c.in-Err.error c.refused.result c.in_ok-classes.ensures.read
+    (subst (λ h. IsReadAt h c.args.search.source.now c.in_ok-text.text.items) c.in_ok-classes.ensures.kept
+    c.in_ok-text.ensures.read)
+    c.as_slice.ensures.value c.as_slice-in-Err.ensures.value c.in-Err.ensures.refused c.in-Err.ensures.exact
+    c.refused.ensures
+
+pub returns-in-Leak-clause-stopped : goal.returns-in-Leak-clause-stopped
+returns-in-Leak-clause-stopped g c =
+    record {
+      lattice = c.in_ok-classes.classes;
+      declared = c.in_ok-classes.ensures.read;
+      image = c.in-Ok.found.0;
+      leak = c.in-Leak.leak;
+      leaks = subst
+          (λ f. IsFinding (class_named c.in_ok-classes.classes) (order c.in_ok-classes.classes) c.in-Ok.found.0
+          c.args.search.budget f)
+          c.in-Leak.is c.in-Ok.ensures.leak;
+      told = subst
+          (λ im. IsLeakText c.in_ok-classes.classes (globals im.globals.items) c.in-Leak.leak
+          c.in_ok-shown-in-Leak.shown.items)
+          c.image.ensures.same c.in_ok-shown-in-Leak.ensures;
     }

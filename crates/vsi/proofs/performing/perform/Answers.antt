@@ -2,58 +2,61 @@ use Rattle.std.proofs.Common.{subst}
 use Rattle.std.specs.Prelude.{OnOk}
 use Rattle.std.specs.Io.KnownBytes.{Appends}
 use Rattle.vsi_devices.specs.Counted.{device_of}
+use Rattle.vsi_arguments.specs.declared.request.Request.TheVariants as request
+use Rattle.vsi.specs.Reasons.{Why}
 use Rattle.vsi.proofs.Written.{accept_performs, build_performs, put_writes, silent_fault, silent_kept}
+use Rattle.vsi.proofs.Obeyed.{each_stop, fault_stops, late_why, put_stops}
 use Rattle.vsi.proofs.performing.perform.Goals as goal
 
 pub returns-in-Classes-clause-performed : goal.returns-in-Classes-clause-performed
 returns-in-Classes-clause-performed g c =
     rw c.in-Classes.is
-    (put_writes _ _ _ c.classes.result c.put.result c.classes.ensures c.put.ensures.done)
+    (put_writes _ _ _ c.classes.result c.put.result c.classes.ensures.told c.put.ensures.done)
 
 pub returns-in-Flows-clause-performed : goal.returns-in-Flows-clause-performed
 returns-in-Flows-clause-performed g c =
     rw c.in-Flows.is
-    (put_writes _ _ _ c.flows.result c.put-in-Flows.result c.flows.ensures c.put-in-Flows.ensures.done)
+    (put_writes _ _ _ c.flows.result c.put-in-Flows.result c.flows.ensures.told c.put-in-Flows.ensures.done)
 
 pub returns-in-List-clause-performed : goal.returns-in-List-clause-performed
 returns-in-List-clause-performed g c =
     rw c.in-List.is
-    (put_writes _ _ _ c.list.result c.put-in-List.result c.list.ensures c.put-in-List.ensures.done)
+    (put_writes _ _ _ c.list.result c.put-in-List.result c.list.ensures.told c.put-in-List.ensures.done)
 
 pub returns-in-Source-clause-performed : goal.returns-in-Source-clause-performed
 returns-in-Source-clause-performed g c =
     rw c.in-Source.is
-    (put_writes _ _ _ c.source.result c.put-in-Source.result c.source.ensures c.put-in-Source.ensures.done)
+    (put_writes _ _ _ c.source.result c.put-in-Source.result c.source.ensures.told c.put-in-Source.ensures.done)
 
 pub returns-in-Leak-clause-performed : goal.returns-in-Leak-clause-performed
 returns-in-Leak-clause-performed g c =
     rw c.in-Leak.is
-    (put_writes _ _ _ c.leak.result c.put-in-Leak.result c.leak.ensures c.put-in-Leak.ensures.done)
+    (put_writes _ _ _ c.leak.result c.put-in-Leak.result c.leak.ensures.told c.put-in-Leak.ensures.done)
 
 pub returns-in-Report-clause-performed : goal.returns-in-Report-clause-performed
 returns-in-Report-clause-performed g c =
     rw c.in-Report.is
-    (put_writes _ _ _ c.report.result c.put-in-Report.result c.report.ensures c.put-in-Report.ensures.done)
+    (put_writes _ _ _ c.report.result c.put-in-Report.result c.report.ensures.told c.put-in-Report.ensures.done)
 
 pub returns-in-Draw-clause-performed : goal.returns-in-Draw-clause-performed
 returns-in-Draw-clause-performed g c =
     rw c.in-Draw.is
-    (put_writes _ _ _ c.draw.result c.put-in-Draw.result c.draw.ensures c.put-in-Draw.ensures.done)
+    (put_writes _ _ _ c.draw.result c.put-in-Draw.result c.draw.ensures.told c.put-in-Draw.ensures.done)
 
 pub returns-in-Format-clause-performed : goal.returns-in-Format-clause-performed
 returns-in-Format-clause-performed g c =
     rw c.in-Format.is
-    (put_writes _ _ _ c.format.result c.put-in-Format.result c.format.ensures c.put-in-Format.ensures.done)
+    (put_writes _ _ _ c.format.result c.put-in-Format.result c.format.ensures.told c.put-in-Format.ensures.done)
 
 pub returns-in-Audit-clause-performed : goal.returns-in-Audit-clause-performed
 returns-in-Audit-clause-performed g c =
     rw c.in-Audit.is
-    (accept_performs _ _ _ _ c.audit.result c.accept.result c.audit.ensures c.accept.ensures.done)
+    (accept_performs _ _ _ _ c.audit.result c.accept.result c.audit.ensures.told c.accept.ensures.done)
 
 pub returns-in-Build-clause-performed : goal.returns-in-Build-clause-performed
 returns-in-Build-clause-performed g c =
     rw c.in-Build.is
-    (build_performs _ _ _ c.build.result c.build.ensures)
+    (build_performs _ _ _ c.build.result c.build.ensures.told)
 
 pub returns-in-Check-clause-performed : goal.returns-in-Check-clause-performed
 returns-in-Check-clause-performed g c = rw c.in-Check.is c.put_check.ensures.performed
@@ -83,3 +86,122 @@ returns-in-Build-clause-silent g c = silent_kept c.build.result _
 
 pub returns-in-Explain-clause-silent : goal.returns-in-Explain-clause-silent
 returns-in-Explain-clause-silent g c = silent_fault c.write.result _ _ c.write.ensures.stop
+
+pub returns-in-Check-clause-stopped : goal.returns-in-Check-clause-stopped
+returns-in-Check-clause-stopped g c = rw c.in-Check.is c.put_check.ensures.stopped
+
+pub returns-in-Conform-clause-stopped : goal.returns-in-Conform-clause-stopped
+returns-in-Conform-clause-stopped g c = rw c.in-Conform.is c.conform.ensures.stopped
+
+pub returns-in-Classes-clause-stopped : goal.returns-in-Classes-clause-stopped
+returns-in-Classes-clause-stopped g c =
+    let holds = g.F.Files.holds c.args.files.now in
+    let old = g.W.Write.contents (device_of c.args.output.now) in
+    let new = g.W.Write.contents (device_of c.put.new.output) in
+    let asked = request.Classes c.in-Classes.compilation in
+    rw c.in-Classes.is
+    (put_stops (Why holds asked old new) (late_why holds asked old new) c.classes.result c.put.result
+    c.classes.ensures.stopped c.put.ensures.stopped)
+
+pub returns-in-Flows-clause-stopped : goal.returns-in-Flows-clause-stopped
+returns-in-Flows-clause-stopped g c =
+    let holds = g.F.Files.holds c.args.files.now in
+    let old = g.W.Write.contents (device_of c.args.output.now) in
+    let new = g.W.Write.contents (device_of c.put-in-Flows.new.output) in
+    let asked = request.Flows c.in-Flows.compilation c.in-Flows.has_walks in
+    rw c.in-Flows.is
+    (put_stops (Why holds asked old new) (late_why holds asked old new) c.flows.result c.put-in-Flows.result
+    c.flows.ensures.stopped c.put-in-Flows.ensures.stopped)
+
+pub returns-in-List-clause-stopped : goal.returns-in-List-clause-stopped
+returns-in-List-clause-stopped g c =
+    let holds = g.F.Files.holds c.args.files.now in
+    let old = g.W.Write.contents (device_of c.args.output.now) in
+    let new = g.W.Write.contents (device_of c.put-in-List.new.output) in
+    let asked = request.List c.in-List.image in
+    rw c.in-List.is
+    (put_stops (Why holds asked old new) (late_why holds asked old new) c.list.result c.put-in-List.result
+    c.list.ensures.stopped c.put-in-List.ensures.stopped)
+
+pub returns-in-Build-clause-stopped : goal.returns-in-Build-clause-stopped
+returns-in-Build-clause-stopped g c = rw c.in-Build.is c.build.ensures.stopped
+
+pub returns-in-Audit-clause-stopped : goal.returns-in-Audit-clause-stopped
+returns-in-Audit-clause-stopped g c =
+    let holds = g.F.Files.holds c.args.files.now in
+    let old = g.W.Write.contents (device_of c.args.output.now) in
+    let new = g.W.Write.contents (device_of c.accept.new.output) in
+    let asked = request.Audit c.in-Audit.asked in
+    rw c.in-Audit.is
+    (put_stops (Why holds asked old new) (late_why holds asked old new) c.audit.result c.accept.result
+    c.audit.ensures.stopped c.accept.ensures.stopped)
+
+pub returns-in-Source-clause-stopped : goal.returns-in-Source-clause-stopped
+returns-in-Source-clause-stopped g c =
+    let holds = g.F.Files.holds c.args.files.now in
+    let old = g.W.Write.contents (device_of c.args.output.now) in
+    let new = g.W.Write.contents (device_of c.put-in-Source.new.output) in
+    let asked = request.Source c.in-Source.image in
+    rw c.in-Source.is
+    (put_stops (Why holds asked old new) (late_why holds asked old new) c.source.result c.put-in-Source.result
+    c.source.ensures.stopped c.put-in-Source.ensures.stopped)
+
+pub returns-in-Run-clause-stopped : goal.returns-in-Run-clause-stopped
+returns-in-Run-clause-stopped g c = rw c.in-Run.is c.run.ensures.stopped
+
+pub returns-in-View-clause-stopped : goal.returns-in-View-clause-stopped
+returns-in-View-clause-stopped g c = rw c.in-View.is c.view.ensures.stopped
+
+pub returns-in-Drive-clause-stopped : goal.returns-in-Drive-clause-stopped
+returns-in-Drive-clause-stopped g c = rw c.in-Drive.is (each_stop (λ stop. Unit {0}) c.drive.result (λ stop. tt))
+
+pub returns-in-Compare-clause-stopped : goal.returns-in-Compare-clause-stopped
+returns-in-Compare-clause-stopped g c = rw c.in-Compare.is c.compare.ensures.stopped
+
+pub returns-in-Leak-clause-stopped : goal.returns-in-Leak-clause-stopped
+returns-in-Leak-clause-stopped g c =
+    let holds = g.F.Files.holds c.args.files.now in
+    let old = g.W.Write.contents (device_of c.args.output.now) in
+    let new = g.W.Write.contents (device_of c.put-in-Leak.new.output) in
+    let asked = request.Leak c.in-Leak.search in
+    rw c.in-Leak.is
+    (put_stops (Why holds asked old new) (late_why holds asked old new) c.leak.result c.put-in-Leak.result
+    c.leak.ensures.stopped c.put-in-Leak.ensures.stopped)
+
+pub returns-in-Report-clause-stopped : goal.returns-in-Report-clause-stopped
+returns-in-Report-clause-stopped g c =
+    let holds = g.F.Files.holds c.args.files.now in
+    let old = g.W.Write.contents (device_of c.args.output.now) in
+    let new = g.W.Write.contents (device_of c.put-in-Report.new.output) in
+    let asked = request.Report c.in-Report.compilation in
+    rw c.in-Report.is
+    (put_stops (Why holds asked old new) (late_why holds asked old new) c.report.result c.put-in-Report.result
+    c.report.ensures.stopped c.put-in-Report.ensures.stopped)
+
+pub returns-in-Draw-clause-stopped : goal.returns-in-Draw-clause-stopped
+returns-in-Draw-clause-stopped g c =
+    let holds = g.F.Files.holds c.args.files.now in
+    let old = g.W.Write.contents (device_of c.args.output.now) in
+    let new = g.W.Write.contents (device_of c.put-in-Draw.new.output) in
+    let asked = request.Draw c.in-Draw.drawing in
+    rw c.in-Draw.is
+    (put_stops (Why holds asked old new) (late_why holds asked old new) c.draw.result c.put-in-Draw.result
+    c.draw.ensures.stopped c.put-in-Draw.ensures.stopped)
+
+pub returns-in-Format-clause-stopped : goal.returns-in-Format-clause-stopped
+returns-in-Format-clause-stopped g c =
+    let holds = g.F.Files.holds c.args.files.now in
+    let old = g.W.Write.contents (device_of c.args.output.now) in
+    let new = g.W.Write.contents (device_of c.put-in-Format.new.output) in
+    let asked = request.Format c.in-Format.source in
+    rw c.in-Format.is
+    (put_stops (Why holds asked old new) (late_why holds asked old new) c.format.result c.put-in-Format.result
+    c.format.ensures.stopped c.put-in-Format.ensures.stopped)
+
+pub returns-in-Explain-clause-stopped : goal.returns-in-Explain-clause-stopped
+returns-in-Explain-clause-stopped g c =
+    let holds = g.F.Files.holds c.args.files.now in
+    let old = g.W.Write.contents (device_of c.args.output.now) in
+    let new = g.W.Write.contents (device_of c.write.new.output) in
+    fault_stops (Why holds c.args.request old new) (late_why holds c.args.request old new) c.write.result
+    c.write.ensures.stop

@@ -1,4 +1,8 @@
+use Rattle.std.proofs.Common.{false}
+use Rattle.vsi_devices.specs.Counted.{device_of}
+use Rattle.vsi.specs.Reasons.{WhyCheck}
 use Rattle.vsi.proofs.Written.{put_writes}
+use Rattle.vsi.proofs.Obeyed.{late_check, put_stops}
 use Rattle.vsi.proofs.performing.put_check.Goals as goal
 
 pub returns-then-asked-clause-performed : goal.returns-then-asked-clause-performed
@@ -7,4 +11,16 @@ returns-then-asked-clause-performed g c =
 
 pub returns-else-asked-clause-performed : goal.returns-else-asked-clause-performed
 returns-else-asked-clause-performed g c =
-    rw c.if-asked.false (put_writes _ _ _ c.check.result c.put.result c.check.ensures c.put.ensures.done)
+    rw c.if-asked.false (put_writes _ _ _ c.check.result c.put.result c.check.ensures.told c.put.ensures.done)
+
+pub returns-then-asked-clause-stopped : goal.returns-then-asked-clause-stopped
+returns-then-asked-clause-stopped g c = rw c.if-asked.true c.check_as_json.ensures.stopped
+
+pub returns-else-asked-clause-stopped : goal.returns-else-asked-clause-stopped
+returns-else-asked-clause-stopped g c =
+    let holds = g.F.Files.holds c.args.files.now in
+    let old = g.W.Write.contents (device_of c.args.output.now) in
+    let new = g.W.Write.contents (device_of c.put.new.output) in
+    rw c.if-asked.false
+    (put_stops (WhyCheck false holds c.args.asked old new) (late_check false holds c.args.asked old new)
+    c.check.result c.put.result c.check.ensures.stopped c.put.ensures.stopped)

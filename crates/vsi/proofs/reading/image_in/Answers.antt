@@ -1,5 +1,8 @@
-use Rattle.std.proofs.Common.{sym, subst}
+use Rattle.std.proofs.Common.{Err, sym, subst}
+use Rattle.vsi_answers.specs.Requests.{ReadsImage}
 use Rattle.vsi.specs.Holding.{IsReadAt}
+use Rattle.vsi.specs.Reasons.{NoOther, RefusesImage}
+use Rattle.vsi.proofs.Refused.{stopped_reason}
 use Rattle.vsi.proofs.reading.image_in.Goals as goal
 
 pub returns-clause-read : goal.returns-clause-read
@@ -10,3 +13,14 @@ returns-clause-read g c =
           c.in_ok-bytes.ensures.read;
       are = c.in_ok-verified.ensures.image;
     }
+
+pub returns-in_err-verified-clause-stopped : goal.returns-in_err-verified-clause-stopped
+returns-in_err-verified-clause-stopped g c =
+    stopped_reason (RefusesImage (g.F.Files.holds c.args.files.now) c.args.path.now) NoOther
+    c.from_residual-in_err-verified.result c.in_err-verified.field-0.0 c.from_residual-in_err-verified.ensures.1
+    (record {
+      bytes = c.in_ok-bytes.bytes.items;
+      read = c.in_ok-bytes.ensures.read;
+      is = subst (λ b. ReadsImage b (Err c.in_err-verified.field-0.0)) c.as_slice.ensures.value
+          c.in_err-verified.ensures.image;
+    })

@@ -1,9 +1,12 @@
-use Rattle.std.proofs.Common.{sym, subst}
+use Rattle.std.proofs.Common.{inl, inr, refl, sym, subst}
 use Rattle.std.proofs.KnownBytes.{Appends-trans}
 use Rattle.std.proofs.lemmas.Result.{on_ok_weaker}
 use Rattle.std.specs.Io.KnownBytes.{Appends}
 use Rattle.vsi_devices.specs.Counted.{device_of}
 use Rattle.vsi.specs.Performed.{BeginsAt, shown}
+use Rattle.vsi.specs.Reasons.{NoOther, StopsBy, WhyRun}
+use Rattle.vsi.proofs.Reasons.{stops_by}
+use Rattle.vsi.proofs.Unrun.{Unstarted, ended_stops, handed, handed_late, memory_stops}
 use Rattle.vsi.proofs.running.run.Goals as goal
 
 pub returns-in-Ok-Some-clause-performed : goal.returns-in-Ok-Some-clause-performed
@@ -31,3 +34,67 @@ returns-in-Ok-Some-clause-performed g c =
           c.deref-in-Ok-Some-2.ensures.value written);
     })
     c.deliver.ensures.whole
+
+pub returns-in_err-verified-clause-stopped : goal.returns-in_err-verified-clause-stopped
+returns-in_err-verified-clause-stopped g c =
+    let holds = g.F.Files.holds c.args.files.now in
+    let why = WhyRun holds c.args.asked.now.execution c.args.asked.now.outset c.args.asked.now.has_trace
+    (g.W.Write.contents (device_of c.args.output.now)) (g.W.Write.contents (device_of c.args.output.now)) in
+    handed (StopsBy why NoOther) c.in_err-verified.field-0.0 c.from_residual.result c.from_residual.ensures.1
+    (stops_by (Unstarted holds c.args.asked.now.execution c.args.asked.now.outset) why NoOther
+    (λ reason is. elim is [
+      | inl refused ↦ inl refused
+      | inr refused ↦ inr (inl refused)
+    ])
+    c.in_err-verified.field-0.0 c.in_err-verified.ensures.stopped)
+
+pub returns-in-Ok-Some-clause-stopped : goal.returns-in-Ok-Some-clause-stopped
+returns-in-Ok-Some-clause-stopped g c =
+    let holds = g.F.Files.holds c.args.files.now in
+    let why = WhyRun holds c.args.asked.now.execution c.args.asked.now.outset c.args.asked.now.has_trace
+    (g.W.Write.contents (device_of c.args.output.now)) (g.W.Write.contents (device_of c.deliver.new.output)) in
+    handed_late why NoOther c.deliver.result c.deliver.ensures.stop
+
+pub returns-in_err-put_count-in-Ok-Some-clause-stopped : goal.returns-in_err-put_count-in-Ok-Some-clause-stopped
+returns-in_err-put_count-in-Ok-Some-clause-stopped g c =
+    let holds = g.F.Files.holds c.args.files.now in
+    let why = WhyRun holds c.args.asked.now.execution c.args.asked.now.outset c.args.asked.now.has_trace
+    (g.W.Write.contents (device_of c.args.output.now)) (g.W.Write.contents (device_of c.run_words.new.writer)) in
+    handed (StopsBy why NoOther) c.in_err-put_count-in-Ok-Some.field-0.0 c.from_residual-in_err-put_count-in-Ok-Some.result
+    c.from_residual-in_err-put_count-in-Ok-Some.ensures.1
+    (memory_stops why NoOther c.in_err-put_count-in-Ok-Some.field-0.0 c.in_err-put_count-in-Ok-Some.ensures)
+
+pub returns-in_err-put_count-in-Ok-None-clause-stopped : goal.returns-in_err-put_count-in-Ok-None-clause-stopped
+returns-in_err-put_count-in-Ok-None-clause-stopped g c =
+    let holds = g.F.Files.holds c.args.files.now in
+    let why = WhyRun holds c.args.asked.now.execution c.args.asked.now.outset c.args.asked.now.has_trace
+    (g.W.Write.contents (device_of c.args.output.now)) (g.W.Write.contents (device_of c.run_words.new.writer)) in
+    handed (StopsBy why NoOther) c.in_err-put_count-in-Ok-None.field-0.0 c.from_residual-in_err-put_count-in-Ok-None.result
+    c.from_residual-in_err-put_count-in-Ok-None.ensures.1
+    (memory_stops why NoOther c.in_err-put_count-in-Ok-None.field-0.0 c.in_err-put_count-in-Ok-None.ensures)
+
+pub returns-in-Ok-None-clause-stopped : goal.returns-in-Ok-None-clause-stopped
+returns-in-Ok-None-clause-stopped g c =
+    let ran = rw c.in-Ok-None.field-0-is at c.in-Ok-None.ensures.ran in
+    inr (inr (
+      refl,
+      record {
+        trace = ran.0;
+        image = c.in_ok-verified.verified;
+        words = c.deref.result.now;
+        begins = subst
+            (BeginsAt (g.F.Files.holds c.args.files.now) c.args.asked.now.execution c.args.asked.now.outset
+            c.in_ok-verified.verified)
+            (sym c.deref.ensures.value) c.in_ok-verified.ensures.begins;
+        ran = ran.1;
+        written = ran.2;
+      },
+    ))
+
+pub returns-clause-stopped : goal.returns-clause-stopped
+returns-clause-stopped g c =
+    let holds = g.F.Files.holds c.args.files.now in
+    let why = WhyRun holds c.args.asked.now.execution c.args.asked.now.outset c.args.asked.now.has_trace
+    (g.W.Write.contents (device_of c.args.output.now)) (g.W.Write.contents (device_of c.run_words.new.writer)) in
+    ended_stops why NoOther c.in-Err.error c.device_stop.result c.in-Err.ensures.only c.device_stop.ensures.write
+    c.device_stop.ensures.memory

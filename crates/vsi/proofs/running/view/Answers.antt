@@ -3,6 +3,8 @@ use Rattle.std.proofs.lemmas.Result.{on_ok_weaker}
 use Rattle.std.specs.Io.KnownBytes.{Appends}
 use Rattle.vsi_devices.specs.Counted.{device_of}
 use Rattle.vsi.specs.Performed.{shown}
+use Rattle.vsi.specs.Reasons.{NoOther, StopsBy, WhyView}
+use Rattle.vsi.proofs.Unrun.{handed, handed_late}
 use Rattle.vsi.proofs.Written.{silent_late}
 use Rattle.vsi.proofs.running.view.Goals as goal
 
@@ -11,7 +13,7 @@ returns-clause-performed g c =
     on_ok_weaker c.deliver.result
     (λ written. record {
       text = c.in_ok-text.text;
-      views = c.in_ok-text.ensures;
+      views = c.in_ok-text.ensures.told;
       written = subst
           (λ t. Appends (g.W.Write.contents (device_of c.args.output.now)) (g.W.Write.contents (device_of c.deliver.new.output))
           (shown c.args.outset.now.out t))
@@ -22,3 +24,19 @@ returns-clause-performed g c =
 pub returns-clause-silent : goal.returns-clause-silent
 returns-clause-silent g c =
     silent_late c.deliver.result _ _ c.deliver.ensures.stop
+
+pub returns-in_err-text-clause-stopped : goal.returns-in_err-text-clause-stopped
+returns-in_err-text-clause-stopped g c =
+    handed
+    (StopsBy
+    (WhyView (g.F.Files.holds c.args.files.now) c.args.lattice.now c.args.class.now c.args.execution
+    c.args.outset.now)
+    NoOther)
+    c.in_err-text.field-0.0 c.from_residual.result c.from_residual.ensures.1 c.in_err-text.ensures.stopped
+
+pub returns-clause-stopped : goal.returns-clause-stopped
+returns-clause-stopped g c =
+    handed_late
+    (WhyView (g.F.Files.holds c.args.files.now) c.args.lattice.now c.args.class.now c.args.execution
+    c.args.outset.now)
+    NoOther c.deliver.result c.deliver.ensures.stop

@@ -1,0 +1,206 @@
+-- Why a step has stopped is why the whole has, and what is told of a refusal.
+use Rattle.std.proofs.Common.{◌≡◌, ◌⊎◌, ℕ, List, Result, Ok, Err, ◌∙◌, sym, subst, inl, inr}
+use Rattle.std.specs.Borrow.{Bor}
+use Rattle.std.specs.Prelude.{IfErr, IsErrAnd, IsSomeAnd, MatchResult, Option, Some, None}
+use Rattle.std.specs.Global.{Vec}
+use Rattle.std.proofs.lemmas.Result.{IfErr-weaker}
+use Rattle.vsi_lattice.specs.LatticeView.{class_named}
+use Rattle.vsi_lattice.specs.declared.lattice.Lattice.{Lattice}
+use Rattle.vsi_types.specs.declared.rules.Profile.{Profile}
+use Rattle.vsi_compiler.specs.Readable.{HasProgram}
+use Rattle.vsi_compiler.specs.Refusal.{RefusesProgram}
+use Rattle.vsi_compiler.specs.declared.error.CompileError.{CompileError}
+use Rattle.vsi_compiler.specs.declared.error.CompileError.TheVariants as compiler
+use Rattle.vsi_answers.specs.Answers.{Because}
+use Rattle.vsi_answers.specs.Judged.{Declares, IsProgramFault, TellsFault, TellsSource}
+use Rattle.vsi_faults.specs.declared.texts.Fault.{Fault}
+use Rattle.vsi_answers.specs.Requests.{Answer, FormatsTo, ReadsLattice}
+use Rattle.vsi_answers.specs.declared.unanswered.Cause.TheVariants.{Source, File as InFile, Start, Steady}
+use Rattle.vsi_answers.specs.declared.unanswered.Unanswered.{Unanswered}
+use Rattle.vsi_answers.specs.declared.unanswered.Unanswered.TheVariants as unanswered
+use Rattle.vsi_arguments.specs.declared.request.Compilation.{Compilation}
+use Rattle.vsi_arguments.specs.declared.request.Search.{Search}
+use Rattle.vsi.specs.declared.stop.Stop.{Stop}
+use Rattle.vsi.specs.Holding.{Holding, IsLatticeAt, IsReadAt}
+use Rattle.vsi.specs.Input.{two_classes}
+use Rattle.vsi.specs.Performed.{AreFiles, profile_of}
+use Rattle.vsi.specs.Reasons.{AsksCanonical, DiffersLeak, IsNoMemory, NoOther, RefusesFile, RefusesFiles, RefusesLattice, RefusesProgramAt, RefusesSource, StopsBy, WhyDraw}
+use Rattle.vsi.specs.Stops.{stop_of}
+use Rattle.vsi.proofs.Reasons.{answered_stops, reason_stops, stops_by}
+
+-- ---- what is passed on.
+
+-- What is so of the stop of a step is so of the whole's, where the step's is passed on.
+pub passed_on : {T : Type 0} (P : Stop → Type 0) (result : Result T Stop) (stop : Stop) →
+    IsErrAnd result (λ s. s ≡ stop) → P stop → IfErr result P
+passed_on P (Ok x) stop is so = tt
+passed_on P (Err s) stop is so = subst P (sym is) so
+
+-- Why a step has stopped is why the whole has, where the step's stop is passed on.
+pub stopped_by : {T : Type 0} (why so : Unanswered → Type 0) (other : Stop → Type 0) →
+    ((reason : Unanswered) → why reason → so reason) → (result : Result T Stop) (stop : Stop) →
+    IsErrAnd result (λ s. s ≡ stop) → StopsBy why NoOther stop → IfErr result (StopsBy so other)
+stopped_by why so other f result stop is told =
+    passed_on (StopsBy so other) result stop is (stops_by why so other f stop told)
+
+-- Why there is no answer is why the whole has stopped.
+pub stopped_reason : {T : Type 0} (why : Unanswered → Type 0) (other : Stop → Type 0) (result : Result T Stop)
+    (reason : Unanswered) → IsErrAnd result (λ s. s ≡ stop_of reason) → why reason → IfErr result (StopsBy why other)
+stopped_reason why other result reason is told =
+    passed_on (StopsBy why other) result (stop_of reason) is (reason_stops why other reason told)
+
+-- ---- which file is refused.
+
+-- A lattice file that is refused is why a compilation has no answer.
+pub refuses_lattice : {T : Type 0} (holds : Holding) (c : Compilation) (Ask : Lattice → List ℕ → Answer → Type 0)
+    (result : Result T Stop) (stop : Stop) → IsErrAnd result (λ s. s ≡ stop) →
+    StopsBy (RefusesLattice holds c.lattice.now) NoOther stop →
+    IfErr result (StopsBy (RefusesFiles holds c Ask) NoOther)
+refuses_lattice holds c Ask result stop is told =
+    stopped_by (RefusesLattice holds c.lattice.now) (RefusesFiles holds c Ask) NoOther (λ reason why. inl why)
+    result stop is told
+
+-- Why a lattice and a source text have no answer is why the files that hold them have none.
+pub refuses_files : (holds : Holding) (c : Compilation) (Ask : Lattice → List ℕ → Answer → Type 0) (l : Lattice)
+    (text source : List ℕ) (answer : Answer) (result : Result (Vec ℕ) Stop) → AreFiles holds c l text →
+    source ≡ text →
+    MatchResult answer (λ t. result ≡ Ok t) (λ reason. result ≡ Err (stop_of reason)) → Ask l source answer →
+    IfErr result (StopsBy (RefusesFiles holds c Ask) NoOther)
+refuses_files holds c Ask l text source answer result files same is told =
+    IfErr-weaker result (StopsBy (λ reason. Ask l text (Err reason)) NoOther)
+    (StopsBy (RefusesFiles holds c Ask) NoOther)
+    (stops_by (λ reason. Ask l text (Err reason)) (RefusesFiles holds c Ask) NoOther
+    (λ reason why. inr (record { lattice = l; source = text; files = files; is = why })))
+    (answered_stops (Ask l text) answer result is (subst (λ s. Ask l s answer) same told))
+
+-- The same, under the profile of a compilation.
+pub refuses_by : (holds : Holding) (c : Compilation) (Ask : Lattice → Profile → List ℕ → Answer → Type 0)
+    (l : Lattice) (text source : List ℕ) (P : Profile) (answer : Answer) (result : Result (Vec ℕ) Stop) →
+    AreFiles holds c l text → source ≡ text → P ≡ profile_of c.is_strict →
+    MatchResult answer (λ t. result ≡ Ok t) (λ reason. result ≡ Err (stop_of reason)) → Ask l P source answer →
+    IfErr result (StopsBy (RefusesFiles holds c (λ m s a. Ask m (profile_of c.is_strict) s a)) NoOther)
+refuses_by holds c Ask l text source P answer result files same by is told =
+    refuses_files holds c (λ m s a. Ask m (profile_of c.is_strict) s a) l text source answer result files same is
+    (subst (λ Q. Ask l Q source answer) by told)
+
+-- Bytes of a file that are refused as a lattice file.
+pub refuses_declared : {T : Type 0} (holds : Holding) (path bytes text : List ℕ) (result : Result T Stop) →
+    IsReadAt holds path bytes → text ≡ bytes →
+    IfErr result (StopsBy (λ reason. ReadsLattice text (Err reason)) NoOther) →
+    IfErr result (StopsBy (RefusesLattice holds path) NoOther)
+refuses_declared holds path bytes text result read same told =
+    IfErr-weaker result (StopsBy (λ reason. ReadsLattice text (Err reason)) NoOther)
+    (StopsBy (RefusesLattice holds path) NoOther)
+    (stops_by (λ reason. ReadsLattice text (Err reason)) (RefusesLattice holds path) NoOther
+    (λ reason why. record {
+      bytes = bytes;
+      read = read;
+      is = subst (λ b. ReadsLattice b (Err reason)) same why;
+    }))
+    told
+
+-- Bytes of a file that have no tree.
+pub refuses_tree : (holds : Holding) (path bytes text : List ℕ) (l : Lattice) (answer : Answer)
+    (result : Result (Vec ℕ) Stop) → IsReadAt holds path bytes → text ≡ bytes → Declares two_classes l →
+    MatchResult answer (λ t. result ≡ Ok t) (λ reason. result ≡ Err (stop_of reason)) → FormatsTo l text answer →
+    IfErr result (StopsBy (RefusesFile holds path AsksCanonical) NoOther)
+refuses_tree holds path bytes text l answer result read same declared is told =
+    IfErr-weaker result (StopsBy (λ reason. FormatsTo l bytes (Err reason)) NoOther)
+    (StopsBy (RefusesFile holds path AsksCanonical) NoOther)
+    (stops_by (λ reason. FormatsTo l bytes (Err reason)) (RefusesFile holds path AsksCanonical) NoOther
+    (λ reason why. record { bytes = bytes; read = read; is = (l, declared, why) }))
+    (answered_stops (FormatsTo l bytes) answer result is (subst (λ s. FormatsTo l s answer) same told))
+
+-- ---- texts without a program.
+
+-- A refusal that tells an error with which no program stands tells that there is none.
+pub tells_program : (l : Lattice) (text : List ℕ) (error : CompileError) →
+    RefusesProgram (class_named l) text error →
+    (HasProgram (class_named l) text → error ≡ compiler.Memory) → (reason : Unanswered) →
+    Because (TellsSource (λ e. e ≡ error) l text) ⊥ reason →
+    Because (TellsSource (IsProgramFault l text) l text) ⊥ reason
+tells_program l text error refused exact (unanswered.Refused told (Source e)) is =
+    (is.0, (subst (RefusesProgram (class_named l) text) (sym is.1) refused, λ program. is.0 (is.1 ∙ exact program)), is.2)
+tells_program l text error refused exact (unanswered.Refused told (InFile f)) is = absurd is
+tells_program l text error refused exact (unanswered.Refused told (Start f)) is = absurd is
+tells_program l text error refused exact (unanswered.Refused told (Steady e)) is = absurd is
+tells_program l text error refused exact unanswered.OutOfBudget is = absurd is
+tells_program l text error refused exact unanswered.Memory is = tt
+
+-- The stop for a source text of a file that has no program tells so.
+pub refuses_program : (holds : Holding) (l : Lattice) (path text judged told : List ℕ) (error : CompileError)
+    (stop : Stop) → IsReadAt holds path text → judged ≡ text → told ≡ text →
+    RefusesProgram (class_named l) judged error → (HasProgram (class_named l) judged → error ≡ compiler.Memory) →
+    StopsBy (Because (TellsSource (λ e. e ≡ error) l told) ⊥) NoOther stop →
+    StopsBy (RefusesProgramAt holds l path) NoOther stop
+refuses_program holds l path text judged told error stop read of_judged of_told refused exact is =
+    stops_by (Because (TellsSource (λ e. e ≡ error) l text) ⊥) (RefusesProgramAt holds l path) NoOther
+    (λ reason why. record {
+      text = text;
+      read = read;
+      is = tells_program l text error (subst (λ t. RefusesProgram (class_named l) t error) of_judged refused)
+          (subst (λ t. HasProgram (class_named l) t → error ≡ compiler.Memory) of_judged exact) reason why;
+    })
+    stop (subst (λ t. StopsBy (Because (TellsSource (λ e. e ≡ error) l t) ⊥) NoOther stop) of_told is)
+
+-- ---- graphs.
+
+-- A lattice file that is refused is why no graph is drawn.
+pub draw_lattice : (holds : Holding) (lattice : List ℕ) (source : Option (Bor (List ℕ))) (reason : Unanswered) →
+    RefusesLattice holds lattice reason → WhyDraw holds lattice source reason
+draw_lattice holds lattice None reason is = is
+draw_lattice holds lattice (Some path) reason is = inl is
+
+-- So is a source text without a program.
+pub draw_source : (holds : Holding) (lattice : List ℕ) (source : Option (Bor (List ℕ))) (l : Lattice)
+    (reason : Unanswered) → IsLatticeAt holds lattice l →
+    IsSomeAnd source (λ path. RefusesProgramAt holds l path.now reason) → WhyDraw holds lattice source reason
+draw_source holds lattice None l reason declared is = absurd is
+draw_source holds lattice (Some path) l reason declared is =
+    inr (record { classes = l; declared = declared; refused = is })
+
+-- ---- leaks.
+
+-- Why a search for leaks has no answer: the lattice file is refused, or a source text without a program.
+abbrev pub WhyLeak : Holding → Search → Unanswered → Type 0
+WhyLeak holds s reason =
+    RefusesLattice holds s.lattice.now reason ⊎ RefusesSource holds s.lattice.now s.source.now reason
+
+-- A lattice file that is refused is why nothing is searched.
+pub leak_lattice : {T : Type 0} (holds : Holding) (s : Search) (result : Result T Stop) (stop : Stop) →
+    IsErrAnd result (λ e. e ≡ stop) → StopsBy (RefusesLattice holds s.lattice.now) NoOther stop →
+    IfErr result (StopsBy (WhyLeak holds s) (DiffersLeak holds s))
+leak_lattice holds s result stop is told =
+    stopped_by (RefusesLattice holds s.lattice.now) (WhyLeak holds s) (DiffersLeak holds s) (λ reason why. inl why)
+    result stop is told
+
+-- What is no refusal is passed on.
+pub leak_nothing : {T : Type 0} (holds : Holding) (s : Search) (result : Result T Stop) (stop : Stop) →
+    IsErrAnd result (λ e. e ≡ stop) → StopsBy (λ reason. ⊥) NoOther stop →
+    IfErr result (StopsBy (WhyLeak holds s) (DiffersLeak holds s))
+leak_nothing holds s result stop is told =
+    stopped_by (λ reason. ⊥) (WhyLeak holds s) (DiffersLeak holds s) (λ reason none. absurd none) result stop is told
+
+-- So is a source text without a program.
+pub leak_program : (holds : Holding) (s : Search) (l : Lattice) (text judged told : List ℕ) (error : CompileError)
+    (stop : Stop) → IsLatticeAt holds s.lattice.now l → IsReadAt holds s.source.now text → judged ≡ text →
+    told ≡ text → RefusesProgram (class_named l) judged error →
+    (HasProgram (class_named l) judged → error ≡ compiler.Memory) →
+    StopsBy (Because (TellsSource (λ e. e ≡ error) l told) ⊥) NoOther stop →
+    StopsBy (WhyLeak holds s) (DiffersLeak holds s) stop
+leak_program holds s l text judged told error stop declared read of_judged of_told refused exact is =
+    stops_by (RefusesProgramAt holds l s.source.now) (WhyLeak holds s) (DiffersLeak holds s)
+    (λ reason why. inr (record { classes = l; declared = declared; refused = why }))
+    stop
+    (refuses_program holds l s.source.now text judged told error stop read of_judged of_told refused exact is)
+
+-- What is told of a fault that isn't want of memory says so.
+pub fault_told : (fault : Fault) (reason : Unanswered) → IsNoMemory fault →
+    Because (TellsFault (λ f. f ≡ fault)) ⊥ reason → Because (TellsFault (λ f. (f ≡ fault) × IsNoMemory f)) ⊥ reason
+fault_told fault (unanswered.Refused text (Source e)) other told = told
+fault_told fault (unanswered.Refused text (InFile f)) other told =
+    ((told.0, subst IsNoMemory (sym told.0) other), told.1)
+fault_told fault (unanswered.Refused text (Start f)) other told = told
+fault_told fault (unanswered.Refused text (Steady e)) other told = told
+fault_told fault unanswered.OutOfBudget other told = told
+fault_told fault unanswered.Memory other told = tt

@@ -1,0 +1,15 @@
+use Rattle.std.proofs.Common.{◌≡◌, subst, sym}
+use Rattle.vsi_answers.specs.Answers.{Because}
+use Rattle.vsi_answers.specs.Judged.{TellsFault}
+use Rattle.vsi.specs.Reasons.{IsNoMemory, NoOther, StopsBy}
+use Rattle.vsi.proofs.Reasons.{reason_stops}
+use Rattle.vsi.proofs.Refused.{fault_told}
+use Rattle.vsi.proofs.reading.faulty.Goals as goal
+
+pub returns : goal.returns
+returns c =
+    let why = Because (TellsFault (λ f. (f ≡ c.args.fault) × IsNoMemory f)) ⊥ in
+    subst (StopsBy why NoOther) (sym c.from.ensures)
+    (reason_stops why NoOther c.refused_file.result
+    (fault_told c.args.fault c.refused_file.result (c.wants_memory.ensures c.if-wants_memory.false)
+    c.refused_file.ensures))

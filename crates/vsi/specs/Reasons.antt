@@ -1,0 +1,327 @@
+-- Why a request that isn't done has stopped, of what its files hold.
+use Rattle.std.specs.Prelude.{◌≡◌, ◌≢◌, ◌⊎◌, ℕ, ℤ, Bool, true, false, List, Option, Some, None, Result, Err}
+use Rattle.std.specs.Global.{Vec}
+use Rattle.std.specs.Borrow.{Bor}
+use Rattle.std.specs.Io.KnownBytes.{Appends}
+use Rattle.vsi_lattice.specs.LatticeView.{class_named, order}
+use Rattle.vsi_lattice.specs.NamePlaces.{texts}
+use Rattle.vsi_lattice.specs.declared.lattice.Lattice.{Lattice}
+use Rattle.vsi_lattice.specs.declared.fault.LatticeError.TheVariants as lattice
+use Rattle.vsi_image.specs.declared.decoder.DecodeError.TheVariants as decoder
+use Rattle.vsi_image.specs.declared.instr.Image.{Image}
+use Rattle.vsi_image.specs.Fields.{globals}
+use Rattle.vsi_store.specs.declared.comparison.Comparison as found
+use Rattle.vsi_store.specs.declared.error.StoreError.TheVariants as store
+use Rattle.vsi_store.specs.declared.views.ViewError.TheVariants as views
+use Rattle.vsi_faults.specs.declared.texts.Fault.{Fault}
+use Rattle.vsi_faults.specs.declared.texts.Fault.TheVariants as fault
+use Rattle.vsi_audit.specs.Refusal as audited
+use Rattle.vsi_steady.specs.Refusal as steady
+use Rattle.vsi_leak.specs.Leaks.{IsLeak}
+use Rattle.vsi_leak.specs.Texts.{IsLeakText}
+use Rattle.vsi_leak.specs.declared.found.Leak.{Leak}
+use Rattle.vsi_devices.specs.Running.{RunsApart}
+use Rattle.vsi_conform.specs.Conforms.{Conforms}
+use Rattle.vsi_conform.specs.declared.interface.Judgement.{Judgement}
+use Rattle.vsi_conform.specs.declared.reader.Asked.{Asked}
+use Rattle.vsi_json.specs.Answer.{TellsAnswer, accepted_line}
+use Rattle.vsi_answers.specs.Answers.{Because}
+use Rattle.vsi_answers.specs.Judged.{Declares, IsProgramFault, IsStoreFault, TellsFault, TellsSource}
+use Rattle.vsi_answers.specs.Requests.{Answer, BeginsWith, BuildsTo, ChecksSteadyTo, ChecksTo, ClassesTo, ComparesTo, FlowsTo, FormatsTo, ListsTo, ReadsImage, ReadsLattice, ViewsTo, WalksTo}
+use Rattle.vsi_answers.specs.declared.unanswered.Unanswered.{Unanswered}
+use Rattle.vsi_answers.specs.declared.unanswered.Unanswered.TheVariants as unanswered
+use Rattle.vsi_arguments.specs.declared.request.Audit.{Audit}
+use Rattle.vsi_arguments.specs.declared.request.Comparison.{Comparison}
+use Rattle.vsi_arguments.specs.declared.request.Compilation.{Compilation}
+use Rattle.vsi_arguments.specs.declared.request.Conformance.{Conformance}
+use Rattle.vsi_arguments.specs.declared.request.Execution.{Execution}
+use Rattle.vsi_arguments.specs.declared.request.Judging.{Judging}
+use Rattle.vsi_arguments.specs.declared.request.Outset.{Outset}
+use Rattle.vsi_arguments.specs.declared.request.Search.{Search}
+use Rattle.vsi_arguments.specs.declared.request.Request.{Request}
+use Rattle.vsi_arguments.specs.declared.request.Request.TheVariants as request
+use Rattle.vsi.specs.declared.stop.Stop.{Stop}
+use Rattle.vsi.specs.declared.stop.Stop.TheVariants as stops
+use Rattle.vsi.specs.Holding.{Holding, IsImageAt, IsLatticeAt, IsReadAt, IsStoreAt}
+use Rattle.vsi.specs.Input.{two_classes}
+use Rattle.vsi.specs.Performed.{AreFiles, BeginsAt, ComparesFiles, IsAskedAt, IsDeclared, LooksAt, OfFiles, Writes, judgement_of, profile_of}
+
+-- ---- what a stop tells.
+
+-- The refusal of a file or of a text, and a run that is out of budget, is for this reason; of the other stops of
+-- status 1 this is so. Of a mistake in words, a class that is missing, a file fault and want of memory nothing is
+-- claimed.
+abbrev pub StopsBy : (Unanswered → Type 0) → (Stop → Type 0) → Stop → Type 0
+StopsBy why other (stops.Refused text (Some cause)) = why (unanswered.Refused text cause)
+StopsBy why other (stops.Refused text None) = other (stops.Refused text None)
+StopsBy why other (stops.Interface text error) = other (stops.Interface text error)
+StopsBy why other (stops.Audit text error) = other (stops.Audit text error)
+StopsBy why other (stops.Unsteady text error) = other (stops.Unsteady text error)
+StopsBy why other stops.Differs = other stops.Differs
+StopsBy why other (stops.Usage text) = Unit {0}
+StopsBy why other (stops.NoClass name) = Unit {0}
+StopsBy why other stops.OutOfBudget = why unanswered.OutOfBudget
+StopsBy why other (stops.FileFault path) = Unit {0}
+StopsBy why other (stops.LostFile path) = Unit {0}
+StopsBy why other stops.Memory = Unit {0}
+
+-- There is no other stop of status 1.
+abbrev pub NoOther : Stop → Type 0
+NoOther stop = ⊥
+
+-- The fault isn't want of memory.
+abbrev pub IsNoMemory : Fault → Type 0
+IsNoMemory (fault.Lattice e) = e ≢ lattice.Memory
+IsNoMemory (fault.Decode e) = e ≢ decoder.Memory
+IsNoMemory (fault.Verify e) = Unit {0}
+IsNoMemory (fault.Store e) = e ≢ store.Memory
+IsNoMemory (fault.View e) = e ≢ views.Memory
+
+-- The stop is a difference, of which this has been told.
+abbrev pub IsDifference : Type 0 → Stop → Type 0
+IsDifference told stop = (stop ≡ stops.Differs) × told
+
+-- ---- which file is refused, or what is asked of it.
+
+-- The bytes of a file have this reason for no answer to what is asked of them.
+pub record RefusesFile {T : Type 0} (holds : Holding) (path : List ℕ) (Ask : List ℕ → Result T Unanswered → Type 0)
+    (reason : Unanswered) : Type 0 where
+  pub bytes : List ℕ
+  pub read : IsReadAt holds path bytes
+  pub is : Ask bytes (Err reason)
+
+-- A lattice file is refused.
+abbrev pub RefusesLattice : Holding → List ℕ → Unanswered → Type 0
+RefusesLattice holds path = RefusesFile holds path ReadsLattice
+
+-- An image file is refused.
+abbrev pub RefusesImage : Holding → List ℕ → Unanswered → Type 0
+RefusesImage holds path = RefusesFile holds path ReadsImage
+
+-- A lattice and a source text have this reason for no answer to what is asked of them.
+pub record RefusesText (holds : Holding) (c : Compilation) (Ask : Lattice → List ℕ → Answer → Type 0)
+    (reason : Unanswered) : Type 0 where
+  pub lattice : Lattice
+  pub source : List ℕ
+  pub files : AreFiles holds c lattice source
+  pub is : Ask lattice source (Err reason)
+
+-- A compilation has this reason for no answer: its lattice file is refused, or else its source text.
+abbrev pub RefusesFiles : Holding → Compilation → (Lattice → List ℕ → Answer → Type 0) → Unanswered → Type 0
+RefusesFiles holds c Ask reason = RefusesLattice holds c.lattice.now reason ⊎ RefusesText holds c Ask reason
+
+-- The words that a run begins with are refused: the store file, or what is set behind it.
+pub record RefusesStart (holds : Holding) (e : Execution) (o : Outset) (reason : Unanswered) : Type 0 where
+  pub image : Image
+  pub held : IsImageAt holds e.image.now image
+  pub file : List ℕ
+  pub read : IsStoreAt holds e.store file
+  pub is : BeginsWith image file (texts o.settings.items) o.is_full (Err reason)
+
+-- A store file is refused for the image of a file.
+pub record RefusesStore (holds : Holding) (path : List ℕ) (store : Option (Bor (List ℕ))) (reason : Unanswered)
+    : Type 0 where
+  pub image : Image
+  pub held : IsImageAt holds path image
+  pub file : List ℕ
+  pub read : IsStoreAt holds store file
+  pub is : Because (TellsFault (IsStoreFault image file)) ⊥ reason
+
+-- The source text of a file has no program under a lattice, and is refused.
+pub record RefusesProgramAt (holds : Holding) (l : Lattice) (path : List ℕ) (reason : Unanswered) : Type 0 where
+  pub text : List ℕ
+  pub read : IsReadAt holds path text
+  pub is : Because (TellsSource (IsProgramFault l text) l text) ⊥ reason
+
+-- The same under the lattice of a file.
+pub record RefusesSource (holds : Holding) (lattice source : List ℕ) (reason : Unanswered) : Type 0 where
+  pub classes : Lattice
+  pub declared : IsLatticeAt holds lattice classes
+  pub refused : RefusesProgramAt holds classes source reason
+
+-- ---- what is asked.
+
+-- What `check` asks, and what `check --steady` does.
+abbrev pub AsksCheck : Bool → Bool → Lattice → List ℕ → Answer → Type 0
+AsksCheck true is_strict l source = ChecksSteadyTo l source
+AsksCheck false is_strict l source = ChecksTo l (profile_of is_strict) source
+
+-- What `classes` asks.
+abbrev pub AsksClasses : Bool → Lattice → List ℕ → Answer → Type 0
+AsksClasses is_strict l source = ClassesTo l (profile_of is_strict) source
+
+-- What `flows` asks, and what `flows --walks` does.
+abbrev pub AsksFlows : Bool → Bool → Lattice → List ℕ → Answer → Type 0
+AsksFlows true is_strict l source = WalksTo l (profile_of is_strict) source
+AsksFlows false is_strict l source = FlowsTo l (profile_of is_strict) source
+
+-- What `build` asks.
+abbrev pub AsksImage : Bool → Lattice → List ℕ → Answer → Type 0
+AsksImage is_strict l source = BuildsTo l (profile_of is_strict) source
+
+-- What `fmt` asks. Its refusals read no lattice, and are told as those under two classes.
+abbrev pub AsksCanonical : List ℕ → Answer → Type 0
+AsksCanonical source answer = (l : Lattice) × Declares two_classes l × FormatsTo l source answer
+
+-- ---- why each subcommand has stopped.
+
+-- `check --json` has told of a refusal in a line.
+abbrev pub ToldRefusal : Judgement → Lattice → List ℕ → Vec ℕ → Type 0
+ToldRefusal j l source text = TellsAnswer l j source text.items × (text.items ≢ accepted_line)
+
+-- `check`: the text is refused, and with `--json` that has been told.
+abbrev pub WhyCheck : Bool → Holding → Judging → Option (List ℕ) → Option (List ℕ) → Stop → Type 0
+WhyCheck true holds asked old new =
+    StopsBy (RefusesLattice holds asked.compilation.lattice.now)
+    (IsDifference (Writes (OfFiles holds asked.compilation (ToldRefusal (judgement_of asked))) old new))
+WhyCheck false holds asked old new =
+    StopsBy (RefusesFiles holds asked.compilation (AsksCheck asked.is_steady asked.compilation.is_strict)) NoOther
+
+-- `conform`: the source text doesn't conform to the interface of the file, under some lattice.
+pub record DiffersFiles (holds : Holding) (c : Conformance) : Type 0 where
+  pub asked : Asked
+  pub interface : IsAskedAt holds c.interface.now asked
+  pub lattice : Lattice
+  pub declared : IsDeclared lattice
+  pub source : List ℕ
+  pub read : IsReadAt holds c.source.now source
+  pub differs : ¬ (Conforms lattice source asked.interface)
+
+-- `conform`: the interface is refused, of which no more is claimed.
+abbrev pub IsUnusable : Stop → Type 0
+IsUnusable (stops.Interface text error) = Unit {0}
+IsUnusable stop = ⊥
+
+-- `conform`: the interface is refused, or the text doesn't conform.
+abbrev pub DiffersConform : Holding → Conformance → Stop → Type 0
+DiffersConform holds c stop = IsUnusable stop ⊎ IsDifference (DiffersFiles holds c) stop
+
+-- Some bytes are refused as a lattice file.
+abbrev pub RefusesSomeLattice : Unanswered → Type 0
+RefusesSomeLattice reason = (policy : List ℕ) × ReadsLattice policy (Err reason)
+
+-- `run`: the trace of a run that is out of budget has been written.
+pub record SpendsRun (holds : Holding) (e : Execution) (o : Outset) (traced : Bool) (old new : Option (List ℕ))
+    : Type 0 where
+  pub trace : List ℕ
+  pub image : Image
+  pub words : List ℤ
+  pub begins : BeginsAt holds e o image words
+  pub ran : RunsApart traced image words e.budget None trace
+  pub written : Appends old new trace
+
+-- `run`: the image is refused, or the words that it begins with, or the run is out of budget.
+abbrev pub WhyRun : Holding → Execution → Outset → Bool → Option (List ℕ) → Option (List ℕ) → Unanswered → Type 0
+WhyRun holds e o traced old new reason =
+    RefusesImage holds e.image.now reason ⊎ RefusesStart holds e o reason
+    ⊎ ((reason ≡ unanswered.OutOfBudget) × SpendsRun holds e o traced old new)
+
+-- `view`: the run has no answer for the class.
+pub record RefusesView (holds : Holding) (path class : List ℕ) (e : Execution) (o : Outset) (reason : Unanswered)
+    : Type 0 where
+  pub lattice : Lattice
+  pub viewer : ℕ
+  pub looks : LooksAt holds path class lattice viewer
+  pub image : Image
+  pub words : List ℤ
+  pub begins : BeginsAt holds e o image words
+  pub is : ViewsTo lattice viewer image words e.budget (Err reason)
+
+-- `view`: the lattice is refused, or the image, or the words that it begins with, or the run has no answer.
+abbrev pub WhyView : Holding → List ℕ → List ℕ → Execution → Outset → Unanswered → Type 0
+WhyView holds path class e o reason =
+    RefusesLattice holds path reason ⊎ RefusesImage holds e.image.now reason ⊎ RefusesStart holds e o reason
+    ⊎ RefusesView holds path class e o reason
+
+-- `compare`: the lattice lacks the class of a global.
+pub record RefusesComparison (holds : Holding) (c : Comparison) (reason : Unanswered) : Type 0 where
+  pub lattice : Lattice
+  pub viewer : ℕ
+  pub looks : LooksAt holds c.lattice.now c.class.now lattice viewer
+  pub image : Image
+  pub held : IsImageAt holds c.image.now image
+  pub first : List ℤ
+  pub second : List ℤ
+  pub is : ComparesTo lattice viewer image first second c.budget (Err reason)
+
+-- `compare`: the lattice is refused, or the image, or a store, or the runs aren't compared.
+abbrev pub WhyCompare : Holding → Comparison → Unanswered → Type 0
+WhyCompare holds c reason =
+    RefusesLattice holds c.lattice.now reason ⊎ RefusesImage holds c.image.now reason
+    ⊎ RefusesStore holds c.image.now (Some c.stores.0) reason ⊎ RefusesStore holds c.image.now (Some c.stores.1) reason
+    ⊎ RefusesComparison holds c reason
+
+-- `compare`: the class sees a difference, and what it sees has been written.
+pub record DiffersCompare (holds : Holding) (c : Comparison) (old new : Option (List ℕ)) : Type 0 where
+  pub told : found.Comparison
+  pub compares : ComparesFiles holds c told
+  pub differs : told.is_same ≡ false
+  pub written : Appends old new told.text.items
+
+-- An image is refused by the error that the stop has.
+abbrev pub IsRefusedImage : Bool → Lattice → Image → Stop → Type 0
+IsRefusedImage is_strict l image (stops.Audit text error) =
+    audited.Refuses (class_named l) (order l) (profile_of is_strict) image error
+IsRefusedImage is_strict l image (stops.Unsteady text error) = steady.Refuses (class_named l) (order l) image error
+IsRefusedImage is_strict l image stop = ⊥
+
+-- `audit`: the image of the file is refused. Of the text that tells it nothing is claimed.
+pub record RefusesAudit (holds : Holding) (a : Audit) (stop : Stop) : Type 0 where
+  pub lattice : Lattice
+  pub declared : IsLatticeAt holds a.lattice.now lattice
+  pub image : Image
+  pub held : IsImageAt holds a.image.now image
+  pub is : IsRefusedImage a.is_strict lattice image stop
+
+-- `source`: the image has no text, of which no more is claimed.
+abbrev pub HasNoText : Stop → Type 0
+HasNoText (stops.Audit text error) = Unit {0}
+HasNoText stop = ⊥
+
+-- A leak of an image, and the text that tells it. That the image is that of the source text isn't claimed.
+pub record TellsLeak (holds : Holding) (s : Search) (text : List ℕ) : Type 0 where
+  pub lattice : Lattice
+  pub declared : IsLatticeAt holds s.lattice.now lattice
+  pub image : Image
+  pub leak : Leak
+  pub leaks : IsLeak (class_named lattice) (order lattice) image s.budget leak
+  pub told : IsLeakText lattice (globals image.globals.items) leak text
+
+-- `leak`: a leak has been found.
+abbrev pub DiffersLeak : Holding → Search → Stop → Type 0
+DiffersLeak holds s (stops.Refused text None) = TellsLeak holds s text.items
+DiffersLeak holds s stop = ⊥
+
+-- `draw`: the lattice is refused, or a source text without a program.
+abbrev pub WhyDraw : Holding → List ℕ → Option (Bor (List ℕ)) → Unanswered → Type 0
+WhyDraw holds lattice None reason = RefusesLattice holds lattice reason
+WhyDraw holds lattice (Some source) reason =
+    RefusesLattice holds lattice reason ⊎ RefusesSource holds lattice source.now reason
+
+-- Why a request has stopped. Of `drive` nothing is claimed.
+abbrev pub Why : Holding → Request → Option (List ℕ) → Option (List ℕ) → Stop → Type 0
+Why holds (request.Check asked) old new = WhyCheck asked.is_json holds asked old new
+Why holds (request.Conform asked) old new = StopsBy RefusesSomeLattice (DiffersConform holds asked)
+Why holds (request.Classes c) old new = StopsBy (RefusesFiles holds c (AsksClasses c.is_strict)) NoOther
+Why holds (request.Flows c has_walks) old new = StopsBy (RefusesFiles holds c (AsksFlows has_walks c.is_strict)) NoOther
+Why holds (request.Build c image) old new = StopsBy (RefusesFiles holds c (AsksImage c.is_strict)) NoOther
+Why holds (request.List image) old new = StopsBy (RefusesFile holds image.now ListsTo) NoOther
+Why holds (request.Audit asked) old new =
+    StopsBy
+    (λ reason. RefusesLattice holds asked.lattice.now reason ⊎ RefusesImage holds asked.image.now reason)
+    (RefusesAudit holds asked)
+Why holds (request.Source image) old new = StopsBy (RefusesImage holds image.now) HasNoText
+Why holds (request.Run e o has_trace has_count) old new = StopsBy (WhyRun holds e o has_trace old new) NoOther
+Why holds (request.View lattice class e o) old new = StopsBy (WhyView holds lattice.now class.now e o) NoOther
+Why holds (request.Drive driving) old new = λ stop. Unit {0}
+Why holds (request.Compare comparison) old new =
+    StopsBy (WhyCompare holds comparison) (IsDifference (DiffersCompare holds comparison old new))
+Why holds (request.Leak search) old new =
+    StopsBy
+    (λ reason. RefusesLattice holds search.lattice.now reason
+    ⊎ RefusesSource holds search.lattice.now search.source.now reason)
+    (DiffersLeak holds search)
+Why holds (request.Report c) old new = StopsBy (RefusesLattice holds c.lattice.now) NoOther
+Why holds (request.Draw drawing) old new = StopsBy (WhyDraw holds drawing.lattice.now drawing.source) NoOther
+Why holds (request.Format source) old new = StopsBy (RefusesFile holds source.now AsksCanonical) NoOther
+Why holds (request.Explain page) old new = StopsBy (λ reason. ⊥) NoOther
