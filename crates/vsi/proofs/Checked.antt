@@ -37,9 +37,9 @@ accepted_at holds judging lattice source old new plain performed =
 
 -- The law.
 pub checked_is_accepted : CheckedIsAccepted
-checked_is_accepted holds words lattice source old new plain (inl help) =
-    absurd ((check_is_asked words lattice source plain).0 help)
-checked_is_accepted holds words lattice source old new plain (inr (request, asks, performed)) =
+checked_is_accepted holds given words lattice source left old new plain (inl help) =
+    absurd ((check_is_asked words lattice source plain).0 help.1)
+checked_is_accepted holds given words lattice source left old new plain (inr (request, asks, performed)) =
     let found = (check_is_asked words lattice source plain).1 request asks in
     accepted_at holds found.0 lattice source old new found.2
-    (subst (λ (r : Request). Performs holds r old new) found.1 performed)
+    (subst (λ (r : Request). Performs holds given r left old new) found.1 performed).1

@@ -2,8 +2,16 @@ pub mod Answered
 pub mod Reasons
 pub mod Seen
 pub mod Written
+pub mod Filled
+pub mod Driven
 pub mod Stopped
 pub mod Checked
 pub mod Obeyed
 pub mod Refused
 pub mod Unrun
+pub mod Conforming
+pub mod Undriven
+pub mod Short
+pub mod Declared
+pub mod Once
+pub mod Left

@@ -31,10 +31,10 @@ put_stops So of_late answer (Err stop) told (inl is) = subst (λ r. IfErr r So) 
 put_stops So of_late answer (Err stop) told (inr late) = of_late stop late
 
 -- A fault of a stream is late.
-pub fault_stops : {T : Type 0} (So : Stop → Type 0) → ((stop : Stop) → 3 < status_of stop → So stop) →
+pub faults_so : {T : Type 0} (So : Stop → Type 0) → ((stop : Stop) → 3 < status_of stop → So stop) →
     (result : Result T Stop) → IfErr result (λ stop. status_of stop ≡ 4) → IfErr result So
-fault_stops So of_late (Ok x) fault = tt
-fault_stops So of_late (Err stop) fault = of_late stop (omega arith)
+faults_so So of_late (Ok x) fault = tt
+faults_so So of_late (Err stop) fault = of_late stop (omega arith)
 
 -- What is so of a fault of a file, and of want of memory, is so of each late stop.
 late_by : (So : Stop → Type 0) → ((path : Bor (List ℕ)) → So (FileFault path)) →

@@ -1,6 +1,6 @@
--- What a stop tells.
+-- What a stop tells, and one that is handed on.
 use Rattle.std.proofs.Common.{◌≡◌, ◌<◌, Result, Ok, Err, sym, subst, arith}
-use Rattle.std.specs.Prelude.{Some, None, IfErr, MatchResult}
+use Rattle.std.specs.Prelude.{Some, None, IfErr, IsErrAnd, MatchResult}
 use Rattle.vsi_answers.specs.declared.unanswered.Unanswered.{Unanswered}
 use Rattle.vsi_answers.specs.declared.unanswered.Unanswered.TheVariants as unanswered
 use Rattle.vsi.specs.declared.stop.Stop.{Stop}
@@ -18,7 +18,7 @@ late_stops why other (Audit text error) late = absurd (omega arith)
 late_stops why other (Unsteady text error) late = absurd (omega arith)
 late_stops why other Differs late = absurd (omega arith)
 late_stops why other (Usage text) late = tt
-late_stops why other (NoClass name) late = tt
+late_stops why other (NoClass name) late = absurd (omega arith)
 late_stops why other OutOfBudget late = absurd (omega arith)
 late_stops why other (FileFault path) late = tt
 late_stops why other (LostFile path) late = tt
@@ -35,7 +35,7 @@ StopsBy-weaker why so other more f g (Audit text error) is = g (Audit text error
 StopsBy-weaker why so other more f g (Unsteady text error) is = g (Unsteady text error) is
 StopsBy-weaker why so other more f g Differs is = g Differs is
 StopsBy-weaker why so other more f g (Usage text) is = tt
-StopsBy-weaker why so other more f g (NoClass name) is = tt
+StopsBy-weaker why so other more f g (NoClass name) is = g (NoClass name) is
 StopsBy-weaker why so other more f g OutOfBudget is = f unanswered.OutOfBudget is
 StopsBy-weaker why so other more f g (FileFault path) is = tt
 StopsBy-weaker why so other more f g (LostFile path) is = tt
@@ -64,3 +64,16 @@ answered_stops Ask (Ok text) result is told =
 answered_stops Ask (Err reason) result is told =
     subst (λ r. IfErr r (StopsBy (λ reason. Ask (Err reason)) NoOther)) (sym is)
     (reason_stops (λ reason. Ask (Err reason)) NoOther reason told)
+
+-- What holds of a stop holds where that stop is handed on.
+pub handed : {T : Type 0} (P : Stop → Type 0) (stop : Stop) (result : Result T Stop) →
+    IsErrAnd result (λ e. e ≡ stop) → P stop → IfErr result P
+handed P stop (Ok x) is told = tt
+handed P stop (Err e) is told = subst P (sym is) told
+
+-- What holds of the reason for no answer is told where the stop for that reason is handed on.
+pub handed_reason : {T : Type 0} (why : Unanswered → Type 0) (other : Stop → Type 0) (reason : Unanswered)
+    (result : Result T Stop) → IsErrAnd result (λ e. e ≡ stop_of reason) → why reason →
+    IfErr result (StopsBy why other)
+handed_reason why other reason result is told =
+    handed (StopsBy why other) (stop_of reason) result is (reason_stops why other reason told)

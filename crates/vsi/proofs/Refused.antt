@@ -24,30 +24,18 @@ use Rattle.vsi.specs.declared.stop.Stop.{Stop}
 use Rattle.vsi.specs.Holding.{Holding, IsLatticeAt, IsReadAt}
 use Rattle.vsi.specs.Input.{two_classes}
 use Rattle.vsi.specs.Performed.{AreFiles, profile_of}
-use Rattle.vsi.specs.Reasons.{AsksCanonical, DiffersLeak, IsNoMemory, NoOther, RefusesFile, RefusesFiles, RefusesLattice, RefusesProgramAt, RefusesSource, StopsBy, WhyDraw}
+use Rattle.vsi.specs.Reasons.{AsksCanonical, IsNoMemory, LacksClass, LacksClassAt, NoOther, OtherLeak, RefusesFile, RefusesFiles, RefusesLattice, RefusesProgramAt, RefusesSource, StopsBy, WhyDraw}
 use Rattle.vsi.specs.Stops.{stop_of}
-use Rattle.vsi.proofs.Reasons.{answered_stops, reason_stops, stops_by}
+use Rattle.vsi.proofs.Reasons.{StopsBy-weaker, answered_stops, handed, stops_by}
 
 -- ---- what is passed on.
-
--- What is so of the stop of a step is so of the whole's, where the step's is passed on.
-pub passed_on : {T : Type 0} (P : Stop → Type 0) (result : Result T Stop) (stop : Stop) →
-    IsErrAnd result (λ s. s ≡ stop) → P stop → IfErr result P
-passed_on P (Ok x) stop is so = tt
-passed_on P (Err s) stop is so = subst P (sym is) so
 
 -- Why a step has stopped is why the whole has, where the step's stop is passed on.
 pub stopped_by : {T : Type 0} (why so : Unanswered → Type 0) (other : Stop → Type 0) →
     ((reason : Unanswered) → why reason → so reason) → (result : Result T Stop) (stop : Stop) →
     IsErrAnd result (λ s. s ≡ stop) → StopsBy why NoOther stop → IfErr result (StopsBy so other)
 stopped_by why so other f result stop is told =
-    passed_on (StopsBy so other) result stop is (stops_by why so other f stop told)
-
--- Why there is no answer is why the whole has stopped.
-pub stopped_reason : {T : Type 0} (why : Unanswered → Type 0) (other : Stop → Type 0) (result : Result T Stop)
-    (reason : Unanswered) → IsErrAnd result (λ s. s ≡ stop_of reason) → why reason → IfErr result (StopsBy why other)
-stopped_reason why other result reason is told =
-    passed_on (StopsBy why other) result (stop_of reason) is (reason_stops why other reason told)
+    handed (StopsBy so other) stop result is (stops_by why so other f stop told)
 
 -- ---- which file is refused.
 
@@ -119,8 +107,11 @@ pub tells_program : (l : Lattice) (text : List ℕ) (error : CompileError) →
     (HasProgram (class_named l) text → error ≡ compiler.Memory) → (reason : Unanswered) →
     Because (TellsSource (λ e. e ≡ error) l text) ⊥ reason →
     Because (TellsSource (IsProgramFault l text) l text) ⊥ reason
-tells_program l text error refused exact (unanswered.Refused told (Source e)) is =
-    (is.0, (subst (RefusesProgram (class_named l) text) (sym is.1) refused, λ program. is.0 (is.1 ∙ exact program)), is.2)
+tells_program l text error refused exact (unanswered.Refused told (Source e)) is = (
+  is.0,
+  (subst (RefusesProgram (class_named l) text) (sym is.1) refused, λ program. is.0 (is.1 ∙ exact program)),
+  is.2,
+)
 tells_program l text error refused exact (unanswered.Refused told (InFile f)) is = absurd is
 tells_program l text error refused exact (unanswered.Refused told (Start f)) is = absurd is
 tells_program l text error refused exact (unanswered.Refused told (Steady e)) is = absurd is
@@ -169,17 +160,28 @@ WhyLeak holds s reason =
 -- A lattice file that is refused is why nothing is searched.
 pub leak_lattice : {T : Type 0} (holds : Holding) (s : Search) (result : Result T Stop) (stop : Stop) →
     IsErrAnd result (λ e. e ≡ stop) → StopsBy (RefusesLattice holds s.lattice.now) NoOther stop →
-    IfErr result (StopsBy (WhyLeak holds s) (DiffersLeak holds s))
+    IfErr result (StopsBy (WhyLeak holds s) (OtherLeak holds s))
 leak_lattice holds s result stop is told =
-    stopped_by (RefusesLattice holds s.lattice.now) (WhyLeak holds s) (DiffersLeak holds s) (λ reason why. inl why)
+    stopped_by (RefusesLattice holds s.lattice.now) (WhyLeak holds s) (OtherLeak holds s) (λ reason why. inl why)
     result stop is told
 
--- What is no refusal is passed on.
-pub leak_nothing : {T : Type 0} (holds : Holding) (s : Search) (result : Result T Stop) (stop : Stop) →
-    IsErrAnd result (λ e. e ≡ stop) → StopsBy (λ reason. ⊥) NoOther stop →
-    IfErr result (StopsBy (WhyLeak holds s) (DiffersLeak holds s))
-leak_nothing holds s result stop is told =
-    stopped_by (λ reason. ⊥) (WhyLeak holds s) (DiffersLeak holds s) (λ reason none. absurd none) result stop is told
+-- A class that the lattice lacks is missing in that of the file.
+lacks_named : (holds : Holding) (path : List ℕ) (l : Lattice) (name : Option (Bor (List ℕ))) (stop : Stop) →
+    IsLatticeAt holds path l → IsSomeAnd name (λ n. LacksClass l n.now stop) →
+    IsSomeAnd name (λ n. LacksClassAt holds path n.now stop)
+lacks_named holds path l None stop at lacks = lacks
+lacks_named holds path l (Some n) stop at lacks = (l, at, lacks)
+
+-- A class that the lattice lacks is passed on.
+pub leak_lacking : {T : Type 0} (holds : Holding) (s : Search) (l : Lattice) (result : Result T Stop) (stop : Stop) →
+    IsErrAnd result (λ e. e ≡ stop) → IsLatticeAt holds s.lattice.now l →
+    StopsBy (λ reason. ⊥) (λ e. IsSomeAnd s.class (λ name. LacksClass l name.now e)) stop →
+    IfErr result (StopsBy (WhyLeak holds s) (OtherLeak holds s))
+leak_lacking holds s l result stop is at told =
+    handed (StopsBy (WhyLeak holds s) (OtherLeak holds s)) stop result is
+    (StopsBy-weaker (λ reason. ⊥) (WhyLeak holds s) (λ e. IsSomeAnd s.class (λ name. LacksClass l name.now e))
+    (OtherLeak holds s) (λ reason none. absurd none) (λ e lacks. inl (lacks_named holds s.lattice.now l s.class e at
+    lacks)) stop told)
 
 -- So is a source text without a program.
 pub leak_program : (holds : Holding) (s : Search) (l : Lattice) (text judged told : List ℕ) (error : CompileError)
@@ -187,9 +189,9 @@ pub leak_program : (holds : Holding) (s : Search) (l : Lattice) (text judged tol
     told ≡ text → RefusesProgram (class_named l) judged error →
     (HasProgram (class_named l) judged → error ≡ compiler.Memory) →
     StopsBy (Because (TellsSource (λ e. e ≡ error) l told) ⊥) NoOther stop →
-    StopsBy (WhyLeak holds s) (DiffersLeak holds s) stop
+    StopsBy (WhyLeak holds s) (OtherLeak holds s) stop
 leak_program holds s l text judged told error stop declared read of_judged of_told refused exact is =
-    stops_by (RefusesProgramAt holds l s.source.now) (WhyLeak holds s) (DiffersLeak holds s)
+    stops_by (RefusesProgramAt holds l s.source.now) (WhyLeak holds s) (OtherLeak holds s)
     (λ reason why. inr (record { classes = l; declared = declared; refused = why }))
     stop
     (refuses_program holds l s.source.now text judged told error stop read of_judged of_told refused exact is)

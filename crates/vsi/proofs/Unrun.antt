@@ -1,18 +1,20 @@
 -- Why an image isn't run, or runs aren't compared, as a stop tells.
-use Rattle.std.proofs.Common.{◌≡◌, ℕ, ◌<◌, ◌⊎◌, List, Result, Ok, Err, refl, sym, subst, arith}
-use Rattle.std.specs.Prelude.{Option, IfErr, IsErrAnd}
+use Rattle.std.proofs.Common.{◌≡◌, ℕ, ◌<◌, ◌⊎◌, List, Result, Err, refl, sym, subst, arith}
+use Rattle.std.specs.Prelude.{Option, IfErr}
 use Rattle.std.specs.Borrow.{Bor}
 use Rattle.std.proofs.lemmas.Result.{IfErr-weaker}
 use Rattle.std.specs.Global.{Vec}
 use Rattle.vsi_lattice.specs.NamePlaces.{texts}
+use Rattle.vsi_lattice.specs.declared.lattice.Lattice.{Lattice}
 use Rattle.vsi_image.specs.declared.instr.Image.{Image}
 use Rattle.vsi_image.specs.Fields.{globals}
 use Rattle.vsi_store.specs.File.{IsRefusal}
 use Rattle.vsi_store.specs.declared.error.StoreError.{StoreError}
+use Rattle.vsi_audit.specs.Telling.{IsAuditText}
 use Rattle.vsi_audit.specs.declared.error.AuditError.{AuditError}
 use Rattle.vsi_answers.specs.Answers.{Because}
-use Rattle.vsi_answers.specs.Judged.{IsStoreFault, TellsFault}
-use Rattle.vsi_answers.specs.Requests.{BeginsWith, ReadsLattice}
+use Rattle.vsi_answers.specs.Judged.{Declares, IsStoreFault, TellsFault}
+use Rattle.vsi_answers.specs.Requests.{BeginsWith}
 use Rattle.vsi_answers.specs.declared.unanswered.Cause.TheVariants as cause
 use Rattle.vsi_answers.specs.declared.unanswered.Unanswered.{Unanswered}
 use Rattle.vsi_answers.specs.declared.unanswered.Unanswered.TheVariants as unanswered
@@ -25,10 +27,11 @@ use Rattle.vsi_arguments.specs.declared.request.Execution.{Execution}
 use Rattle.vsi_arguments.specs.declared.request.Outset.{Outset}
 use Rattle.vsi.specs.declared.stop.Stop.{Stop}
 use Rattle.vsi.specs.declared.stop.Stop.TheVariants as stops
-use Rattle.vsi.specs.Holding.{Holding, IsImageAt, IsStoreAt}
-use Rattle.vsi.specs.Reasons.{HasNoText, IsNoMemory, IsUnusable, NoOther, RefusesImage, RefusesLattice, RefusesSomeLattice, RefusesStart, RefusesStore, StopsBy}
-use Rattle.vsi.specs.Stops.{status_of, stop_of}
-use Rattle.vsi.proofs.Reasons.{StopsBy-weaker, late_stops, reason_stops, stops_by}
+use Rattle.vsi.specs.Holding.{Holding, IsImageAt, IsLatticeAt, IsStoreAt}
+use Rattle.vsi.specs.Input.{two_classes}
+use Rattle.vsi.specs.Reasons.{HasNoText, IsNoMemory, IsUnusable, LacksClass, LacksClassAt, NoOther, RefusesImage, RefusesLattice, RefusesStart, RefusesStore, StopsBy}
+use Rattle.vsi.specs.Stops.{status_of}
+use Rattle.vsi.proofs.Reasons.{StopsBy-weaker, late_stops, stops_by}
 
 -- The image of a run is refused, or the words that it begins with.
 abbrev pub Unstarted : Holding → Execution → Outset → Unanswered → Type 0
@@ -38,25 +41,12 @@ Unstarted holds e o reason = RefusesImage holds e.image.now reason ⊎ RefusesSt
 abbrev pub Unaudited : Holding → Audit → Unanswered → Type 0
 Unaudited holds a reason = RefusesLattice holds a.lattice.now reason ⊎ RefusesImage holds a.image.now reason
 
--- What holds of a stop holds where that stop is handed on.
-pub handed : {T : Type 0} (P : Stop → Type 0) (stop : Stop) (result : Result T Stop) →
-    IsErrAnd result (λ e. e ≡ stop) → P stop → IfErr result P
-handed P stop (Ok x) is told = tt
-handed P stop (Err e) is told = subst P (sym is) told
-
--- What holds of the reason for no answer is told where the stop for that reason is handed on.
-pub handed_reason : {T : Type 0} (why : Unanswered → Type 0) (other : Stop → Type 0) (reason : Unanswered)
-    (result : Result T Stop) → IsErrAnd result (λ e. e ≡ stop_of reason) → why reason →
-    IfErr result (StopsBy why other)
-handed_reason why other reason result is told =
-    handed (StopsBy why other) (stop_of reason) result is (reason_stops why other reason told)
-
 -- Want of memory tells no reason.
 pub memory_stops : (why : Unanswered → Type 0) (other : Stop → Type 0) (stop : Stop) → stop ≡ stops.Memory →
     StopsBy why other stop
 memory_stops why other stop is = subst (StopsBy why other) (sym is) tt
 
--- The same of a stop that is handed on.
+-- A late stop that is handed on tells no reason.
 pub handed_late : {T : Type 0} (why : Unanswered → Type 0) (other : Stop → Type 0) (result : Result T Stop) →
     IfErr result (λ stop. 3 < status_of stop) → IfErr result (StopsBy why other)
 handed_late why other result late =
@@ -67,11 +57,18 @@ pub fault_stops : (why : Unanswered → Type 0) (other : Stop → Type 0) (stop 
     StopsBy why other stop
 fault_stops why other stop four = late_stops why other stop (omega (arith, four))
 
--- A stop with no reason tells each.
-pub no_reason : (why : Unanswered → Type 0) (other : Stop → Type 0) (stop : Stop) →
-    StopsBy (λ reason. ⊥) NoOther stop → StopsBy why other stop
-no_reason why other stop told =
-    StopsBy-weaker (λ reason. ⊥) why NoOther other (λ reason none. absurd none) (λ s none. absurd none) stop told
+-- Where there is no other stop, this is so of each other one.
+pub or_other : (why : Unanswered → Type 0) (other : Stop → Type 0) (stop : Stop) → StopsBy why NoOther stop →
+    StopsBy why other stop
+or_other why other stop told = stops_by why why other (λ reason is. is) stop told
+
+-- A class that the lattice of a file lacks is missing.
+pub lacks_stops : (holds : Holding) (path name : List ℕ) (why : Unanswered → Type 0) (l : Lattice) (stop : Stop) →
+    IsLatticeAt holds path l → StopsBy (λ reason. ⊥) (LacksClass l name) stop →
+    StopsBy why (LacksClassAt holds path name) stop
+lacks_stops holds path name why l stop at told =
+    StopsBy-weaker (λ reason. ⊥) why (LacksClass l name) (LacksClassAt holds path name) (λ reason none. absurd none)
+    (λ s lacks. (l, at, lacks)) stop told
 
 -- What is told of a stop is told of it where the files hold what they held.
 pub held_stops : (Why : Holding → Unanswered → Type 0) (old new : Holding) (so : Unanswered → Type 0) (stop : Stop) →
@@ -142,7 +139,8 @@ store_stops holds new path store so image stop held same f told =
 
 -- A call that only writes stops at a fault of the output, or for want of memory.
 pub ended_stops : (why : Unanswered → Type 0) (other : Stop → Type 0) (error : EngineError) (stop : Stop) →
-    IsOfWriting error → (error ≡ engine.WriteFault → status_of stop ≡ 4) → (error ≡ engine.Memory → stop ≡ stops.Memory) →
+    IsOfWriting error → (error ≡ engine.WriteFault → status_of stop ≡ 4) → (error ≡ engine.Memory → stop ≡
+    stops.Memory) →
     StopsBy why other stop
 ended_stops why other engine.ReadFault stop only write memory = absurd only
 ended_stops why other engine.WriteFault stop only write memory = fault_stops why other stop (write refl)
@@ -152,21 +150,25 @@ ended_stops why other (engine.Verify e) stop only write memory = absurd only
 ended_stops why other (engine.Store e) stop only write memory = absurd only
 ended_stops why other engine.Memory stop only write memory = memory_stops why other stop (memory refl)
 
--- An image that has no text tells no more.
-pub textless_stops : (why : Unanswered → Type 0) (error : AuditError) (stop : Stop) →
-    StopsBy (λ reason. ⊥) (λ s. (text : Vec ℕ) × (s ≡ stops.Audit text error)) stop → StopsBy why HasNoText stop
-textless_stops why error stop told =
-    StopsBy-weaker (λ reason. ⊥) why (λ s. (text : Vec ℕ) × (s ≡ stops.Audit text error)) HasNoText
-    (λ reason none. absurd none) (λ s is. subst HasNoText (sym is.1) tt) stop told
-
--- A lattice that some bytes don't declare is refused.
-pub some_lattice : {T : Type 0} (policy : List ℕ) (other : Stop → Type 0) (result : Result T Stop) →
-    IfErr result (StopsBy (λ reason. ReadsLattice policy (Err reason)) NoOther) →
-    IfErr result (StopsBy RefusesSomeLattice other)
-some_lattice policy other result told =
-    IfErr-weaker result (StopsBy (λ reason. ReadsLattice policy (Err reason)) NoOther)
-    (StopsBy RefusesSomeLattice other)
-    (stops_by (λ reason. ReadsLattice policy (Err reason)) RefusesSomeLattice other (λ reason is. (policy, is))) told
+-- An image that has no text is told so under the two classes.
+pub textless_stops : (why : Unanswered → Type 0) (holds : Holding) (path : List ℕ) (image shown : Image) (l : Lattice)
+    (error : AuditError) (stop : Stop) → IsImageAt holds path image → Declares two_classes l → shown ≡ image →
+    StopsBy (λ reason. ⊥)
+    (λ s. (text : Vec ℕ) × (s ≡ stops.Audit text error) × IsAuditText l shown error text.items) stop →
+    StopsBy why (HasNoText holds path) stop
+textless_stops why holds path image shown l error stop held declared same told =
+    StopsBy-weaker (λ reason. ⊥) why
+    (λ s. (text : Vec ℕ) × (s ≡ stops.Audit text error) × IsAuditText l shown error text.items)
+    (HasNoText holds path) (λ reason none. absurd none)
+    (λ s is. subst (HasNoText holds path) (sym is.1)
+    (record {
+      image = image;
+      held = held;
+      lattice = l;
+      declared = declared;
+      told = subst (λ i. IsAuditText l i error is.0.items) same is.2;
+    }))
+    stop told
 
 -- An interface that is refused has no reason of another kind.
 pub unusable_stops : (why : Unanswered → Type 0) (other : Stop → Type 0) →

@@ -14,7 +14,7 @@ use Rattle.vsi_arguments.specs.declared.request.Audit.{Audit}
 use Rattle.vsi_arguments.specs.declared.request.Compilation.{Compilation}
 use Rattle.vsi.specs.declared.stop.Stop.{Stop}
 use Rattle.vsi.specs.Holding.{Holding}
-use Rattle.vsi.specs.Performed.{AreFiles, AuditsFiles, Builds, OfFiles, PerformsAudit, PerformsBuild, Writes, profile_of}
+use Rattle.vsi.specs.Performed.{AreFiles, AuditsFiles, BuildsFile, OfFiles, PerformsAudit, PerformsBuild, Writes, profile_of}
 use Rattle.vsi.specs.Silent.{IsSilent}
 use Rattle.vsi.specs.Stops.{status_of, stop_of}
 use Rattle.vsi.proofs.Answered.{answered_told}
@@ -48,10 +48,11 @@ accept_performs holds asked old new answer result passes done =
     done
 
 -- A build writes nothing to the output.
-pub build_performs : {T : Type 0} (holds : Holding) (c : Compilation) (old : Option (List ℕ)) (result : Result T Stop) →
-    OnOk result (Builds holds c) → OnOk result (PerformsBuild holds c old old)
-build_performs holds c old result builds =
-    on_ok_weaker result (λ bytes. record { builds = bytes; kept = Keeps-refl old }) builds
+pub build_performs : {T : Type 0} (holds : Holding) (c : Compilation) (image : List ℕ) (left : Holding)
+    (old : Option (List ℕ)) (result : Result T Stop) → OnOk result (BuildsFile holds c image left) →
+    OnOk result (PerformsBuild holds c image left old old)
+build_performs holds c image left old result builds =
+    on_ok_weaker result (λ is. record { builds = is; kept = Keeps-refl old }) builds
 
 -- Where nothing is written the output is as it was.
 pub silent_kept : {T : Type 0} (result : Result T Stop) (old : Option (List ℕ)) → IsSilent result old old

@@ -1,5 +1,5 @@
 -- What files hold, and what is read of them.
-use Rattle.std.specs.Prelude.{◌≡◌, ℕ, List, [], Option, Some, None}
+use Rattle.std.specs.Prelude.{◌≡◌, ◌≢◌, ◌++◌, ℕ, List, [], Option, Some, None, IfSome, codes}
 use Rattle.std.specs.Borrow.{Bor}
 use Rattle.vsi_lattice.specs.declared.lattice.Lattice.{Lattice}
 use Rattle.vsi_image.specs.declared.instr.Image.{Image}
@@ -30,3 +30,33 @@ pub record IsImageAt (holds : Holding) (path : List ℕ) (image : Image) : Type 
 abbrev pub IsStoreAt : Holding → Option (Bor (List ℕ)) → List ℕ → Type 0
 IsStoreAt holds None bytes = bytes ≡ []
 IsStoreAt holds (Some path) bytes = IsReadAt holds path.now bytes
+
+-- ---- what is put into them.
+
+-- The file at the path holds these bytes, where the files tell it.
+abbrev pub HoldsAt : Holding → List ℕ → List ℕ → Type 0
+HoldsAt holds path bytes = IfSome (holds path) (λ held. held ≡ bytes)
+
+-- Each file but the one at the path holds what it held.
+abbrev pub KeepsOthers : List ℕ → Holding → Holding → Type 0
+KeepsOthers path old new = (other : List ℕ) → other ≢ path → new other ≡ old other
+
+-- Files of this kind tell of no file what it holds.
+abbrev pub TellsNothing : {F : Type 0} → (F → Holding) → Type 0
+TellsNothing {F} holds = (files : F) (path : List ℕ) → holds files path ≡ None
+
+-- The file at the path has been filled with these bytes.
+pub record Fills (path bytes : List ℕ) (old new : Holding) : Type 0 where
+  pub filled : HoldsAt new path bytes
+  pub others : KeepsOthers path old new
+
+-- The file at the path has been replaced by one of these bytes, which was filled beside it: its name has `.new`
+-- behind it.
+pub record Replaces (path bytes : List ℕ) (old new : Holding) : Type 0 where
+  pub filled : HoldsAt new path bytes
+  pub others : (other : List ℕ) → other ≢ path → other ≢ path ++ codes ".new" → new other ≡ old other
+
+-- A text has been put into the file that is asked for, and no file has been touched where none is.
+abbrev pub Delivers : Option (Bor (List ℕ)) → List ℕ → Holding → Holding → Type 0
+Delivers None text old new = new ≡ old
+Delivers (Some path) text old new = Replaces path.now text old new

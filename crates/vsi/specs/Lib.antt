@@ -3,6 +3,7 @@ pub mod Silent
 pub mod Input
 pub mod Words
 pub mod Holding
+pub mod Driven
 pub mod Performed
 pub mod Reasons
 pub mod Done

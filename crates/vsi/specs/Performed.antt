@@ -3,6 +3,7 @@ use Rattle.std.specs.Prelude.{◌≡◌, ℕ, ◌++◌, ℤ, Bool, true, false, 
 use Rattle.std.specs.Borrow.{Bor}
 use Rattle.std.specs.Global.{Vec}
 use Rattle.std.specs.Io.KnownBytes.{Appends, Keeps}
+use Rattle.std.specs.Str.Lossy.{utf8_lossy}
 use Rattle.vsi_lattice.specs.LatticeView.{class_named, order}
 use Rattle.vsi_lattice.specs.NamePlaces.{texts}
 use Rattle.vsi_lattice.specs.Order.{IsClass}
@@ -12,21 +13,31 @@ use Rattle.vsi_types.specs.declared.rules.Profile.TheVariants.{Base, Strict}
 use Rattle.vsi_image.specs.declared.instr.Image.{Image}
 use Rattle.vsi_image.specs.Fields.{globals}
 use Rattle.vsi_store.specs.File.{Tells}
+use Rattle.vsi_store.specs.Text.{store_text_of}
 use Rattle.vsi_store.specs.declared.comparison.Comparison as found
 use Rattle.vsi_compiler.specs.Observation.{EndsAlike, IsNoninterfering, IsStoreOf}
 use Rattle.vsi_compiler.specs.Readable.{HasProgram}
 use Rattle.vsi_compiler.specs.Source.{IsCanonicalText}
 use Rattle.vsi_steady.specs.Steady.{IsSteady}
+use Rattle.vsi_drive.specs.Control.{Control}
 use Rattle.vsi_drive.specs.Starts.{Begins}
 use Rattle.vsi_devices.specs.Running.{RunsApart}
 use Rattle.vsi_audit.specs.Standing.{HasKnownClasses}
-use Rattle.vsi_audit.specs.Text.{IsProgramText}
+use Rattle.vsi_audit.specs.Text.{IsSourceText}
 use Rattle.vsi_report.specs.FlowsGraph.{IsFlowsGraph}
 use Rattle.vsi_report.specs.Graph.{IsLatticeGraph}
 use Rattle.vsi_report.specs.Page.{HasPanel}
-use Rattle.vsi_conform.specs.Conforms.{Conforms}
+use Rattle.vsi_conform.specs.Beside.{beside}
+use Rattle.vsi_conform.specs.Conforms.{Conforms, Tells as TellsPoints}
+use Rattle.vsi_conform.specs.Json.{IsConformJson}
+use Rattle.vsi_conform.specs.Lines.{IsConformText}
+use Rattle.vsi_conform.specs.Points.{is_conforming}
 use Rattle.vsi_conform.specs.Reading.{IsReadAs}
+use Rattle.vsi_conform.specs.declared.point.Answer.{Answer}
 use Rattle.vsi_conform.specs.declared.reader.Asked.{Asked}
+use Rattle.vsi_conform.specs.declared.reader.Policy.{Policy}
+use Rattle.vsi_conform.specs.declared.reader.Policy.TheVariants.{File, Tables}
+use Rattle.vsi_conform.specs.declared.interface.Interface.{Interface}
 use Rattle.vsi_conform.specs.declared.interface.Judgement.{Judgement}
 use Rattle.vsi_conform.specs.declared.interface.Judgement.TheVariants as judgement
 use Rattle.vsi_json.specs.Answer.{TellsAccepted}
@@ -37,13 +48,15 @@ use Rattle.vsi_arguments.specs.declared.request.Comparison.{Comparison}
 use Rattle.vsi_arguments.specs.declared.request.Compilation.{Compilation}
 use Rattle.vsi_arguments.specs.declared.request.Conformance.{Conformance}
 use Rattle.vsi_arguments.specs.declared.request.Drawing.{Drawing}
+use Rattle.vsi_arguments.specs.declared.request.Driving.{Driving}
 use Rattle.vsi_arguments.specs.declared.request.Execution.{Execution}
 use Rattle.vsi_arguments.specs.declared.request.Judging.{Judging}
 use Rattle.vsi_arguments.specs.declared.request.Outset.{Outset}
 use Rattle.vsi_arguments.specs.declared.request.Search.{Search}
 use Rattle.vsi_arguments.specs.declared.request.Request.{Request}
 use Rattle.vsi_arguments.specs.declared.request.Request.TheVariants as request
-use Rattle.vsi.specs.Holding.{Holding, IsImageAt, IsLatticeAt, IsReadAt, IsStoreAt}
+use Rattle.vsi.specs.Driven.{DrivesInput}
+use Rattle.vsi.specs.Holding.{Delivers, Fills, Holding, IsImageAt, IsLatticeAt, IsReadAt, IsStoreAt}
 
 -- ---- what is written.
 
@@ -133,10 +146,6 @@ ToldFlows false is_strict l source text = FlowsTo l (profile_of is_strict) sourc
 abbrev pub ToldImage : Bool → Lattice → List ℕ → Vec ℕ → Type 0
 ToldImage is_strict l source bytes = BuildsTo l (profile_of is_strict) source (Ok bytes)
 
--- The bytes of the image have been built.
-abbrev pub Builds : Holding → Compilation → Type 0
-Builds holds c = (bytes : Vec ℕ) × OfFiles holds c (ToldImage c.is_strict) bytes
-
 -- The listing of an image.
 abbrev pub ToldListing : List ℕ → Vec ℕ → Type 0
 ToldListing bytes text = ListsTo bytes (Ok text)
@@ -181,11 +190,11 @@ pub record ComparesFiles (holds : Holding) (c : Comparison) (told : found.Compar
   pub from_second : IsStoredAt holds (Some c.stores.1) image second
   pub compares : ComparesTo lattice viewer image first second c.budget (Ok told)
 
--- The source text of an image is the canonical text of some program. That it is the image's isn't claimed here.
+-- The text of the image of a file: the canonical text of a program whose commands are those of the image's code.
 pub record SourceOfFile (holds : Holding) (path : List ℕ) (text : Vec ℕ) : Type 0 where
   pub image : Image
   pub held : IsImageAt holds path image
-  pub program : IsProgramText text.items
+  pub is : IsSourceText image text.items
 
 -- An image is noninterfering, and its runs end alike where the strict profile judges it.
 pub record IsAudited (P : Profile) (l : Lattice) (image : Image) : Type 0 where
@@ -232,26 +241,54 @@ pub record SearchesFiles (holds : Holding) (s : Search) (text : Vec ℕ) : Type 
   pub pairs : ℕ
   pub line : text.items ≡ codes "no leak in " ++ decimal pairs ++ codes " pairs of runs\n"
 
--- A lattice that some text declares.
-abbrev pub IsDeclared : Lattice → Type 0
-IsDeclared l = (policy : List ℕ) × Declares policy l
-
 -- What the interface of a file asks.
 pub record IsAskedAt (holds : Holding) (path : List ℕ) (asked : Asked) : Type 0 where
   pub bytes : List ℕ
   pub read : IsReadAt holds path bytes
   pub is : IsReadAs bytes asked
 
--- The source text conforms to the interface of a file, under some lattice. That the interface names this lattice isn't
--- claimed, nor what is written.
-pub record ConformsFiles (holds : Holding) (c : Conformance) : Type 0 where
-  pub asked : Asked
+-- The path of a file that an interface names, as it is opened.
+abbrev pub named_path : List ℕ → Vec ℕ → List ℕ
+named_path interface path = utf8_lossy (beside interface path.items)
+
+-- The lattice of an interface: that of the file that it names, or of its own tables.
+abbrev pub IsPolicyAt : Holding → List ℕ → Policy → Lattice → Type 0
+IsPolicyAt holds interface (File path) l = IsLatticeAt holds (named_path interface path) l
+IsPolicyAt holds interface (Tables text) l = Declares text.items l
+
+-- What an interface asks, with its lattice, and a source text, as the files hold them.
+pub record AreAsked (holds : Holding) (c : Conformance) (asked : Asked) (l : Lattice) (source : List ℕ) : Type 0 where
   pub interface : IsAskedAt holds c.interface.now asked
-  pub lattice : Lattice
-  pub declared : IsDeclared lattice
-  pub source : List ℕ
+  pub lattice : IsPolicyAt holds c.interface.now asked.policy l
   pub read : IsReadAt holds c.source.now source
-  pub conforms : Conforms lattice source asked.interface
+
+-- How an answer is written, as a line of JSON or as lines.
+abbrev pub IsWrittenAs : Bool → Lattice → List ℕ → Interface → Answer → List ℕ → Type 0
+IsWrittenAs true = IsConformJson
+IsWrittenAs false = IsConformText
+
+-- The source text conforms to the interface, or it doesn't.
+abbrev pub IsVerdict : Bool → Lattice → List ℕ → Interface → Type 0
+IsVerdict true l source i = Conforms l source i
+IsVerdict false l source i = ¬ (Conforms l source i)
+
+-- A text that tells whether a source text conforms to an interface, and in what it differs.
+pub record TellsConforming (is_json conforms : Bool) (l : Lattice) (source : List ℕ) (i : Interface) (text : List ℕ)
+    : Type 0 where
+  pub answer : Answer
+  pub tells : TellsPoints l source i answer
+  pub verdict : is_conforming answer ≡ conforms
+  pub is : IsVerdict conforms l source i
+  pub written : IsWrittenAs is_json l source i answer text
+
+-- What is told of the files of a conformance, where the source text conforms to the interface under its lattice, or
+-- where it doesn't.
+pub record ConformsFiles (holds : Holding) (c : Conformance) (conforms : Bool) (text : Vec ℕ) : Type 0 where
+  pub asked : Asked
+  pub lattice : Lattice
+  pub source : List ℕ
+  pub files : AreAsked holds c asked lattice source
+  pub tells : TellsConforming c.is_json conforms lattice source asked.interface text.items
 
 -- ---- what each subcommand has done.
 
@@ -261,9 +298,16 @@ PerformsCheck true holds asked = Writes (OfFiles holds asked.compilation (ToldJs
 PerformsCheck false holds asked =
     Writes (OfFiles holds asked.compilation (ToldAccepted asked.is_steady asked.compilation.is_strict))
 
--- `build`: nothing is written to the output. What the image's file holds isn't claimed.
-pub record PerformsBuild (holds : Holding) (c : Compilation) (old new : Option (List ℕ)) : Type 0 where
-  pub builds : Builds holds c
+-- The image's bytes have been put into its file.
+pub record BuildsFile (holds : Holding) (c : Compilation) (image : List ℕ) (left : Holding) : Type 0 where
+  pub bytes : Vec ℕ
+  pub built : OfFiles holds c (ToldImage c.is_strict) bytes
+  pub filled : Fills image bytes.items holds left
+
+-- `build`: that is done, and nothing was written to the output.
+pub record PerformsBuild (holds : Holding) (c : Compilation) (image : List ℕ) (left : Holding)
+    (old new : Option (List ℕ)) : Type 0 where
+  pub builds : BuildsFile holds c image left
   pub kept : Keeps old new
 
 -- `audit`: the image passes, and `accepted` has been written.
@@ -271,20 +315,42 @@ pub record PerformsAudit (holds : Holding) (a : Audit) (old new : Option (List �
   pub audits : AuditsFiles holds a
   pub written : Appends old new (codes "accepted\n")
 
--- `run`: the trace, and behind it the text of the store, unless that goes to a file.
-pub record PerformsRun (holds : Holding) (e : Execution) (o : Outset) (traced : Bool) (old new : Option (List ℕ))
-    : Type 0 where
+-- `run`: the trace, and behind it the text of the store, which goes to a file where one is asked for.
+pub record PerformsRun (holds : Holding) (e : Execution) (o : Outset) (traced : Bool) (left : Holding)
+    (old new : Option (List ℕ)) : Type 0 where
   pub trace : List ℕ
   pub text : List ℕ
   pub ran : RunsFiles holds e o traced trace text
   pub written : Appends old new (trace ++ shown o.out text)
+  pub delivered : Delivers o.out text holds left
 
--- `view`: the lines, unless they go to a file.
-pub record PerformsView (holds : Holding) (path class : List ℕ) (e : Execution) (o : Outset)
+-- `view`: the lines, which go to a file where one is asked for.
+pub record PerformsView (holds : Holding) (path class : List ℕ) (e : Execution) (o : Outset) (left : Holding)
     (old new : Option (List ℕ)) : Type 0 where
   pub text : Vec ℕ
   pub views : ViewsFiles holds path class e o text
   pub written : Appends old new (shown o.out text.items)
+  pub delivered : Delivers o.out text.items holds left
+
+-- An image, and the class that drives it by a lattice, within a budget for each cycle.
+abbrev pub control_of : Lattice → ℕ → Image → ℕ → Control
+control_of l class im budget =
+    record { known = class_named l; order = order l; class = class; image = im; budget = budget }
+
+-- `drive`: a cycle for each line of the input, from the words of the store file on, has been done and written, and the
+-- last store goes to a file where one is asked for.
+pub record PerformsDrive (holds : Holding) (d : Driving) (given : Option (List ℕ)) (left : Holding)
+    (old new : Option (List ℕ)) : Type 0 where
+  pub lattice : Lattice
+  pub driver : ℕ
+  pub looks : LooksAt holds d.lattice.now d.class.now lattice driver
+  pub image : Image
+  pub held : IsImageAt holds d.execution.image.now image
+  pub first : List ℤ
+  pub stored : IsStoredAt holds d.execution.store image first
+  pub words : List ℤ
+  pub drives : DrivesInput (control_of lattice driver image d.execution.budget) first words given old new
+  pub saved : Delivers d.save (store_text_of (globals image.globals.items) words) holds left
 
 -- `compare`: the class sees no difference, and what it sees has been written.
 pub record PerformsCompare (holds : Holding) (c : Comparison) (old new : Option (List ℕ)) : Type 0 where
@@ -293,22 +359,29 @@ pub record PerformsCompare (holds : Holding) (c : Comparison) (old new : Option 
   pub same : told.is_same ≡ true
   pub written : Appends old new told.text.items
 
--- What a request that is done to its end has done. Of `drive` nothing is claimed.
-abbrev pub Performs : Holding → Request → Option (List ℕ) → Option (List ℕ) → Type 0
-Performs holds (request.Check asked) = PerformsCheck asked.is_json holds asked
-Performs holds (request.Conform asked) = λ old new. ConformsFiles holds asked
-Performs holds (request.Classes c) = Writes (OfFiles holds c (ToldClasses c.is_strict))
-Performs holds (request.Flows c has_walks) = Writes (OfFiles holds c (ToldFlows has_walks c.is_strict))
-Performs holds (request.Build c image) = PerformsBuild holds c
-Performs holds (request.List image) = Writes (OfFile holds image.now ToldListing)
-Performs holds (request.Audit asked) = PerformsAudit holds asked
-Performs holds (request.Source image) = Writes (SourceOfFile holds image.now)
-Performs holds (request.Run e o has_trace has_count) = PerformsRun holds e o has_trace
-Performs holds (request.View lattice class e o) = PerformsView holds lattice.now class.now e o
-Performs holds (request.Drive driving) = λ old new. Unit {0}
-Performs holds (request.Compare comparison) = PerformsCompare holds comparison
-Performs holds (request.Leak search) = Writes (SearchesFiles holds search)
-Performs holds (request.Report c) = Writes (OfFiles holds c ToldPage)
-Performs holds (request.Draw drawing) = Writes (DrawsFiles holds drawing)
-Performs holds (request.Format source) = Writes (OfFile holds source.now ToldCanonical)
-Performs holds (request.Explain page) = λ old new. Appends old new page.now
+-- This has been done without filling a file.
+abbrev pub Alone : (Option (List ℕ) → Option (List ℕ) → Type 0) → Holding → Holding → Option (List ℕ) →
+    Option (List ℕ) → Type 0
+Alone Does holds left old new = (left ≡ holds) × Does old new
+
+-- What a request that is done to its end has done: what it has written, of what its files hold and the input gives, and
+-- what the files hold then.
+abbrev pub Performs : Holding → Option (List ℕ) → Request → Holding → Option (List ℕ) → Option (List ℕ) → Type 0
+Performs holds given (request.Check asked) left = Alone (PerformsCheck asked.is_json holds asked) holds left
+Performs holds given (request.Conform asked) left = Alone (Writes (ConformsFiles holds asked true)) holds left
+Performs holds given (request.Classes c) left = Alone (Writes (OfFiles holds c (ToldClasses c.is_strict))) holds left
+Performs holds given (request.Flows c has_walks) left =
+    Alone (Writes (OfFiles holds c (ToldFlows has_walks c.is_strict))) holds left
+Performs holds given (request.Build c image) left = PerformsBuild holds c image.now left
+Performs holds given (request.List image) left = Alone (Writes (OfFile holds image.now ToldListing)) holds left
+Performs holds given (request.Audit asked) left = Alone (PerformsAudit holds asked) holds left
+Performs holds given (request.Source image) left = Alone (Writes (SourceOfFile holds image.now)) holds left
+Performs holds given (request.Run e o has_trace has_count) left = PerformsRun holds e o has_trace left
+Performs holds given (request.View lattice class e o) left = PerformsView holds lattice.now class.now e o left
+Performs holds given (request.Drive driving) left = PerformsDrive holds driving given left
+Performs holds given (request.Compare comparison) left = Alone (PerformsCompare holds comparison) holds left
+Performs holds given (request.Leak search) left = Alone (Writes (SearchesFiles holds search)) holds left
+Performs holds given (request.Report c) left = Alone (Writes (OfFiles holds c ToldPage)) holds left
+Performs holds given (request.Draw drawing) left = Alone (Writes (DrawsFiles holds drawing)) holds left
+Performs holds given (request.Format source) left = Alone (Writes (OfFile holds source.now ToldCanonical)) holds left
+Performs holds given (request.Explain page) left = Alone (λ old new. Appends old new page.now) holds left

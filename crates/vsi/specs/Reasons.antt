@@ -1,5 +1,5 @@
 -- Why a request that isn't done has stopped, of what its files hold.
-use Rattle.std.specs.Prelude.{◌≡◌, ◌≢◌, ◌⊎◌, ℕ, ℤ, Bool, true, false, List, Option, Some, None, Result, Err}
+use Rattle.std.specs.Prelude.{◌≡◌, ◌≢◌, ◌⊎◌, ℕ, ℤ, Bool, true, false, List, Option, Some, None, Result, Err, IsSomeAnd}
 use Rattle.std.specs.Global.{Vec}
 use Rattle.std.specs.Borrow.{Bor}
 use Rattle.std.specs.Io.KnownBytes.{Appends}
@@ -15,18 +15,24 @@ use Rattle.vsi_store.specs.declared.error.StoreError.TheVariants as store
 use Rattle.vsi_store.specs.declared.views.ViewError.TheVariants as views
 use Rattle.vsi_faults.specs.declared.texts.Fault.{Fault}
 use Rattle.vsi_faults.specs.declared.texts.Fault.TheVariants as fault
+use Rattle.vsi_compiler.specs.Headline.{IsImageOf}
 use Rattle.vsi_audit.specs.Refusal as audited
+use Rattle.vsi_audit.specs.Telling.{IsAuditText}
+use Rattle.vsi_audit.specs.declared.error.AuditError.{AuditError}
 use Rattle.vsi_steady.specs.Refusal as steady
+use Rattle.vsi_steady.specs.Telling.{IsUnsteadyText}
 use Rattle.vsi_leak.specs.Leaks.{IsLeak}
 use Rattle.vsi_leak.specs.Texts.{IsLeakText}
 use Rattle.vsi_leak.specs.declared.found.Leak.{Leak}
 use Rattle.vsi_devices.specs.Running.{RunsApart}
-use Rattle.vsi_conform.specs.Conforms.{Conforms}
+use Rattle.vsi_conform.specs.Faulty.{interface_line}
 use Rattle.vsi_conform.specs.declared.interface.Judgement.{Judgement}
 use Rattle.vsi_conform.specs.declared.reader.Asked.{Asked}
+use Rattle.vsi_conform.specs.declared.reader.Policy.{Policy}
+use Rattle.vsi_conform.specs.declared.reader.Policy.TheVariants.{File, Tables}
 use Rattle.vsi_json.specs.Answer.{TellsAnswer, accepted_line}
 use Rattle.vsi_answers.specs.Answers.{Because}
-use Rattle.vsi_answers.specs.Judged.{Declares, IsProgramFault, IsStoreFault, TellsFault, TellsSource}
+use Rattle.vsi_answers.specs.Judged.{Declares, IsProgramFault, IsStoreFault, IsViewFault, TellsFault, TellsSource}
 use Rattle.vsi_answers.specs.Requests.{Answer, BeginsWith, BuildsTo, ChecksSteadyTo, ChecksTo, ClassesTo, ComparesTo, FlowsTo, FormatsTo, ListsTo, ReadsImage, ReadsLattice, ViewsTo, WalksTo}
 use Rattle.vsi_answers.specs.declared.unanswered.Unanswered.{Unanswered}
 use Rattle.vsi_answers.specs.declared.unanswered.Unanswered.TheVariants as unanswered
@@ -34,6 +40,7 @@ use Rattle.vsi_arguments.specs.declared.request.Audit.{Audit}
 use Rattle.vsi_arguments.specs.declared.request.Comparison.{Comparison}
 use Rattle.vsi_arguments.specs.declared.request.Compilation.{Compilation}
 use Rattle.vsi_arguments.specs.declared.request.Conformance.{Conformance}
+use Rattle.vsi_arguments.specs.declared.request.Driving.{Driving}
 use Rattle.vsi_arguments.specs.declared.request.Execution.{Execution}
 use Rattle.vsi_arguments.specs.declared.request.Judging.{Judging}
 use Rattle.vsi_arguments.specs.declared.request.Outset.{Outset}
@@ -44,13 +51,13 @@ use Rattle.vsi.specs.declared.stop.Stop.{Stop}
 use Rattle.vsi.specs.declared.stop.Stop.TheVariants as stops
 use Rattle.vsi.specs.Holding.{Holding, IsImageAt, IsLatticeAt, IsReadAt, IsStoreAt}
 use Rattle.vsi.specs.Input.{two_classes}
-use Rattle.vsi.specs.Performed.{AreFiles, BeginsAt, ComparesFiles, IsAskedAt, IsDeclared, LooksAt, OfFiles, Writes, judgement_of, profile_of}
+use Rattle.vsi.specs.Performed.{AreFiles, BeginsAt, ComparesFiles, ConformsFiles, IsAskedAt, LooksAt, OfFiles, Writes, judgement_of, named_path, profile_of}
 
 -- ---- what a stop tells.
 
 -- The refusal of a file or of a text, and a run that is out of budget, is for this reason; of the other stops of
--- status 1 this is so. Of a mistake in words, a class that is missing, a file fault and want of memory nothing is
--- claimed.
+-- status 1, and of a class that is missing, this is so. Of a mistake in words, a file fault and want of memory nothing
+-- is claimed.
 abbrev pub StopsBy : (Unanswered → Type 0) → (Stop → Type 0) → Stop → Type 0
 StopsBy why other (stops.Refused text (Some cause)) = why (unanswered.Refused text cause)
 StopsBy why other (stops.Refused text None) = other (stops.Refused text None)
@@ -59,13 +66,13 @@ StopsBy why other (stops.Audit text error) = other (stops.Audit text error)
 StopsBy why other (stops.Unsteady text error) = other (stops.Unsteady text error)
 StopsBy why other stops.Differs = other stops.Differs
 StopsBy why other (stops.Usage text) = Unit {0}
-StopsBy why other (stops.NoClass name) = Unit {0}
+StopsBy why other (stops.NoClass name) = other (stops.NoClass name)
 StopsBy why other stops.OutOfBudget = why unanswered.OutOfBudget
 StopsBy why other (stops.FileFault path) = Unit {0}
 StopsBy why other (stops.LostFile path) = Unit {0}
 StopsBy why other stops.Memory = Unit {0}
 
--- There is no other stop of status 1.
+-- There is no other stop of status 1, and no class is missing.
 abbrev pub NoOther : Stop → Type 0
 NoOther stop = ⊥
 
@@ -81,7 +88,16 @@ IsNoMemory (fault.View e) = e ≢ views.Memory
 abbrev pub IsDifference : Type 0 → Stop → Type 0
 IsDifference told stop = (stop ≡ stops.Differs) × told
 
+-- A lattice has no class of this name, which the stop tells.
+abbrev pub LacksClass : Lattice → List ℕ → Stop → Type 0
+LacksClass l name (stops.NoClass told) = (told.now ≡ name) × (class_named l name ≡ None)
+LacksClass l name stop = ⊥
+
 -- ---- which file is refused, or what is asked of it.
+
+-- The lattice of a file has no class of this name.
+abbrev pub LacksClassAt : Holding → List ℕ → List ℕ → Stop → Type 0
+LacksClassAt holds path name stop = (l : Lattice) × IsLatticeAt holds path l × LacksClass l name stop
 
 -- The bytes of a file have this reason for no answer to what is asked of them.
 pub record RefusesFile {T : Type 0} (holds : Holding) (path : List ℕ) (Ask : List ℕ → Result T Unanswered → Type 0)
@@ -177,28 +193,26 @@ WhyCheck true holds asked old new =
 WhyCheck false holds asked old new =
     StopsBy (RefusesFiles holds asked.compilation (AsksCheck asked.is_steady asked.compilation.is_strict)) NoOther
 
--- `conform`: the source text doesn't conform to the interface of the file, under some lattice.
-pub record DiffersFiles (holds : Holding) (c : Conformance) : Type 0 where
-  pub asked : Asked
-  pub interface : IsAskedAt holds c.interface.now asked
-  pub lattice : Lattice
-  pub declared : IsDeclared lattice
-  pub source : List ℕ
-  pub read : IsReadAt holds c.source.now source
-  pub differs : ¬ (Conforms lattice source asked.interface)
+-- The lattice of an interface is refused: that of the file that it names, or its own tables.
+abbrev pub RefusesPolicy : Holding → List ℕ → Policy → Unanswered → Type 0
+RefusesPolicy holds interface (File path) reason = RefusesLattice holds (named_path interface path) reason
+RefusesPolicy holds interface (Tables text) reason = ReadsLattice text.items (Err reason)
 
--- `conform`: the interface is refused, of which no more is claimed.
+-- `conform`: the lattice of the interface of the file is refused.
+pub record RefusesAsked (holds : Holding) (path : List ℕ) (reason : Unanswered) : Type 0 where
+  pub asked : Asked
+  pub interface : IsAskedAt holds path asked
+  pub refused : RefusesPolicy holds path asked.policy reason
+
+-- `conform`: the interface is refused by an error, which the text tells. That it has this error isn't claimed.
 abbrev pub IsUnusable : Stop → Type 0
-IsUnusable (stops.Interface text error) = Unit {0}
+IsUnusable (stops.Interface text error) = text.items ≡ interface_line error
 IsUnusable stop = ⊥
 
--- `conform`: the interface is refused, or the text doesn't conform.
-abbrev pub DiffersConform : Holding → Conformance → Stop → Type 0
-DiffersConform holds c stop = IsUnusable stop ⊎ IsDifference (DiffersFiles holds c) stop
-
--- Some bytes are refused as a lattice file.
-abbrev pub RefusesSomeLattice : Unanswered → Type 0
-RefusesSomeLattice reason = (policy : List ℕ) × ReadsLattice policy (Err reason)
+-- `conform`: the interface is refused, or the text doesn't conform to it, which has been told.
+abbrev pub DiffersConform : Holding → Conformance → Option (List ℕ) → Option (List ℕ) → Stop → Type 0
+DiffersConform holds c old new stop =
+    IsUnusable stop ⊎ IsDifference (Writes (ConformsFiles holds c false) old new) stop
 
 -- `run`: the trace of a run that is out of budget has been written.
 pub record SpendsRun (holds : Holding) (e : Execution) (o : Outset) (traced : Bool) (old new : Option (List ℕ))
@@ -258,14 +272,20 @@ pub record DiffersCompare (holds : Holding) (c : Comparison) (old new : Option (
   pub differs : told.is_same ≡ false
   pub written : Appends old new told.text.items
 
--- An image is refused by the error that the stop has.
+-- `compare`: the lattice has no class of the name, or a difference has been told.
+abbrev pub OtherCompare : Holding → Comparison → Option (List ℕ) → Option (List ℕ) → Stop → Type 0
+OtherCompare holds c old new stop =
+    LacksClassAt holds c.lattice.now c.class.now stop ⊎ IsDifference (DiffersCompare holds c old new) stop
+
+-- An image is refused by the error that the stop has, and its text tells it.
 abbrev pub IsRefusedImage : Bool → Lattice → Image → Stop → Type 0
 IsRefusedImage is_strict l image (stops.Audit text error) =
-    audited.Refuses (class_named l) (order l) (profile_of is_strict) image error
-IsRefusedImage is_strict l image (stops.Unsteady text error) = steady.Refuses (class_named l) (order l) image error
+    audited.Refuses (class_named l) (order l) (profile_of is_strict) image error × IsAuditText l image error text.items
+IsRefusedImage is_strict l image (stops.Unsteady text error) =
+    steady.Refuses (class_named l) (order l) image error × IsUnsteadyText l image error text.items
 IsRefusedImage is_strict l image stop = ⊥
 
--- `audit`: the image of the file is refused. Of the text that tells it nothing is claimed.
+-- `audit`: the image of the file is refused, and the text tells why.
 pub record RefusesAudit (holds : Holding) (a : Audit) (stop : Stop) : Type 0 where
   pub lattice : Lattice
   pub declared : IsLatticeAt holds a.lattice.now lattice
@@ -273,24 +293,40 @@ pub record RefusesAudit (holds : Holding) (a : Audit) (stop : Stop) : Type 0 whe
   pub held : IsImageAt holds a.image.now image
   pub is : IsRefusedImage a.is_strict lattice image stop
 
--- `source`: the image has no text, of which no more is claimed.
-abbrev pub HasNoText : Stop → Type 0
-HasNoText (stops.Audit text error) = Unit {0}
-HasNoText stop = ⊥
+-- The image of a file has no text by this error, and this text tells it. That the image has none isn't claimed.
+pub record LacksText (holds : Holding) (path : List ℕ) (error : AuditError) (text : List ℕ) : Type 0 where
+  pub image : Image
+  pub held : IsImageAt holds path image
+  pub lattice : Lattice
+  pub declared : Declares two_classes lattice
+  pub told : IsAuditText lattice image error text
 
--- A leak of an image, and the text that tells it. That the image is that of the source text isn't claimed.
+-- `source`: the image has no text.
+abbrev pub HasNoText : Holding → List ℕ → Stop → Type 0
+HasNoText holds path (stops.Audit text error) = LacksText holds path error text.items
+HasNoText holds path stop = ⊥
+
+-- A leak of the image of a source text, and the text that tells it.
 pub record TellsLeak (holds : Holding) (s : Search) (text : List ℕ) : Type 0 where
   pub lattice : Lattice
   pub declared : IsLatticeAt holds s.lattice.now lattice
+  pub source : List ℕ
+  pub read : IsReadAt holds s.source.now source
   pub image : Image
+  pub of_source : IsImageOf (class_named lattice) source image
   pub leak : Leak
   pub leaks : IsLeak (class_named lattice) (order lattice) image s.budget leak
   pub told : IsLeakText lattice (globals image.globals.items) leak text
 
 -- `leak`: a leak has been found.
-abbrev pub DiffersLeak : Holding → Search → Stop → Type 0
-DiffersLeak holds s (stops.Refused text None) = TellsLeak holds s text.items
-DiffersLeak holds s stop = ⊥
+abbrev pub ToldLeak : Holding → Search → Stop → Type 0
+ToldLeak holds s (stops.Refused text None) = TellsLeak holds s text.items
+ToldLeak holds s stop = ⊥
+
+-- `leak`: the lattice has no class of the name that is given, or a leak has been found.
+abbrev pub OtherLeak : Holding → Search → Stop → Type 0
+OtherLeak holds s stop =
+    IsSomeAnd s.class (λ class. LacksClassAt holds s.lattice.now class.now stop) ⊎ ToldLeak holds s stop
 
 -- `draw`: the lattice is refused, or a source text without a program.
 abbrev pub WhyDraw : Holding → List ℕ → Option (Bor (List ℕ)) → Unanswered → Type 0
@@ -298,10 +334,27 @@ WhyDraw holds lattice None reason = RefusesLattice holds lattice reason
 WhyDraw holds lattice (Some source) reason =
     RefusesLattice holds lattice reason ⊎ RefusesSource holds lattice source.now reason
 
--- Why a request has stopped. Of `drive` nothing is claimed.
+-- `drive`: the lattice lacks the class of a global of the image.
+pub record RefusesController (holds : Holding) (d : Driving) (reason : Unanswered) : Type 0 where
+  pub lattice : Lattice
+  pub driver : ℕ
+  pub looks : LooksAt holds d.lattice.now d.class.now lattice driver
+  pub image : Image
+  pub held : IsImageAt holds d.execution.image.now image
+  pub is : Because (TellsFault (IsViewFault lattice image)) ⊥ reason
+
+-- `drive`: the lattice is refused, or the image, or the store file, or no controller begins. No line of the input is
+-- refused so: its cycle writes what is wrong with it.
+abbrev pub WhyDrive : Holding → Driving → Unanswered → Type 0
+WhyDrive holds d reason =
+    RefusesLattice holds d.lattice.now reason ⊎ RefusesImage holds d.execution.image.now reason
+    ⊎ RefusesStore holds d.execution.image.now d.execution.store reason ⊎ RefusesController holds d reason
+
+-- Why a request has stopped.
 abbrev pub Why : Holding → Request → Option (List ℕ) → Option (List ℕ) → Stop → Type 0
 Why holds (request.Check asked) old new = WhyCheck asked.is_json holds asked old new
-Why holds (request.Conform asked) old new = StopsBy RefusesSomeLattice (DiffersConform holds asked)
+Why holds (request.Conform asked) old new =
+    StopsBy (RefusesAsked holds asked.interface.now) (DiffersConform holds asked old new)
 Why holds (request.Classes c) old new = StopsBy (RefusesFiles holds c (AsksClasses c.is_strict)) NoOther
 Why holds (request.Flows c has_walks) old new = StopsBy (RefusesFiles holds c (AsksFlows has_walks c.is_strict)) NoOther
 Why holds (request.Build c image) old new = StopsBy (RefusesFiles holds c (AsksImage c.is_strict)) NoOther
@@ -310,17 +363,19 @@ Why holds (request.Audit asked) old new =
     StopsBy
     (λ reason. RefusesLattice holds asked.lattice.now reason ⊎ RefusesImage holds asked.image.now reason)
     (RefusesAudit holds asked)
-Why holds (request.Source image) old new = StopsBy (RefusesImage holds image.now) HasNoText
+Why holds (request.Source image) old new = StopsBy (RefusesImage holds image.now) (HasNoText holds image.now)
 Why holds (request.Run e o has_trace has_count) old new = StopsBy (WhyRun holds e o has_trace old new) NoOther
-Why holds (request.View lattice class e o) old new = StopsBy (WhyView holds lattice.now class.now e o) NoOther
-Why holds (request.Drive driving) old new = λ stop. Unit {0}
+Why holds (request.View lattice class e o) old new =
+    StopsBy (WhyView holds lattice.now class.now e o) (LacksClassAt holds lattice.now class.now)
+Why holds (request.Drive driving) old new =
+    StopsBy (WhyDrive holds driving) (LacksClassAt holds driving.lattice.now driving.class.now)
 Why holds (request.Compare comparison) old new =
-    StopsBy (WhyCompare holds comparison) (IsDifference (DiffersCompare holds comparison old new))
+    StopsBy (WhyCompare holds comparison) (OtherCompare holds comparison old new)
 Why holds (request.Leak search) old new =
     StopsBy
     (λ reason. RefusesLattice holds search.lattice.now reason
     ⊎ RefusesSource holds search.lattice.now search.source.now reason)
-    (DiffersLeak holds search)
+    (OtherLeak holds search)
 Why holds (request.Report c) old new = StopsBy (RefusesLattice holds c.lattice.now) NoOther
 Why holds (request.Draw drawing) old new = StopsBy (WhyDraw holds drawing.lattice.now drawing.source) NoOther
 Why holds (request.Format source) old new = StopsBy (RefusesFile holds source.now AsksCanonical) NoOther

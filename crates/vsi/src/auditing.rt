@@ -1,11 +1,14 @@
 //! What the subcommands that judge an image without its source answer.
 
 ghost use Rattle.std.specs.Prelude.{◌≡◌, ◌⊎◌, ℕ, IfErr, IfOk, OnOk};
+ghost use Rattle.vsi_audit.specs.Telling.{IsAuditText};
+ghost use Rattle.vsi_steady.specs.Telling.{IsUnsteadyText};
 ghost use Rattle.vsi.specs.Performed.{AuditsFiles, Passes, SourceOfFile};
 ghost use Rattle.vsi.specs.Reasons.{HasNoText, IsRefusedImage, RefusesAudit, RefusesImage, RefusesLattice, StopsBy};
 ghost use Rattle.vsi.specs.declared.stop.Stop.TheVariants as stops;
 ghost use Rattle.std.specs.Global.{Vec};
 
+use crate::desk::Desk;
 use crate::files::Files;
 use crate::reading::{image_in, lattice_in, two_classes};
 use crate::stop::Stop;
@@ -20,7 +23,8 @@ use vsi_steady::{SteadyError, steady_in, steady_text};
 /// What stands for the refusal of an image.
 fn refused_image<'a>(alloc: Global, lattice: &Lattice, image: &Image, error: AuditError) -> Stop<'a>
     ensures { StopsBy (λ reason. ⊥)
-        (λ stop. (text : Vec ℕ) × (stop ≡ stops.Audit text error)) result }
+        (λ stop. (text : Vec ℕ) × (stop ≡ stops.Audit text error)
+        × IsAuditText lattice.now image.now error text.items) result }
 {
     if let AuditError::Memory = &error {
         return Stop::Memory;
@@ -39,7 +43,8 @@ fn refused_unsteady<'a>(
     error: SteadyError,
 ) -> Stop<'a>
     ensures { StopsBy (λ reason. ⊥)
-        (λ stop. (text : Vec ℕ) × (stop ≡ stops.Unsteady text error)) result }
+        (λ stop. (text : Vec ℕ) × (stop ≡ stops.Unsteady text error)
+        × IsUnsteadyText lattice.now image.now error text.items) result }
 {
     if let SteadyError::Memory = &error {
         return Stop::Memory;
@@ -76,7 +81,7 @@ fn judge<'a>(
 
 /// Whether the image is accepted.
 pub(crate) fn audit<'a, F: Files>(
-    alloc: Global,
+    desk: &mut Desk,
     asked: Audit<'a>,
     files: &mut F,
 ) -> Result<(), Stop<'a>>
@@ -87,25 +92,29 @@ pub(crate) fn audit<'a, F: Files>(
         ⊎ RefusesImage (F.holds files.old) asked.entry.image.now reason)
         (RefusesAudit (F.holds files.old) asked.entry)) }
 {
-    let classes = lattice_in(alloc, asked.lattice, files)?;
-    let verified = image_in(alloc, asked.image, files)?;
-    judge(alloc, asked, &classes, &verified)
+    let classes = lattice_in(desk, asked.lattice, files)?;
+    let verified = image_in(desk, asked.image, files)?;
+    judge(desk.alloc, asked, &classes, &verified)
 }
 
 /// The source text that the image stands for.
 pub(crate) fn source<'a, F: Files>(
-    alloc: Global,
+    desk: &mut Desk,
     image: &'a str,
     files: &mut F,
 ) -> Result<Vec<u8>, Stop<'a>>
     ensures kept { F.holds files.new ≡ F.holds files.old }
     ensures told { IfOk result (SourceOfFile (F.holds files.old) image.now) }
     ensures stopped { IfErr result
-        (StopsBy (RefusesImage (F.holds files.old) image.now) HasNoText) }
+        (StopsBy (RefusesImage (F.holds files.old) image.now)
+        (HasNoText (F.holds files.old) image.now)) }
 {
-    let verified = image_in(alloc, image, files)?;
-    match source_text(alloc, &verified) {
+    let verified = image_in(desk, image, files)?;
+    match source_text(desk.alloc, &verified) {
         Ok(text) => Ok(text),
-        Err(error) => Err(refused_image(alloc, &two_classes(alloc)?, verified.image(), error)),
+        Err(error) => {
+            let classes = two_classes(desk.alloc)?;
+            Err(refused_image(desk.alloc, &classes, verified.image(), error))
+        }
     }
 }

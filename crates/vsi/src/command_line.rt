@@ -56,6 +56,8 @@ pub fn command<F: Files, R: Read, W: Write, E: Write>(
     ensures silent { words.now ≡ [] → result ≢ 0 → result ≢ 4
         → Keeps (W.contents (device_of output.old)) (W.contents (device_of output.new)) }
     ensures unread { words.now ≢ [] → spec.reads_input words.now ≡ false → input.new ≡ input.old }
+    ensures kept { words.now ≡ [] → F.holds files.new ≡ F.holds files.old }
+    ensures unfilled { result ≢ 0 → result < 4 → F.holds files.new ≡ F.holds files.old }
     ensures ran { words.now ≡ [] → result ≡ 0 → WritesRun (R.remaining (device_of input.old))
         (W.contents (device_of output.old)) (W.contents (device_of output.new)) }
     ensures refused { words.now ≡ [] → result ≡ 1
@@ -72,7 +74,9 @@ pub fn command<F: Files, R: Read, W: Write, E: Write>(
     ensures told { result ≢ 0 → TellsStop (StopsAt (F.holds files.old) words.now
         (W.contents (device_of output.old)) (W.contents (device_of output.new)))
         result E.contents error.old error.new }
-    ensures done { words.now ≢ [] → result ≡ 0 → Done (F.holds files.old) words.now
+    ensures done { words.now ≢ [] → result ≡ 0
+        → Done (F.holds files.old) (spec.given_to words.now (R.remaining (device_of input.old)))
+        words.now (F.holds files.new)
         (W.contents (device_of output.old)) (W.contents (device_of output.new)) }
 {
     if words.is_empty() {
@@ -99,6 +103,7 @@ fn without_words<F: Files, R: Read, W: Write, E: Write>(
     ensures output_fault { faults_of output.old < faults_of output.new → result ≡ 4 }
     ensures silent { result ≢ 0 → result ≢ 4
         → Keeps (W.contents (device_of output.old)) (W.contents (device_of output.new)) }
+    ensures kept { F.holds files.new ≡ F.holds files.old }
     ensures ran { result ≡ 0 → WritesRun (R.remaining (device_of input.old))
         (W.contents (device_of output.old)) (W.contents (device_of output.new)) }
     ensures refused { result ≡ 1
@@ -133,7 +138,10 @@ fn obeyed<'a, F: Files, R: Read, W: Write>(
     ensures input_fault { TellsFault (faults_of input.old) (faults_of input.new) result }
     ensures output_fault { TellsFault (faults_of output.old) (faults_of output.new) result }
     ensures unread { spec.reads_input words.now ≡ false → input.new ≡ input.old }
-    ensures done { OnOk result (Done (F.holds files.old) words.now
+    ensures unfilled { IfErr result (λ stop. status_of stop < 4
+        → F.holds files.new ≡ F.holds files.old) }
+    ensures done { OnOk result (Done (F.holds files.old)
+        (spec.given_to words.now (R.remaining (device_of input.old))) words.now (F.holds files.new)
         (W.contents (device_of output.old)) (W.contents (device_of output.new))) }
     ensures stopped { IfErr result (Stopped (F.holds files.old) words.now
         (W.contents (device_of output.old)) (W.contents (device_of output.new))) }
@@ -187,6 +195,7 @@ fn ended<E: Write>(
 
 /// Tells a person at a terminal that a text is waited for.
 fn greet<F: Files, E: Write>(files: &mut F, error: &mut Counted<E>)
+    ensures kept { F.holds files.new ≡ F.holds files.old }
     ensures count { faults_of error.old ≤ faults_of error.new }
     ensures told { Hears E.contents error.old error.new [] }
 {

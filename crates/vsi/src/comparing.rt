@@ -5,8 +5,9 @@ ghost use Rattle.vsi.specs.Performed.{ComparesFiles, PerformsCompare};
 ghost use Rattle.vsi.specs.Silent.{IsSilent};
 ghost use Rattle.vsi.specs.Stops.{TellsFault};
 ghost use Rattle.vsi_devices.specs.Counted.{device_of, faults_of};
-ghost use Rattle.vsi.specs.Reasons.{DiffersCompare, IsDifference, NoOther, StopsBy, WhyCompare};
+ghost use Rattle.vsi.specs.Reasons.{LacksClassAt, OtherCompare, StopsBy, WhyCompare};
 
+use crate::desk::Desk;
 use crate::driving::stored_words;
 use crate::files::Files;
 use crate::reading::{class_in, image_in, lattice_in};
@@ -18,21 +19,22 @@ use vsi_devices::Counted;
 
 /// Runs an image file from two store files, and says what a class sees of both.
 fn compared<'a, F: Files>(
-    alloc: Global,
+    desk: &mut Desk,
     asked: Comparison<'a>,
     files: &mut F,
 ) -> Result<vsi_store::Comparison, Stop<'a>>
     ensures kept { F.holds files.new ≡ F.holds files.old }
     ensures told { IfOk result (ComparesFiles (F.holds files.old) asked.entry) }
-    ensures stopped { IfErr result (StopsBy (WhyCompare (F.holds files.old) asked.entry) NoOther) }
+    ensures stopped { IfErr result (StopsBy (WhyCompare (F.holds files.old) asked.entry)
+        (LacksClassAt (F.holds files.old) asked.entry.lattice.now asked.entry.class.now)) }
 {
-    let classes = lattice_in(alloc, asked.lattice, files)?;
+    let classes = lattice_in(desk, asked.lattice, files)?;
     let class = class_in(&classes, asked.class)?;
-    let verified = image_in(alloc, asked.image, files)?;
-    let first = stored_words(alloc, &verified, Some(asked.stores.0), files)?;
-    let second = stored_words(alloc, &verified, Some(asked.stores.1), files)?;
+    let verified = image_in(desk, asked.image, files)?;
+    let first = stored_words(desk, &verified, Some(asked.stores.0), files)?;
+    let second = stored_words(desk, &verified, Some(asked.stores.1), files)?;
     let found = vsi_answers::compare(
-        alloc,
+        desk.alloc,
         &classes,
         &verified,
         class,
@@ -45,7 +47,7 @@ fn compared<'a, F: Files>(
 
 /// Writes what a class sees of runs of an image file from two store files.
 pub(crate) fn compare<'a, F: Files, W: Write>(
-    alloc: Global,
+    desk: &mut Desk,
     asked: Comparison<'a>,
     files: &mut F,
     output: &mut Counted<W>,
@@ -58,10 +60,10 @@ pub(crate) fn compare<'a, F: Files, W: Write>(
     ensures performed { OnOk result (PerformsCompare (F.holds files.old) asked.entry
         (W.contents (device_of output.old)) (W.contents (device_of output.new))) }
     ensures stopped { IfErr result (StopsBy (WhyCompare (F.holds files.old) asked.entry)
-        (IsDifference (DiffersCompare (F.holds files.old) asked.entry
-        (W.contents (device_of output.old)) (W.contents (device_of output.new))))) }
+        (OtherCompare (F.holds files.old) asked.entry
+        (W.contents (device_of output.old)) (W.contents (device_of output.new)))) }
 {
-    let found = compared(alloc, asked, files)?;
+    let found = compared(desk, asked, files)?;
     write(&found.text, output)?;
     if found.is_same {
         Ok(())

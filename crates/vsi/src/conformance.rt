@@ -1,22 +1,25 @@
 //! A source text beside an interface that is fixed from outside.
 
-ghost use Rattle.std.specs.Prelude.{◌≡◌, ◌<◌, true, false, IfErr, IfOk, OnOk};
-ghost use Rattle.vsi.specs.Performed.{ConformsFiles, IsAskedAt, IsDeclared};
+ghost use Rattle.std.specs.Prelude.{◌≡◌, ◌<◌, true, IfErr, IfOk, OnOk};
+ghost use Rattle.std.specs.Str.Lossy.{utf8_lossy};
+ghost use Rattle.vsi.specs.Holding.{IsReadAt};
+ghost use Rattle.vsi.specs.Performed.{ConformsFiles, IsAskedAt, IsPolicyAt, IsWrittenAs, TellsConforming, Writes};
 ghost use Rattle.vsi.specs.Silent.{IsSilent};
 ghost use Rattle.vsi.specs.Stops.{TellsFault};
-ghost use Rattle.vsi_conform.specs.Conforms as spec;
+ghost use Rattle.vsi_conform.specs.Beside.{beside};
 ghost use Rattle.vsi_devices.specs.Counted.{device_of, faults_of};
-ghost use Rattle.vsi.specs.Reasons.{DiffersConform, DiffersFiles, IsUnusable, NoOther, RefusesSomeLattice, StopsBy};
+ghost use Rattle.vsi.specs.Reasons.{DiffersConform, IsUnusable, NoOther, RefusesAsked, RefusesPolicy, StopsBy};
 ghost use Rattle.vsi.specs.Stops.{status_of};
 
-use crate::files::{Files, Kind};
+use crate::desk::{Desk, Kind};
+use crate::files::Files;
 use crate::reading::{bytes_in, declared_lattice, settings_in};
 use crate::stop::{Stop, write};
-use std::alloc::Global;
+use std::alloc::{AllocError, Global};
 use std::io::Write;
 use vsi_arguments::Conformance;
 use vsi_conform::{
-    Asked, Interface, InterfaceError, Policy, interface_text, path_beside, points_json,
+    Answer, Asked, Interface, InterfaceError, Policy, interface_text, path_beside, points_json,
     points_text, read_interface, unknown_class,
 };
 use vsi_devices::Counted;
@@ -37,16 +40,18 @@ fn unusable<'a>(alloc: Global, error: InterfaceError) -> Stop<'a>
 
 /// The bytes of a lattice file that an interface names.
 fn named_bytes<'a, F: Files>(
-    alloc: Global,
+    desk: &mut Desk,
     interface: &str,
     path: &[u8],
     files: &mut F,
 ) -> Result<Vec<u8>, Stop<'a>>
     ensures kept { F.holds files.new ≡ F.holds files.old }
+    ensures read { IfOk result (λ bytes. IsReadAt (F.holds files.old)
+        (utf8_lossy (beside interface.now path.now)) bytes.items) }
     ensures stopped { IfErr result (λ stop. 3 < status_of stop) }
 {
-    let beside = path_beside(alloc, interface, path)?;
-    match settings_in(alloc, Kind::Lattice, beside.as_str(), files) {
+    let beside = path_beside(desk.alloc, interface, path)?;
+    match settings_in(desk, Kind::Lattice, beside.as_str(), files) {
         Ok(bytes) => return Ok(bytes),
         Err(Stop::FileFault(_)) => {}
         Err(_) => return Err(Stop::Memory),
@@ -56,27 +61,28 @@ fn named_bytes<'a, F: Files>(
 
 /// The lattice of an interface.
 fn lattice_of<'a, F: Files>(
-    alloc: Global,
+    desk: &mut Desk,
     interface: &str,
     policy: &Policy,
     files: &mut F,
 ) -> Result<Lattice, Stop<'a>>
     ensures kept { F.holds files.new ≡ F.holds files.old }
-    ensures declared { IfOk result IsDeclared }
-    ensures stopped { IfErr result (StopsBy RefusesSomeLattice NoOther) }
+    ensures declared { IfOk result (IsPolicyAt (F.holds files.old) interface.now policy.now) }
+    ensures stopped { IfErr result
+        (StopsBy (RefusesPolicy (F.holds files.old) interface.now policy.now) NoOther) }
 {
     match policy {
         Policy::File(path) => {
-            let bytes = named_bytes(alloc, interface, path, files)?;
-            declared_lattice(alloc, &bytes)
+            let bytes = named_bytes(desk, interface, path, files)?;
+            declared_lattice(desk.alloc, &bytes)
         }
-        Policy::Tables(text) => declared_lattice(alloc, text),
+        Policy::Tables(text) => declared_lattice(desk.alloc, text),
     }
 }
 
 /// The interface of a file.
 fn interface_in<'a, F: Files>(
-    alloc: Global,
+    desk: &mut Desk,
     path: &'a str,
     files: &mut F,
 ) -> Result<Asked, Stop<'a>>
@@ -84,10 +90,10 @@ fn interface_in<'a, F: Files>(
     ensures asked { IfOk result (IsAskedAt (F.holds files.old) path.now) }
     ensures stopped { IfErr result (StopsBy (λ reason. ⊥) IsUnusable) }
 {
-    let bytes = settings_in(alloc, Kind::Interface, path, files)?;
-    match read_interface(alloc, &bytes) {
+    let bytes = settings_in(desk, Kind::Interface, path, files)?;
+    match read_interface(desk.alloc, &bytes) {
         Ok(asked) => Ok(asked),
-        Err(error) => Err(unusable(alloc, error)),
+        Err(error) => Err(unusable(desk.alloc, error)),
     }
 }
 
@@ -105,6 +111,25 @@ fn know_classes<'a>(alloc: Global, lattice: &Lattice, interface: &Interface) -> 
     Err(unusable(alloc, InterfaceError::UnknownClass(name)))
 }
 
+/// An answer as it is written.
+fn answer_text(
+    alloc: Global,
+    is_json: bool,
+    lattice: &Lattice,
+    text: &[u8],
+    interface: &Interface,
+    answer: &Answer,
+) -> Result<Vec<u8>, AllocError>
+    ensures { IfOk result (λ out.
+        IsWrittenAs is_json lattice.now text.now interface.now answer.now out.items) }
+{
+    if is_json {
+        points_json(alloc, lattice, text, interface, answer)
+    } else {
+        points_text(alloc, lattice, text, interface, answer)
+    }
+}
+
 /// The answer of a text as it is written, and whether it conforms.
 fn answer_of<'a>(
     alloc: Global,
@@ -113,44 +138,37 @@ fn answer_of<'a>(
     text: &[u8],
     interface: &Interface,
 ) -> Result<(bool, Vec<u8>), Stop<'a>>
-    ensures told { IfOk result
-        (λ pair. pair.0 ≡ true → spec.Conforms lattice.now text.now interface.now) }
-    ensures differs { IfOk result
-        (λ pair. pair.0 ≡ false → ¬ (spec.Conforms lattice.now text.now interface.now)) }
+    ensures told { IfOk result (λ pair.
+        TellsConforming is_json pair.0 lattice.now text.now interface.now pair.1.items) }
     ensures stopped { IfErr result (λ stop. 3 < status_of stop) }
 {
     let answer = vsi_conform::conform(alloc, lattice, text, interface)?;
-    let written = if is_json {
-        points_json(alloc, lattice, text, interface, &answer)?
-    } else {
-        points_text(alloc, lattice, text, interface, &answer)?
-    };
+    let written = answer_text(alloc, is_json, lattice, text, interface, &answer)?;
     Ok((answer.conforms(), written))
 }
 
 /// Judges the source text by the interface.
 fn judged<'a, F: Files>(
-    alloc: Global,
+    desk: &mut Desk,
     asked: Conformance<'a>,
     files: &mut F,
 ) -> Result<(bool, Vec<u8>), Stop<'a>>
     ensures kept { F.holds files.new ≡ F.holds files.old }
     ensures told { IfOk result
-        (λ pair. pair.0 ≡ true → ConformsFiles (F.holds files.old) asked.entry) }
-    ensures differs { IfOk result
-        (λ pair. pair.0 ≡ false → DiffersFiles (F.holds files.old) asked.entry) }
-    ensures stopped { IfErr result (StopsBy RefusesSomeLattice IsUnusable) }
+        (λ pair. ConformsFiles (F.holds files.old) asked.entry pair.0 pair.1) }
+    ensures stopped { IfErr result
+        (StopsBy (RefusesAsked (F.holds files.old) asked.entry.interface.now) IsUnusable) }
 {
-    let found = interface_in(alloc, asked.interface, files)?;
-    let lattice = lattice_of(alloc, asked.interface, &found.policy, files)?;
-    know_classes(alloc, &lattice, &found.interface)?;
-    let text = bytes_in(alloc, Kind::Source, asked.source, files)?;
-    answer_of(alloc, asked.is_json, &lattice, &text, &found.interface)
+    let found = interface_in(desk, asked.interface, files)?;
+    let lattice = lattice_of(desk, asked.interface, &found.policy, files)?;
+    know_classes(desk.alloc, &lattice, &found.interface)?;
+    let text = bytes_in(desk, Kind::Source, asked.source, files)?;
+    answer_of(desk.alloc, asked.is_json, &lattice, &text, &found.interface)
 }
 
 /// Writes whether the source text conforms to the interface, and in what it differs.
 pub(crate) fn conform<'a, F: Files, W: Write>(
-    alloc: Global,
+    desk: &mut Desk,
     asked: Conformance<'a>,
     files: &mut F,
     output: &mut Counted<W>,
@@ -160,11 +178,14 @@ pub(crate) fn conform<'a, F: Files, W: Write>(
     ensures fault { TellsFault (faults_of output.old) (faults_of output.new) result }
     ensures silent { IsSilent result (W.contents (device_of output.old))
         (W.contents (device_of output.new)) }
-    ensures performed { OnOk result (ConformsFiles (F.holds files.old) asked.entry) }
+    ensures performed { OnOk result (Writes (ConformsFiles (F.holds files.old) asked.entry true)
+        (W.contents (device_of output.old)) (W.contents (device_of output.new))) }
     ensures stopped { IfErr result
-        (StopsBy RefusesSomeLattice (DiffersConform (F.holds files.old) asked.entry)) }
+        (StopsBy (RefusesAsked (F.holds files.old) asked.entry.interface.now)
+        (DiffersConform (F.holds files.old) asked.entry
+        (W.contents (device_of output.old)) (W.contents (device_of output.new)))) }
 {
-    let (conforms, text) = judged(alloc, asked, files)?;
+    let (conforms, text) = judged(desk, asked, files)?;
     write(&text, output)?;
     if conforms { Ok(()) } else { Err(Stop::Differs) }
 }

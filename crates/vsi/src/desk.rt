@@ -1,9 +1,18 @@
-//! The files of a command line whose refusal is explained.
+//! What was read of files on the way of a request, for the explanation of its refusal.
 
-ghost use Rattle.std.specs.Prelude.{◌≡◌};
-
-use crate::files::{Files, Kind};
 use std::alloc::{AllocError, Global};
+
+/// What a file that was read is.
+#[derive(Clone, Copy, Debug, PartialEq, Eq)]
+pub(crate) enum Kind {
+    Lattice,
+    Source,
+    Image,
+    Store,
+    Interface,
+    /// No file, but a setting of the command line.
+    Setting,
+}
 
 /// A file that was read.
 #[derive(Drop)]
@@ -13,24 +22,37 @@ pub(crate) struct Kept {
     pub(crate) bytes: Vec<u8>,
 }
 
-/// Files, and what was read of them.
+/// What was read, where a refusal is to be explained.
 #[derive(Drop)]
-pub(crate) struct Desk<'a, F: Files> {
-    alloc: Global,
-    files: &'a mut F,
+pub(crate) struct Desk {
+    pub(crate) alloc: Global,
+    /// Whether a refusal is explained.
+    pub(crate) is_explained: bool,
     kept: Vec<Kept>,
 }
 
-impl<'a, F: Files> Desk<'a, F> {
-    /// A desk over these files, of which nothing is read yet.
-    pub(crate) fn new(alloc: Global, files: &'a mut F) -> Desk<'a, F>
-        ensures { F.holds result.files.now ≡ F.holds files.old }
-    {
+impl Desk {
+    /// A desk on which nothing stands yet.
+    pub(crate) fn new(alloc: Global, is_explained: bool) -> Desk {
         Desk {
             alloc,
-            files,
+            is_explained,
             kept: Vec::new(alloc),
         }
+    }
+
+    /// Keeps the bytes of a file, before they are judged.
+    pub(crate) fn keep(&mut self, kind: Kind, path: &str, bytes: &[u8]) -> Result<(), AllocError> {
+        if !self.is_explained {
+            return Ok(());
+        }
+        let kept = Kept {
+            kind,
+            path: Vec::from_slice(self.alloc, path.as_bytes())?,
+            bytes: Vec::from_slice(self.alloc, bytes)?,
+        };
+        self.kept.push(kept)?;
+        Ok(())
     }
 
     /// The last file of this kind that was read.
@@ -57,51 +79,5 @@ impl<'a, F: Files> Desk<'a, F> {
             left -= 1;
         }
         None
-    }
-}
-
-impl<F: Files> Files for Desk<'_, F> {
-    type Input = F::Input;
-
-    type Output = F::Output;
-
-    ghost holds = { λ desk. F.holds desk.files.now };
-
-    fn open_file(&mut self, path: &str) -> Option<F::Input> {
-        self.files.open_file(path)
-    }
-
-    fn create_file(&mut self, path: &str) -> Option<F::Output> {
-        self.files.create_file(path)
-    }
-
-    fn replace_file(&mut self, path: &str, fresh: &str, bytes: &[u8]) -> Option<()> {
-        self.files.replace_file(path, fresh, bytes)
-    }
-
-    fn keep(&mut self, kind: Kind, path: &str, bytes: &[u8]) -> Result<(), AllocError> {
-        let kept = Kept {
-            kind,
-            path: Vec::from_slice(self.alloc, path.as_bytes())?,
-            bytes: Vec::from_slice(self.alloc, bytes)?,
-        };
-        self.kept.push(kept)?;
-        Ok(())
-    }
-
-    fn trouble(&mut self, path: &str) -> Option<&'static str> {
-        self.files.trouble(path)
-    }
-
-    fn wants_colour(&mut self) -> bool {
-        self.files.wants_colour()
-    }
-
-    fn reads_terminal(&mut self) -> bool {
-        self.files.reads_terminal()
-    }
-
-    fn close_file(&mut self, output: F::Output) {
-        self.files.close_file(output);
     }
 }

@@ -4,7 +4,8 @@ ghost use Rattle.std.specs.Prelude.{◌≡◌, Some, IfErr, IfOk, IsSomeAnd};
 ghost use Rattle.vsi.specs.Performed.{DrawsFiles, OfFiles, ToldFlowsGraph, ToldPage};
 ghost use Rattle.vsi.specs.Reasons.{NoOther, RefusesLattice, RefusesProgramAt, StopsBy, WhyDraw};
 
-use crate::files::{Files, Kind};
+use crate::desk::{Desk, Kind};
+use crate::files::Files;
 use crate::reading::{bytes_in, lattice_in, refused};
 use crate::stop::Stop;
 use crate::subcommands::profile;
@@ -15,7 +16,7 @@ use vsi_report::{flows_dot, lattice_dot, report_page};
 
 /// The page of a source text.
 pub(crate) fn report<'a, F: Files>(
-    alloc: Global,
+    desk: &mut Desk,
     compilation: Compilation<'a>,
     files: &mut F,
 ) -> Result<Vec<u8>, Stop<'a>>
@@ -24,15 +25,15 @@ pub(crate) fn report<'a, F: Files>(
     ensures stopped { IfErr result
         (StopsBy (RefusesLattice (F.holds files.old) compilation.entry.lattice.now) NoOther) }
 {
-    let classes = lattice_in(alloc, compilation.lattice, files)?;
-    let text = bytes_in(alloc, Kind::Source, compilation.source, files)?;
+    let classes = lattice_in(desk, compilation.lattice, files)?;
+    let text = bytes_in(desk, Kind::Source, compilation.source, files)?;
     let profile = profile(compilation.is_strict);
-    Ok(report_page(alloc, profile, &classes, text.as_slice())?)
+    Ok(report_page(desk.alloc, profile, &classes, text.as_slice())?)
 }
 
 /// The graph of the flows of the source text.
 fn flows_graph<'a, F: Files>(
-    alloc: Global,
+    desk: &mut Desk,
     classes: &Lattice,
     source: &'a str,
     is_strict: bool,
@@ -44,16 +45,16 @@ fn flows_graph<'a, F: Files>(
     ensures stopped { IfErr result
         (StopsBy (RefusesProgramAt (F.holds files.old) classes.now source.now) NoOther) }
 {
-    let text = bytes_in(alloc, Kind::Source, source, files)?;
-    match flows_dot(alloc, profile(is_strict), classes, text.as_slice()) {
+    let text = bytes_in(desk, Kind::Source, source, files)?;
+    match flows_dot(desk.alloc, profile(is_strict), classes, text.as_slice()) {
         Ok(graph) => Ok(graph),
-        Err(error) => Err(refused(alloc, classes, text.as_slice(), error)),
+        Err(error) => Err(refused(desk.alloc, classes, text.as_slice(), error)),
     }
 }
 
 /// The graph of the flows of a source text, and nothing where none is given.
 fn flows_behind<'a, F: Files>(
-    alloc: Global,
+    desk: &mut Desk,
     classes: &Lattice,
     source: Option<&'a str>,
     is_strict: bool,
@@ -66,14 +67,14 @@ fn flows_behind<'a, F: Files>(
         (λ path. RefusesProgramAt (F.holds files.old) classes.now path.now reason)) NoOther) }
 {
     match source {
-        Some(source) => flows_graph(alloc, classes, source, is_strict, files),
-        None => Ok(Vec::new(alloc)),
+        Some(source) => flows_graph(desk, classes, source, is_strict, files),
+        None => Ok(Vec::new(desk.alloc)),
     }
 }
 
 /// The graph of the lattice, and behind it that of the flows, where a source text is given.
 pub(crate) fn draw<'a, F: Files>(
-    alloc: Global,
+    desk: &mut Desk,
     drawing: Drawing<'a>,
     files: &mut F,
 ) -> Result<Vec<u8>, Stop<'a>>
@@ -82,9 +83,9 @@ pub(crate) fn draw<'a, F: Files>(
     ensures stopped { IfErr result (StopsBy
         (WhyDraw (F.holds files.old) drawing.entry.lattice.now drawing.entry.source) NoOther) }
 {
-    let classes = lattice_in(alloc, drawing.lattice, files)?;
-    let mut graphs = lattice_dot(alloc, &classes)?;
-    let flows = flows_behind(alloc, &classes, drawing.source, drawing.is_strict, files)?;
+    let classes = lattice_in(desk, drawing.lattice, files)?;
+    let mut graphs = lattice_dot(desk.alloc, &classes)?;
+    let flows = flows_behind(desk, &classes, drawing.source, drawing.is_strict, files)?;
     graphs.extend_from_slice(&flows)?;
     Ok(graphs)
 }

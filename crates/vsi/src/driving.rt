@@ -1,20 +1,26 @@
 //! Drives an image, a cycle for each line of the input.
 
-ghost use Rattle.std.specs.Prelude.{◌≡◌, ◌<◌, ◌≤◌, ℕ, List, length, IfOk, IfErr, OnOk};
-ghost use Rattle.vsi.specs.Performed.{IsStoredAt};
+ghost use Rattle.std.specs.Prelude.{◌≡◌, ◌<◌, ◌≤◌, ◌∷◌, ◌++◌, [], ℕ, List, length, IfOk, IfErr, OnOk};
+ghost use Rattle.std.specs.Io.KnownBytes.{Appends};
+ghost use Rattle.vsi.specs.Driven.{Drives, DrivesInput, begun, last_line, whole_lines};
+ghost use Rattle.vsi.specs.Performed.{IsStoredAt, PerformsDrive};
 ghost use Rattle.vsi.specs.Silent.{IsSilent};
 ghost use Rattle.vsi.specs.Stops.{TellsFault, status_of};
 ghost use Rattle.vsi_devices.specs.Counted.{device_of, faults_of};
 ghost use Rattle.vsi_drive.specs.Control.{control};
-ghost use Rattle.vsi.specs.Holding.{IsStoreAt};
-ghost use Rattle.vsi.specs.Reasons.{NoOther, StopsBy};
+ghost use Rattle.vsi_drive.specs.Cycles.{cycle};
+ghost use Rattle.vsi_image.specs.Fields.{globals};
+ghost use Rattle.vsi_store.specs.Text.{store_text_of};
+ghost use Rattle.vsi.specs.Holding.{Delivers, IsStoreAt};
+ghost use Rattle.vsi.specs.Reasons.{LacksClassAt, NoOther, StopsBy, WhyDrive};
 ghost use Rattle.vsi_answers.specs.Answers.{Because};
 ghost use Rattle.vsi_answers.specs.Judged.{IsStoreFault};
 ghost use Rattle.vsi_answers.specs.Judged as judged;
 
+use crate::desk::Desk;
 use crate::files::Files;
+use crate::filling::replace;
 use crate::reading::{class_in, faulty, image_in, lattice_in, store_in};
-use crate::running::replace;
 use crate::stop::{STREAM, Stop, write};
 use std::alloc::Global;
 use std::io::{Read, Write};
@@ -31,7 +37,7 @@ const CHUNK: usize = 4096;
 /// Drives an image file: each line of the input sets globals, and what a class sees behind its run
 /// is written. The last store goes to the file that is asked for.
 pub(crate) fn drive<'a, F: Files, R: Read, W: Write>(
-    alloc: Global,
+    desk: &mut Desk,
     driving: Driving<'a>,
     files: &mut F,
     input: &mut Counted<R>,
@@ -45,16 +51,21 @@ pub(crate) fn drive<'a, F: Files, R: Read, W: Write>(
     ensures output_fault { TellsFault (faults_of output.old) (faults_of output.new) result }
     ensures silent { IsSilent result (W.contents (device_of output.old))
         (W.contents (device_of output.new)) }
+    ensures performed { OnOk result (PerformsDrive (F.holds files.old) driving.entry
+        (R.remaining (device_of input.old)) (F.holds files.new)
+        (W.contents (device_of output.old)) (W.contents (device_of output.new))) }
+    ensures stopped { IfErr result (StopsBy (WhyDrive (F.holds files.old) driving.entry)
+        (LacksClassAt (F.holds files.old) driving.entry.lattice.now driving.entry.class.now)) }
 {
-    let classes = lattice_in(alloc, driving.lattice, files)?;
+    let classes = lattice_in(desk, driving.lattice, files)?;
     let driver = class_in(&classes, driving.class)?;
-    let verified = image_in(alloc, driving.execution.image, files)?;
-    let mut words = stored_words(alloc, &verified, driving.execution.store, files)?;
+    let verified = image_in(desk, driving.execution.image, files)?;
+    let mut words = stored_words(desk, &verified, driving.execution.store, files)?;
     match Controller::new(&classes, &verified, driver, driving.execution.budget) {
-        Ok(controller) => drive_input(alloc, &controller, words.as_mut_slice(), input, output)?,
-        Err(error) => return Err(faulty(alloc, Fault::View(error))),
+        Ok(controller) => drive_input(desk.alloc, &controller, &mut words, input, output)?,
+        Err(error) => return Err(faulty(desk.alloc, Fault::View(error))),
     }
-    save(alloc, &verified, &words, driving.save, files)
+    save(desk.alloc, &verified, &words, driving.save, files)
 }
 
 /// Writes a store to the file that is asked for, if one is.
@@ -66,7 +77,10 @@ fn save<'a, F: Files>(
     files: &mut F,
 ) -> Result<(), Stop<'a>>
     requires { length words.now ≡ length verified.now.globals.items }
-    ensures { IfErr result (λ stop. 3 < status_of stop) }
+    ensures stop { IfErr result (λ stop. 3 < status_of stop) }
+    ensures saved { OnOk result (Delivers path.entry
+        (store_text_of (globals verified.now.globals.items) words.now)
+        (F.holds files.old) (F.holds files.new)) }
 {
     match path {
         Some(path) => {
@@ -79,7 +93,7 @@ fn save<'a, F: Files>(
 
 /// The words that a store file tells for an image, or zeros without one.
 pub(crate) fn stored_words<'a, F: Files>(
-    alloc: Global,
+    desk: &mut Desk,
     verified: &Verified,
     path: Option<&'a str>,
     files: &mut F,
@@ -92,10 +106,10 @@ pub(crate) fn stored_words<'a, F: Files>(
         (file : List ℕ) × IsStoreAt (F.holds files.old) path.entry file
         × Because (judged.TellsFault (IsStoreFault verified.now file)) ⊥ reason) NoOther) }
 {
-    let bytes = store_in(alloc, path, files)?;
-    match read_store(alloc, verified.image(), bytes.as_slice()) {
+    let bytes = store_in(desk, path, files)?;
+    match read_store(desk.alloc, verified.image(), bytes.as_slice()) {
         Ok(words) => Ok(words),
-        Err(error) => Err(faulty(alloc, Fault::Store(error))),
+        Err(error) => Err(faulty(desk.alloc, Fault::Store(error))),
     }
 }
 
@@ -113,6 +127,9 @@ fn drive_input<'a, R: Read, W: Write>(
     ensures input_fault { TellsFault (faults_of input.old) (faults_of input.new) result }
     ensures output_fault { TellsFault (faults_of output.old) (faults_of output.new) result }
     ensures stop { IfErr result (λ stop. 3 < status_of stop) }
+    ensures driven { OnOk result (DrivesInput (control controller.now) store.old store.new
+        (R.remaining (device_of input.old)) (W.contents (device_of output.old))
+        (W.contents (device_of output.new))) }
 {
     let mut line = Vec::new(alloc);
     let mut chunk = [0; CHUNK];
@@ -121,14 +138,33 @@ fn drive_input<'a, R: Read, W: Write>(
             return Err(Stop::FileFault(STREAM));
         };
         if count == 0 {
-            break;
+            return drive_rest(alloc, controller, &line, store, output);
         }
         drive_bytes(alloc, controller, &chunk[..count], &mut line, store, output)?;
     }
+    Err(Stop::FileFault(STREAM))
+}
+
+/// Does a cycle for what stands behind the last line feed, where anything does.
+fn drive_rest<'a, W: Write>(
+    alloc: Global,
+    controller: &Controller,
+    line: &[u8],
+    store: &mut [i64],
+    output: &mut Counted<W>,
+) -> Result<(), Stop<'a>>
+    requires words { length store.old ≡ length (control controller.now).image.globals.items }
+    requires output { faults_of output.old < u64.MAX }
+    ensures fault { TellsFault (faults_of output.old) (faults_of output.new) result }
+    ensures stop { IfErr result (λ stop. 3 < status_of stop) }
+    ensures driven { OnOk result (Drives (control controller.now) store.old store.new
+        (last_line line.now) (W.contents (device_of output.old))
+        (W.contents (device_of output.new))) }
+{
     if line.is_empty() {
         return Ok(());
     }
-    drive_line(alloc, controller, &line, store, output)
+    drive_line(alloc, controller, line, store, output)
 }
 
 /// Does a cycle for each line that ends in these bytes. What has been read of a line stands in
@@ -145,6 +181,10 @@ fn drive_bytes<'a, W: Write>(
     requires output { faults_of output.old < u64.MAX }
     ensures fault { TellsFault (faults_of output.old) (faults_of output.new) result }
     ensures stop { IfErr result (λ stop. 3 < status_of stop) }
+    ensures line { OnOk result (line.new.items ≡ begun line.old.items bytes.now) }
+    ensures driven { OnOk result (Drives (control controller.now) store.old store.new
+        (whole_lines line.old.items bytes.now) (W.contents (device_of output.old))
+        (W.contents (device_of output.new))) }
 {
     for byte in bytes {
         if *byte == b'\n' {
@@ -169,6 +209,11 @@ fn drive_line<'a, W: Write>(
     requires output { faults_of output.old < u64.MAX }
     ensures fault { TellsFault (faults_of output.old) (faults_of output.new) result }
     ensures stop { IfErr result (λ stop. 3 < status_of stop) }
+    ensures written { OnOk result (Appends (W.contents (device_of output.old))
+        (W.contents (device_of output.new))
+        (cycle (control controller.now) store.old line.now).line) }
+    ensures store { OnOk result
+        (store.new ≡ (cycle (control controller.now) store.old line.now).store) }
 {
     match controller.cycle(alloc, line, store) {
         Ok((_ending, text)) => write(text.as_slice(), output),

@@ -2,8 +2,8 @@
 
 ghost use Rattle.std.specs.Prelude.{◌≡◌};
 
-use crate::desk::{Desk, Kept};
-use crate::files::{Files, Kind};
+use crate::desk::{Desk, Kept, Kind};
+use crate::files::Files;
 use crate::reading::TWO_CLASSES;
 use crate::stop::{STREAM, Stop};
 use crate::subcommands::profile;
@@ -80,12 +80,15 @@ fn is_strict(request: &Request<'_>) -> bool {
 }
 
 /// What stands behind the text of a stop.
-pub(crate) fn explained<'a, F: Files>(
-    alloc: Global,
+pub(crate) fn explained<F: Files>(
+    desk: &Desk,
     explaining: Explaining,
-    desk: &mut Desk<'a, F>,
+    files: &mut F,
     stop: &Stop<'_>,
-) -> Result<Vec<u8>, AllocError> {
+) -> Result<Vec<u8>, AllocError>
+    ensures { F.holds files.new ≡ F.holds files.old }
+{
+    let alloc = desk.alloc;
     match stop {
         Stop::Refused(text, cause) => {
             let mut lines = match cause {
@@ -106,8 +109,8 @@ pub(crate) fn explained<'a, F: Files>(
             push_page(&mut lines, text)?;
             Ok(lines)
         }
-        Stop::FileFault(path) => of_fault(alloc, desk, path),
-        Stop::LostFile(path) => of_fault(alloc, desk, path.as_str()),
+        Stop::FileFault(path) => of_fault(alloc, files, path),
+        Stop::LostFile(path) => of_fault(alloc, files, path.as_str()),
         Stop::OutOfBudget => Vec::from_slice(alloc, SPENT),
         Stop::NoClass(_) => of_class(alloc, desk),
         Stop::Differs | Stop::Usage(_) | Stop::Memory => Ok(Vec::new(alloc)),
@@ -131,18 +134,16 @@ fn push_page(lines: &mut Vec<u8>, text: &[u8]) -> Result<(), AllocError> {
 }
 
 /// Why a file can't be used.
-fn of_fault<'a, F: Files>(
-    alloc: Global,
-    desk: &mut Desk<'a, F>,
-    path: &str,
-) -> Result<Vec<u8>, AllocError> {
+fn of_fault<F: Files>(alloc: Global, files: &mut F, path: &str) -> Result<Vec<u8>, AllocError>
+    ensures { F.holds files.new ≡ F.holds files.old }
+{
     let mut lines = Vec::new(alloc);
     if path == STREAM {
         lines.extend_from_slice(b"A standard stream can't be read or written.\n")?;
         return Ok(lines);
     }
     put_safe(&mut lines, path.as_bytes())?;
-    match desk.trouble(path) {
+    match files.trouble(path) {
         Some(sentence) => {
             lines.extend_from_slice(b": ")?;
             lines.extend_from_slice(sentence.as_bytes())?;
@@ -154,10 +155,10 @@ fn of_fault<'a, F: Files>(
 }
 
 /// What stands behind a refusal with this cause.
-fn of_cause<'a, F: Files>(
+fn of_cause(
     alloc: Global,
     explaining: Explaining,
-    desk: &Desk<'a, F>,
+    desk: &Desk,
     cause: &Cause,
 ) -> Result<Vec<u8>, AllocError> {
     match cause {
@@ -174,7 +175,7 @@ fn of_cause<'a, F: Files>(
 }
 
 /// The lattice that was read, or `L` below `H` where none was.
-fn policy<'a, F: Files>(alloc: Global, desk: &Desk<'a, F>) -> Option<Lattice> {
+fn policy(alloc: Global, desk: &Desk) -> Option<Lattice> {
     let text = match desk.last(Kind::Lattice) {
         Some(kept) => kept.bytes.as_slice(),
         None => TWO_CLASSES,
@@ -183,7 +184,7 @@ fn policy<'a, F: Files>(alloc: Global, desk: &Desk<'a, F>) -> Option<Lattice> {
 }
 
 /// What stands behind the name of a class that the lattice lacks.
-fn of_class<'a, F: Files>(alloc: Global, desk: &Desk<'a, F>) -> Result<Vec<u8>, AllocError> {
+fn of_class(alloc: Global, desk: &Desk) -> Result<Vec<u8>, AllocError> {
     match policy(alloc, desk) {
         Some(lattice) => class_list(alloc, &lattice),
         None => Err(AllocError),
@@ -191,10 +192,10 @@ fn of_class<'a, F: Files>(alloc: Global, desk: &Desk<'a, F>) -> Result<Vec<u8>, 
 }
 
 /// What stands behind the refusal of a source text.
-fn of_source<'a, F: Files>(
+fn of_source(
     alloc: Global,
     explaining: Explaining,
-    desk: &Desk<'a, F>,
+    desk: &Desk,
     error: &CompileError,
 ) -> Result<Vec<u8>, AllocError> {
     let Some(kept) = desk.last(Kind::Source) else {
@@ -218,15 +219,15 @@ fn of_source<'a, F: Files>(
 }
 
 /// The image that was read.
-fn read_image<'a, F: Files>(alloc: Global, desk: &Desk<'a, F>) -> Option<Image> {
+fn read_image(alloc: Global, desk: &Desk) -> Option<Image> {
     decode(alloc, desk.last(Kind::Image)?.bytes.as_slice()).ok()
 }
 
 /// What stands behind the refusal of a store file.
-fn of_store<'a, F: Files>(
+fn of_store(
     alloc: Global,
     explaining: Explaining,
-    desk: &Desk<'a, F>,
+    desk: &Desk,
     error: &StoreError,
 ) -> Result<Vec<u8>, AllocError> {
     let Some(kept) = desk.last(Kind::Store) else {
@@ -245,7 +246,7 @@ fn of_store<'a, F: Files>(
 }
 
 /// The last file of a kind; an interface stands for a lattice file where it has classes itself.
-fn of_kind<'d, 'a, F: Files>(desk: &'d Desk<'a, F>, kind: Kind) -> Option<&'d Kept> {
+fn of_kind<'d>(desk: &'d Desk, kind: Kind) -> Option<&'d Kept> {
     match desk.last(kind) {
         Some(kept) => Some(kept),
         None if kind == Kind::Lattice => desk.last(Kind::Interface),
@@ -254,10 +255,10 @@ fn of_kind<'d, 'a, F: Files>(desk: &'d Desk<'a, F>, kind: Kind) -> Option<&'d Ke
 }
 
 /// What stands behind the refusal of a lattice file or of an image.
-fn of_file<'a, F: Files>(
+fn of_file(
     alloc: Global,
     explaining: Explaining,
-    desk: &Desk<'a, F>,
+    desk: &Desk,
     fault: &Fault,
 ) -> Result<Vec<u8>, AllocError> {
     let kind = match fault {
@@ -277,15 +278,15 @@ fn of_file<'a, F: Files>(
 }
 
 /// The lattice of a file that was read.
-fn read_policy<'a, F: Files>(alloc: Global, desk: &Desk<'a, F>) -> Option<Lattice> {
+fn read_policy(alloc: Global, desk: &Desk) -> Option<Lattice> {
     read_lattice(alloc, desk.last(Kind::Lattice)?.bytes.as_slice()).ok()
 }
 
 /// What stands behind the refusal of an interface.
-fn of_interface<'a, F: Files>(
+fn of_interface(
     alloc: Global,
     explaining: Explaining,
-    desk: &Desk<'a, F>,
+    desk: &Desk,
     error: &InterfaceError,
 ) -> Result<Vec<u8>, AllocError> {
     let Some(kept) = desk.last(Kind::Interface) else {
@@ -317,7 +318,7 @@ fn interface_advice<'d>(
 }
 
 /// What was read that a run can't begin with: a setting, the store file, or else the image.
-fn faulty_start<'d, 'a, F: Files>(desk: &'d Desk<'a, F>, fault: StartFault) -> Option<&'d Kept> {
+fn faulty_start<'d>(desk: &'d Desk, fault: StartFault) -> Option<&'d Kept> {
     match fault {
         StartFault::Setting(
             LineFault::BadSetting(number)
@@ -334,10 +335,10 @@ fn faulty_start<'d, 'a, F: Files>(desk: &'d Desk<'a, F>, fault: StartFault) -> O
 }
 
 /// What stands behind the refusal of a run that doesn't begin.
-fn of_start<'a, F: Files>(
+fn of_start(
     alloc: Global,
     explaining: Explaining,
-    desk: &Desk<'a, F>,
+    desk: &Desk,
     fault: StartFault,
 ) -> Result<Vec<u8>, AllocError> {
     let Some(kept) = faulty_start(desk, fault) else {
@@ -355,10 +356,10 @@ fn of_start<'a, F: Files>(
 }
 
 /// What stands behind the refusal of an image's commands.
-fn of_audit<'a, F: Files>(
+fn of_audit(
     alloc: Global,
     explaining: Explaining,
-    desk: &Desk<'a, F>,
+    desk: &Desk,
     error: &AuditError,
 ) -> Result<Vec<u8>, AllocError> {
     let (Some(kept), Some(image), Some(lattice)) = (
@@ -377,10 +378,10 @@ fn of_audit<'a, F: Files>(
 }
 
 /// What stands behind the refusal of an image that isn't steady.
-fn of_unsteady<'a, F: Files>(
+fn of_unsteady(
     alloc: Global,
     explaining: Explaining,
-    desk: &Desk<'a, F>,
+    desk: &Desk,
     refusal: &[u8],
     error: &SteadyError,
 ) -> Result<Vec<u8>, AllocError> {

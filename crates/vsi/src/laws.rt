@@ -1,6 +1,6 @@
 //! The laws of command lines. Each function's contract is a law, and its body does nothing.
 
-ghost use Rattle.vsi.specs.Laws.{BuiltIsSeenAlike, CheckedIsAccepted};
+ghost use Rattle.vsi.specs.Laws.{BuiltIsSeenAlike, CheckedIsAccepted, LeftIsSeenAlike};
 
 /// Where the words `check`, a lattice file and a source text are obeyed to the end, the files at
 /// these paths hold a lattice and a text that is accepted under it.
@@ -12,4 +12,10 @@ pub fn checked_is_accepted()
 /// stores that agree at and below the class, the views are the same.
 pub fn built_is_seen_alike()
     ensures { BuiltIsSeenAlike }
+{}
+
+/// Where `build` is obeyed, and `view` then shows a class two runs of the image file under the same
+/// lattice file, from stores that agree at and below the class, it shows one text of both.
+pub fn left_is_seen_alike()
+    ensures { LeftIsSeenAlike }
 {}

@@ -1,12 +1,13 @@
 //! The search for leaks.
 
-ghost use Rattle.std.specs.Prelude.{◌≡◌, ◌⊎◌, IfErr, IfOk, IfSome};
+ghost use Rattle.std.specs.Prelude.{◌≡◌, ◌⊎◌, IfErr, IfOk, IfSome, IsSomeAnd};
 ghost use Rattle.vsi.specs.Performed.{SearchesFiles};
 ghost use Rattle.vsi_lattice.specs.LatticeView.{order};
 ghost use Rattle.vsi_lattice.specs.Order.{IsClass};
-ghost use Rattle.vsi.specs.Reasons.{DiffersLeak, NoOther, RefusesLattice, RefusesSource, StopsBy};
+ghost use Rattle.vsi.specs.Reasons.{LacksClass, OtherLeak, RefusesLattice, RefusesSource, StopsBy};
 
-use crate::files::{Files, Kind};
+use crate::desk::{Desk, Kind};
+use crate::files::Files;
 use crate::reading::{bytes_in, class_in, lattice_in, refused};
 use crate::stop::Stop;
 use std::alloc::Global;
@@ -17,7 +18,8 @@ use vsi_leak::{Effort, Finding, Wanted, leak_of_text, leak_text};
 /// The class that looks, where one is named.
 fn looking<'a>(lattice: &Lattice, name: Option<&'a str>) -> Result<Option<Class>, Stop<'a>>
     ensures within { IfOk result (λ class. IfSome class (IsClass (order lattice.now))) }
-    ensures stopped { IfErr result (StopsBy (λ reason. ⊥) NoOther) }
+    ensures stopped { IfErr result (StopsBy (λ reason. ⊥)
+        (λ stop. IsSomeAnd name.entry (λ n. LacksClass lattice.now n.now stop))) }
 {
     let Some(name) = name else {
         return Ok(None);
@@ -28,7 +30,7 @@ fn looking<'a>(lattice: &Lattice, name: Option<&'a str>) -> Result<Option<Class>
 /// Searches a source text for a leak, which is told as a refusal is. Where none is found the line
 /// has the number of pairs.
 pub(crate) fn leak<'a, F: Files>(
-    alloc: Global,
+    desk: &mut Desk,
     search: Search<'a>,
     files: &mut F,
 ) -> Result<Vec<u8>, Stop<'a>>
@@ -37,11 +39,11 @@ pub(crate) fn leak<'a, F: Files>(
     ensures stopped { IfErr result (StopsBy (λ reason.
         RefusesLattice (F.holds files.old) search.entry.lattice.now reason
         ⊎ RefusesSource (F.holds files.old) search.entry.lattice.now search.entry.source.now reason)
-        (DiffersLeak (F.holds files.old) search.entry)) }
+        (OtherLeak (F.holds files.old) search.entry)) }
 {
-    let classes = lattice_in(alloc, search.lattice, files)?;
+    let classes = lattice_in(desk, search.lattice, files)?;
     let class = looking(&classes, search.class)?;
-    let text = bytes_in(alloc, Kind::Source, search.source, files)?;
+    let text = bytes_in(desk, Kind::Source, search.source, files)?;
     let wanted = Wanted {
         class,
         endings: search.has_endings,
@@ -52,17 +54,17 @@ pub(crate) fn leak<'a, F: Files>(
             seed: search.seed,
         },
     };
-    let (verified, finding) = match leak_of_text(alloc, &classes, text.as_slice(), &wanted) {
+    let (verified, finding) = match leak_of_text(desk.alloc, &classes, text.as_slice(), &wanted) {
         Ok(found) => found,
-        Err(error) => return Err(refused(alloc, &classes, text.as_slice(), error)),
+        Err(error) => return Err(refused(desk.alloc, &classes, text.as_slice(), error)),
     };
     match &finding {
         Finding::Leak(leak) => {
-            let shown = leak_text(alloc, &classes, verified.image(), leak)?;
+            let shown = leak_text(desk.alloc, &classes, verified.image(), leak)?;
             Err(Stop::Refused(shown, None))
         }
         Finding::Nothing { pairs } => {
-            let line = format!(in alloc; "no leak in {pairs} pairs of runs\n")?;
+            let line = format!(in desk.alloc; "no leak in {pairs} pairs of runs\n")?;
             Ok(line.into_bytes())
         }
     }

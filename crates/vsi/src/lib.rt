@@ -7,8 +7,8 @@
 //! file is refused. `command` does what the words of a command line ask for. What an error holds,
 //! as a `LexError` or a `Walk` of `Step`s, stands here beside it.
 //!
-//! To be believed: of `specs/` `Words`, `Holding`, `Performed`, `Reasons`, `Done`, `Input` and
-//! `Laws`, and of `Stops` all but `StopsFor`; `Silent` is a stepping stone of proofs.
+//! To be believed: of `specs/` `Words`, `Holding`, `Driven`, `Performed`, `Reasons`, `Done`, `Input`
+//! and `Laws`, and of `Stops` all but `StopsFor`; `Silent` is a stepping stone of proofs.
 #![tactic(auto)]
 
 mod auditing;
@@ -20,6 +20,7 @@ mod drawing;
 mod driving;
 mod explaining;
 mod files;
+mod filling;
 pub mod laws;
 mod leaking;
 mod obeying;
@@ -32,7 +33,6 @@ mod telling;
 
 pub use command_line::command;
 pub use files::Files;
-pub use files::Kind;
 pub use vsi_audit::AuditError;
 pub use vsi_audit::audit_in;
 pub use vsi_audit::audit_text;

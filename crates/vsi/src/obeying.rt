@@ -2,7 +2,7 @@
 
 ghost use Rattle.std.specs.Prelude.{◌≡◌, ◌<◌, ◌⊎◌, IfErr, OnOk};
 ghost use Rattle.std.specs.Io.KnownBytes.{Keeps};
-ghost use Rattle.vsi.specs.Done.{Done, IsStopOf, Stopped};
+ghost use Rattle.vsi.specs.Done.{Done, IsMistake, IsStopOf, Stopped};
 ghost use Rattle.vsi.specs.Performed.{Performs};
 ghost use Rattle.vsi.specs.Stops.{TellsFault, status_of};
 ghost use Rattle.vsi_asked.specs.Help.{AsksHelp};
@@ -36,7 +36,10 @@ pub(crate) fn obey<'a, F: Files, R: Read, W: Write>(
     requires output { faults_of output.old < u64.MAX }
     ensures input_fault { TellsFault (faults_of input.old) (faults_of input.new) result }
     ensures output_fault { TellsFault (faults_of output.old) (faults_of output.new) result }
-    ensures done { OnOk result (Done (F.holds files.old) words.now
+    ensures unfilled { IfErr result (λ stop. status_of stop < 4
+        → F.holds files.new ≡ F.holds files.old) }
+    ensures done { OnOk result (Done (F.holds files.old)
+        (R.remaining (device_of input.old)) words.now (F.holds files.new)
         (W.contents (device_of output.old)) (W.contents (device_of output.new))) }
     ensures stopped { IfErr result (Stopped (F.holds files.old) words.now
         (W.contents (device_of output.old)) (W.contents (device_of output.new))) }
@@ -65,13 +68,19 @@ fn obey_asked<'a, F: Files, R: Read, W: Write>(
     requires output { faults_of output.old < u64.MAX }
     ensures input_fault { TellsFault (faults_of input.old) (faults_of input.new) result }
     ensures output_fault { TellsFault (faults_of output.old) (faults_of output.new) result }
-    ensures performed { OnOk result (Performs (F.holds files.old) asked.entry.request
+    ensures unfilled { IfErr result (λ stop. status_of stop < 4
+        → F.holds files.new ≡ F.holds files.old) }
+    ensures performed { OnOk result (Performs (F.holds files.old)
+        (R.remaining (device_of input.old)) asked.entry.request (F.holds files.new)
         (W.contents (device_of output.old)) (W.contents (device_of output.new))) }
     ensures stopped { IfErr result (IsStopOf (F.holds files.old) asked.entry.request
         (W.contents (device_of output.old)) (W.contents (device_of output.new))) }
 {
     match asked.manner {
-        Manner::Fixed => perform(alloc, asked.request, files, input, output, told),
+        Manner::Fixed => {
+            let mut desk = Desk::new(alloc, false);
+            perform(&mut desk, asked.request, files, input, output, told)
+        }
         Manner::Explained(colour) => {
             let explaining = Explaining::new(&asked.request, colour, files);
             obey_explaining(alloc, asked.request, explaining, files, input, output, told)
@@ -81,7 +90,7 @@ fn obey_asked<'a, F: Files, R: Read, W: Write>(
 
 /// The stop at words that don't ask for what was read of them.
 fn misunderstood<'a>(alloc: Global) -> Stop<'a>
-    ensures { (status_of result ≡ 2) ⊎ (3 < status_of result) }
+    ensures { IsMistake result ⊎ (3 < status_of result) }
 {
     match String::from_str(alloc, MISUNDERSTOOD) {
         Ok(text) => Stop::Usage(text),
@@ -103,17 +112,19 @@ fn obey_explaining<'a, F: Files, R: Read, W: Write>(
     requires output { faults_of output.old < u64.MAX }
     ensures input_fault { TellsFault (faults_of input.old) (faults_of input.new) result }
     ensures output_fault { TellsFault (faults_of output.old) (faults_of output.new) result }
-    ensures performed { OnOk result (Performs (F.holds files.old) request.entry
+    ensures unfilled { IfErr result (λ stop. status_of stop < 4
+        → F.holds files.new ≡ F.holds files.old) }
+    ensures performed { OnOk result (Performs (F.holds files.old)
+        (R.remaining (device_of input.old)) request.entry (F.holds files.new)
         (W.contents (device_of output.old)) (W.contents (device_of output.new))) }
     ensures stopped { IfErr result (IsStopOf (F.holds files.old) request.entry
         (W.contents (device_of output.old)) (W.contents (device_of output.new))) }
 {
-    told.is_explained = true;
-    let mut desk = Desk::new(alloc, files);
-    match perform(alloc, request, &mut desk, input, output, told) {
+    let mut desk = Desk::new(alloc, true);
+    match perform(&mut desk, request, files, input, output, told) {
         Ok(()) => Ok(()),
         Err(stop) => {
-            let lines = explained(alloc, explaining, &mut desk, &stop);
+            let lines = explained(&desk, explaining, files, &stop);
             Err(stop.after(told.put(lines)))
         }
     }
@@ -129,7 +140,7 @@ fn answer_arguments<'a, W: Write>(
     requires { faults_of output.old < u64.MAX }
     ensures fault { TellsFault (faults_of output.old) (faults_of output.new) result }
     ensures help { OnOk result (AsksHelp words.now) }
-    ensures stopped { IfErr result (λ stop. ((status_of stop ≡ 2)
+    ensures stopped { IfErr result (λ stop. (IsMistake stop
         × Keeps (W.contents (device_of output.old)) (W.contents (device_of output.new)))
         ⊎ (3 < status_of stop)) }
 {

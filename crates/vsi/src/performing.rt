@@ -11,6 +11,7 @@ ghost use Rattle.vsi.specs.Reasons.{Why, WhyCheck};
 use crate::auditing::{audit, source};
 use crate::comparing::compare;
 use crate::conformance::conform;
+use crate::desk::Desk;
 use crate::drawing::{draw, report};
 use crate::driving::drive;
 use crate::files::Files;
@@ -62,7 +63,7 @@ fn put<'a, W: Write>(
 
 /// Writes that the source text is accepted, in the manner that is asked for.
 fn put_check<'a, F: Files, W: Write>(
-    alloc: Global,
+    desk: &mut Desk,
     asked: Judging<'a>,
     files: &mut F,
     output: &mut Counted<W>,
@@ -80,15 +81,15 @@ fn put_check<'a, F: Files, W: Write>(
         (W.contents (device_of output.old)) (W.contents (device_of output.new))) }
 {
     if asked.is_json {
-        check_as_json(alloc, asked, files, output)
+        check_as_json(desk, asked, files, output)
     } else {
-        put(check(alloc, asked, files), output)
+        put(check(desk, asked, files), output)
     }
 }
 
 /// Does one subcommand.
 pub(crate) fn perform<'a, F: Files, R: Read, W: Write>(
-    alloc: Global,
+    desk: &mut Desk,
     request: Request<'a>,
     files: &mut F,
     input: &mut Counted<R>,
@@ -103,51 +104,50 @@ pub(crate) fn perform<'a, F: Files, R: Read, W: Write>(
     ensures output_fault { TellsFault (faults_of output.old) (faults_of output.new) result }
     ensures silent { IsSilent result (W.contents (device_of output.old))
         (W.contents (device_of output.new)) }
-    ensures performed { OnOk result (Performs (F.holds files.old) request.entry
+    ensures performed { OnOk result (Performs (F.holds files.old)
+        (R.remaining (device_of input.old)) request.entry (F.holds files.new)
         (W.contents (device_of output.old)) (W.contents (device_of output.new))) }
     ensures stopped { IfErr result (Why (F.holds files.old) request.entry
         (W.contents (device_of output.old)) (W.contents (device_of output.new))) }
 {
     match request {
-        Request::Check(asked) => put_check(alloc, asked, files, output),
-        Request::Conform(asked) => conform(alloc, asked, files, output),
-        Request::Classes(compilation) => put(classes(alloc, compilation, files), output),
+        Request::Check(asked) => put_check(desk, asked, files, output),
+        Request::Conform(asked) => conform(desk, asked, files, output),
+        Request::Classes(compilation) => put(classes(desk, compilation, files), output),
         Request::Flows {
             compilation,
             has_walks,
-        } => put(flows(alloc, compilation, has_walks, files), output),
-        Request::Build(compilation, image) => build(alloc, compilation, image, files),
-        Request::List(image) => put(list(alloc, image, files), output),
-        Request::Audit(asked) => accept(audit(alloc, asked, files), output),
-        Request::Source(image) => put(source(alloc, image, files), output),
+        } => put(flows(desk, compilation, has_walks, files), output),
+        Request::Build(compilation, image) => build(desk, compilation, image, files),
+        Request::List(image) => put(list(desk, image, files), output),
+        Request::Audit(asked) => accept(audit(desk, asked, files), output),
+        Request::Source(image) => put(source(desk, image, files), output),
         Request::Run {
             execution,
             outset,
             has_trace,
             has_count,
         } => {
-            let is_explained = told.is_explained;
             let asked = Running {
                 execution,
                 outset,
                 has_trace,
                 has_count,
-                is_explained,
             };
-            run(alloc, &asked, files, output, &mut told.note)
+            run(desk, &asked, files, output, &mut told.note)
         }
         Request::View {
             lattice,
             class,
             execution,
             outset,
-        } => view(alloc, lattice, class, execution, &outset, files, output),
-        Request::Drive(driving) => drive(alloc, driving, files, input, output),
-        Request::Compare(comparison) => compare(alloc, comparison, files, output),
-        Request::Leak(search) => put(leak(alloc, search, files), output),
-        Request::Report(compilation) => put(report(alloc, compilation, files), output),
-        Request::Draw(drawing) => put(draw(alloc, drawing, files), output),
-        Request::Format(source) => put(format(alloc, source, files), output),
+        } => view(desk, lattice, class, execution, &outset, files, output),
+        Request::Drive(driving) => drive(desk, driving, files, input, output),
+        Request::Compare(comparison) => compare(desk, comparison, files, output),
+        Request::Leak(search) => put(leak(desk, search, files), output),
+        Request::Report(compilation) => put(report(desk, compilation, files), output),
+        Request::Draw(drawing) => put(draw(desk, drawing, files), output),
+        Request::Format(source) => put(format(desk, source, files), output),
         Request::Explain(page) => write(page.as_bytes(), output),
     }
 }

@@ -3,7 +3,7 @@
 ghost use Rattle.std.specs.Prelude.{◌≡◌, ◌<◌, false, Some, IfOk, IfErr, Ok, Err, MatchResult};
 ghost use Rattle.vsi.specs.Holding.{IsImageAt, IsLatticeAt, IsReadAt, IsStoreAt};
 ghost use Rattle.vsi.specs.Input.{two_classes};
-ghost use Rattle.vsi.specs.Reasons.{IsNoMemory, NoOther, RefusesImage, RefusesLattice, StopsBy};
+ghost use Rattle.vsi.specs.Reasons.{IsNoMemory, LacksClass, NoOther, RefusesImage, RefusesLattice, StopsBy};
 ghost use Rattle.vsi.specs.Stops.{status_of, stop_of};
 ghost use Rattle.vsi.specs.declared.stop.Stop.TheVariants as stops;
 ghost use Rattle.vsi_answers.specs.Answers.{Because};
@@ -13,7 +13,8 @@ ghost use Rattle.vsi_devices.specs.declared.error.EngineError.TheVariants.{ReadF
 ghost use Rattle.vsi_lattice.specs.LatticeView.{class_named, order};
 ghost use Rattle.vsi_lattice.specs.Order.{IsClass};
 
-use crate::files::{Files, Kind};
+use crate::desk::{Desk, Kind};
+use crate::files::Files;
 use crate::stop::{STREAM, Stop};
 use std::alloc::Global;
 use vsi_answers::{Unanswered, judged_image, refused_file, refused_source};
@@ -108,7 +109,7 @@ fn whole_in<'a, F: Files>(alloc: Global, path: &'a str, files: &mut F) -> Result
 
 /// The bytes of a file of this kind, of which the files are told.
 pub(crate) fn bytes_in<'a, F: Files>(
-    alloc: Global,
+    desk: &mut Desk,
     kind: Kind,
     path: &'a str,
     files: &mut F,
@@ -118,14 +119,14 @@ pub(crate) fn bytes_in<'a, F: Files>(
         (λ bytes. IsReadAt (F.holds files.old) path.now bytes.items) }
     ensures stopped { IfErr result (λ stop. 3 < status_of stop) }
 {
-    let bytes = whole_in(alloc, path, files)?;
-    files.keep(kind, path, bytes.as_slice())?;
+    let bytes = whole_in(desk.alloc, path, files)?;
+    desk.keep(kind, path, bytes.as_slice())?;
     Ok(bytes)
 }
 
 /// A whole file that is shorter than `READ_LIMIT`; a longer one is a file fault.
 pub(crate) fn settings_in<'a, F: Files>(
-    alloc: Global,
+    desk: &mut Desk,
     kind: Kind,
     path: &'a str,
     files: &mut F,
@@ -135,7 +136,7 @@ pub(crate) fn settings_in<'a, F: Files>(
         (λ bytes. IsReadAt (F.holds files.old) path.now bytes.items) }
     ensures stopped { IfErr result (λ stop. 3 < status_of stop) }
 {
-    let bytes = bytes_in(alloc, kind, path, files)?;
+    let bytes = bytes_in(desk, kind, path, files)?;
     if bytes.len() >= READ_LIMIT {
         return Err(Stop::FileFault(path));
     }
@@ -144,7 +145,7 @@ pub(crate) fn settings_in<'a, F: Files>(
 
 /// The bytes of a store file; without one there are none.
 pub(crate) fn store_in<'a, F: Files>(
-    alloc: Global,
+    desk: &mut Desk,
     path: Option<&'a str>,
     files: &mut F,
 ) -> Result<Vec<u8>, Stop<'a>>
@@ -154,8 +155,8 @@ pub(crate) fn store_in<'a, F: Files>(
     ensures stopped { IfErr result (λ stop. 3 < status_of stop) }
 {
     match path {
-        Some(path) => settings_in(alloc, Kind::Store, path, files),
-        None => Ok(Vec::new(alloc)),
+        Some(path) => settings_in(desk, Kind::Store, path, files),
+        None => Ok(Vec::new(desk.alloc)),
     }
 }
 
@@ -181,7 +182,7 @@ pub(crate) fn two_classes<'a>(alloc: Global) -> Result<Lattice, Stop<'a>>
 
 /// The lattice of a file.
 pub(crate) fn lattice_in<'a, F: Files>(
-    alloc: Global,
+    desk: &mut Desk,
     path: &'a str,
     files: &mut F,
 ) -> Result<Lattice, Stop<'a>>
@@ -190,15 +191,15 @@ pub(crate) fn lattice_in<'a, F: Files>(
     ensures stopped { IfErr result
         (StopsBy (RefusesLattice (F.holds files.old) path.now) NoOther) }
 {
-    let bytes = settings_in(alloc, Kind::Lattice, path, files)?;
-    declared_lattice(alloc, bytes.as_slice())
+    let bytes = settings_in(desk, Kind::Lattice, path, files)?;
+    declared_lattice(desk.alloc, bytes.as_slice())
 }
 
 /// The class of this name.
 pub(crate) fn class_in<'a>(lattice: &Lattice, name: &'a str) -> Result<Class, Stop<'a>>
     ensures within { IfOk result (IsClass (order lattice.now)) }
     ensures named { IfOk result (λ class. class_named lattice.now name.now ≡ Some class) }
-    ensures stopped { IfErr result (StopsBy (λ reason. ⊥) NoOther) }
+    ensures stopped { IfErr result (StopsBy (λ reason. ⊥) (LacksClass lattice.now name.now)) }
 {
     match lattice.class_named(name.as_bytes()) {
         Some(class) => Ok(class),
@@ -208,7 +209,7 @@ pub(crate) fn class_in<'a>(lattice: &Lattice, name: &'a str) -> Result<Class, St
 
 /// The verified image of a file.
 pub(crate) fn image_in<'a, F: Files>(
-    alloc: Global,
+    desk: &mut Desk,
     path: &'a str,
     files: &mut F,
 ) -> Result<Verified, Stop<'a>>
@@ -217,7 +218,7 @@ pub(crate) fn image_in<'a, F: Files>(
     ensures stopped { IfErr result
         (StopsBy (RefusesImage (F.holds files.old) path.now) NoOther) }
 {
-    let bytes = bytes_in(alloc, Kind::Image, path, files)?;
-    let verified = judged_image(alloc, bytes.as_slice())?;
+    let bytes = bytes_in(desk, Kind::Image, path, files)?;
+    let verified = judged_image(desk.alloc, bytes.as_slice())?;
     Ok(verified)
 }

@@ -1,19 +1,20 @@
 //! Runs of images.
 
 ghost use Rattle.std.specs.Prelude.{◌≡◌, ◌<◌, ◌⊎◌, length, IfOk, IfErr, OnOk, Ok, Err};
-ghost use Rattle.std.specs.Io.KnownBytes.{Appends};
-ghost use Rattle.vsi.specs.Performed.{BeginsAt, PerformsRun, PerformsView, ViewsFiles, shown};
+ghost use Rattle.vsi.specs.Performed.{BeginsAt, PerformsRun, PerformsView, ViewsFiles};
 ghost use Rattle.vsi.specs.Silent.{IsSilent};
 ghost use Rattle.vsi.specs.Stops.{TellsFault, status_of};
 ghost use Rattle.vsi.specs.declared.stop.Stop.TheVariants.{Memory};
 ghost use Rattle.vsi_answers.specs.Requests.{BeginsWith};
 ghost use Rattle.vsi_devices.specs.Counted.{device_of, faults_of};
 ghost use Rattle.vsi_lattice.specs.NamePlaces.{texts};
-ghost use Rattle.vsi.specs.Reasons.{NoOther, RefusesImage, RefusesStart, StopsBy, WhyRun, WhyView};
+ghost use Rattle.vsi.specs.Reasons.{LacksClassAt, NoOther, RefusesImage, RefusesStart, StopsBy, WhyRun, WhyView};
 
-use crate::files::{Files, Kind};
+use crate::desk::{Desk, Kind};
+use crate::files::Files;
+use crate::filling::deliver;
 use crate::reading::{class_in, device_stop, image_in, lattice_in, store_in};
-use crate::stop::{Stop, write};
+use crate::stop::Stop;
 use std::alloc::Global;
 use std::io::Write;
 use vsi_answers::start_words;
@@ -26,13 +27,12 @@ use vsi_machine::Outcome;
 /// What stands in the place of a path where a setting is told.
 const SETTING: &str = "--set";
 
-/// Tells the files of each setting.
-fn keep_settings<'a, F: Files>(outset: &Outset<'a>, files: &mut F) -> Result<(), Stop<'a>>
-    ensures kept { F.holds files.new ≡ F.holds files.old }
-    ensures stopped { IfErr result (λ stop. stop ≡ Memory) }
+/// Keeps each setting for an explanation.
+fn keep_settings<'a>(desk: &mut Desk, outset: &Outset<'a>) -> Result<(), Stop<'a>>
+    ensures { IfErr result (λ stop. stop ≡ Memory) }
 {
     for setting in &outset.settings {
-        files.keep(Kind::Setting, SETTING, setting)?;
+        desk.keep(Kind::Setting, SETTING, setting)?;
     }
     Ok(())
 }
@@ -54,46 +54,10 @@ pub(crate) fn words_in<'a>(
     Ok(start_words(alloc, verified, file, settings, outset.is_full)?)
 }
 
-/// Writes a text to the file that is asked for, as a whole, or else to standard output.
-fn deliver<'a, F: Files, W: Write>(
-    alloc: Global,
-    text: &[u8],
-    out: Option<&'a str>,
-    files: &mut F,
-    output: &mut Counted<W>,
-) -> Result<(), Stop<'a>>
-    requires { faults_of output.old < u64.MAX }
-    ensures fault { TellsFault (faults_of output.old) (faults_of output.new) result }
-    ensures stop { IfErr result (λ stop. 3 < status_of stop) }
-    ensures whole { OnOk result (Appends (W.contents (device_of output.old))
-        (W.contents (device_of output.new)) (shown out.entry text.now)) }
-{
-    match out {
-        Some(path) => replace(alloc, text, path, files),
-        None => write(text, output),
-    }
-}
-
-/// Writes a text to a file, as a whole: to one beside it first, whose name has `.new` behind it.
-pub(crate) fn replace<'a, F: Files>(
-    alloc: Global,
-    text: &[u8],
-    path: &'a str,
-    files: &mut F,
-) -> Result<(), Stop<'a>>
-    ensures { IfErr result (λ stop. 3 < status_of stop) }
-{
-    let fresh = format!(in alloc; "{path}.new")?;
-    match files.replace_file(path, fresh.as_str(), text) {
-        Some(()) => Ok(()),
-        None => Err(Stop::FileFault(path)),
-    }
-}
-
 /// The image that is run and the words that it begins with. The store file is read before the image
 /// and judged after it.
 fn image_and_words<'a, F: Files>(
-    alloc: Global,
+    desk: &mut Desk,
     execution: Execution<'a>,
     outset: &Outset<'a>,
     files: &mut F,
@@ -106,10 +70,10 @@ fn image_and_words<'a, F: Files>(
         RefusesImage (F.holds files.old) execution.entry.image.now reason
         ⊎ RefusesStart (F.holds files.old) execution.entry outset.now reason) NoOther) }
 {
-    let file = store_in(alloc, execution.store, files)?;
-    let verified = image_in(alloc, execution.image, files)?;
-    keep_settings(outset, files)?;
-    let words = words_in(alloc, &verified, &file, outset)?;
+    let file = store_in(desk, execution.store, files)?;
+    let verified = image_in(desk, execution.image, files)?;
+    keep_settings(desk, outset)?;
+    let words = words_in(desk.alloc, &verified, &file, outset)?;
     Ok((verified, words))
 }
 
@@ -120,7 +84,6 @@ pub(crate) struct Running<'a> {
     pub(crate) outset: Outset<'a>,
     pub(crate) has_trace: bool,
     pub(crate) has_count: bool,
-    pub(crate) is_explained: bool,
 }
 
 /// How many instructions a run does that halts within the budget, or where it stands at its end.
@@ -161,7 +124,7 @@ fn put_count<'a>(
 
 /// Runs an image file and writes what the run shows; the note gets what standard error is told.
 pub(crate) fn run<'a, F: Files, W: Write>(
-    alloc: Global,
+    desk: &mut Desk,
     asked: &Running<'a>,
     files: &mut F,
     output: &mut Counted<W>,
@@ -174,30 +137,44 @@ pub(crate) fn run<'a, F: Files, W: Write>(
     ensures silent { IsSilent result (W.contents (device_of output.old))
         (W.contents (device_of output.new)) }
     ensures performed { OnOk result (PerformsRun (F.holds files.old) asked.now.execution
-        asked.now.outset asked.now.has_trace
+        asked.now.outset asked.now.has_trace (F.holds files.new)
         (W.contents (device_of output.old)) (W.contents (device_of output.new))) }
     ensures stopped { IfErr result (StopsBy (WhyRun (F.holds files.old) asked.now.execution
         asked.now.outset asked.now.has_trace
         (W.contents (device_of output.old)) (W.contents (device_of output.new))) NoOther) }
 {
     let budget = asked.execution.budget;
-    let (verified, words) = image_and_words(alloc, asked.execution, &asked.outset, files)?;
-    match run_words(alloc, &verified, &words, budget, asked.has_trace, output) {
+    let (verified, words) = image_and_words(desk, asked.execution, &asked.outset, files)?;
+    match run_words(
+        desk.alloc,
+        &verified,
+        &words,
+        budget,
+        asked.has_trace,
+        output,
+    ) {
         Ok(Some(text)) => {
-            put_count(alloc, asked.has_count, &verified, &words, budget, note)?;
-            deliver(alloc, &text, asked.outset.out, files, output)
+            put_count(desk.alloc, asked.has_count, &verified, &words, budget, note)?;
+            deliver(desk.alloc, &text, asked.outset.out, files, output)
         }
         Ok(None) => {
-            put_count(alloc, asked.is_explained, &verified, &words, budget, note)?;
+            put_count(
+                desk.alloc,
+                desk.is_explained,
+                &verified,
+                &words,
+                budget,
+                note,
+            )?;
             Err(Stop::OutOfBudget)
         }
-        Err(error) => Err(device_stop(alloc, error, asked.execution.image)),
+        Err(error) => Err(device_stop(desk.alloc, error, asked.execution.image)),
     }
 }
 
 /// The lines of the store that a class may see behind a run of an image file.
 fn seen<'a, F: Files>(
-    alloc: Global,
+    desk: &mut Desk,
     lattice: &'a str,
     class: &'a str,
     execution: Execution<'a>,
@@ -208,21 +185,21 @@ fn seen<'a, F: Files>(
     ensures told { IfOk result (ViewsFiles (F.holds files.old) lattice.now class.now execution.entry
         outset.now) }
     ensures stopped { IfErr result (StopsBy (WhyView (F.holds files.old) lattice.now class.now
-        execution.entry outset.now) NoOther) }
+        execution.entry outset.now) (LacksClassAt (F.holds files.old) lattice.now class.now)) }
 {
-    let classes = lattice_in(alloc, lattice, files)?;
+    let classes = lattice_in(desk, lattice, files)?;
     let viewer = class_in(&classes, class)?;
-    let verified = image_in(alloc, execution.image, files)?;
-    let file = store_in(alloc, execution.store, files)?;
-    keep_settings(outset, files)?;
-    let words = words_in(alloc, &verified, &file, outset)?;
+    let verified = image_in(desk, execution.image, files)?;
+    let file = store_in(desk, execution.store, files)?;
+    keep_settings(desk, outset)?;
+    let words = words_in(desk.alloc, &verified, &file, outset)?;
     let budget = execution.budget;
-    Ok(vsi_answers::view(alloc, &classes, &verified, viewer, &words, budget)?)
+    Ok(vsi_answers::view(desk.alloc, &classes, &verified, viewer, &words, budget)?)
 }
 
 /// Runs an image file and writes the lines of the store that a class may see.
 pub(crate) fn view<'a, F: Files, W: Write>(
-    alloc: Global,
+    desk: &mut Desk,
     lattice: &'a str,
     class: &'a str,
     execution: Execution<'a>,
@@ -237,11 +214,11 @@ pub(crate) fn view<'a, F: Files, W: Write>(
     ensures silent { IsSilent result (W.contents (device_of output.old))
         (W.contents (device_of output.new)) }
     ensures performed { OnOk result (PerformsView (F.holds files.old) lattice.now class.now
-        execution.entry outset.now
+        execution.entry outset.now (F.holds files.new)
         (W.contents (device_of output.old)) (W.contents (device_of output.new))) }
     ensures stopped { IfErr result (StopsBy (WhyView (F.holds files.old) lattice.now class.now
-        execution.entry outset.now) NoOther) }
+        execution.entry outset.now) (LacksClassAt (F.holds files.old) lattice.now class.now)) }
 {
-    let text = seen(alloc, lattice, class, execution, outset, files)?;
-    deliver(alloc, &text, outset.out, files, output)
+    let text = seen(desk, lattice, class, execution, outset, files)?;
+    deliver(desk.alloc, &text, outset.out, files, output)
 }

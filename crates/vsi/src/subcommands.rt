@@ -1,7 +1,7 @@
 //! What the subcommands that run nothing answer: the text to be written, or why there is none.
 
 ghost use Rattle.std.specs.Prelude.{◌≡◌, ◌<◌, true, false, IfErr, IfOk, OnOk};
-ghost use Rattle.vsi.specs.Performed.{AreFiles, Builds, OfFile, OfFiles, ToldAccepted, ToldCanonical, ToldClasses, ToldFlows, ToldImage, ToldJson, ToldListing, Writes};
+ghost use Rattle.vsi.specs.Performed.{AreFiles, BuildsFile, OfFile, OfFiles, ToldAccepted, ToldCanonical, ToldClasses, ToldFlows, ToldImage, ToldJson, ToldListing, Writes};
 ghost use Rattle.vsi.specs.Performed.{judgement_of, profile_of};
 ghost use Rattle.vsi.specs.Reasons.{AsksCanonical, AsksCheck, AsksClasses, AsksFlows, AsksImage, NoOther, RefusesFile, RefusesFiles, RefusesLattice, StopsBy, ToldRefusal, WhyCheck};
 ghost use Rattle.vsi.specs.Silent.{IsSilent};
@@ -9,14 +9,16 @@ ghost use Rattle.vsi.specs.Stops.{TellsFault, status_of};
 ghost use Rattle.vsi_answers.specs.Requests.{ListsTo};
 ghost use Rattle.vsi_devices.specs.Counted.{device_of, faults_of};
 
-use crate::files::{Files, Kind};
+use crate::desk::{Desk, Kind};
+use crate::files::Files;
+use crate::filling::fill;
 use crate::reading::{answered, bytes_in, lattice_in, two_classes};
 use crate::stop::{Stop, write};
 use std::alloc::Global;
 use std::io::Write;
 use vsi_arguments::{Compilation, Judging};
 use vsi_conform::Judgement;
-use vsi_devices::{Counted, write_out};
+use vsi_devices::Counted;
 use vsi_json::check_json;
 use vsi_lattice::Lattice;
 use vsi_types::Profile;
@@ -34,7 +36,7 @@ pub(crate) fn profile(is_strict: bool) -> Profile
 
 /// The lattice, which is judged, and the bytes of the source text, which are read after it.
 fn policy_and_text<'a, F: Files>(
-    alloc: Global,
+    desk: &mut Desk,
     compilation: Compilation<'a>,
     files: &mut F,
 ) -> Result<(Lattice, Vec<u8>), Stop<'a>>
@@ -44,14 +46,14 @@ fn policy_and_text<'a, F: Files>(
     ensures stopped { IfErr result
         (StopsBy (RefusesLattice (F.holds files.old) compilation.entry.lattice.now) NoOther) }
 {
-    let classes = lattice_in(alloc, compilation.lattice, files)?;
-    let text = bytes_in(alloc, Kind::Source, compilation.source, files)?;
+    let classes = lattice_in(desk, compilation.lattice, files)?;
+    let text = bytes_in(desk, Kind::Source, compilation.source, files)?;
     Ok((classes, text))
 }
 
 /// `accepted`, where the source text is accepted as it is asked.
 pub(crate) fn check<'a, F: Files>(
-    alloc: Global,
+    desk: &mut Desk,
     asked: Judging<'a>,
     files: &mut F,
 ) -> Result<Vec<u8>, Stop<'a>>
@@ -62,12 +64,12 @@ pub(crate) fn check<'a, F: Files>(
         (StopsBy (RefusesFiles (F.holds files.old) asked.entry.compilation
         (AsksCheck asked.entry.is_steady asked.entry.compilation.is_strict)) NoOther) }
 {
-    let (classes, text) = policy_and_text(alloc, asked.compilation, files)?;
+    let (classes, text) = policy_and_text(desk, asked.compilation, files)?;
     let answer = if asked.is_steady {
-        vsi_answers::check_steady(alloc, &classes, text.as_slice())
+        vsi_answers::check_steady(desk.alloc, &classes, text.as_slice())
     } else {
         let profile = profile(asked.compilation.is_strict);
-        vsi_answers::check(alloc, profile, &classes, text.as_slice())
+        vsi_answers::check(desk.alloc, profile, &classes, text.as_slice())
     };
     answered(answer)
 }
@@ -87,7 +89,7 @@ fn judgement(asked: Judging<'_>) -> Judgement
 
 /// The same answer as a line of JSON, and whether the text is accepted.
 fn checked_line<'a, F: Files>(
-    alloc: Global,
+    desk: &mut Desk,
     asked: Judging<'a>,
     files: &mut F,
 ) -> Result<(bool, Vec<u8>), Stop<'a>>
@@ -99,15 +101,15 @@ fn checked_line<'a, F: Files>(
     ensures stopped { IfErr result (StopsBy
         (RefusesLattice (F.holds files.old) asked.entry.compilation.lattice.now) NoOther) }
 {
-    let (classes, text) = policy_and_text(alloc, asked.compilation, files)?;
-    let line = check_json(alloc, judgement(asked), &classes, text.as_slice())?;
+    let (classes, text) = policy_and_text(desk, asked.compilation, files)?;
+    let line = check_json(desk.alloc, judgement(asked), &classes, text.as_slice())?;
     let is_accepted = line.as_slice() == b"{\"accepted\":true}\n".as_slice();
     Ok((is_accepted, line))
 }
 
 /// Writes whether the source text is accepted as a line of JSON.
 pub(crate) fn check_as_json<'a, F: Files, W: Write>(
-    alloc: Global,
+    desk: &mut Desk,
     asked: Judging<'a>,
     files: &mut F,
     output: &mut Counted<W>,
@@ -123,7 +125,7 @@ pub(crate) fn check_as_json<'a, F: Files, W: Write>(
     ensures stopped { IfErr result (WhyCheck true (F.holds files.old) asked.entry
         (W.contents (device_of output.old)) (W.contents (device_of output.new))) }
 {
-    let (is_accepted, line) = checked_line(alloc, asked, files)?;
+    let (is_accepted, line) = checked_line(desk, asked, files)?;
     write(&line, output)?;
     if is_accepted {
         Ok(())
@@ -134,7 +136,7 @@ pub(crate) fn check_as_json<'a, F: Files, W: Write>(
 
 /// The class of each declaration of the source text.
 pub(crate) fn classes<'a, F: Files>(
-    alloc: Global,
+    desk: &mut Desk,
     compilation: Compilation<'a>,
     files: &mut F,
 ) -> Result<Vec<u8>, Stop<'a>>
@@ -144,15 +146,15 @@ pub(crate) fn classes<'a, F: Files>(
     ensures stopped { IfErr result (StopsBy (RefusesFiles (F.holds files.old) compilation.entry
         (AsksClasses compilation.entry.is_strict)) NoOther) }
 {
-    let (classes, text) = policy_and_text(alloc, compilation, files)?;
+    let (classes, text) = policy_and_text(desk, compilation, files)?;
     let profile = profile(compilation.is_strict);
-    answered(vsi_answers::classes(alloc, profile, &classes, text.as_slice()))
+    answered(vsi_answers::classes(desk.alloc, profile, &classes, text.as_slice()))
 }
 
 /// The flows between the declared variables of the source text, each with a walk where that is
 /// asked for.
 pub(crate) fn flows<'a, F: Files>(
-    alloc: Global,
+    desk: &mut Desk,
     compilation: Compilation<'a>,
     has_walks: bool,
     files: &mut F,
@@ -163,19 +165,19 @@ pub(crate) fn flows<'a, F: Files>(
     ensures stopped { IfErr result (StopsBy (RefusesFiles (F.holds files.old) compilation.entry
         (AsksFlows has_walks compilation.entry.is_strict)) NoOther) }
 {
-    let (classes, text) = policy_and_text(alloc, compilation, files)?;
+    let (classes, text) = policy_and_text(desk, compilation, files)?;
     let profile = profile(compilation.is_strict);
     let answer = if has_walks {
-        vsi_answers::walks(alloc, profile, &classes, text.as_slice())
+        vsi_answers::walks(desk.alloc, profile, &classes, text.as_slice())
     } else {
-        vsi_answers::flows(alloc, profile, &classes, text.as_slice())
+        vsi_answers::flows(desk.alloc, profile, &classes, text.as_slice())
     };
     answered(answer)
 }
 
 /// The bytes of the image of the source text.
 fn built<'a, F: Files>(
-    alloc: Global,
+    desk: &mut Desk,
     compilation: Compilation<'a>,
     files: &mut F,
 ) -> Result<Vec<u8>, Stop<'a>>
@@ -185,37 +187,32 @@ fn built<'a, F: Files>(
     ensures stopped { IfErr result (StopsBy (RefusesFiles (F.holds files.old) compilation.entry
         (AsksImage compilation.entry.is_strict)) NoOther) }
 {
-    let (classes, text) = policy_and_text(alloc, compilation, files)?;
+    let (classes, text) = policy_and_text(desk, compilation, files)?;
     let profile = profile(compilation.is_strict);
-    answered(vsi_answers::build(alloc, profile, &classes, text.as_slice()))
+    answered(vsi_answers::build(desk.alloc, profile, &classes, text.as_slice()))
 }
 
 /// Compiles the source text, and fills the image file once the image's bytes are there.
 pub(crate) fn build<'a, F: Files>(
-    alloc: Global,
+    desk: &mut Desk,
     compilation: Compilation<'a>,
     image: &'a str,
     files: &mut F,
 ) -> Result<(), Stop<'a>>
     ensures unfilled { IfErr result (λ stop. status_of stop < 4
         → F.holds files.new ≡ F.holds files.old) }
-    ensures told { OnOk result (Builds (F.holds files.old) compilation.entry) }
+    ensures filled { OnOk result
+        (BuildsFile (F.holds files.old) compilation.entry image.now (F.holds files.new)) }
     ensures stopped { IfErr result (StopsBy (RefusesFiles (F.holds files.old) compilation.entry
         (AsksImage compilation.entry.is_strict)) NoOther) }
 {
-    let bytes = built(alloc, compilation, files)?;
-    let Some(file) = files.create_file(image) else {
-        return Err(Stop::FileFault(image));
-    };
-    let mut writer = Counted::new(file);
-    let answer = write_out(bytes.as_slice(), &mut writer);
-    files.close_file(writer.into_inner());
-    answer.map_err(|_| Stop::FileFault(image))
+    let bytes = built(desk, compilation, files)?;
+    fill(bytes.as_slice(), image, files)
 }
 
 /// The listing of the image.
 pub(crate) fn list<'a, F: Files>(
-    alloc: Global,
+    desk: &mut Desk,
     image: &'a str,
     files: &mut F,
 ) -> Result<Vec<u8>, Stop<'a>>
@@ -224,13 +221,13 @@ pub(crate) fn list<'a, F: Files>(
     ensures stopped { IfErr result
         (StopsBy (RefusesFile (F.holds files.old) image.now ListsTo) NoOther) }
 {
-    let bytes = bytes_in(alloc, Kind::Image, image, files)?;
-    Ok(vsi_answers::list(alloc, bytes.as_slice())?)
+    let bytes = bytes_in(desk, Kind::Image, image, files)?;
+    Ok(vsi_answers::list(desk.alloc, bytes.as_slice())?)
 }
 
 /// The canonical text of the source text.
 pub(crate) fn format<'a, F: Files>(
-    alloc: Global,
+    desk: &mut Desk,
     source: &'a str,
     files: &mut F,
 ) -> Result<Vec<u8>, Stop<'a>>
@@ -239,7 +236,7 @@ pub(crate) fn format<'a, F: Files>(
     ensures stopped { IfErr result
         (StopsBy (RefusesFile (F.holds files.old) source.now AsksCanonical) NoOther) }
 {
-    let bytes = bytes_in(alloc, Kind::Source, source, files)?;
-    let classes = two_classes(alloc)?;
-    answered(vsi_answers::format(alloc, &classes, bytes.as_slice()))
+    let bytes = bytes_in(desk, Kind::Source, source, files)?;
+    let classes = two_classes(desk.alloc)?;
+    answered(vsi_answers::format(desk.alloc, &classes, bytes.as_slice()))
 }

@@ -12,19 +12,16 @@ use vsi_devices::{Counted, write_out};
 /// What is told behind a stop, or behind what is done.
 #[derive(Drop)]
 pub(crate) struct Told {
-    /// Whether a refusal is explained.
-    pub(crate) is_explained: bool,
     /// The lines that are told.
     pub(crate) note: Vec<u8>,
 }
 
 impl Told {
-    /// Nothing yet, and no explanation is asked for.
+    /// Nothing yet.
     pub(crate) fn new(alloc: Global) -> Told
         ensures { result.note.items ≡ [] }
     {
         Told {
-            is_explained: false,
             note: Vec::new(alloc),
         }
     }

@@ -18,6 +18,7 @@ use Rattle.vsi_store.specs.File.{IsRefusal}
 use Rattle.vsi_store.specs.View.{first_unknown}
 use Rattle.vsi_store.specs.declared.error.StoreError.TheVariants as store
 use Rattle.vsi_store.specs.declared.views.ViewError.TheVariants as views
+use Rattle.vsi_compiler.specs.Headline.{IsImageOf}
 use Rattle.vsi_compiler.specs.Readable.{HasProgram}
 use Rattle.vsi_compiler.specs.Refusal.{IsRefused, RefusesProgram, RefusesTree}
 use Rattle.vsi_compiler.specs.Source.{Reads}
@@ -25,6 +26,8 @@ use Rattle.vsi_compiler.specs.declared.error.CompileError.{CompileError}
 use Rattle.vsi_compiler.specs.declared.error.CompileError.TheVariants as compiler
 use Rattle.vsi_types.specs.declared.rules.Step.{Step}
 use Rattle.vsi_steady.specs.Source.{ExplainsWatchedWalk}
+use Rattle.vsi_steady.specs.Telling.{IsUnsteadyText}
+use Rattle.vsi_steady.specs.declared.error.SteadyError.{SteadyError}
 use Rattle.vsi_steady.specs.declared.unsteady.UnsteadyError.{UnsteadyError}
 use Rattle.vsi_steady.specs.declared.unsteady.UnsteadyError.TheVariants as unsteady
 use Rattle.vsi_drive.specs.Starts.{IsStartFault, start_fault_line}
@@ -54,14 +57,21 @@ abbrev pub IsWatchedText : Lattice → List ℕ → List Step → List ℕ → T
 IsWatchedText l source steps text =
     (more : List ℕ) × ExplainsWatchedWalk l source steps more × (text ≡ codes "refused: 25 Refused\n" ++ more)
 
--- The text of a refusal of a text whose image is to be steady. That of a refused image isn't claimed.
+-- The text of a refusal of the image of a text.
+pub record IsImageText (l : Lattice) (source : List ℕ) (e : SteadyError) (text : List ℕ) : Type 0 where
+  pub program : HasProgram (class_named l) source
+  pub image : Image
+  pub is_image : IsImageOf (class_named l) source image
+  pub told : IsUnsteadyText l image e text
+
+-- The text of a refusal of a text whose image is to be steady.
 abbrev pub IsSteadyText : Lattice → List ℕ → UnsteadyError → List ℕ → Type 0
 IsSteadyText l source (unsteady.Compile (compiler.Flow walk)) text = IsWatchedText l source walk.steps.items text
 IsSteadyText l source (unsteady.Compile (compiler.Lex e)) text = IsRefusalText l source (compiler.Lex e) text
 IsSteadyText l source (unsteady.Compile (compiler.Parse e)) text = IsRefusalText l source (compiler.Parse e) text
 IsSteadyText l source (unsteady.Compile (compiler.Scope e)) text = IsRefusalText l source (compiler.Scope e) text
 IsSteadyText l source (unsteady.Compile compiler.Memory) text = Unit {0}
-IsSteadyText l source (unsteady.Image e) text = Unit {0}
+IsSteadyText l source (unsteady.Image e) text = IsImageText l source e text
 IsSteadyText l source unsteady.Memory text = Unit {0}
 
 -- The text is the refusal of a text whose image is to be steady, by an error of this kind.

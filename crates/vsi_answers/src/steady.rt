@@ -2,7 +2,7 @@
 
 ghost use Rattle.std.specs.Prelude.{◌≡◌, IfOk};
 ghost use Rattle.vsi_answers.specs.Answers.{Because};
-ghost use Rattle.vsi_answers.specs.Judged.{IsSteadyText, IsWatchedText, TellsSteady};
+ghost use Rattle.vsi_answers.specs.Judged.{IsImageText, IsSteadyText, IsWatchedText, TellsSteady};
 ghost use Rattle.vsi_answers.specs.Requests.{ChecksSteadyTo};
 
 use crate::texts::ACCEPTED;
@@ -36,9 +36,14 @@ fn image_text(
     lattice: &Lattice,
     source: &[u8],
     error: &SteadyError,
-) -> Result<Vec<u8>, AllocError> {
+) -> Result<Vec<u8>, AllocError>
+    ensures { IfOk result (λ text. IsImageText lattice.now source.now error.now text.items) }
+{
     match unjudged_image(alloc, lattice, source) {
-        Ok(verified) => steady_text(alloc, lattice, verified.image(), error),
+        Ok(verified) => {
+            let text = steady_text(alloc, lattice, verified.image(), error)?;
+            Ok(text)
+        }
         Err(_) => Err(AllocError),
     }
 }

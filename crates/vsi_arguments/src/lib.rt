@@ -14,5 +14,5 @@ mod words;
 pub use error::ArgumentsError;
 pub use request::{
     Asked, Audit, Colour, Comparison, Compilation, Conformance, Drawing, Driving, Execution,
-    Judging, Manner, Outset, Request, Search, request_of,
+    Judging, Manner, Outset, Request, SEARCH, Search, request_of,
 };

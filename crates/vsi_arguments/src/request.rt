@@ -172,7 +172,7 @@ pub enum Request<'a> {
 }
 
 /// The budget and the number of pairs of a search where none is given.
-const SEARCH: u64 = 10_000;
+pub const SEARCH: u64 = 10_000;
 
 /// Reads the arguments after the program's name.
 ///

@@ -102,7 +102,7 @@ pub one_request : (words : List (String Global)) (lattice source : List ℕ) →
 one_request words lattice source plain (Check judging) asks =
     (judging, refl, plain_check judging words lattice source plain asks)
 one_request words lattice source plain (Explain page) asks =
-    absurd (unnamed (texts words) _ asks.0 (codes "explain") plain.are asks.1 refl)
+    absurd (unnamed (texts words) _ asks.asks.rest (codes "explain") plain.are asks.asks.named refl)
 one_request words lattice source plain request asks =
     absurd (unnamed (texts words) _ asks.rest (name_of request) plain.are asks.named refl)
 

@@ -1,5 +1,5 @@
 -- What a request is of the words of a command line.
-use Rattle.std.specs.Prelude.{◌≡◌, ℕ, Bool, false, List, [], ◌∷◌, Option, option_map, option_to_list, codes, String}
+use Rattle.std.specs.Prelude.{◌≡◌, ℕ, Bool, false, List, [], ◌∷◌, Option, Some, None, option_map, option_to_list, codes, String}
 use Rattle.std.specs.declared.alloc.Global.{Global}
 use Rattle.std.specs.Borrow.{Bor}
 use Rattle.vsi_arguments.specs.declared.request.Compilation.{Compilation}
@@ -7,6 +7,9 @@ use Rattle.vsi_arguments.specs.declared.request.Execution.{Execution}
 use Rattle.vsi_arguments.specs.declared.request.Outset.{Outset}
 use Rattle.vsi_arguments.specs.declared.request.Request.{Request}
 use Rattle.vsi_arguments.specs.declared.request.Request.TheVariants.{Check, Conform, Classes, Flows, Build, List as Listing, Audit, Source, Run, View, Drive, Compare, Leak, Report, Draw, Format, Explain}
+use Rattle.vsi_arguments.specs.declared.request.TheConstants.{SEARCH}
+use Rattle.vsi_explain.specs.Pages.{page_of}
+use Rattle.vsi_asked.specs.Numbers.{Gives, number_in}
 use Rattle.vsi_asked.specs.Words.{has_flag, operands_in, shown, texts, values_in}
 
 -- The word of the subcommand.
@@ -37,7 +40,8 @@ given path = option_to_list (option_map (λ p. p.now) path)
 abbrev pub compiled : Compilation → List (List ℕ)
 compiled compilation = compilation.lattice.now ∷ compilation.source.now ∷ []
 
--- The paths of a request that stand among the words as operands, in their order; the operand of `explain` is a number.
+-- The paths of a request that stand among the words as operands, in their order; what stands behind `explain` is told
+-- by `AsksPage`.
 abbrev pub operands_of : Request → List (List ℕ)
 operands_of (Check judging) = compiled judging.compilation
 operands_of (Conform conformance) = conformance.interface.now ∷ conformance.source.now ∷ []
@@ -87,7 +91,7 @@ starting execution outset =
     (codes "--store", given execution.store) ∷ (codes "--out", given outset.out)
     ∷ (codes "--set", shown outset.settings.items) ∷ []
 
--- The options of a request, each with what is given for it; numbers are left out.
+-- The options of a request, each with what is given for it; those of numbers are in `numbers_of`.
 abbrev pub options_of : Request → List (List ℕ × List (List ℕ))
 options_of (Run execution outset has_trace has_count) = starting execution outset
 options_of (View lattice class execution outset) = (codes "--class", class.now ∷ []) ∷ starting execution outset
@@ -100,6 +104,21 @@ options_of (Compare comparison) =
 options_of (Leak search) = (codes "--class", given search.class) ∷ []
 options_of request = []
 
+-- The budget of a run, which must be given.
+abbrev pub budgeted : ℕ → List (List ℕ × Option ℕ × ℕ)
+budgeted budget = (codes "--budget", None, budget) ∷ []
+
+-- The options of a request that give numbers, each with the number that counts where none is given, and the request's.
+abbrev pub numbers_of : Request → List (List ℕ × Option ℕ × ℕ)
+numbers_of (Run execution outset has_trace has_count) = budgeted execution.budget
+numbers_of (View lattice class execution outset) = budgeted execution.budget
+numbers_of (Drive driving) = budgeted driving.execution.budget
+numbers_of (Compare comparison) = budgeted comparison.budget
+numbers_of (Leak search) =
+    (codes "--budget", Some SEARCH, search.budget) ∷ (codes "--tries", Some SEARCH, search.tries)
+    ∷ (codes "--seed", Some 0, search.seed) ∷ []
+numbers_of request = []
+
 -- Each of these flags is among the words exactly where it is set.
 abbrev pub HasFlags : List (List ℕ) → List (List ℕ × Bool) → Type 0
 HasFlags words [] = Unit {0}
@@ -110,17 +129,34 @@ abbrev pub HasOptions : List (List ℕ) → List (List ℕ × List (List ℕ)) �
 HasOptions words [] = Unit {0}
 HasOptions words (option ∷ options) = (values_in option.0 false words ≡ option.1) × HasOptions words options
 
--- The first word is the name, and those behind it have exactly these operands, flags and values of options.
+-- The words give each of these options its number.
+abbrev pub HasNumbers : List (List ℕ) → List (List ℕ × Option ℕ × ℕ) → Type 0
+HasNumbers words [] = Unit {0}
+HasNumbers words (option ∷ options) =
+    Gives (values_in option.0 false words) option.1 option.2 × HasNumbers words options
+
+-- The first word is the name, and those behind it have exactly these operands, flags, values of options and numbers.
 pub record Asks (words : List (String Global)) (name : List ℕ) (operands : List (List ℕ))
-    (flags : List (List ℕ × Bool)) (options : List (List ℕ × List (List ℕ))) : Type 0 where
+    (flags : List (List ℕ × Bool)) (options : List (List ℕ × List (List ℕ)))
+    (numbers : List (List ℕ × Option ℕ × ℕ)) : Type 0 where
   pub rest : List (List ℕ)
   pub named : texts words ≡ name ∷ rest
   pub has_operands : operands_in false rest ≡ operands
   pub has_flags : HasFlags rest flags
   pub has_options : HasOptions rest options
+  pub has_numbers : HasNumbers rest numbers
 
--- The words are those of the request: its subcommand, and behind it its operands, its flags and its options. Of
--- `explain` the subcommand alone is told.
+-- The first word is `explain`, its one operand spells a number, and this is the page of the refusal of that number.
+pub record AsksPage (words : List (String Global)) (page : List ℕ) : Type 0 where
+  pub word : List ℕ
+  pub number : ℕ
+  pub asks : Asks words (codes "explain") (word ∷ []) [] [] []
+  pub spelled : number_in word ≡ Some number
+  pub is_its : page_of number ≡ Some page
+
+-- The words are those of the request: its subcommand, and behind it its operands, its flags, its options and its
+-- numbers; of `explain` the number of the refusal whose page it has.
 abbrev pub AsksFor : List (String Global) → Request → Type 0
-AsksFor words (Explain page) = (rest : List (List ℕ)) × (texts words ≡ codes "explain" ∷ rest)
-AsksFor words request = Asks words (name_of request) (operands_of request) (flags_of request) (options_of request)
+AsksFor words (Explain page) = AsksPage words page.now
+AsksFor words request =
+    Asks words (name_of request) (operands_of request) (flags_of request) (options_of request) (numbers_of request)

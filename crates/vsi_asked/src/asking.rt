@@ -1,15 +1,18 @@
 //! Whether words ask for a request.
 
-ghost use Rattle.std.specs.Prelude.{◌≡◌, [], ◌∷◌, IfSome, codes, false, map, true};
+ghost use Rattle.std.specs.Prelude.{◌≡◌, [], ◌∷◌, IfSome, Some, codes, false, map, true};
 ghost use Rattle.vsi_arguments.specs.declared.request.Request.TheVariants as request;
 ghost use Rattle.vsi_asked.specs.Asked as spec;
 ghost use Rattle.vsi_asked.specs.Words.{operands_in, shown, texts, values_in};
+ghost use Rattle.vsi_explain.specs.Pages.{page_of};
 
+use crate::numbers::{has_number, number_in, only_operand};
 use crate::reading::{has_flag, has_operands, has_values};
 use vsi_arguments::{
     Audit, Comparison, Compilation, Conformance, Drawing, Driving, Execution, Judging, Outset,
-    Request, Search,
+    Request, SEARCH, Search,
 };
+use vsi_explain::page;
 
 /// Whether each of these flags is among words exactly where it is set.
 fn has_flags(words: &[String], flags: &[(&str, bool)]) -> bool
@@ -73,7 +76,7 @@ fn behind<'a>(
 /// count.
 fn asks(words: &[String], name: &str, operands: &[&[u8]], flags: &[(&str, bool)]) -> bool
     ensures { result ≡ true → spec.Asks words.now name.now (shown operands.now)
-        (map (λ f. (f.0.now, f.1)) flags.now) [] }
+        (map (λ f. (f.0.now, f.1)) flags.now) [] [] }
 {
     behind(words, name, operands, flags).is_some()
 }
@@ -86,7 +89,7 @@ fn asks_compilation(
     flags: &[(&str, bool)],
 ) -> bool
     ensures { result ≡ true → spec.Asks words.now name.now (spec.compiled compilation.now)
-        (map (λ f. (f.0.now, f.1)) flags.now) [] }
+        (map (λ f. (f.0.now, f.1)) flags.now) [] [] }
 {
     let operands = [
         compilation.lattice.as_bytes(),
@@ -125,7 +128,7 @@ fn asks_run(
     let Some(rest) = behind(words, "run", operands.as_slice(), flags.as_slice()) else {
         return false;
     };
-    has_outset(rest, execution, outset)
+    has_outset(rest, execution, outset) && has_number(rest, "--budget", None, execution.budget)
 }
 
 /// Whether words ask for a view.
@@ -144,7 +147,9 @@ fn asks_view(
     let Some(rest) = behind(words, "view", operands.as_slice(), flags.as_slice()) else {
         return false;
     };
-    has_value(rest, "--class", Some(class)) && has_outset(rest, execution, outset)
+    has_value(rest, "--class", Some(class))
+        && has_outset(rest, execution, outset)
+        && has_number(rest, "--budget", None, execution.budget)
 }
 
 /// Whether words ask to drive a controller.
@@ -161,6 +166,7 @@ fn asks_drive(words: &[String], driving: &Driving<'_>) -> bool
     has_value(rest, "--class", Some(driving.class))
         && has_value(rest, "--store", driving.execution.store)
         && has_value(rest, "--save", driving.save)
+        && has_number(rest, "--budget", None, driving.execution.budget)
 }
 
 /// Whether words ask for a comparison.
@@ -175,6 +181,7 @@ fn asks_compare(words: &[String], comparison: &Comparison<'_>) -> bool
     let stores = [first.as_bytes(), second.as_bytes()];
     has_value(rest, "--class", Some(comparison.class))
         && has_values(rest, b"--store", stores.as_slice())
+        && has_number(rest, "--budget", None, comparison.budget)
 }
 
 /// Whether words ask for a search.
@@ -190,6 +197,9 @@ fn asks_leak(words: &[String], search: &Search<'_>) -> bool
         return false;
     };
     has_value(rest, "--class", search.class)
+        && has_number(rest, "--budget", Some(SEARCH), search.budget)
+        && has_number(rest, "--tries", Some(SEARCH), search.tries)
+        && has_number(rest, "--seed", Some(0), search.seed)
 }
 
 /// Whether words ask to draw.
@@ -268,7 +278,7 @@ fn asks_audit(words: &[String], audit: &Audit<'_>) -> bool
 /// Whether words ask for what a compilation judges by its profile alone.
 fn asks_judged(words: &[String], name: &str, compilation: &Compilation<'_>) -> bool
     ensures { result ≡ true → spec.Asks words.now name.now (spec.compiled compilation.now)
-        ((codes "--strict", compilation.now.is_strict) ∷ []) [] }
+        ((codes "--strict", compilation.now.is_strict) ∷ []) [] [] }
 {
     let flags = [("--strict", compilation.is_strict)];
     asks_compilation(words, name, compilation, flags.as_slice())
@@ -276,12 +286,39 @@ fn asks_judged(words: &[String], name: &str, compilation: &Compilation<'_>) -> b
 
 /// Whether words ask for what is done with one file.
 fn asks_file(words: &[String], name: &str, path: &str) -> bool
-    ensures { result ≡ true → spec.Asks words.now name.now (path.now ∷ []) [] [] }
+    ensures { result ≡ true → spec.Asks words.now name.now (path.now ∷ []) [] [] [] }
 {
     asks(words, name, [path.as_bytes()].as_slice(), &[])
 }
 
-/// Whether words ask for a request.
+/// Whether it is the page of the refusal of this number.
+fn is_page(number: u64, text: &str) -> bool
+    ensures { result ≡ true → page_of number ≡ Some text.now }
+{
+    match page(number) {
+        Some(found) => found.as_bytes() == text.as_bytes(),
+        None => false,
+    }
+}
+
+/// Whether words ask for the page of a refusal.
+fn asks_page(words: &[String], text: &str) -> bool
+    ensures { result ≡ true → spec.AsksFor words.now (request.Explain text.entry) }
+{
+    let Some(rest) = behind_name(words, "explain") else {
+        return false;
+    };
+    let Some(word) = only_operand(rest) else {
+        return false;
+    };
+    match number_in(word) {
+        Some(number) => is_page(number, text),
+        None => false,
+    }
+}
+
+/// Whether words ask for a request. It reads the words again, and stands on nothing that
+/// `request_of` has made of them.
 pub fn asks_for(words: &[String], request: &Request<'_>) -> bool
     ensures asked { result ≡ true → spec.AsksFor words.now request.now }
 {
@@ -315,6 +352,6 @@ pub fn asks_for(words: &[String], request: &Request<'_>) -> bool
         Request::Report(compilation) => asks_judged(words, "report", compilation),
         Request::Draw(drawing) => asks_draw(words, drawing),
         Request::Format(source) => asks_file(words, "fmt", source),
-        Request::Explain(_) => behind_name(words, "explain").is_some(),
+        Request::Explain(text) => asks_page(words, text),
     }
 }

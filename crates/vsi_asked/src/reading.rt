@@ -142,6 +142,28 @@ fn joined<'a>(option: &[u8], word: &'a [u8]) -> Option<&'a [u8]>
     }
 }
 
+/// The first value that words give for an option: a proposal, of which `has_values` says whether it
+/// is their only one.
+pub(crate) fn first_value<'a>(words: &'a [String], option: &[u8]) -> Option<&'a [u8]> {
+    let mut rest = words;
+    while let [word, behind @ ..] = rest {
+        if is_end(word.as_bytes()) {
+            return None;
+        }
+        if word.as_bytes() == option {
+            return match behind {
+                [value, ..] => Some(value.as_bytes()),
+                [] => None,
+            };
+        }
+        if let Some(value) = joined(option, word.as_bytes()) {
+            return Some(value);
+        }
+        rest = behind;
+    }
+    None
+}
+
 /// Whether these are the values that words give for an option.
 pub(crate) fn has_values(words: &[String], option: &[u8], values: &[&[u8]]) -> bool
     ensures { result ≡ true

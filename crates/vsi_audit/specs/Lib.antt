@@ -2,3 +2,8 @@ pub mod Fitting
 pub mod Standing
 pub mod Refusal
 pub mod Text
+pub mod MadeNames
+pub mod Telling
+pub mod Coding
+pub mod Writing
+pub mod Written

@@ -1,5 +1,12 @@
 //! What is told of a flow that breaks the policy.
 
+ghost use Rattle.std.specs.Prelude.{◌≡◌, ◌++◌, OnOk, IfOk, codes, decimal};
+ghost use Rattle.std.specs.List.{flat_map};
+ghost use Rattle.vsi_image.specs.Fields as fields;
+ghost use Rattle.vsi_infer.specs.Explanation as explanation;
+ghost use Rattle.vsi_audit.specs.Telling as spec;
+ghost use Rattle.vsi_audit.specs.Telling.{IsAuditText};
+
 use crate::error::AuditError;
 use crate::names::{Names, put_number};
 use std::alloc::{AllocError, Global};
@@ -10,7 +17,9 @@ use vsi_scope::Var;
 use vsi_types::{LOOP, Rule};
 
 /// The word of a rule.
-fn rule_text(rule: Rule) -> &'static [u8] {
+fn rule_text(rule: Rule) -> &'static [u8]
+    ensures { result.now ≡ explanation.rule_text rule }
+{
     match rule {
         Rule::Assign => b"ASSIGN",
         Rule::If => b"IF",
@@ -21,34 +30,53 @@ fn rule_text(rule: Rule) -> &'static [u8] {
 }
 
 /// Adds the name of a variable.
-fn put_name(out: &mut Vec<u8>, names: &Names<'_>, variable: Var) -> Result<(), AllocError> {
+fn put_name(out: &mut Vec<u8>, names: &Names<'_>, variable: Var) -> Result<(), AllocError>
+    ensures { OnOk result (out.new.items ≡ out.old.items ++
+        spec.name_of (fields.globals names.now.globals.now) names.now.form variable) }
+{
     if variable == LOOP {
         return out.extend_from_slice(b"(loop)");
     }
     names.put_variable(out, variable.0)
 }
 
+/// Adds the name of a variable's class.
+fn put_class(
+    out: &mut Vec<u8>,
+    lattice: &Lattice,
+    names: &Names<'_>,
+    variable: Var,
+) -> Result<(), AllocError>
+    ensures { OnOk result (out.new.items ≡ out.old.items ++
+        spec.class_of lattice.now (fields.globals names.now.globals.now) variable) }
+{
+    if variable == LOOP {
+        return out.extend_from_slice(lattice.name(lattice.bottom()));
+    }
+    names.put_class(out, variable.0)
+}
+
 /// Adds the name of a variable and that of its class.
 fn put_variable(
     out: &mut Vec<u8>,
     lattice: &Lattice,
-    image: &Image,
     names: &Names<'_>,
     variable: Var,
-) -> Result<(), AllocError> {
+) -> Result<(), AllocError>
+    ensures { OnOk result (out.new.items ≡ out.old.items ++
+        spec.variable_text lattice.now (fields.globals names.now.globals.now) names.now.form
+        variable) }
+{
     put_name(out, names, variable)?;
     out.extend_from_slice(b" : ")?;
-    if variable == LOOP {
-        return out.extend_from_slice(lattice.name(lattice.bottom()));
-    }
-    match image.globals.get(variable.0 as usize) {
-        Some(global) => out.extend_from_slice(&global.1),
-        None => Ok(()),
-    }
+    put_class(out, lattice, names, variable)
 }
 
 /// Adds the line of a step.
-fn put_step(out: &mut Vec<u8>, names: &Names<'_>, step: &Step) -> Result<(), AllocError> {
+fn put_step(out: &mut Vec<u8>, names: &Names<'_>, step: &Step) -> Result<(), AllocError>
+    ensures { OnOk result (out.new.items ≡ out.old.items ++
+        spec.step_line (fields.globals names.now.globals.now) names.now.form step.now) }
+{
     put_number(out, step.read.start as u64)?;
     out.extend_from_slice(b" ")?;
     put_name(out, names, step.source)?;
@@ -61,28 +89,60 @@ fn put_step(out: &mut Vec<u8>, names: &Names<'_>, step: &Step) -> Result<(), All
     out.extend_from_slice(b"\n")
 }
 
+/// Adds the lines of steps.
+fn put_steps(out: &mut Vec<u8>, names: &Names<'_>, steps: &[Step]) -> Result<(), AllocError>
+    ensures { OnOk result (out.new.items ≡ out.old.items ++ flat_map
+        (spec.step_line (fields.globals names.now.globals.now) names.now.form) steps.now) }
+{
+    for step in steps {
+        put_step(out, names, step)?;
+    }
+    Ok(())
+}
+
+/// Adds the last line, from the first variable of a walk to its last one.
+fn put_last(
+    out: &mut Vec<u8>,
+    lattice: &Lattice,
+    names: &Names<'_>,
+    first: Var,
+    last: Var,
+) -> Result<(), AllocError>
+    ensures { OnOk result (out.new.items ≡ out.old.items ++
+        spec.last_text lattice.now (fields.globals names.now.globals.now) names.now.form first
+        last) }
+{
+    put_variable(out, lattice, names, first)?;
+    out.extend_from_slice(b" may not flow to ")?;
+    put_variable(out, lattice, names, last)?;
+    out.extend_from_slice(b"\n")
+}
+
 /// Adds the lines of a walk: one for each step, and a last one with the classes of its ends.
 fn put_walk(
     out: &mut Vec<u8>,
     lattice: &Lattice,
-    image: &Image,
     names: &Names<'_>,
     steps: &[Step],
-) -> Result<(), AllocError> {
+) -> Result<(), AllocError>
+    ensures { OnOk result (out.new.items ≡ out.old.items ++
+        spec.walk_text lattice.now (fields.globals names.now.globals.now) names.now.form
+        steps.now) }
+{
     if steps.is_empty() {
         return Ok(());
     }
-    for step in steps {
-        put_step(out, names, step)?;
-    }
-    put_variable(out, lattice, image, names, steps[0].source)?;
-    out.extend_from_slice(b" may not flow to ")?;
-    put_variable(out, lattice, image, names, steps[steps.len() - 1].target)?;
-    out.extend_from_slice(b"\n")
+    let first = steps[0];
+    let last = steps[steps.len() - 1];
+    put_steps(out, names, steps)?;
+    put_last(out, lattice, names, first.source, last.target)
 }
 
 /// Adds a line of a refusal that ends with a number.
-fn put_numbered(out: &mut Vec<u8>, start: &[u8], number: usize) -> Result<(), AllocError> {
+fn put_numbered(out: &mut Vec<u8>, start: &[u8], number: usize) -> Result<(), AllocError>
+    ensures { OnOk result
+        (out.new.items ≡ out.old.items ++ start.now ++ decimal number ++ codes "\n") }
+{
     out.extend_from_slice(start)?;
     put_number(out, number as u64)?;
     out.extend_from_slice(b"\n")
@@ -97,7 +157,9 @@ pub fn audit_text(
     lattice: &Lattice,
     image: &Image,
     error: &AuditError,
-) -> Result<Vec<u8>, AllocError> {
+) -> Result<Vec<u8>, AllocError>
+    ensures { IfOk result (λ out. IsAuditText lattice.now image.now error.now out.items) }
+{
     let mut out = Vec::new(alloc);
     match error {
         AuditError::UnknownClass(n) => {
@@ -109,7 +171,7 @@ pub fn audit_text(
         AuditError::Flow(walk) => {
             out.extend_from_slice(b"refused: 25 Refused\n")?;
             let names = Names::of(alloc, &image.globals);
-            put_walk(&mut out, lattice, image, &names, &walk.steps)?;
+            put_walk(&mut out, lattice, &names, &walk.steps)?;
         }
         AuditError::Memory => out.extend_from_slice(b"out of memory\n")?,
     }

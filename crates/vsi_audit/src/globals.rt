@@ -1,10 +1,12 @@
 //! The globals of an image, as a program declares them.
 
-ghost use Rattle.std.specs.Prelude.{◌≡◌, ℕ, IfOk, IfSome};
+ghost use Rattle.std.specs.Prelude.{◌≡◌, ℕ, true, map, IfOk, IfSome};
 ghost use Rattle.vsi_image.specs.Fields as fields;
 ghost use Rattle.vsi_lattice.specs.LatticeView.{class_named};
 ghost use Rattle.vsi_scope.specs.Program.{IsResolved};
 ghost use Rattle.vsi_scope.specs.Resolving.{AreBelow, HasClassesBelow};
+ghost use Rattle.vsi_syntax.specs.CommandView as syntax;
+ghost use Rattle.vsi_audit.specs.Text.{words};
 ghost use Rattle.vsi_audit.specs.Refusal.{IsUnknownAt};
 ghost use Rattle.vsi_audit.specs.Standing.{HaveClasses};
 
@@ -13,7 +15,7 @@ use std::alloc::{AllocError, Global};
 use vsi_image::Image;
 use vsi_lattice::Lattice;
 use vsi_scope::{Resolved, ScopeError, resolve};
-use vsi_syntax::{LexError, ParseError, lex, parse};
+use vsi_syntax::{Declaration, LexError, ParseError, lex, parse};
 
 /// The number of the first global whose class name the lattice doesn't have.
 pub(crate) fn unknown_class(lattice: &Lattice, globals: &[(Vec<u8>, Vec<u8>)]) -> Option<usize>
@@ -39,6 +41,35 @@ pub(crate) fn put_declarations(text: &mut Vec<u8>, image: &Image) -> Result<(), 
         text.extend_from_slice(b";\n")?;
     }
     Ok(())
+}
+
+/// Whether a declaration is that of a global, by its name and its class name.
+fn is_declared(declared: &Declaration<'_>, global: &(Vec<u8>, Vec<u8>)) -> bool
+    ensures { result ≡ true → words (syntax.declared declared.now) ≡ fields.global global.now }
+{
+    if declared.name.text == global.0.as_slice() {
+        declared.class.text == global.1.as_slice()
+    } else {
+        false
+    }
+}
+
+/// Whether declarations are those of these globals, in order.
+pub(crate) fn declares(declared: &[Declaration<'_>], globals: &[(Vec<u8>, Vec<u8>)]) -> bool
+    ensures { result ≡ true →
+        map words (map syntax.declared declared.now) ≡ fields.globals globals.now }
+{
+    if declared.len() != globals.len() {
+        return false;
+    }
+    let mut place = 0;
+    for global in globals {
+        if !is_declared(&declared[place], global) {
+            return false;
+        }
+        place += 1;
+    }
+    true
 }
 
 /// A text that declares an image's globals and does nothing with them.

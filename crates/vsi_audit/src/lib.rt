@@ -3,14 +3,16 @@
 //! A verified image comes in, whoever made it. `audit_in` reads the commands back from its code,
 //! makes the code of these again, compares it with the image's and judges their flows: what it
 //! accepts is noninterfering, whatever the reading back did. `source_text` writes the commands as a
-//! text, `audit_text` tells why an image is refused.
+//! text, reads it again and compares both with the code and the commands; `audit_text` tells why an
+//! image is refused.
 //!
-//! To be believed: `specs/Refusal`, `specs/Standing`, `specs/Text`; the other files of `specs/` are
-//! stepping stones of proofs.
+//! To be believed: `specs/MadeNames`, `specs/Refusal`, `specs/Standing`, `specs/Telling`,
+//! `specs/Text`, `specs/Writing`; the other files of `specs/` are stepping stones of proofs.
 #![tactic(auto)]
 
 mod audit;
 mod builder;
+mod coding;
 mod error;
 mod events;
 mod fitting;
@@ -20,6 +22,7 @@ mod names;
 mod needs;
 mod reading;
 mod source;
+mod writing;
 
 pub use audit::audit_in;
 pub use error::AuditError;

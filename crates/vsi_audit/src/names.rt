@@ -1,89 +1,153 @@
 //! The names of globals and of locals, which have none in an image.
 
+ghost use Rattle.std.specs.Prelude.{◌≡◌, ◌⊎◌, ◌++◌, false, true, OnOk, MatchOption, decimal};
+ghost use Rattle.vsi_image.specs.Fields as fields;
+ghost use Rattle.vsi_audit.specs.MadeNames as spec;
+ghost use Rattle.vsi_audit.specs.MadeNames.{AreTaken, IsFreeAt, IsFirstFree, IsLast, IsForm};
+ghost use Rattle.vsi_audit.specs.Telling.{local_name, class_name};
+
 use itoa::Buffer;
 use std::alloc::{AllocError, Global};
+
+/// What made-up names begin with: a letter, and so many `_`.
+#[derive(Clone, Copy)]
+pub(crate) struct Form {
+    letter: u8,
+    bars: usize,
+}
 
 /// The names of the variables in scope.
 #[derive(Drop)]
 pub(crate) struct Names<'a> {
     globals: &'a [(Vec<u8>, Vec<u8>)],
-    /// What the made-up names begin with: a letter, and so many `_`.
-    letter: u8,
-    bars: usize,
+    form: Form,
     /// The numbers of the locals in scope, from 1, and how many there were so far.
     scope: Vec<usize>,
     count: usize,
 }
 
 /// Adds a number in decimal.
-pub(crate) fn put_number(out: &mut Vec<u8>, n: u64) -> Result<(), AllocError> {
+pub(crate) fn put_number(out: &mut Vec<u8>, n: u64) -> Result<(), AllocError>
+    ensures { OnOk result (out.new.items ≡ out.old.items ++ decimal n) }
+{
     let mut buffer = Buffer::new();
     out.extend_from_slice(buffer.format(n).as_bytes())
 }
 
-/// Whether a name is this letter, so many `_`, and digits.
-fn is_made(name: &[u8], letter: u8, bars: usize) -> bool {
-    let mut place: usize = 0;
-    for byte in name {
-        let is_like = if place == 0 {
-            *byte == letter
-        } else if place <= bars {
-            *byte == b'_'
-        } else {
-            byte.is_ascii_digit()
-        };
-        if !is_like {
-            return false;
+/// Whether a text is so many `_`, and digits behind them.
+fn is_numbered(text: &[u8], bars: usize) -> bool
+    ensures { result ≡ spec.is_numbered bars text.now }
+{
+    let [first, rest @ ..] = text else {
+        return bars == 0;
+    };
+    if bars == 0 {
+        if first.is_ascii_digit() {
+            return is_numbered(rest, 0);
         }
-        place = place.saturating_add(1);
+        return false;
     }
-    place > bars
+    if *first == b'_' {
+        return is_numbered(rest, bars - 1);
+    }
+    false
+}
+
+/// Whether a name is of this form: its letter, so many `_`, and digits.
+fn is_made(name: &[u8], form: Form) -> bool
+    ensures { result ≡ spec.is_made form name.now }
+{
+    let [first, rest @ ..] = name else {
+        return false;
+    };
+    if *first == form.letter {
+        return is_numbered(rest, form.bars);
+    }
+    false
 }
 
 /// Whether one of the globals has a name of this form.
-fn is_taken(globals: &[(Vec<u8>, Vec<u8>)], letter: u8, bars: usize) -> bool {
+fn is_taken(globals: &[(Vec<u8>, Vec<u8>)], form: Form) -> bool
+    ensures { result ≡ spec.is_taken form (fields.globals globals.now) }
+{
     for global in globals {
-        if is_made(&global.0, letter, bars) {
+        if is_made(&global.0, form) {
             return true;
         }
     }
     false
 }
 
-/// The first form that no global has: `t1`, then `t_1` and so on, then `u1`. Each global takes one
-/// form at most, so that of 260 one is free for 256 globals.
-fn free_form(globals: &[(Vec<u8>, Vec<u8>)]) -> (u8, usize) {
-    for letter in b'a'..=b'z' {
-        for bars in 0..10 {
-            if !is_taken(globals, letter, bars) {
-                return (letter, bars);
-            }
+/// The fewest `_`, at most nine, with which no global has a form of this letter.
+fn free_bars(globals: &[(Vec<u8>, Vec<u8>)], letter: u8) -> Option<usize>
+    ensures { MatchOption result
+        (AreTaken (fields.globals globals.now) letter 10)
+        (IsFreeAt (fields.globals globals.now) letter) }
+{
+    for bars in 0..10 {
+        let is_taken = is_taken(globals, Form { letter, bars });
+        if !is_taken {
+            return Some(bars);
         }
     }
-    (b't', 10)
+    None
+}
+
+/// The first form that no global has: `t1`, then `t_1` and so on, then `u1`. Each global takes one
+/// form at most, so that of 260 one is free for 256 globals.
+fn free_form(globals: &[(Vec<u8>, Vec<u8>)]) -> Form
+    ensures { IsFirstFree (fields.globals globals.now) result ⊎
+        IsLast (fields.globals globals.now) result }
+{
+    // 123 is the byte behind `z`.
+    for letter in b'a'..123 {
+        if let Some(bars) = free_bars(globals, letter) {
+            return Form { letter, bars };
+        }
+    }
+    Form {
+        letter: b't',
+        bars: 10,
+    }
+}
+
+/// The form of the made-up names beside these globals.
+fn form_beside(globals: &[(Vec<u8>, Vec<u8>)]) -> Form
+    ensures { IsForm (fields.globals globals.now) result }
+{
+    let plain = Form {
+        letter: b't',
+        bars: 0,
+    };
+    if is_taken(globals, plain) {
+        free_form(globals)
+    } else {
+        plain
+    }
 }
 
 impl<'a> Names<'a> {
+    ghost use Rattle.std.specs.Prelude.{◌<◌, length};
+
     /// The names where no local is in scope.
-    pub(crate) fn of(alloc: Global, globals: &'a [(Vec<u8>, Vec<u8>)]) -> Names<'a> {
-        let (letter, bars) = if is_taken(globals, b't', 0) {
-            free_form(globals)
-        } else {
-            (b't', 0)
-        };
+    pub(crate) fn of(alloc: Global, globals: &'a [(Vec<u8>, Vec<u8>)]) -> Names<'a>
+        ensures globals { result.globals.now ≡ globals.entry.now }
+        ensures form { IsForm (fields.globals result.globals.now) result.form }
+    {
         Names {
             globals,
-            letter,
-            bars,
+            form: form_beside(globals),
             scope: Vec::new(alloc),
             count: 0,
         }
     }
 
     /// Adds the made-up name of a number.
-    pub(crate) fn put_made(&self, out: &mut Vec<u8>, number: usize) -> Result<(), AllocError> {
-        out.push(self.letter)?;
-        for _ in 0..self.bars {
+    pub(crate) fn put_made(&self, out: &mut Vec<u8>, number: usize) -> Result<(), AllocError>
+        ensures { OnOk result (out.new.items ≡ out.old.items ++ spec.made self.now.form number) }
+    {
+        out.push(self.form.letter)?;
+        for _ in 0..self.form.bars {
             out.push(b'_')?;
         }
         put_number(out, number as u64)
@@ -104,12 +168,27 @@ impl<'a> Names<'a> {
 
     /// Adds the name of a variable: the globals come first, then the locals in the order of the
     /// code.
-    pub(crate) fn put_variable(&self, out: &mut Vec<u8>, variable: u16) -> Result<(), AllocError> {
+    pub(crate) fn put_variable(&self, out: &mut Vec<u8>, variable: u16) -> Result<(), AllocError>
+        ensures { OnOk result (out.new.items ≡ out.old.items ++
+            local_name (fields.globals self.now.globals.now) self.now.form variable) }
+    {
         let place = variable as usize;
         if place < self.globals.len() {
             return out.extend_from_slice(&self.globals[place].0);
         }
         self.put_made(out, place - self.globals.len() + 1)
+    }
+
+    /// Adds the class name of a variable; a local has none.
+    pub(crate) fn put_class(&self, out: &mut Vec<u8>, variable: u16) -> Result<(), AllocError>
+        ensures { OnOk result (out.new.items ≡ out.old.items ++
+            class_name (fields.globals self.now.globals.now) variable) }
+    {
+        let place = variable as usize;
+        if place < self.globals.len() {
+            return out.extend_from_slice(&self.globals[place].1);
+        }
+        Ok(())
     }
 
     /// Adds the name of the next local.

@@ -1,17 +1,20 @@
 //! The commands of an image as a text of the language.
 
-ghost use Rattle.std.specs.Prelude.{IfOk};
-ghost use Rattle.vsi_audit.specs.Text.{IsProgramText};
+ghost use Rattle.std.specs.Prelude.{IfOk, OnOk};
+ghost use Rattle.vsi_syntax.specs.ProgramView.{whole};
+ghost use Rattle.vsi_scope.specs.View.{sequence};
+ghost use Rattle.vsi_audit.specs.Text.{IsWritten, IsSourceText};
 
 use crate::builder::{Commands, commands_of};
-use crate::error::{AuditError, Unread};
-use crate::globals::put_declarations;
+use crate::coding::is_code_of;
+use crate::error::AuditError;
+use crate::globals::{declares, put_declarations};
 use crate::names::{Names, put_number};
+use crate::writing::{InScope, check_all};
 use std::alloc::{AllocError, Global};
-use vsi_compiler::{CompileError, format_text};
 use vsi_image::{Image, Verified};
 use vsi_scope::{Cmd, Ex};
-use vsi_syntax::Op;
+use vsi_syntax::{LexError, Op, ParseError, Program, lex, parse, print};
 
 /// What an empty sequence is written as: it does nothing, and nothing flows out of it.
 fn put_nothing(out: &mut Vec<u8>, names: &Names<'_>) -> Result<(), AllocError> {
@@ -168,14 +171,50 @@ fn put_one(c: &Cmd, out: &mut Vec<u8>, names: &mut Names<'_>) -> Result<(), Allo
     }
 }
 
-/// The text of an image's globals and commands, not laid out.
-fn written(alloc: Global, image: &Image) -> Result<Vec<u8>, Unread> {
-    let Commands { body, .. } = commands_of(alloc, image)?;
+/// The text of an image's globals and of commands, not laid out.
+fn written(alloc: Global, image: &Image, body: &[Cmd]) -> Result<Vec<u8>, AllocError> {
     let mut out = Vec::new(alloc);
     put_declarations(&mut out, image)?;
     let mut names = Names::of(alloc, &image.globals);
-    put_all(&body, &mut out, &mut names)?;
+    put_all(body, &mut out, &mut names)?;
     Ok(out)
+}
+
+/// The program that a text writes.
+fn read<'a>(alloc: Global, text: &'a [u8]) -> Result<Program<'a>, AuditError> {
+    let tokens = match lex(alloc, text) {
+        Ok(tokens) => tokens,
+        Err(LexError::Memory) => return Err(AuditError::Memory),
+        Err(_) => return Err(AuditError::NoText),
+    };
+    match parse(alloc, &tokens) {
+        Ok(program) => Ok(program),
+        Err(ParseError::Memory) => Err(AuditError::Memory),
+        Err(_) => Err(AuditError::NoText),
+    }
+}
+
+/// Refuses a program that doesn't declare an image's globals or write commands of its code.
+fn check<'a>(
+    alloc: Global,
+    image: &'a Image,
+    body: &[Cmd],
+    program: &Program<'a>,
+) -> Result<(), AuditError>
+    ensures { OnOk result
+        (IsWritten image.now (sequence body.now) (whole program.now)) }
+{
+    if !declares(program.globals(), &image.globals) {
+        return Err(AuditError::NoText);
+    }
+    if image.globals.len() > 65_535 {
+        return Err(AuditError::NoText);
+    }
+    if !is_code_of(body, &image.code, image.globals.len() as u16) {
+        return Err(AuditError::NoText);
+    }
+    let mut names = InScope::of(alloc, &image.globals)?;
+    check_all(body, program.body(), &mut names)
 }
 
 /// The text that an image's code stands for, in its canonical layout: a text of the language, over
@@ -187,12 +226,12 @@ fn written(alloc: Global, image: &Image) -> Result<Vec<u8>, Unread> {
 /// `Unstructured`; `NoText`, where the text would be out of the limits on texts; `Memory` may stand
 /// in place of any answer.
 pub fn source_text(alloc: Global, image: &Verified) -> Result<Vec<u8>, AuditError>
-    ensures { IfOk result (λ out. IsProgramText out.items) }
+    ensures { IfOk result (λ out. IsSourceText image.now out.items) }
 {
-    let text = written(alloc, image.image())?;
-    match format_text(alloc, &text) {
-        Ok(out) => Ok(out),
-        Err(CompileError::Memory) => Err(AuditError::Memory),
-        Err(_) => Err(AuditError::NoText),
-    }
+    let image = image.image();
+    let Commands { body, .. } = commands_of(alloc, image)?;
+    let text = written(alloc, image, &body)?;
+    let program = read(alloc, &text)?;
+    check(alloc, image, &body, &program)?;
+    Ok(print(alloc, &program)?)
 }

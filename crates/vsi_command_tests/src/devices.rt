@@ -1,11 +1,11 @@
 //! Readers, writers and files in memory that fail when they are told to.
 
-ghost use Rattle.std.specs.Prelude.{◌≡◌, Some};
+ghost use Rattle.std.specs.Prelude.{◌≡◌, [], Some};
 ghost use Rattle.vsi_devices.specs.Counted.{faults_of};
 
 use std::alloc::{AllocError, Global};
-use std::io;
 use std::io::{ErrorKind, Read, Write};
+use std::{io, mem};
 use vsi::{Counted, Files, command};
 
 /// The text that is read from standard input.
@@ -61,7 +61,9 @@ pub(super) struct Scant {
 }
 
 impl Scant {
-    fn new(alloc: Global, room: usize) -> Scant {
+    fn new(alloc: Global, room: usize) -> Scant
+        ensures { result.bytes.items ≡ [] }
+    {
         Scant {
             bytes: Vec::new(alloc),
             room,
@@ -70,6 +72,8 @@ impl Scant {
 }
 
 impl Write for Scant {
+    ghost contents = { λ s. Some s.bytes.items };
+
     fn write(&mut self, buf: &[u8]) -> io::Result<usize> {
         if self.bytes.len() >= self.room {
             return Err(io::Error::from(ErrorKind::StorageFull));
@@ -86,27 +90,65 @@ impl Write for Scant {
     }
 }
 
-/// The files that can be read, of which `torn` fails at its ninth byte, with how many were opened
-/// to write and how many closed, and the last of these.
+/// The one file that can be written: none yet, the path of the one that is open, or what it took.
+#[derive(Drop)]
+enum Page {
+    Blank,
+    Open(Vec<u8>),
+    Filled(Vec<u8>, Scant),
+}
+
+impl Page {
+    /// What it took.
+    fn taken(self, alloc: Global) -> Vec<u8> {
+        match self {
+            Page::Filled(_path, page) => page.bytes,
+            Page::Open(_path) => Vec::new(alloc),
+            Page::Blank => Vec::new(alloc),
+        }
+    }
+}
+
+/// The files that can be read, of which `torn` fails at its ninth byte, and one that can be
+/// written, with how many were opened to write and how many closed.
 #[derive(Drop)]
 struct Shelf {
     alloc: Global,
     room: usize,
     opened: u64,
     closed: u64,
-    page: Option<Scant>,
+    page: Page,
+}
+
+impl Shelf {
+    ghost use Rattle.vsi_command_tests.specs.Shelf.{is_written};
+
+    /// Whether the file at the path has been written.
+    fn has_written(&self, path: &[u8]) -> bool
+        ensures { result ≡ is_written self.now.page path.now }
+    {
+        match &self.page {
+            Page::Filled(at, _) => at.as_slice() == path,
+            _ => false,
+        }
+    }
 }
 
 impl Files for Shelf {
-    ghost use Rattle.vsi_command_tests.specs.Shelf.{stored};
+    ghost use Rattle.vsi_command_tests.specs.Shelf.{filled, held};
 
     type Input = Drip<'static>;
 
     type Output = Scant;
 
-    ghost holds = { λ _ path. stored path };
+    ghost holds = { λ shelf. held shelf.page };
+
+    ghost filling = { λ shelf. filled shelf.page };
 
     fn open_file(&mut self, path: &str) -> Option<Drip<'static>> {
+        if self.has_written(path.as_bytes()) {
+            return None;
+        }
         match path {
             "two" => Some(Drip::new(TWO, 0)),
             "torn" => Some(Drip::new(TWO, 9)),
@@ -117,14 +159,21 @@ impl Files for Shelf {
         }
     }
 
-    fn create_file(&mut self, _path: &str) -> Option<Scant> {
+    fn create_file(&mut self, path: &str) -> Option<Scant> {
+        let Page::Blank = self.page else {
+            return None;
+        };
+        self.page = Page::Open(Vec::from_slice(self.alloc, path.as_bytes()).ok()?);
         self.opened = self.opened.saturating_add(1);
         Some(Scant::new(self.alloc, self.room))
     }
 
     fn close_file(&mut self, output: Scant) {
         self.closed = self.closed.saturating_add(1);
-        self.page = Some(output);
+        match mem::replace(&mut self.page, Page::Blank) {
+            Page::Open(path) => self.page = Page::Filled(path, output),
+            other => self.page = other,
+        }
     }
 }
 
@@ -200,7 +249,7 @@ fn call(alloc: Global, words: &[String], drip: Drip<'_>, room: Room) -> Shown {
         room: room.image,
         opened: 0,
         closed: 0,
-        page: None,
+        page: Page::Blank,
     };
     let mut input = Counted::new(drip);
     let mut output = Counted::new(Scant::new(alloc, room.output));
@@ -218,10 +267,7 @@ fn call(alloc: Global, words: &[String], drip: Drip<'_>, room: Room) -> Shown {
         output: output.into_inner().bytes,
         error: error.into_inner().bytes,
         is_closed: files.opened == files.closed,
-        image: match files.page {
-            Some(page) => page.bytes,
-            None => Vec::new(alloc),
-        },
+        image: files.page.taken(alloc),
     }
 }
 

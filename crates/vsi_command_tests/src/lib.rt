@@ -4,7 +4,6 @@
 
 #[cfg(test)]
 mod cuts;
-#[cfg(test)]
 mod devices;
 #[cfg(test)]
 mod messages;

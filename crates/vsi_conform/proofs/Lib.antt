@@ -2,3 +2,10 @@ pub mod Points
 pub mod Fitting
 pub mod Converse
 pub mod Numbers
+pub mod Paths
+pub mod Plain
+pub mod Pushed
+pub mod Begins
+pub mod Tables
+pub mod Readable
+pub mod Told

@@ -1,4 +1,10 @@
 pub mod Points
 pub mod Asked
 pub mod Conforms
+pub mod Tables
 pub mod Reading
+pub mod Faulty
+pub mod Beside
+pub mod Shown
+pub mod Lines
+pub mod Json

@@ -15,6 +15,7 @@ use Rattle.vsi_conform.specs.declared.reader.Asked.{Asked}
 use Rattle.vsi_conform.specs.declared.reader.Policy.{Policy}
 use Rattle.vsi_conform.specs.declared.reader.Policy.TheVariants.{File, Tables}
 use Rattle.vsi_conform.specs.Points.{Entry, entries}
+use Rattle.vsi_conform.specs.Tables.{IsTablesText}
 
 -- The bytes are text, and TOML reads it as this table.
 abbrev pub IsDocument : List ℕ → Members → Type 0
@@ -133,12 +134,13 @@ runs_from (Some d) = option_and_then (all_of run_of) (as_array d)
 
 -- ---- the whole.
 
--- Where the lattice is: at a path at `lattice`, with no table of a lattice file beside it, or in such tables.
+-- Where the lattice is: at a path at `lattice`, with no table of a lattice file beside it, or in such tables, whose
+-- text this is.
 abbrev pub IsPolicy : Members → Policy → Type 0
 IsPolicy ms (File path) =
     (text_at (codes "lattice") ms ≡ Some path.items)
     × (get_member (codes "classes") ms ≡ None) × (get_member (codes "below") ms ≡ None)
-IsPolicy ms (Tables text) = get_member (codes "lattice") ms ≡ None
+IsPolicy ms (Tables text) = (get_member (codes "lattice") ms ≡ None) × IsTablesText ms text.items
 
 -- What a table asks of a text.
 pub record Asks (ms : Members) (i : Interface) : Type 0 where

@@ -1,23 +1,48 @@
 //! The globals that a text declares, with their places.
 
+ghost use Rattle.std.specs.Prelude.{◌≡◌, map, slice_get, IfOk};
+ghost use Rattle.vsi_syntax.specs.CommandView.{declared};
+ghost use Rattle.vsi_syntax.specs.ProgramView.{whole};
+ghost use Rattle.vsi_conform.specs.Shown as spec;
+
 use std::alloc::{AllocError, Global};
-use vsi_syntax::{Declaration, LexError, ParseError, lex, line_column, parse};
+use vsi_syntax::{Declaration, LexError, ParseError, Program, lex, line_column, parse};
+
+/// The globals of a program.
+fn globals_of<'a>(alloc: Global, program: &Program<'a>) -> Result<Vec<Declaration<'a>>, AllocError>
+    ensures { IfOk result (λ found. map declared found.items ≡ (whole program.now).globals) }
+{
+    let found = program.globals().to_vec(alloc)?;
+    Ok(found)
+}
 
 /// The globals of a text, in its order; of a text that has no tree there are none.
 pub(crate) fn declarations<'a>(
     alloc: Global,
     text: &'a [u8],
-) -> Result<Vec<Declaration<'a>>, AllocError> {
+) -> Result<Vec<Declaration<'a>>, AllocError>
+    ensures { IfOk result (λ found. spec.Declares text.now (map declared found.items)) }
+{
     let tokens = match lex(alloc, text) {
         Ok(tokens) => tokens,
-        Err(LexError::Memory) => return Err(AllocError),
-        Err(_) => return Ok(Vec::new(alloc)),
+        Err(error) => {
+            return match error {
+                LexError::Memory => Err(AllocError),
+                _ => Ok(Vec::new(alloc)),
+            };
+        }
     };
-    match parse(alloc, &tokens) {
-        Ok(program) => program.globals().to_vec(alloc),
-        Err(ParseError::Memory) => Err(AllocError),
-        Err(_) => Ok(Vec::new(alloc)),
-    }
+    let program = match parse(alloc, &tokens) {
+        Ok(program) => program,
+        Err(error) => {
+            return match error {
+                ParseError::Memory => Err(AllocError),
+                _ => Ok(Vec::new(alloc)),
+            };
+        }
+    };
+    let found = globals_of(alloc, &program)?;
+    Ok(found)
 }
 
 /// What is told of a global of the text: its name, its class name, and the line and the column,
@@ -37,7 +62,10 @@ pub(crate) fn global_at<'a>(
     found: &[Declaration<'a>],
     place: usize,
     is_class: bool,
-) -> Shown<'a> {
+) -> Shown<'a>
+    ensures { spec.shown result
+        ≡ spec.shown_of text.now is_class (slice_get (map declared found.now) place) }
+{
     let Some(declaration) = found.get(place) else {
         return Shown {
             name: b"",

@@ -1,6 +1,8 @@
 //! Why an interface file is refused.
 
-ghost use Rattle.std.specs.Prelude.{◌≡◌};
+ghost use Rattle.std.specs.Prelude.{◌≡◌, IfOk};
+ghost use Rattle.std.specs.Option.{option_copied};
+ghost use Rattle.vsi_conform.specs.Faulty as spec;
 ghost use Rattle.vsi_conform.specs.declared.error.InterfaceError.TheVariants.{Memory};
 
 use crate::texts::{push_number, push_parts};
@@ -77,7 +79,9 @@ impl<T: Drop> From<AllocFailed<T>> for InterfaceError {
 }
 
 /// The name of a fault.
-fn fault_name(error: &InterfaceError) -> &'static [u8] {
+fn fault_name(error: &InterfaceError) -> &'static [u8]
+    ensures { result.now ≡ spec.name_of error.now }
+{
     match error {
         InterfaceError::NotToml => b"NotToml",
         InterfaceError::UnknownKey(_) => b"UnknownKey",
@@ -99,7 +103,10 @@ fn fault_name(error: &InterfaceError) -> &'static [u8] {
 }
 
 /// What stands behind the name of a fault: a run's number, and a name or a key.
-fn fault_fields(error: &InterfaceError) -> (Option<usize>, Option<&[u8]>) {
+fn fault_fields(error: &InterfaceError) -> (Option<usize>, Option<&[u8]>)
+    ensures run { result.0 ≡ spec.run_of error.now }
+    ensures word { option_copied result.1 ≡ spec.word_of error.now }
+{
     match error {
         InterfaceError::UnknownKey(word)
         | InterfaceError::BadName(word)
@@ -116,7 +123,9 @@ fn fault_fields(error: &InterfaceError) -> (Option<usize>, Option<&[u8]>) {
 
 /// The line of a refused interface: the name of its fault, and the run and the name or the key that
 /// is faulty, where there is one.
-pub fn interface_text(alloc: Global, error: &InterfaceError) -> Result<Vec<u8>, AllocError> {
+pub fn interface_text(alloc: Global, error: &InterfaceError) -> Result<Vec<u8>, AllocError>
+    ensures line { IfOk result (λ text. text.items ≡ spec.interface_line error.now) }
+{
     let mut text = Vec::new(alloc);
     push_parts(&mut text, &[b"refused interface: ", fault_name(error)])?;
     let (run, word) = fault_fields(error);

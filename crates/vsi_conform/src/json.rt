@@ -1,5 +1,11 @@
 //! What is told, as JSON.
 
+ghost use Rattle.std.specs.Prelude.{◌≡◌, ◌++◌, false, map, slice_get, IfOk, OnOk};
+ghost use Rattle.serde_json.specs.View.{items_view, members_view, view};
+ghost use Rattle.serde_json.specs.Written.{items_have_float};
+ghost use Rattle.vsi_conform.specs.Json as spec;
+ghost use Rattle.vsi_conform.specs.Shown as told;
+
 use crate::declared::{declarations, global_at};
 use crate::interface::Interface;
 use crate::point::{Answer, Point};
@@ -7,6 +13,7 @@ use crate::texts::{Pages, asked, expected, is_steady, refusal_lines};
 use serde_json::{Map, Value, put};
 use std::alloc::{AllocError, Global};
 use vsi_lattice::Lattice;
+use vsi_steady::UnsteadyError;
 
 /// A text as a JSON string.
 fn put_text(
@@ -14,7 +21,10 @@ fn put_text(
     map: &mut Map<String, Value>,
     key: &str,
     bytes: &[u8],
-) -> Result<(), AllocError> {
+) -> Result<(), AllocError>
+    ensures { OnOk result (members_view map.new.entries
+        ≡ spec.with_text key.now bytes.now (members_view map.old.entries)) }
+{
     let text = String::from_utf8_lossy(alloc, bytes)?;
     put(map, alloc, key, Value::String(text))
 }
@@ -25,14 +35,20 @@ fn put_number(
     map: &mut Map<String, Value>,
     key: &str,
     number: usize,
-) -> Result<(), AllocError> {
+) -> Result<(), AllocError>
+    ensures { OnOk result (members_view map.new.entries
+        ≡ spec.with_natural key.now number (members_view map.old.entries)) }
+{
     put(map, alloc, key, Value::from(number))
 }
 
 /// An object of this point.
-fn object(alloc: Global, point: &str) -> Result<Map<String, Value>, AllocError> {
+fn object(alloc: Global, point: &str) -> Result<Map<String, Value>, AllocError>
+    ensures { IfOk result (λ map. members_view map.entries ≡ spec.kind point.now) }
+{
     let mut map = Map::new(alloc);
-    put_text(alloc, &mut map, "point", point.as_bytes())?;
+    let kind = String::from_str(alloc, point)?;
+    put(&mut map, alloc, "point", Value::String(kind))?;
     Ok(map)
 }
 
@@ -43,7 +59,11 @@ fn put_shown(
     pages: &Pages,
     place: usize,
     is_class: bool,
-) -> Result<(), AllocError> {
+) -> Result<(), AllocError>
+    ensures { OnOk result (members_view map.new.entries
+        ≡ spec.with_shown (told.shown_of pages.now.text.now is_class
+        (slice_get (told.page pages.now).globals place)) (members_view map.old.entries)) }
+{
     let shown = global_at(pages.text, pages.found, place, is_class);
     put_text(alloc, map, "name", shown.name)?;
     put_text(alloc, map, "class", shown.class)?;
@@ -52,7 +72,10 @@ fn put_shown(
 }
 
 /// A global that the text lacks.
-fn missing(alloc: Global, pages: &Pages, number: usize) -> Result<Map<String, Value>, AllocError> {
+fn missing(alloc: Global, pages: &Pages, number: usize) -> Result<Map<String, Value>, AllocError>
+    ensures { IfOk result (λ map. members_view map.entries
+        ≡ spec.missing (told.asked pages.now.interface.now number)) }
+{
     let mut map = object(alloc, "missing")?;
     let (name, class) = asked(pages.interface, number);
     put_text(alloc, &mut map, "name", name)?;
@@ -61,11 +84,10 @@ fn missing(alloc: Global, pages: &Pages, number: usize) -> Result<Map<String, Va
 }
 
 /// A global that isn't asked for.
-fn unexpected(
-    alloc: Global,
-    pages: &Pages,
-    place: usize,
-) -> Result<Map<String, Value>, AllocError> {
+fn unexpected(alloc: Global, pages: &Pages, place: usize) -> Result<Map<String, Value>, AllocError>
+    ensures { IfOk result (λ map. members_view map.entries
+        ≡ spec.unexpected (told.by_name (told.page pages.now) place)) }
+{
     let mut map = object(alloc, "unexpected")?;
     put_shown(alloc, &mut map, pages, place, false)?;
     Ok(map)
@@ -77,7 +99,11 @@ fn wrong_class(
     pages: &Pages,
     place: usize,
     wanted: usize,
-) -> Result<Map<String, Value>, AllocError> {
+) -> Result<Map<String, Value>, AllocError>
+    ensures { IfOk result (λ map. members_view map.entries
+        ≡ spec.wrong_class (told.by_class (told.page pages.now) place)
+        (told.asked pages.now.interface.now wanted).1) }
+{
     let mut map = object(alloc, "class")?;
     put_shown(alloc, &mut map, pages, place, true)?;
     let (_name, class) = asked(pages.interface, wanted);
@@ -86,11 +112,11 @@ fn wrong_class(
 }
 
 /// A global out of order.
-fn wrong_order(
-    alloc: Global,
-    pages: &Pages,
-    place: usize,
-) -> Result<Map<String, Value>, AllocError> {
+fn wrong_order(alloc: Global, pages: &Pages, place: usize) -> Result<Map<String, Value>, AllocError>
+    ensures { IfOk result (λ map. members_view map.entries
+        ≡ spec.wrong_order (told.by_name (told.page pages.now) place)
+        (told.asked pages.now.interface.now place).0) }
+{
     let mut map = object(alloc, "order")?;
     put_shown(alloc, &mut map, pages, place, false)?;
     let (name, _class) = asked(pages.interface, place);
@@ -103,7 +129,10 @@ fn out_of_budget(
     alloc: Global,
     pages: &Pages,
     trial: usize,
-) -> Result<Map<String, Value>, AllocError> {
+) -> Result<Map<String, Value>, AllocError>
+    ensures { IfOk result (λ map. members_view map.entries
+        ≡ spec.out_of_budget trial (slice_get pages.now.interface.now.trials.items trial)) }
+{
     let mut map = object(alloc, "budget")?;
     put_number(alloc, &mut map, "run", trial.saturating_add(1))?;
     if let Some(trial) = pages.interface.trials.get(trial) {
@@ -119,7 +148,10 @@ fn wrong_word(
     trial: usize,
     wanted: usize,
     word: Option<i64>,
-) -> Result<Map<String, Value>, AllocError> {
+) -> Result<Map<String, Value>, AllocError>
+    ensures { IfOk result (λ map. members_view map.entries
+        ≡ spec.wrong_word trial (told.expected pages.now.interface.now trial wanted) word) }
+{
     let mut map = object(alloc, "word")?;
     let (name, want) = expected(pages.interface, trial, wanted);
     put_number(alloc, &mut map, "run", trial.saturating_add(1))?;
@@ -138,7 +170,10 @@ fn point_object(
     alloc: Global,
     pages: &Pages,
     point: Point,
-) -> Result<Map<String, Value>, AllocError> {
+) -> Result<Map<String, Value>, AllocError>
+    ensures { IfOk result (λ map. members_view map.entries
+        ≡ spec.members_of_point (told.page pages.now) point) }
+{
     match point {
         Point::Missing(number) => missing(alloc, pages, number),
         Point::Unexpected(place) => unexpected(alloc, pages, place),
@@ -155,29 +190,65 @@ fn point_object(
 }
 
 /// The object of a refusal.
-fn refused(alloc: Global, lines: &[u8]) -> Result<Map<String, Value>, AllocError> {
+fn refused(alloc: Global, lines: &[u8]) -> Result<Map<String, Value>, AllocError>
+    ensures { IfOk result
+        (λ map. members_view map.entries ≡ spec.members_of_refusal lines.now) }
+{
     let mut map = object(alloc, "refused")?;
     put_text(alloc, &mut map, "text", lines)?;
     Ok(map)
 }
 
-/// The objects of the points, behind that of the refusal.
-fn objects(
+/// The object of the refusal, where there is one.
+fn refusal_objects(
     alloc: Global,
     lattice: &Lattice,
     pages: &Pages,
-    answer: &Answer,
-) -> Result<Vec<Value>, AllocError> {
-    let mut found = Vec::new(alloc);
-    if let Some(error) = &answer.refusal {
-        let steady = is_steady(pages.interface);
-        let lines = refusal_lines(alloc, lattice, pages.text, error, steady)?;
-        found.push(Value::Object(refused(alloc, &lines)?))?;
+    refusal: &Option<UnsteadyError>,
+) -> Result<Vec<Value>, AllocError>
+    ensures { IfOk result (λ found. spec.TellsRefusal lattice.now (told.page pages.now)
+        refusal.now (map view found.items)) }
+{
+    match refusal {
+        Some(error) => {
+            let steady = is_steady(pages.interface);
+            let lines = refusal_lines(alloc, lattice, pages.text, error, steady)?;
+            let map = refused(alloc, &lines)?;
+            let mut found = Vec::new(alloc);
+            found.push(Value::Object(map))?;
+            Ok(found)
+        }
+        None => Ok(Vec::new(alloc)),
     }
-    for point in &answer.points {
+}
+
+/// The objects of the points more.
+fn push_objects(
+    alloc: Global,
+    found: &mut Vec<Value>,
+    pages: &Pages,
+    points: &[Point],
+) -> Result<(), AllocError>
+    ensures { OnOk result (map view found.new.items ≡ map view found.old.items
+        ++ spec.objects_of_points (told.page pages.now) points.now) }
+{
+    for point in points {
         found.push(Value::Object(point_object(alloc, pages, *point)?))?;
     }
-    Ok(found)
+    Ok(())
+}
+
+/// The line of an answer with these objects.
+fn answer_line(alloc: Global, conforms: bool, objects: Vec<Value>) -> Result<Vec<u8>, AllocError>
+    ensures { IfOk result (λ line. items_have_float (items_view objects.items) ≡ false
+        → line.items ≡ spec.answer_line conforms (map view objects.items)) }
+{
+    let mut map = Map::new(alloc);
+    put(&mut map, alloc, "conforms", Value::Bool(conforms))?;
+    put(&mut map, alloc, "points", Value::Array(objects))?;
+    let mut line = Value::Object(map).to_vec(alloc)?;
+    line.extend_from_slice(b"\n")?;
+    Ok(line)
 }
 
 /// An answer as a line of JSON: an object with `conforms` and `points`, an array of an object for
@@ -188,18 +259,19 @@ pub fn points_json(
     text: &[u8],
     interface: &Interface,
     answer: &Answer,
-) -> Result<Vec<u8>, AllocError> {
+) -> Result<Vec<u8>, AllocError>
+    ensures json { IfOk result (λ out. spec.IsConformJson lattice.now text.now interface.now
+        answer.now out.items) }
+    ensures apart { spec.BeginApart }
+{
     let found = declarations(alloc, text)?;
     let pages = Pages {
         text,
         found: &found,
         interface,
     };
-    let points = objects(alloc, lattice, &pages, answer)?;
-    let mut map = Map::new(alloc);
-    put(&mut map, alloc, "conforms", Value::Bool(answer.conforms()))?;
-    put(&mut map, alloc, "points", Value::Array(points))?;
-    let mut line = Value::Object(map).to_vec(alloc)?;
-    line.extend_from_slice(b"\n")?;
+    let mut objects = refusal_objects(alloc, lattice, &pages, &answer.refusal)?;
+    push_objects(alloc, &mut objects, &pages, &answer.points)?;
+    let line = answer_line(alloc, answer.conforms(), objects)?;
     Ok(line)
 }

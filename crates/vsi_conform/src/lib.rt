@@ -3,8 +3,8 @@
 //! `read_interface` reads an interface file: the lattice, the judgement, the globals with their
 //! classes, and the runs that are asked for. `conform` tells each point in which a text differs
 //! from an interface; where it tells none, the text conforms to it, as `specs/Conforms` says.
-//! `points_text` and `points_json` write what is told, `interface_text` why an interface is
-//! refused.
+//! `points_text` and `points_json` write what is told, as `specs/Lines` and `specs/Json` say,
+//! `interface_text` why an interface is refused, as `specs/Faulty` says.
 //!
 //! To be believed: all files of `specs/`.
 #![tactic(auto)]

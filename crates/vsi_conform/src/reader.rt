@@ -1,13 +1,17 @@
 //! Reads an interface file.
 
-ghost use Rattle.std.specs.Prelude.{◌≡◌, ◌≤◌, length, map, codes, Some, true, IsTrue, IfOk};
-ghost use Rattle.std.specs.Prelude.{option_map, option_and_then};
+ghost use Rattle.std.specs.Prelude.{◌≡◌, ◌≤◌, length, map, take, codes, Some, true};
+ghost use Rattle.std.specs.Prelude.{IsTrue, IfOk, OnOk, option_map, option_and_then, string_bytes};
+ghost use Rattle.std.specs.Str.{IsUtf8};
+ghost use Rattle.std.specs.Str.Lossy.{utf8_lossy};
 ghost use Rattle.toml.specs.Data.{as_bool, get_member};
 ghost use Rattle.toml.specs.View.{items_view, table_view, view};
 ghost use Rattle.vsi_image.specs.Fields.{global, globals};
 ghost use Rattle.vsi_lattice.specs.Shape as shape;
+ghost use Rattle.vsi_conform.specs.Beside.{beside, folder};
 ghost use Rattle.vsi_conform.specs.Points.{entries};
 ghost use Rattle.vsi_conform.specs.Reading as spec;
+ghost use Rattle.vsi_conform.specs.Tables.{IsTablesText, with_copy};
 ghost use Rattle.vsi_lattice.specs.LatticeView.{class_named};
 ghost use Rattle.vsi_store.specs.View.{first_unknown};
 
@@ -47,7 +51,12 @@ pub struct Asked {
 }
 
 /// The path of a file that an interface names: relative to the folder of the interface.
-pub fn path_beside(alloc: Global, interface: &str, path: &[u8]) -> Result<String, AllocError> {
+pub fn path_beside(alloc: Global, interface: &str, path: &[u8]) -> Result<String, AllocError>
+    ensures path { IfOk result (λ found. IsUtf8 (beside interface.now path.now)
+        → string_bytes found ≡ beside interface.now path.now) }
+    ensures lossy { IfOk result
+        (λ found. string_bytes found ≡ utf8_lossy (beside interface.now path.now)) }
+{
     let folder = if path.starts_with(b"/") {
         0
     } else {
@@ -60,7 +69,8 @@ pub fn path_beside(alloc: Global, interface: &str, path: &[u8]) -> Result<String
 
 /// How many bytes of a path name its folder, with the slash behind it.
 fn folder_length(path: &[u8]) -> usize
-    ensures { result ≤ length path.now }
+    ensures folder { take result path.now ≡ folder path.now }
+    ensures within { result ≤ length path.now }
 {
     for i in (0..path.len()).rev() {
         if path[i] == b'/' {
@@ -71,7 +81,9 @@ fn folder_length(path: &[u8]) -> usize
 }
 
 /// The text of a lattice file with these tables of an interface.
-fn tables_text(alloc: Global, table: &Table) -> Result<Vec<u8>, InterfaceError> {
+fn tables_text(alloc: Global, table: &Table) -> Result<Vec<u8>, InterfaceError>
+    ensures { IfOk result (λ text. IsTablesText (table_view table.now) text.items) }
+{
     let mut tables = Table::new(alloc);
     put_copy(alloc, &mut tables, table, "classes")?;
     put_copy(alloc, &mut tables, table, "below")?;
@@ -82,7 +94,10 @@ fn tables_text(alloc: Global, table: &Table) -> Result<Vec<u8>, InterfaceError> 
 }
 
 /// What a table has at a key, in another table.
-fn put_copy(alloc: Global, tables: &mut Table, table: &Table, key: &str) -> Result<(), AllocError> {
+fn put_copy(alloc: Global, tables: &mut Table, table: &Table, key: &str) -> Result<(), AllocError>
+    ensures { OnOk result (table_view tables.new
+        ≡ with_copy key.now (table_view table.now) (table_view tables.old)) }
+{
     let Some(value) = value_at(table, key) else {
         return Ok(());
     };

@@ -1,5 +1,14 @@
 //! The lines of what is told.
 
+ghost use Rattle.std.specs.Prelude.{◌≡◌, ◌++◌, Some, true, decimal, IfOk, OnOk};
+ghost use Rattle.std.specs.Fmt.{signed_decimal};
+ghost use Rattle.std.specs.List.{flat_map};
+ghost use Rattle.std.specs.Option.{option_copied};
+ghost use Rattle.vsi_lattice.specs.LatticeView.{class_named};
+ghost use Rattle.vsi_compiler.specs.Readable.{HasProgram};
+ghost use Rattle.vsi_conform.specs.Lines as spec;
+ghost use Rattle.vsi_conform.specs.Shown as told;
+
 use crate::declared::{Shown, declarations, global_at};
 use crate::interface::{Interface, Judgement, Trial};
 use crate::point::{Answer, Point};
@@ -7,8 +16,9 @@ use itoa::Buffer;
 use std::alloc::{AllocError, Global};
 use vsi_compiler::{CompileError, unjudged_image};
 use vsi_faults::refusal_text;
+use vsi_infer::Walk;
 use vsi_lattice::Lattice;
-use vsi_steady::{UnsteadyError, steady_explanation, steady_text};
+use vsi_steady::{SteadyError, UnsteadyError, steady_explanation, steady_text};
 use vsi_syntax::Declaration;
 
 /// A source text and what is asked of it.
@@ -20,23 +30,82 @@ pub(crate) struct Pages<'a> {
 }
 
 /// A number in decimal more.
-pub(crate) fn push_number(text: &mut Vec<u8>, number: usize) -> Result<(), AllocError> {
+pub(crate) fn push_number(text: &mut Vec<u8>, number: usize) -> Result<(), AllocError>
+    ensures { OnOk result (text.new.items ≡ text.old.items ++ decimal number) }
+{
     let mut buffer = Buffer::new();
     text.extend_from_slice(buffer.format(number).as_bytes())
 }
 
 /// A word in decimal more.
-fn push_word(text: &mut Vec<u8>, word: i64) -> Result<(), AllocError> {
+fn push_word(text: &mut Vec<u8>, word: i64) -> Result<(), AllocError>
+    ensures { OnOk result (text.new.items ≡ text.old.items ++ signed_decimal word) }
+{
     let mut buffer = Buffer::new();
     text.extend_from_slice(buffer.format(word).as_bytes())
 }
 
 /// Some texts more.
-pub(crate) fn push_parts(text: &mut Vec<u8>, parts: &[&[u8]]) -> Result<(), AllocError> {
+pub(crate) fn push_parts(text: &mut Vec<u8>, parts: &[&[u8]]) -> Result<(), AllocError>
+    ensures { OnOk result (text.new.items ≡ text.old.items ++ flat_map (λ p. p.now) parts.now) }
+{
     for part in parts {
         text.extend_from_slice(part)?;
     }
     Ok(())
+}
+
+/// The lines of a flow as it is judged where the image is to be steady.
+fn watched_lines(
+    alloc: Global,
+    lattice: &Lattice,
+    text: &[u8],
+    walk: &Walk,
+) -> Result<Vec<u8>, AllocError>
+    ensures { IfOk result (λ lines. spec.IsWatchedText lattice.now text.now
+        walk.now.steps.items lines.items) }
+{
+    let mut lines = Vec::from_slice(alloc, b"refused: 25 Refused\n")?;
+    let steps = steady_explanation(alloc, lattice, text, walk)?;
+    lines.extend_from_slice(&steps)?;
+    Ok(lines)
+}
+
+/// The lines of a refusal where the image is to be steady.
+fn steady_lines(
+    alloc: Global,
+    lattice: &Lattice,
+    text: &[u8],
+    error: &CompileError,
+) -> Result<Vec<u8>, AllocError>
+    ensures { IfOk result (λ lines. spec.IsCompileText lattice.now text.now true
+        error.now lines.items) }
+{
+    match error {
+        CompileError::Flow(walk) => watched_lines(alloc, lattice, text, walk),
+        CompileError::Lex(_) => refusal_text(alloc, lattice, text, error),
+        CompileError::Parse(_) => refusal_text(alloc, lattice, text, error),
+        CompileError::Scope(_) => refusal_text(alloc, lattice, text, error),
+        CompileError::Memory => refusal_text(alloc, lattice, text, error),
+    }
+}
+
+/// The lines of the refusal of the image of a text.
+fn image_lines(
+    alloc: Global,
+    lattice: &Lattice,
+    text: &[u8],
+    error: &SteadyError,
+) -> Result<Vec<u8>, AllocError>
+    ensures { IfOk result (λ _. HasProgram (class_named lattice.now) text.now) }
+{
+    match unjudged_image(alloc, lattice, text) {
+        Ok(verified) => {
+            let lines = steady_text(alloc, lattice, verified.image(), error)?;
+            Ok(lines)
+        }
+        Err(_) => Err(AllocError),
+    }
 }
 
 /// The lines of a refusal, as of a text that is to be accepted. A flow of a text whose image is to
@@ -47,38 +116,44 @@ pub fn refusal_lines(
     text: &[u8],
     error: &UnsteadyError,
     is_steady: bool,
-) -> Result<Vec<u8>, AllocError> {
+) -> Result<Vec<u8>, AllocError>
+    ensures lines { IfOk result (λ lines. spec.IsRefusalLines lattice.now text.now is_steady
+        error.now lines.items) }
+{
     match error {
-        UnsteadyError::Compile(CompileError::Flow(walk)) if is_steady => {
-            let mut lines = Vec::from_slice(alloc, b"refused: 25 Refused\n")?;
-            let steps = steady_explanation(alloc, lattice, text, walk)?;
-            lines.extend_from_slice(&steps)?;
-            Ok(lines)
+        UnsteadyError::Compile(error) => {
+            if is_steady {
+                steady_lines(alloc, lattice, text, error)
+            } else {
+                refusal_text(alloc, lattice, text, error)
+            }
         }
-        UnsteadyError::Compile(error) => refusal_text(alloc, lattice, text, error),
-        UnsteadyError::Image(error) => match unjudged_image(alloc, lattice, text) {
-            Ok(verified) => steady_text(alloc, lattice, verified.image(), error),
-            Err(_) => Err(AllocError),
-        },
+        UnsteadyError::Image(error) => image_lines(alloc, lattice, text, error),
         UnsteadyError::Memory => Err(AllocError),
     }
 }
 
 /// A line and a column more.
-fn push_place(text: &mut Vec<u8>, shown: &Shown) -> Result<(), AllocError> {
+fn push_place(text: &mut Vec<u8>, shown: &Shown) -> Result<(), AllocError>
+    ensures { OnOk result (text.new.items ≡ text.old.items ++ spec.place (told.shown shown.now)) }
+{
     push_number(text, shown.line)?;
     text.extend_from_slice(b":")?;
     push_number(text, shown.column)
 }
 
 /// The start of a run's line more.
-fn push_run(text: &mut Vec<u8>, trial: usize) -> Result<(), AllocError> {
+fn push_run(text: &mut Vec<u8>, trial: usize) -> Result<(), AllocError>
+    ensures { OnOk result (text.new.items ≡ text.old.items ++ spec.run_text trial) }
+{
     text.extend_from_slice(b"run ")?;
     push_number(text, trial.saturating_add(1))
 }
 
 /// The global that is asked for under this number.
-pub(crate) fn asked<'a>(interface: &'a Interface, number: usize) -> (&'a [u8], &'a [u8]) {
+pub(crate) fn asked<'a>(interface: &'a Interface, number: usize) -> (&'a [u8], &'a [u8])
+    ensures { (result.0.now, result.1.now) ≡ told.asked interface.now number }
+{
     match interface.globals.get(number) {
         Some(entry) => (entry.0.as_slice(), entry.1.as_slice()),
         None => (b"", b""),
@@ -86,7 +161,9 @@ pub(crate) fn asked<'a>(interface: &'a Interface, number: usize) -> (&'a [u8], &
 }
 
 /// The name and the word that a run expects under this number.
-pub(crate) fn expected(interface: &Interface, trial: usize, wanted: usize) -> (&[u8], i64) {
+pub(crate) fn expected(interface: &Interface, trial: usize, wanted: usize) -> (&[u8], i64)
+    ensures { (result.0.now, result.1) ≡ told.expected interface.now trial wanted }
+{
     let Some(trial) = interface.trials.get(trial) else {
         return (b"", 0);
     };
@@ -94,23 +171,29 @@ pub(crate) fn expected(interface: &Interface, trial: usize, wanted: usize) -> (&
 }
 
 /// The name and the word under this number.
-fn expected_of(trial: &Trial, wanted: usize) -> (&[u8], i64) {
+fn expected_of(trial: &Trial, wanted: usize) -> (&[u8], i64)
+    ensures { (result.0.now, result.1) ≡ told.expected_of (Some trial.now) wanted }
+{
     match trial.expect.get(wanted) {
         Some(entry) => (entry.0.as_slice(), entry.1),
         None => (b"", 0),
     }
 }
 
-/// The line of a global with another class.
-fn push_class(
-    text: &mut Vec<u8>,
-    pages: &Pages,
-    place: usize,
-    wanted: usize,
-) -> Result<(), AllocError> {
-    let shown = global_at(pages.text, pages.found, place, true);
-    let (_name, class) = asked(pages.interface, wanted);
-    push_place(text, &shown)?;
+/// The line of a global that the text lacks.
+fn push_missing(text: &mut Vec<u8>, global: (&[u8], &[u8])) -> Result<(), AllocError>
+    ensures { OnOk result (text.new.items
+        ≡ text.old.items ++ spec.missing_line (global.entry.0.now, global.entry.1.now)) }
+{
+    push_parts(text, &[b"missing ", global.0, b" : ", global.1, b"\n"])
+}
+
+/// The line of a global with another class than this one.
+fn push_class(text: &mut Vec<u8>, shown: &Shown, class: &[u8]) -> Result<(), AllocError>
+    ensures { OnOk result (text.new.items
+        ≡ text.old.items ++ spec.class_line (told.shown shown.now) class.now) }
+{
+    push_place(text, shown)?;
     push_parts(
         text,
         &[
@@ -126,78 +209,145 @@ fn push_class(
 }
 
 /// The line of a global that isn't asked for.
-fn push_unexpected(text: &mut Vec<u8>, pages: &Pages, place: usize) -> Result<(), AllocError> {
-    let shown = global_at(pages.text, pages.found, place, false);
-    push_place(text, &shown)?;
+fn push_unexpected(text: &mut Vec<u8>, shown: &Shown) -> Result<(), AllocError>
+    ensures { OnOk result (text.new.items
+        ≡ text.old.items ++ spec.unexpected_line (told.shown shown.now)) }
+{
+    push_place(text, shown)?;
     push_parts(
         text,
         &[b" unexpected ", shown.name, b" : ", shown.class, b"\n"],
     )
 }
 
-/// The line of another order.
-fn push_order(text: &mut Vec<u8>, pages: &Pages, place: usize) -> Result<(), AllocError> {
-    let shown = global_at(pages.text, pages.found, place, false);
-    let (name, _class) = asked(pages.interface, place);
-    push_place(text, &shown)?;
+/// The line of another order, where one of this name is expected.
+fn push_order(text: &mut Vec<u8>, shown: &Shown, name: &[u8]) -> Result<(), AllocError>
+    ensures { OnOk result (text.new.items
+        ≡ text.old.items ++ spec.order_line (told.shown shown.now) name.now) }
+{
+    push_place(text, shown)?;
     push_parts(text, &[b" order ", shown.name, b", expected ", name, b"\n"])
+}
+
+/// The word that is found, or that there is none.
+fn push_found(text: &mut Vec<u8>, name: &[u8], word: Option<i64>) -> Result<(), AllocError>
+    ensures { OnOk result (text.new.items
+        ≡ text.old.items ++ spec.found_text name.now word) }
+{
+    match word {
+        Some(word) => {
+            push_parts(text, &[b" ", name, b" = "])?;
+            push_word(text, word)
+        }
+        None => push_parts(text, &[b" no ", name]),
+    }
 }
 
 /// The line of a word that isn't as is expected.
 fn push_wrong(
     text: &mut Vec<u8>,
-    pages: &Pages,
     trial: usize,
-    wanted: usize,
+    wanted: (&[u8], i64),
     word: Option<i64>,
-) -> Result<(), AllocError> {
-    let (name, want) = expected(pages.interface, trial, wanted);
+) -> Result<(), AllocError>
+    ensures { OnOk result (text.new.items
+        ≡ text.old.items ++ spec.word_line trial (wanted.entry.0.now, wanted.entry.1) word) }
+{
     push_run(text, trial)?;
-    match word {
-        Some(word) => {
-            push_parts(text, &[b" ", name, b" = "])?;
-            push_word(text, word)?;
-        }
-        None => push_parts(text, &[b" no ", name])?,
-    }
+    push_found(text, wanted.0, word)?;
     text.extend_from_slice(b", expected ")?;
-    push_word(text, want)?;
+    push_word(text, wanted.1)?;
     text.extend_from_slice(b"\n")
+}
+
+/// The budget of a run.
+fn push_budget(text: &mut Vec<u8>, trial: Option<&Trial>) -> Result<(), AllocError>
+    ensures { OnOk result (text.new.items
+        ≡ text.old.items ++ spec.budget_text (option_copied trial.entry)) }
+{
+    match trial {
+        Some(trial) => {
+            let mut buffer = Buffer::new();
+            text.extend_from_slice(buffer.format(trial.budget).as_bytes())
+        }
+        None => Ok(()),
+    }
 }
 
 /// The line of a run that doesn't halt.
-fn push_endless(text: &mut Vec<u8>, pages: &Pages, trial: usize) -> Result<(), AllocError> {
-    push_run(text, trial)?;
+fn push_endless(text: &mut Vec<u8>, number: usize, trial: Option<&Trial>) -> Result<(), AllocError>
+    ensures { OnOk result (text.new.items
+        ≡ text.old.items ++ spec.budget_line number (option_copied trial.entry)) }
+{
+    push_run(text, number)?;
     text.extend_from_slice(b" out of budget ")?;
-    if let Some(trial) = pages.interface.trials.get(trial) {
-        let mut buffer = Buffer::new();
-        text.extend_from_slice(buffer.format(trial.budget).as_bytes())?;
-    }
-    text.extend_from_slice(b"\n")
+    push_budget(text, trial)?;
+    push_parts(text, &[b"\n"])
 }
 
 /// The line of a point more.
-fn push_point(text: &mut Vec<u8>, pages: &Pages, point: Point) -> Result<(), AllocError> {
+fn push_point(text: &mut Vec<u8>, pages: &Pages, point: Point) -> Result<(), AllocError>
+    ensures { OnOk result (text.new.items
+        ≡ text.old.items ++ spec.line_of_point (told.page pages.now) point) }
+{
+    let interface = pages.interface;
     match point {
-        Point::Missing(number) => {
-            let (name, class) = asked(pages.interface, number);
-            push_parts(text, &[b"missing ", name, b" : ", class, b"\n"])
+        Point::Missing(number) => push_missing(text, asked(interface, number)),
+        Point::Unexpected(place) => {
+            push_unexpected(text, &global_at(pages.text, pages.found, place, false))
         }
-        Point::Unexpected(place) => push_unexpected(text, pages, place),
-        Point::WrongClass { place, wanted } => push_class(text, pages, place, wanted),
-        Point::WrongOrder(place) => push_order(text, pages, place),
-        Point::OutOfBudget(trial) => push_endless(text, pages, trial),
+        Point::WrongClass { place, wanted } => {
+            let shown = global_at(pages.text, pages.found, place, true);
+            push_class(text, &shown, asked(interface, wanted).1)
+        }
+        Point::WrongOrder(place) => {
+            let shown = global_at(pages.text, pages.found, place, false);
+            push_order(text, &shown, asked(interface, place).0)
+        }
+        Point::OutOfBudget(trial) => push_endless(text, trial, interface.trials.get(trial)),
         Point::WrongWord {
             trial,
             wanted,
             word,
-        } => push_wrong(text, pages, trial, wanted, Some(word)),
-        Point::NoWord { trial, wanted } => push_wrong(text, pages, trial, wanted, None),
+        } => push_wrong(text, trial, expected(interface, trial, wanted), Some(word)),
+        Point::NoWord { trial, wanted } => {
+            push_wrong(text, trial, expected(interface, trial, wanted), None)
+        }
+    }
+}
+
+/// The lines of points more.
+fn push_points(text: &mut Vec<u8>, pages: &Pages, points: &[Point]) -> Result<(), AllocError>
+    ensures { OnOk result (text.new.items
+        ≡ text.old.items ++ flat_map (spec.line_of_point (told.page pages.now)) points.now) }
+{
+    for point in points {
+        push_point(text, pages, *point)?;
+    }
+    Ok(())
+}
+
+/// The lines of a refusal, where there is one.
+fn first_lines(
+    alloc: Global,
+    lattice: &Lattice,
+    text: &[u8],
+    interface: &Interface,
+    refusal: &Option<UnsteadyError>,
+) -> Result<Vec<u8>, AllocError>
+    ensures { IfOk result (λ lines. spec.AreFirst lattice.now text.now interface.now
+        refusal.now lines.items) }
+{
+    match refusal {
+        Some(error) => refusal_lines(alloc, lattice, text, error, is_steady(interface)),
+        None => Ok(Vec::new(alloc)),
     }
 }
 
 /// Whether the text is to be steady.
-pub(crate) fn is_steady(interface: &Interface) -> bool {
+pub(crate) fn is_steady(interface: &Interface) -> bool
+    ensures { result ≡ spec.is_steady interface.now.judgement }
+{
     matches!(interface.judgement, Judgement::Steady)
 }
 
@@ -210,22 +360,21 @@ pub fn points_text(
     text: &[u8],
     interface: &Interface,
     answer: &Answer,
-) -> Result<Vec<u8>, AllocError> {
+) -> Result<Vec<u8>, AllocError>
+    ensures text { IfOk result (λ out. spec.IsConformText lattice.now text.now interface.now
+        answer.now out.items) }
+{
     if answer.conforms() {
-        return Vec::from_slice(alloc, b"conforms\n");
+        let line = Vec::from_slice(alloc, b"conforms\n")?;
+        return Ok(line);
     }
-    let mut lines = match &answer.refusal {
-        Some(error) => refusal_lines(alloc, lattice, text, error, is_steady(interface))?,
-        None => Vec::new(alloc),
-    };
     let found = declarations(alloc, text)?;
     let pages = Pages {
         text,
         found: &found,
         interface,
     };
-    for point in &answer.points {
-        push_point(&mut lines, &pages, *point)?;
-    }
+    let mut lines = first_lines(alloc, lattice, text, interface, &answer.refusal)?;
+    push_points(&mut lines, &pages, &answer.points)?;
     Ok(lines)
 }

@@ -1,13 +1,14 @@
 //! Pages that explain refusals: what each number means, an example, and what to do next.
 //!
 //! `page` has one for each number that the program or the library answers; `specs/Numbers` lists
-//! them.
+//! them, and `specs/Pages` says which page each has.
 //!
-//! To be believed: `specs/Numbers`.
+//! To be believed: `specs/Numbers`, `specs/Pages`.
 #![tactic(auto)]
 
-ghost use Rattle.std.specs.Prelude.{◌≡◌, ◌↔◌, IsSome, true};
+ghost use Rattle.std.specs.Prelude.{◌≡◌, ◌↔◌, IsSome, option_map, true};
 ghost use Rattle.vsi_explain.specs.Numbers as spec;
+ghost use Rattle.vsi_explain.specs.Pages.{page_of};
 
 mod image;
 mod lattice;
@@ -26,6 +27,7 @@ use text::text_page;
 /// have at most 80 bytes of ASCII.
 pub fn page(number: u64) -> Option<&'static str>
     ensures known { IsSome result ↔ (spec.is_refusal number ≡ true) }
+    ensures exact { option_map (λ page. page.now) result ≡ page_of number }
 {
     match number {
         1..=10 => lattice_page(number),

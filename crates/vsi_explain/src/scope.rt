@@ -1,11 +1,13 @@
 //! The pages of the refusals of a program for its names, its size and its flows.
 
-ghost use Rattle.std.specs.Prelude.{◌≡◌, ◌↔◌, IsSome, true};
+ghost use Rattle.std.specs.Prelude.{◌≡◌, ◌↔◌, IfSome, IsSome, Some, true};
 ghost use Rattle.vsi_explain.specs.Numbers as spec;
+ghost use Rattle.vsi_explain.specs.Pages.{page_of};
 
 /// The page of such a refusal; none for any other number.
 pub(crate) fn scope_page(number: u64) -> Option<&'static str>
-    ensures { IsSome result ↔ (spec.is_scope_refusal number ≡ true) }
+    ensures known { IsSome result ↔ (spec.is_scope_refusal number ≡ true) }
+    ensures page { IfSome result (λ page. page_of number ≡ Some page.now) }
 {
     match number {
         17 => Some(DUPLICATE),

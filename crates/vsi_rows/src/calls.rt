@@ -4,7 +4,8 @@ use crate::compiling::Shown;
 use crate::row::Row;
 use crate::wrong::Wrong;
 use crate::{
-    code, compiling, faults, flows, forms, lattices, machines, scopes, stores, texts, walks,
+    code, compiling, faults, flows, forms, lattices, machines, requests, scopes, stores, texts,
+    walks,
 };
 use std::alloc::Global;
 use vsi_lattice::Lattice;
@@ -52,6 +53,16 @@ fn answer_of_image(alloc: Global, call: &str, row: &mut Row<'_>) {
         "store" => stores::read(alloc, row),
         "store_text" => stores::printed(alloc, row),
         "fault" => faults::told(alloc, row),
+        _ => answer_of_words(alloc, call, row),
+    }
+}
+
+/// Adds the answer to a row about the words of a command line.
+fn answer_of_words(alloc: Global, call: &str, row: &mut Row<'_>) {
+    match call {
+        "asked" => requests::asked(alloc, row),
+        "page" => requests::page_asked(alloc, row),
+        "help" => requests::help_asked(alloc, row),
         _ => answer_over_lattice(alloc, call, row),
     }
 }

@@ -23,6 +23,7 @@ mod images;
 mod judging;
 mod lattices;
 mod machines;
+mod requests;
 mod row;
 mod scopes;
 mod stores;

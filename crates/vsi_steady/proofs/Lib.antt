@@ -8,3 +8,4 @@ mod Sweeping
 mod Watching
 mod Guards
 mod Sources
+mod Telling

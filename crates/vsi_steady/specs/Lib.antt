@@ -2,5 +2,6 @@ pub mod Steady
 pub mod Least
 pub mod Laws
 pub mod Refusal
+pub mod Telling
 pub mod Watched
 pub mod Source

@@ -1,22 +1,13 @@
 //! The chain of flows that brings something to an instruction.
 
-ghost use Rattle.std.specs.Prelude.{IfSome};
-ghost use Rattle.vsi_lattice.specs.LatticeView.{order};
-ghost use Rattle.vsi_lattice.specs.Order.{IsClass};
+ghost use Rattle.std.specs.Prelude.{IfOk};
+ghost use Rattle.vsi_lattice.specs.LatticeView.{class_named, order};
+ghost use Rattle.vsi_steady.specs.Telling.{IsChain};
 
+use crate::step::{Step, is_bad, is_chain};
 use std::alloc::{AllocError, Global};
 use vsi_image::{Image, Instr};
-use vsi_lattice::{Class, Classes, Lattice};
-
-/// What a LOAD reads flows into what a STORE or a JZ takes. The target is a slot, or none for a
-/// jump.
-#[derive(Clone, Copy)]
-pub(crate) struct Step {
-    pub(crate) source: u16,
-    pub(crate) read: usize,
-    pub(crate) target: Option<u16>,
-    pub(crate) written: usize,
-}
+use vsi_lattice::Lattice;
 
 /// A LOAD whose word is part of an operand.
 #[derive(Clone, Copy)]
@@ -76,29 +67,6 @@ fn steps_of(alloc: Global, code: &[Instr]) -> Result<Vec<Step>, AllocError> {
     Ok(steps)
 }
 
-/// The class of a slot's class name, where it is a global that the lattice has a class for.
-pub(crate) fn class_of(lattice: &Lattice, image: &Image, slot: u16) -> Option<Class>
-    ensures { IfSome result (IsClass (order lattice.now)) }
-{
-    match image.globals.get(slot as usize) {
-        Some(global) => lattice.class_named(global.1.as_slice()),
-        None => None,
-    }
-}
-
-/// Whether what a global holds may not flow into a target.
-fn is_bad(lattice: &Lattice, image: &Image, source: u16, target: Option<u16>) -> bool {
-    let low = match target {
-        Some(slot) => class_of(lattice, image, slot),
-        None => Some(lattice.bottom()),
-    };
-    let high = class_of(lattice, image, source);
-    match (high, low) {
-        (Some(high), Some(low)) => !lattice.leq(high, low),
-        _ => false,
-    }
-}
-
 /// The steps that lead from this one on to an instruction, by the step that each slot leads on by.
 fn path(
     alloc: Global,
@@ -132,6 +100,24 @@ fn path(
 /// not flow, through slots above the globals: one of the fewest steps, and of these the first in
 /// dictionary order. It is empty where there is none.
 pub(crate) fn chain_to(
+    alloc: Global,
+    lattice: &Lattice,
+    image: &Image,
+    place: usize,
+) -> Result<Vec<Step>, AllocError>
+    ensures { IfOk result (λ steps. IsChain (class_named lattice.now) (order lattice.now) image.now
+        place steps.items) }
+{
+    // The search promises nothing itself, so what it finds is tried.
+    let steps = found_chain(alloc, lattice, image, place)?;
+    if is_chain(lattice, image, place, &steps) {
+        return Ok(steps);
+    }
+    Ok(Vec::new(alloc))
+}
+
+/// The steps of that chain, as a search from the place on finds them.
+fn found_chain(
     alloc: Global,
     lattice: &Lattice,
     image: &Image,

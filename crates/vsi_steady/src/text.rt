@@ -1,41 +1,55 @@
 //! What is told of an image that isn't steady.
 
-use crate::chain::{Step, chain_to};
+ghost use Rattle.std.specs.Prelude.{◌≡◌, ◌++◌, IfOk, OnOk, decimal};
+ghost use Rattle.std.specs.List.{flat_map};
+ghost use Rattle.vsi_image.specs.Fields.{globals};
+ghost use Rattle.vsi_steady.specs.Telling as spec;
+
+use crate::chain::chain_to;
 use crate::error::SteadyError;
+use crate::step::Step;
 use itoa::Buffer;
 use std::alloc::{AllocError, Global};
 use vsi_image::Image;
 use vsi_lattice::{Classes, Lattice};
 
 /// Adds a number in decimal.
-fn put_number(out: &mut Vec<u8>, n: usize) -> Result<(), AllocError> {
+fn put_number(out: &mut Vec<u8>, n: usize) -> Result<(), AllocError>
+    ensures { OnOk result (out.new.items ≡ out.old.items ++ decimal n) }
+{
     let mut buffer = Buffer::new();
-    out.extend_from_slice(buffer.format(n as u64).as_bytes())
+    out.extend_from_slice(buffer.format(n).as_bytes())
 }
 
 /// Adds the name of a global, `slot` and the number of another slot, or `(jump)`.
-fn put_name(out: &mut Vec<u8>, image: &Image, slot: Option<u16>) -> Result<(), AllocError> {
-    let Some(slot) = slot else {
+fn put_name(out: &mut Vec<u8>, image: &Image, end: Option<u16>) -> Result<(), AllocError>
+    ensures { OnOk result (out.new.items
+        ≡ out.old.items ++ spec.end_name (globals image.now.globals.items) end) }
+{
+    let Some(slot) = end else {
         return out.extend_from_slice(b"(jump)");
     };
-    if let Some(global) = image.globals.get(slot as usize) {
-        return out.extend_from_slice(&global.0);
+    match image.globals.get(slot as usize) {
+        Some(global) => out.extend_from_slice(&global.0),
+        None => {
+            out.extend_from_slice(b"slot ")?;
+            put_number(out, slot as usize)
+        }
     }
-    out.extend_from_slice(b"slot ")?;
-    put_number(out, slot as usize)
 }
 
-/// Adds the name of an end of a chain, and that of its class.
-fn put_end(
+/// Adds the class name of a global, or that of the bottom class for the jump.
+fn put_class(
     out: &mut Vec<u8>,
-    lattice: &Lattice,
+    bottom: &[u8],
     image: &Image,
-    slot: Option<u16>,
-) -> Result<(), AllocError> {
-    put_name(out, image, slot)?;
-    out.extend_from_slice(b" : ")?;
-    let Some(slot) = slot else {
-        return out.extend_from_slice(lattice.name(lattice.bottom()));
+    end: Option<u16>,
+) -> Result<(), AllocError>
+    ensures { OnOk result (out.new.items
+        ≡ out.old.items ++ spec.end_class bottom.now (globals image.now.globals.items) end) }
+{
+    let Some(slot) = end else {
+        return out.extend_from_slice(bottom);
     };
     match image.globals.get(slot as usize) {
         Some(global) => out.extend_from_slice(&global.1),
@@ -43,38 +57,119 @@ fn put_end(
     }
 }
 
+/// Adds the name of an end of a chain, and that of its class.
+fn put_end(
+    out: &mut Vec<u8>,
+    bottom: &[u8],
+    image: &Image,
+    end: Option<u16>,
+) -> Result<(), AllocError>
+    ensures { OnOk result (out.new.items
+        ≡ out.old.items ++ spec.end_text bottom.now (globals image.now.globals.items) end) }
+{
+    put_name(out, image, end)?;
+    out.extend_from_slice(b" : ")?;
+    put_class(out, bottom, image, end)
+}
+
+/// Adds what takes the operand of a step.
+fn put_taker(out: &mut Vec<u8>, target: Option<u16>) -> Result<(), AllocError>
+    ensures { OnOk result (out.new.items ≡ out.old.items ++ spec.taker target) }
+{
+    match target {
+        Some(_) => out.extend_from_slice(b" by STORE at "),
+        None => out.extend_from_slice(b" by JZ at "),
+    }
+}
+
 /// Adds the line of a step.
-fn put_step(out: &mut Vec<u8>, image: &Image, step: &Step) -> Result<(), AllocError> {
+fn put_step(out: &mut Vec<u8>, image: &Image, step: &Step) -> Result<(), AllocError>
+    ensures { OnOk result (out.new.items
+        ≡ out.old.items ++ spec.step_line (globals image.now.globals.items) step.now) }
+{
     put_number(out, step.read)?;
     out.extend_from_slice(b" ")?;
     put_name(out, image, Some(step.source))?;
     out.extend_from_slice(b" flows to ")?;
     put_name(out, image, step.target)?;
-    match step.target {
-        Some(_) => out.extend_from_slice(b" by STORE at ")?,
-        None => out.extend_from_slice(b" by JZ at ")?,
-    }
+    put_taker(out, step.target)?;
     put_number(out, step.written)?;
-    out.extend_from_slice(b"\n")
+    out.extend_from_slice(b"\n")?;
+    Ok(())
+}
+
+/// Adds a line for each step.
+fn put_steps(out: &mut Vec<u8>, image: &Image, steps: &[Step]) -> Result<(), AllocError>
+    ensures { OnOk result (out.new.items ≡ out.old.items
+        ++ flat_map (spec.step_line (globals image.now.globals.items)) steps.now) }
+{
+    for step in steps {
+        put_step(out, image, step)?;
+    }
+    Ok(())
+}
+
+/// Adds the line of the ends of a chain.
+fn put_ends(
+    out: &mut Vec<u8>,
+    bottom: &[u8],
+    image: &Image,
+    source: u16,
+    target: Option<u16>,
+) -> Result<(), AllocError>
+    ensures { OnOk result (out.new.items ≡ out.old.items
+        ++ spec.ends_line bottom.now (globals image.now.globals.items) source target) }
+{
+    put_end(out, bottom, image, Some(source))?;
+    out.extend_from_slice(b" may not flow to ")?;
+    put_end(out, bottom, image, target)?;
+    out.extend_from_slice(b"\n")?;
+    Ok(())
 }
 
 /// Adds the lines of a chain: one for each step, and a last one with the classes of its ends.
 fn put_chain(
     out: &mut Vec<u8>,
-    lattice: &Lattice,
+    bottom: &[u8],
     image: &Image,
-    chain: &[Step],
-) -> Result<(), AllocError> {
-    if chain.is_empty() {
+    steps: &[Step],
+) -> Result<(), AllocError>
+    ensures { OnOk result (out.new.items ≡ out.old.items
+        ++ spec.chain_lines bottom.now (globals image.now.globals.items) steps.now) }
+{
+    if steps.is_empty() {
         return Ok(());
     }
-    for step in chain {
-        put_step(out, image, step)?;
-    }
-    put_end(out, lattice, image, Some(chain[0].source))?;
-    out.extend_from_slice(b" may not flow to ")?;
-    put_end(out, lattice, image, chain[chain.len() - 1].target)?;
-    out.extend_from_slice(b"\n")
+    put_steps(out, image, steps)?;
+    let target = steps[steps.len() - 1].target;
+    put_ends(out, bottom, image, steps[0].source, target)?;
+    Ok(())
+}
+
+/// The text of a class name that the lattice lacks.
+fn unknown_text(alloc: Global, n: usize) -> Result<Vec<u8>, AllocError>
+    ensures { IfOk result (λ text. text.items ≡ spec.unknown_text n) }
+{
+    let mut text = Vec::from_slice(alloc, b"refused: 43 ClassNotInLattice ")?;
+    put_number(&mut text, n)?;
+    text.extend_from_slice(b"\n")?;
+    Ok(text)
+}
+
+/// The text of a flow into the instruction at a place.
+fn flow_text(
+    alloc: Global,
+    lattice: &Lattice,
+    image: &Image,
+    place: usize,
+) -> Result<Vec<u8>, AllocError>
+    ensures { IfOk result (λ text. spec.IsFlowText lattice.now image.now place text.items) }
+{
+    let steps = chain_to(alloc, lattice, image, place)?;
+    let bottom = lattice.name(lattice.bottom());
+    let mut text = Vec::from_slice(alloc, b"refused: 25 Refused\n")?;
+    put_chain(&mut text, bottom, image, &steps)?;
+    Ok(text)
 }
 
 /// The text of a refusal of an image: its number and its name, and the number of the global; of a
@@ -86,20 +181,13 @@ pub fn steady_text(
     lattice: &Lattice,
     image: &Image,
     error: &SteadyError,
-) -> Result<Vec<u8>, AllocError> {
-    let mut out = Vec::new(alloc);
+) -> Result<Vec<u8>, AllocError>
+    ensures { IfOk result
+        (λ text. spec.IsUnsteadyText lattice.now image.now error.now text.items) }
+{
     match error {
-        SteadyError::UnknownClass(n) => {
-            out.extend_from_slice(b"refused: 43 ClassNotInLattice ")?;
-            put_number(&mut out, *n)?;
-            out.extend_from_slice(b"\n")?;
-        }
-        SteadyError::Flow(place) => {
-            out.extend_from_slice(b"refused: 25 Refused\n")?;
-            let chain = chain_to(alloc, lattice, image, *place)?;
-            put_chain(&mut out, lattice, image, &chain)?;
-        }
-        SteadyError::Memory => out.extend_from_slice(b"out of memory\n")?,
+        SteadyError::UnknownClass(n) => unknown_text(alloc, *n),
+        SteadyError::Flow(place) => flow_text(alloc, lattice, image, *place),
+        SteadyError::Memory => Vec::from_slice(alloc, b"out of memory\n"),
     }
-    Ok(out)
 }

@@ -2,8 +2,8 @@ use Rattle.std.proofs.Common.{inl, inr, subst}
 use Rattle.std.proofs.lemmas.Result.{IfErr-weaker, on_ok_weaker}
 use Rattle.vsi.specs.Holding.{IsImageAt}
 use Rattle.vsi.specs.Reasons.{IsRefusedImage, RefusesAudit, RefusesImage, RefusesLattice, StopsBy}
-use Rattle.vsi.proofs.Reasons.{StopsBy-weaker, stops_by}
-use Rattle.vsi.proofs.Unrun.{Unaudited, handed, held_stops}
+use Rattle.vsi.proofs.Reasons.{StopsBy-weaker, handed, stops_by}
+use Rattle.vsi.proofs.Unrun.{Unaudited, held_stops}
 use Rattle.vsi.proofs.auditing.audit.Goals as goal
 
 pub returns-clause-told : goal.returns-clause-told

@@ -2,6 +2,7 @@ use Rattle.std.proofs.Common.{inl, arith}
 use Rattle.std.proofs.lemmas.Result.{IfErr-weaker}
 use Rattle.vsi_devices.specs.Counted.{device_of}
 use Rattle.vsi.specs.Done.{StopsAt}
+use Rattle.vsi.proofs.Filled.{unfilled_at}
 use Rattle.vsi.proofs.Obeyed.{stops_at}
 use Rattle.vsi.proofs.Stopped.{Gets-nothing, done_at_zero, tells_stop}
 use Rattle.vsi.proofs.command_line.command.Goals as goal
@@ -20,3 +21,8 @@ returns-clause-told g c =
 pub returns-clause-done : goal.returns-clause-done
 returns-clause-done g c = λ some.
     done_at_zero c.obeyed-answer.result c.ended.result c.obeyed-answer.ensures.done c.ended.ensures.stopped
+
+pub returns-clause-unfilled : goal.returns-clause-unfilled
+returns-clause-unfilled g c =
+    unfilled_at _ c.obeyed-answer.result c.ended.result c.obeyed-answer.ensures.unfilled c.ended.ensures.done
+    c.ended.ensures.stopped

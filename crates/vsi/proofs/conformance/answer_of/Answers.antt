@@ -1,10 +1,15 @@
 use Rattle.std.proofs.Common.{◌∙◌, sym}
-use Rattle.std.proofs.lemmas.Bool.{false≢true}
+use Rattle.vsi.proofs.Conforming.{is_verdict}
 use Rattle.vsi.proofs.conformance.answer_of.Goals as goal
 
 pub returns-clause-told : goal.returns-clause-told
-returns-clause-told c = λ is. c.in_ok-answer.ensures.conforms (sym c.conforms.ensures ∙ is)
-
-pub returns-clause-differs : goal.returns-clause-differs
-returns-clause-differs c =
-    λ not conforms. false≢true (sym not ∙ c.conforms.ensures ∙ c.in_ok-answer.ensures.exact conforms)
+returns-clause-told c =
+    record {
+      answer = c.in_ok-answer.answer;
+      tells = c.in_ok-answer.ensures.told;
+      verdict = sym c.conforms.ensures;
+      is = is_verdict c.conforms.result c.args.lattice.now c.args.text.now c.args.interface.now
+          (λ is. c.in_ok-answer.ensures.conforms (sym c.conforms.ensures ∙ is))
+          (λ is. c.conforms.ensures ∙ c.in_ok-answer.ensures.exact is);
+      written = c.in_ok-written.ensures;
+    }

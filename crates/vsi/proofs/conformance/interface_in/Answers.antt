@@ -1,8 +1,7 @@
 use Rattle.std.proofs.Common.{subst}
 use Rattle.vsi_conform.specs.Reading.{IsReadAs}
 use Rattle.vsi.specs.Reasons.{IsUnusable, StopsBy}
-use Rattle.vsi.proofs.Reasons.{late_stops}
-use Rattle.vsi.proofs.Unrun.{handed}
+use Rattle.vsi.proofs.Reasons.{handed, late_stops}
 use Rattle.vsi.proofs.conformance.interface_in.Goals as goal
 
 pub returns-in-Ok-clause-asked : goal.returns-in-Ok-clause-asked

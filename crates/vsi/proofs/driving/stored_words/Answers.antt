@@ -2,8 +2,8 @@ use Rattle.std.proofs.Common.{subst}
 use Rattle.vsi_image.specs.Fields.{globals}
 use Rattle.vsi_store.specs.File.{IsRefusal, Tells}
 use Rattle.vsi.specs.Reasons.{NoOther, StopsBy}
-use Rattle.vsi.proofs.Reasons.{late_stops}
-use Rattle.vsi.proofs.Unrun.{RefusesWords, handed, words_stop}
+use Rattle.vsi.proofs.Reasons.{handed, late_stops}
+use Rattle.vsi.proofs.Unrun.{RefusesWords, words_stop}
 use Rattle.vsi.proofs.driving.stored_words.Goals as goal
 
 pub returns-in-Ok-clause-stored : goal.returns-in-Ok-clause-stored

@@ -1,10 +1,10 @@
-use Rattle.std.proofs.Common.{rules, sym, subst, append_assoc}
+use Rattle.std.proofs.Common.{inr, rules, sym, subst, append_assoc}
 use Rattle.vsi_image.specs.Fields.{globals}
 use Rattle.vsi_lattice.specs.LatticeView.{class_named, order}
 use Rattle.vsi_leak.specs.Leaks.{IsFinding}
 use Rattle.vsi_leak.specs.Texts.{IsLeakText}
 use Rattle.vsi.specs.Holding.{IsReadAt}
-use Rattle.vsi.proofs.Refused.{leak_lattice, leak_nothing, leak_program}
+use Rattle.vsi.proofs.Refused.{leak_lattice, leak_lacking, leak_program}
 use Rattle.vsi.proofs.leaking.leak.Goals as goal
 
 pub returns-clause-told : goal.returns-clause-told
@@ -29,8 +29,9 @@ returns-in_err-classes-clause-stopped g c =
 
 pub returns-in_err-class-clause-stopped : goal.returns-in_err-class-clause-stopped
 returns-in_err-class-clause-stopped g c =
-    leak_nothing (g.F.Files.holds c.args.files.now) c.args.search c.from_residual-in_err-class.result
-    c.in_err-class.field-0.0 c.from_residual-in_err-class.ensures.1 c.in_err-class.ensures.stopped
+    leak_lacking (g.F.Files.holds c.args.files.now) c.args.search c.in_ok-classes.classes
+    c.from_residual-in_err-class.result c.in_err-class.field-0.0 c.from_residual-in_err-class.ensures.1
+    c.in_ok-classes.ensures.read c.in_err-class.ensures.stopped
 
 pub returns-in-Err-clause-stopped : goal.returns-in-Err-clause-stopped
 returns-in-Err-clause-stopped g c =
@@ -43,18 +44,22 @@ returns-in-Err-clause-stopped g c =
     c.refused.ensures
 
 pub returns-in-Leak-clause-stopped : goal.returns-in-Leak-clause-stopped
-returns-in-Leak-clause-stopped g c =
-    record {
-      lattice = c.in_ok-classes.classes;
-      declared = c.in_ok-classes.ensures.read;
-      image = c.in-Ok.found.0;
-      leak = c.in-Leak.leak;
-      leaks = subst
-          (λ f. IsFinding (class_named c.in_ok-classes.classes) (order c.in_ok-classes.classes) c.in-Ok.found.0
-          c.args.search.budget f)
-          c.in-Leak.is c.in-Ok.ensures.leak;
-      told = subst
-          (λ im. IsLeakText c.in_ok-classes.classes (globals im.globals.items) c.in-Leak.leak
-          c.in_ok-shown-in-Leak.shown.items)
-          c.image.ensures.same c.in_ok-shown-in-Leak.ensures;
-    }
+returns-in-Leak-clause-stopped g c = inr (record {
+  lattice = c.in_ok-classes.classes;
+  declared = c.in_ok-classes.ensures.read;
+  source = c.as_slice.result.now;
+  read = subst (λ h. IsReadAt h c.args.search.source.now c.as_slice.result.now) c.in_ok-classes.ensures.kept
+      (subst (IsReadAt (g.F.Files.holds c.lattice_in.new.files) c.args.search.source.now)
+      (sym c.as_slice.ensures.value) c.in_ok-text.ensures.read);
+  image = c.in-Ok.found.0;
+  of_source = c.in-Ok.ensures.image;
+  leak = c.in-Leak.leak;
+  leaks = subst
+      (λ f. IsFinding (class_named c.in_ok-classes.classes) (order c.in_ok-classes.classes) c.in-Ok.found.0
+      c.args.search.budget f)
+      c.in-Leak.is c.in-Ok.ensures.leak;
+  told = subst
+      (λ im. IsLeakText c.in_ok-classes.classes (globals im.globals.items) c.in-Leak.leak
+      c.in_ok-shown-in-Leak.shown.items)
+      c.image.ensures.same c.in_ok-shown-in-Leak.ensures;
+})

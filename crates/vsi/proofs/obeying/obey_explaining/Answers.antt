@@ -1,6 +1,4 @@
-use Rattle.std.proofs.Common.{subst}
 use Rattle.vsi_devices.specs.Counted.{device_of}
-use Rattle.vsi.specs.Reasons.{Why}
 use Rattle.vsi.proofs.Obeyed.{explained_stops}
 use Rattle.vsi.proofs.obeying.obey_explaining.Goals as goal
 
@@ -11,7 +9,7 @@ returns-clause-stopped g c =
     let new = g.W.Write.contents (device_of c.perform.new.output) in
     explained_stops holds c.args.request old new c.in-Err.stop c.after.result
     (record {
-      why = subst (λ h. Why h c.args.request old new c.in-Err.stop) c.new-desk.ensures c.in-Err.ensures.stopped;
+      why = c.in-Err.ensures.stopped;
       silent = c.in-Err.ensures.silent;
     })
     c.after.ensures.kept

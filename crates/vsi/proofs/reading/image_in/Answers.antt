@@ -2,7 +2,7 @@ use Rattle.std.proofs.Common.{Err, sym, subst}
 use Rattle.vsi_answers.specs.Requests.{ReadsImage}
 use Rattle.vsi.specs.Holding.{IsReadAt}
 use Rattle.vsi.specs.Reasons.{NoOther, RefusesImage}
-use Rattle.vsi.proofs.Refused.{stopped_reason}
+use Rattle.vsi.proofs.Reasons.{handed_reason}
 use Rattle.vsi.proofs.reading.image_in.Goals as goal
 
 pub returns-clause-read : goal.returns-clause-read
@@ -16,8 +16,8 @@ returns-clause-read g c =
 
 pub returns-in_err-verified-clause-stopped : goal.returns-in_err-verified-clause-stopped
 returns-in_err-verified-clause-stopped g c =
-    stopped_reason (RefusesImage (g.F.Files.holds c.args.files.now) c.args.path.now) NoOther
-    c.from_residual-in_err-verified.result c.in_err-verified.field-0.0 c.from_residual-in_err-verified.ensures.1
+    handed_reason (RefusesImage (g.F.Files.holds c.args.files.now) c.args.path.now) NoOther
+    c.in_err-verified.field-0.0 c.from_residual-in_err-verified.result c.from_residual-in_err-verified.ensures.1
     (record {
       bytes = c.in_ok-bytes.bytes.items;
       read = c.in_ok-bytes.ensures.read;

@@ -3,8 +3,8 @@ use Rattle.vsi_drive.specs.Starts.{Begins}
 use Rattle.vsi_lattice.specs.NamePlaces.{texts}
 use Rattle.vsi.specs.Holding.{IsImageAt}
 use Rattle.vsi.specs.Reasons.{NoOther, RefusesImage, StopsBy}
-use Rattle.vsi.proofs.Reasons.{late_stops}
-use Rattle.vsi.proofs.Unrun.{Unstarted, handed, held_stops, memory_stops, start_stops}
+use Rattle.vsi.proofs.Reasons.{handed, late_stops}
+use Rattle.vsi.proofs.Unrun.{Unstarted, held_stops, memory_stops, start_stops}
 use Rattle.vsi.proofs.running.image_and_words.Goals as goal
 
 pub returns-clause-begins : goal.returns-clause-begins
@@ -41,7 +41,7 @@ returns-in_err-keep_settings-clause-stopped g c =
     let why = Unstarted (g.F.Files.holds c.args.files.now) c.args.execution c.args.outset.now in
     handed (StopsBy why NoOther) c.in_err-keep_settings.field-0.0 c.from_residual-in_err-keep_settings.result
     c.from_residual-in_err-keep_settings.ensures.1
-    (memory_stops why NoOther c.in_err-keep_settings.field-0.0 c.in_err-keep_settings.ensures.stopped)
+    (memory_stops why NoOther c.in_err-keep_settings.field-0.0 c.in_err-keep_settings.ensures)
 
 pub returns-in_err-words-clause-stopped : goal.returns-in_err-words-clause-stopped
 returns-in_err-words-clause-stopped g c =

@@ -5,15 +5,16 @@ use Rattle.std.specs.Io.KnownBytes.{Appends}
 use Rattle.vsi_devices.specs.Counted.{device_of}
 use Rattle.vsi.specs.Performed.{BeginsAt, shown}
 use Rattle.vsi.specs.Reasons.{NoOther, StopsBy, WhyRun}
-use Rattle.vsi.proofs.Reasons.{stops_by}
-use Rattle.vsi.proofs.Unrun.{Unstarted, ended_stops, handed, handed_late, memory_stops}
+use Rattle.vsi.proofs.Filled.{both_done, delivered_of}
+use Rattle.vsi.proofs.Reasons.{handed, stops_by}
+use Rattle.vsi.proofs.Unrun.{Unstarted, ended_stops, handed_late, memory_stops}
 use Rattle.vsi.proofs.running.run.Goals as goal
 
 pub returns-in-Ok-Some-clause-performed : goal.returns-in-Ok-Some-clause-performed
 returns-in-Ok-Some-clause-performed g c =
     let ran = rw c.in-Ok-Some.field-0-is at c.in-Ok-Some.ensures.ran in
     on_ok_weaker c.deliver.result
-    (λ written. record {
+    (λ done. record {
       trace = ran.0;
       text = c.in-Ok-Some.text.items;
       ran = record {
@@ -31,9 +32,12 @@ returns-in-Ok-Some-clause-performed g c =
           (subst
           (λ t. Appends (g.W.Write.contents (device_of c.run_words.new.writer))
           (g.W.Write.contents (device_of c.deliver.new.output)) (shown c.args.asked.now.outset.out t))
-          c.deref-in-Ok-Some-2.ensures.value written);
+          c.deref-in-Ok-Some-2.ensures.value done.0);
+      delivered = delivered_of c.args.asked.now.outset.out c.deref-in-Ok-Some-2.result.now c.in-Ok-Some.text.items
+          (g.F.Files.holds c.image_and_words.new.files) (g.F.Files.holds c.args.files.now)
+          (g.F.Files.holds c.deliver.new.files) c.deref-in-Ok-Some-2.ensures.value c.in_ok-verified.ensures.kept done.1;
     })
-    c.deliver.ensures.whole
+    (both_done _ _ c.deliver.result c.deliver.ensures.whole c.deliver.ensures.delivered)
 
 pub returns-in_err-verified-clause-stopped : goal.returns-in_err-verified-clause-stopped
 returns-in_err-verified-clause-stopped g c =
@@ -60,7 +64,8 @@ returns-in_err-put_count-in-Ok-Some-clause-stopped g c =
     let holds = g.F.Files.holds c.args.files.now in
     let why = WhyRun holds c.args.asked.now.execution c.args.asked.now.outset c.args.asked.now.has_trace
     (g.W.Write.contents (device_of c.args.output.now)) (g.W.Write.contents (device_of c.run_words.new.writer)) in
-    handed (StopsBy why NoOther) c.in_err-put_count-in-Ok-Some.field-0.0 c.from_residual-in_err-put_count-in-Ok-Some.result
+    handed (StopsBy why NoOther) c.in_err-put_count-in-Ok-Some.field-0.0
+    c.from_residual-in_err-put_count-in-Ok-Some.result
     c.from_residual-in_err-put_count-in-Ok-Some.ensures.1
     (memory_stops why NoOther c.in_err-put_count-in-Ok-Some.field-0.0 c.in_err-put_count-in-Ok-Some.ensures)
 
@@ -69,7 +74,8 @@ returns-in_err-put_count-in-Ok-None-clause-stopped g c =
     let holds = g.F.Files.holds c.args.files.now in
     let why = WhyRun holds c.args.asked.now.execution c.args.asked.now.outset c.args.asked.now.has_trace
     (g.W.Write.contents (device_of c.args.output.now)) (g.W.Write.contents (device_of c.run_words.new.writer)) in
-    handed (StopsBy why NoOther) c.in_err-put_count-in-Ok-None.field-0.0 c.from_residual-in_err-put_count-in-Ok-None.result
+    handed (StopsBy why NoOther) c.in_err-put_count-in-Ok-None.field-0.0
+    c.from_residual-in_err-put_count-in-Ok-None.result
     c.from_residual-in_err-put_count-in-Ok-None.ensures.1
     (memory_stops why NoOther c.in_err-put_count-in-Ok-None.field-0.0 c.in_err-put_count-in-Ok-None.ensures)
 

@@ -3,23 +3,29 @@ use Rattle.std.proofs.lemmas.Result.{on_ok_weaker}
 use Rattle.std.specs.Io.KnownBytes.{Appends}
 use Rattle.vsi_devices.specs.Counted.{device_of}
 use Rattle.vsi.specs.Performed.{shown}
-use Rattle.vsi.specs.Reasons.{NoOther, StopsBy, WhyView}
-use Rattle.vsi.proofs.Unrun.{handed, handed_late}
+use Rattle.vsi.specs.Reasons.{LacksClassAt, StopsBy, WhyView}
+use Rattle.vsi.proofs.Filled.{both_done, delivered_of}
+use Rattle.vsi.proofs.Reasons.{handed}
+use Rattle.vsi.proofs.Unrun.{handed_late}
 use Rattle.vsi.proofs.Written.{silent_late}
 use Rattle.vsi.proofs.running.view.Goals as goal
 
 pub returns-clause-performed : goal.returns-clause-performed
 returns-clause-performed g c =
     on_ok_weaker c.deliver.result
-    (λ written. record {
+    (λ done. record {
       text = c.in_ok-text.text;
       views = c.in_ok-text.ensures.told;
       written = subst
-          (λ t. Appends (g.W.Write.contents (device_of c.args.output.now)) (g.W.Write.contents (device_of c.deliver.new.output))
+          (λ t. Appends (g.W.Write.contents (device_of c.args.output.now)) (g.W.Write.contents (device_of
+          c.deliver.new.output))
           (shown c.args.outset.now.out t))
-          c.deref.ensures.value written;
+          c.deref.ensures.value done.0;
+      delivered = delivered_of c.args.outset.now.out c.deref.result.now c.in_ok-text.text.items
+          (g.F.Files.holds c.seen.new.files) (g.F.Files.holds c.args.files.now) (g.F.Files.holds c.deliver.new.files)
+          c.deref.ensures.value c.in_ok-text.ensures.kept done.1;
     })
-    c.deliver.ensures.whole
+    (both_done _ _ c.deliver.result c.deliver.ensures.whole c.deliver.ensures.delivered)
 
 pub returns-clause-silent : goal.returns-clause-silent
 returns-clause-silent g c =
@@ -31,7 +37,7 @@ returns-in_err-text-clause-stopped g c =
     (StopsBy
     (WhyView (g.F.Files.holds c.args.files.now) c.args.lattice.now c.args.class.now c.args.execution
     c.args.outset.now)
-    NoOther)
+    (LacksClassAt (g.F.Files.holds c.args.files.now) c.args.lattice.now c.args.class.now))
     c.in_err-text.field-0.0 c.from_residual.result c.from_residual.ensures.1 c.in_err-text.ensures.stopped
 
 pub returns-clause-stopped : goal.returns-clause-stopped
@@ -39,4 +45,5 @@ returns-clause-stopped g c =
     handed_late
     (WhyView (g.F.Files.holds c.args.files.now) c.args.lattice.now c.args.class.now c.args.execution
     c.args.outset.now)
-    NoOther c.deliver.result c.deliver.ensures.stop
+    (LacksClassAt (g.F.Files.holds c.args.files.now) c.args.lattice.now c.args.class.now) c.deliver.result
+    c.deliver.ensures.stop

@@ -2,7 +2,7 @@ use Rattle.std.proofs.Common.{Err, subst}
 use Rattle.vsi_answers.specs.Requests.{BeginsWith}
 use Rattle.vsi_lattice.specs.NamePlaces.{texts}
 use Rattle.vsi.specs.Reasons.{NoOther}
-use Rattle.vsi.proofs.Unrun.{handed_reason}
+use Rattle.vsi.proofs.Reasons.{handed_reason}
 use Rattle.vsi.proofs.running.words_in.Goals as goal
 
 pub returns-in_err-start_words-clause-stopped : goal.returns-in_err-start_words-clause-stopped

@@ -21,14 +21,16 @@ returns-clause-told g c =
           rw w.if-asked.true
           (told_files _ _ ChecksSteadyTo _ _ _ w.check_steady-answer.result c.answered.result
           c.in_ok-classes.ensures.told w.as_slice.ensures.value
-          (subst (λ a. MatchResult a (λ t. c.answered.result ≡ Ok t) (λ reason. c.answered.result ≡ Err (stop_of reason)))
+          (subst (λ a. MatchResult a (λ t. c.answered.result ≡ Ok t) (λ reason. c.answered.result ≡ Err (stop_of
+          reason)))
           w.answer-is c.answered.ensures)
           w.check_steady-answer.ensures.checks)
       | else-asked w ↦
           rw w.if-asked.false
           (told_by _ _ (λ l P s a. ChecksTo l P s a) _ _ _ _ w.check-answer.result c.answered.result
           c.in_ok-classes.ensures.told w.as_slice-else-asked.ensures.value w.profile-profile.ensures
-          (subst (λ a. MatchResult a (λ t. c.answered.result ≡ Ok t) (λ reason. c.answered.result ≡ Err (stop_of reason)))
+          (subst (λ a. MatchResult a (λ t. c.answered.result ≡ Ok t) (λ reason. c.answered.result ≡ Err (stop_of
+          reason)))
           w.answer-is c.answered.ensures)
           w.check-answer.ensures.checks)
     ]
@@ -40,14 +42,16 @@ returns-clause-stopped g c =
           rw w.if-asked.true
           (refuses_files _ _ (λ l s a. ChecksSteadyTo l s a) _ _ _ w.check_steady-answer.result c.answered.result
           c.in_ok-classes.ensures.told w.as_slice.ensures.value
-          (subst (λ a. MatchResult a (λ t. c.answered.result ≡ Ok t) (λ reason. c.answered.result ≡ Err (stop_of reason)))
+          (subst (λ a. MatchResult a (λ t. c.answered.result ≡ Ok t) (λ reason. c.answered.result ≡ Err (stop_of
+          reason)))
           w.answer-is c.answered.ensures)
           w.check_steady-answer.ensures.checks)
       | else-asked w ↦
           rw w.if-asked.false
           (refuses_by _ _ (λ l P s a. ChecksTo l P s a) _ _ _ _ w.check-answer.result c.answered.result
           c.in_ok-classes.ensures.told w.as_slice-else-asked.ensures.value w.profile-profile.ensures
-          (subst (λ a. MatchResult a (λ t. c.answered.result ≡ Ok t) (λ reason. c.answered.result ≡ Err (stop_of reason)))
+          (subst (λ a. MatchResult a (λ t. c.answered.result ≡ Ok t) (λ reason. c.answered.result ≡ Err (stop_of
+          reason)))
           w.answer-is c.answered.ensures)
           w.check-answer.ensures.checks)
     ]

@@ -9,7 +9,8 @@ returns-then-is_accepted-clause-performed g c =
       text = c.in_ok-is_accepted.line;
       is = c.in_ok-is_accepted.ensures.told c.if-is_accepted.true;
       written = subst
-          (Appends (g.W.Write.contents (device_of c.args.output.now)) (g.W.Write.contents (device_of c.write.new.output)))
+          (Appends (g.W.Write.contents (device_of c.args.output.now)) (g.W.Write.contents (device_of
+          c.write.new.output)))
           c.deref.ensures.value c.in_ok-write.ensures.whole;
     }
 

@@ -16,5 +16,6 @@ returns-clause-told g c =
 
 pub returns-clause-stopped : goal.returns-clause-stopped
 returns-clause-stopped g c =
-    refuses_by _ _ (λ l P s a. ClassesTo l P s a) _ _ _ _ c.classes.result c.answered.result c.in_ok-classes.ensures.told
+    refuses_by _ _ (λ l P s a. ClassesTo l P s a) _ _ _ _ c.classes.result c.answered.result
+    c.in_ok-classes.ensures.told
     c.as_slice.ensures.value c.profile-profile.ensures c.answered.ensures c.classes.ensures.classes

@@ -21,14 +21,16 @@ returns-clause-told g c =
           rw w.if-has_walks.true
           (told_by _ _ WalksTo _ _ _ _ w.walks-answer.result c.answered.result c.in_ok-classes.ensures.told
           w.as_slice.ensures.value c.profile-profile.ensures
-          (subst (λ a. MatchResult a (λ t. c.answered.result ≡ Ok t) (λ reason. c.answered.result ≡ Err (stop_of reason)))
+          (subst (λ a. MatchResult a (λ t. c.answered.result ≡ Ok t) (λ reason. c.answered.result ≡ Err (stop_of
+          reason)))
           w.answer-is c.answered.ensures)
           w.walks-answer.ensures.walks)
       | else-has_walks w ↦
           rw w.if-has_walks.false
           (told_by _ _ FlowsTo _ _ _ _ w.flows-answer.result c.answered.result c.in_ok-classes.ensures.told
           w.as_slice-else-has_walks.ensures.value c.profile-profile.ensures
-          (subst (λ a. MatchResult a (λ t. c.answered.result ≡ Ok t) (λ reason. c.answered.result ≡ Err (stop_of reason)))
+          (subst (λ a. MatchResult a (λ t. c.answered.result ≡ Ok t) (λ reason. c.answered.result ≡ Err (stop_of
+          reason)))
           w.answer-is c.answered.ensures)
           w.flows-answer.ensures.flows)
     ]
@@ -40,14 +42,16 @@ returns-clause-stopped g c =
           rw w.if-has_walks.true
           (refuses_by _ _ (λ l P s a. WalksTo l P s a) _ _ _ _ w.walks-answer.result c.answered.result
           c.in_ok-classes.ensures.told w.as_slice.ensures.value c.profile-profile.ensures
-          (subst (λ a. MatchResult a (λ t. c.answered.result ≡ Ok t) (λ reason. c.answered.result ≡ Err (stop_of reason)))
+          (subst (λ a. MatchResult a (λ t. c.answered.result ≡ Ok t) (λ reason. c.answered.result ≡ Err (stop_of
+          reason)))
           w.answer-is c.answered.ensures)
           w.walks-answer.ensures.walks)
       | else-has_walks w ↦
           rw w.if-has_walks.false
           (refuses_by _ _ (λ l P s a. FlowsTo l P s a) _ _ _ _ w.flows-answer.result c.answered.result
           c.in_ok-classes.ensures.told w.as_slice-else-has_walks.ensures.value c.profile-profile.ensures
-          (subst (λ a. MatchResult a (λ t. c.answered.result ≡ Ok t) (λ reason. c.answered.result ≡ Err (stop_of reason)))
+          (subst (λ a. MatchResult a (λ t. c.answered.result ≡ Ok t) (λ reason. c.answered.result ≡ Err (stop_of
+          reason)))
           w.answer-is c.answered.ensures)
           w.flows-answer.ensures.flows)
     ]

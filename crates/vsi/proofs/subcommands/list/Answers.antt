@@ -2,7 +2,7 @@ use Rattle.std.proofs.Common.{Err, subst}
 use Rattle.vsi_answers.specs.Requests.{ListsTo}
 use Rattle.vsi.specs.Performed.{ToldListing}
 use Rattle.vsi.specs.Reasons.{NoOther, RefusesFile}
-use Rattle.vsi.proofs.Refused.{stopped_reason}
+use Rattle.vsi.proofs.Reasons.{handed_reason}
 use Rattle.vsi.proofs.subcommands.list.Goals as goal
 
 pub returns-clause-told : goal.returns-clause-told
@@ -15,8 +15,8 @@ returns-clause-told g c =
 
 pub returns-in_err-list-clause-stopped : goal.returns-in_err-list-clause-stopped
 returns-in_err-list-clause-stopped g c =
-    stopped_reason (RefusesFile (g.F.Files.holds c.args.files.now) c.args.image.now ListsTo) NoOther
-    c.from_residual-in_err-list.result c.in_err-list.field-0.0 c.from_residual-in_err-list.ensures.1
+    handed_reason (RefusesFile (g.F.Files.holds c.args.files.now) c.args.image.now ListsTo) NoOther
+    c.in_err-list.field-0.0 c.from_residual-in_err-list.result c.from_residual-in_err-list.ensures.1
     (record {
       bytes = c.in_ok-bytes.bytes.items;
       read = c.in_ok-bytes.ensures.read;

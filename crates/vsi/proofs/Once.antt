@@ -1,0 +1,129 @@
+-- Words that ask for `build` or `view` ask for one request alone, but for its numbers.
+use Rattle.std.proofs.Common.{◌≡◌, ℕ, true, false, List, [], ◌∷◌, refl, ap, sym, subst, ◌∙◌}
+use Rattle.std.specs.Prelude.{bytes_eq, codes, String}
+use Rattle.std.specs.Borrow.{Bor}
+use Rattle.std.specs.declared.alloc.Global.{Global}
+use Rattle.vsi_arguments.specs.declared.request.Compilation.{Compilation}
+use Rattle.vsi_arguments.specs.declared.request.Execution.{Execution}
+use Rattle.vsi_arguments.specs.declared.request.Outset.{Outset}
+use Rattle.vsi_arguments.specs.declared.request.Request.{Request}
+use Rattle.vsi_arguments.specs.declared.request.Request.TheVariants.{Build, Explain, View}
+use Rattle.vsi_asked.specs.Asked.{AsksFor, given, name_of}
+use Rattle.vsi_asked.specs.Words.{has_flag, operands_in, shown, texts, values_in}
+
+-- What stands behind one first word is the same.
+behind : (words : List (List ℕ)) (name : List ℕ) (xs ys : List (List ℕ)) → words ≡ name ∷ xs → words ≡ name ∷ ys →
+    ys ≡ xs
+behind words name xs ys first second = cc
+
+-- The first word isn't two names.
+other_name : (words : List (List ℕ)) (name other : List ℕ) (xs ys : List (List ℕ)) → words ≡ name ∷ xs →
+    words ≡ other ∷ ys → bytes_eq name other ≡ false → bytes_eq name name ≡ true → ⊥
+other_name words name other xs ys first second apart same =
+    let names : other ≡ name = cc in
+    let turned : true ≡ false = sym same ∙ subst (λ n. bytes_eq name n ≡ false) names apart in
+    absurd cc
+
+-- The paths and the profile of two builds.
+pub record SameBuild (c d : Compilation) (i j : Bor (List ℕ)) : Type 0 where
+  pub lattice : d.lattice.now ≡ c.lattice.now
+  pub image : j.now ≡ i.now
+
+-- Three words are three words.
+three_words : (a b c x y z : List ℕ) → x ∷ y ∷ z ∷ [] ≡ a ∷ b ∷ c ∷ [] → (x ≡ a) × (z ≡ c)
+three_words a b c x y z is = (cc, cc)
+
+-- Two words are two words.
+two_words : (a b x y : List ℕ) → x ∷ y ∷ [] ≡ a ∷ b ∷ [] → (x ≡ a) × (y ≡ b)
+two_words a b x y is = (cc, cc)
+
+-- One word is one word.
+one_word : (a x : List ℕ) → x ∷ [] ≡ a ∷ [] → x ≡ a
+one_word a x is = cc
+
+-- Two builds that are asked for by the same words are of the same paths.
+same_build : (words : List (String Global)) (c d : Compilation) (i j : Bor (List ℕ)) → AsksFor words (Build c i) →
+    AsksFor words (Build d j) → SameBuild c d i j
+same_build words c d i j first second =
+    let rest : second.rest ≡ first.rest =
+    behind (texts words) (codes "build") first.rest second.rest first.named second.named in
+    let same = three_words c.lattice.now c.source.now i.now d.lattice.now d.source.now j.now
+    (sym second.has_operands ∙ ap (operands_in false) rest ∙ first.has_operands) in
+    record { lattice = same.0; image = same.1 }
+
+-- What words ask for that ask for a build.
+pub record OneBuild (c : Compilation) (i : Bor (List ℕ)) (request : Request) : Type 0 where
+  pub compilation : Compilation
+  pub image : Bor (List ℕ)
+  pub is : request ≡ Build compilation image
+  pub same : SameBuild c compilation i image
+
+-- It is that build.
+pub one_build : (words : List (String Global)) (c : Compilation) (i : Bor (List ℕ)) → AsksFor words (Build c i) →
+    (request : Request) → AsksFor words request → OneBuild c i request
+one_build words c i asks (Build d j) asked =
+    record { compilation = d; image = j; is = refl; same = same_build words c d i j asks asked }
+one_build words c i asks (Explain page) asked =
+    absurd (other_name (texts words) (codes "build") (codes "explain") asks.rest asked.asks.rest asks.named
+    asked.asks.named refl refl)
+one_build words c i asks request asked =
+    absurd (other_name (texts words) (codes "build") (name_of request) asks.rest asked.rest asks.named asked.named
+    refl refl)
+
+-- The paths, the class and what is set of two views.
+pub record SameView (l m x y : Bor (List ℕ)) (e f : Execution) (o p : Outset) : Type 0 where
+  pub lattice : m.now ≡ l.now
+  pub class : y.now ≡ x.now
+  pub image : f.image.now ≡ e.image.now
+  pub store : given f.store ≡ given e.store
+  pub out : given p.out ≡ given o.out
+  pub settings : shown p.settings.items ≡ shown o.settings.items
+  pub is_full : p.is_full ≡ o.is_full
+
+-- Two views that are asked for by the same words are of the same.
+same_view : (words : List (String Global)) (l m x y : Bor (List ℕ)) (e f : Execution) (o p : Outset) →
+    AsksFor words (View l x e o) → AsksFor words (View m y f p) → SameView l m x y e f o p
+same_view words l m x y e f o p first second =
+    let rest : second.rest ≡ first.rest =
+    behind (texts words) (codes "view") first.rest second.rest first.named second.named in
+    let paths = two_words l.now e.image.now m.now f.image.now
+    (sym second.has_operands ∙ ap (operands_in false) rest ∙ first.has_operands) in
+    record {
+      lattice = paths.0;
+      class = one_word x.now y.now
+          (sym second.has_options.0 ∙ ap (values_in (codes "--class") false) rest ∙ first.has_options.0);
+      image = paths.1;
+      store = sym second.has_options.1.0 ∙ ap (values_in (codes "--store") false) rest ∙ first.has_options.1.0;
+      out = sym second.has_options.1.1.0 ∙ ap (values_in (codes "--out") false) rest ∙ first.has_options.1.1.0;
+      settings = sym second.has_options.1.1.1.0 ∙ ap (values_in (codes "--set") false) rest
+          ∙ first.has_options.1.1.1.0;
+      is_full = sym second.has_flags.0 ∙ ap (has_flag (codes "--full-store")) rest ∙ first.has_flags.0;
+    }
+
+-- What words ask for that ask for a view.
+pub record OneView (l x : Bor (List ℕ)) (e : Execution) (o : Outset) (request : Request) : Type 0 where
+  pub lattice : Bor (List ℕ)
+  pub class : Bor (List ℕ)
+  pub execution : Execution
+  pub outset : Outset
+  pub is : request ≡ View lattice class execution outset
+  pub same : SameView l lattice x class e execution o outset
+
+-- It is that view.
+pub one_view : (words : List (String Global)) (l x : Bor (List ℕ)) (e : Execution) (o : Outset) →
+    AsksFor words (View l x e o) → (request : Request) → AsksFor words request → OneView l x e o request
+one_view words l x e o asks (View m y f p) asked =
+    record {
+      lattice = m;
+      class = y;
+      execution = f;
+      outset = p;
+      is = refl;
+      same = same_view words l m x y e f o p asks asked;
+    }
+one_view words l x e o asks (Explain page) asked =
+    absurd (other_name (texts words) (codes "view") (codes "explain") asks.rest asked.asks.rest asks.named
+    asked.asks.named refl refl)
+one_view words l x e o asks request asked =
+    absurd (other_name (texts words) (codes "view") (name_of request) asks.rest asked.rest asks.named asked.named
+    refl refl)

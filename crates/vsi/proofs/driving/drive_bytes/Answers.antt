@@ -1,0 +1,54 @@
+use Rattle.std.proofs.Common.{◌≡◌, ◌+◌, ◌∙◌, ◌++◌, ◌∷◌, [], get_or, take, sym, ap, subst, arith}
+use Rattle.std.proofs.lemmas.List.{take_more}
+use Rattle.std.specs.Io.KnownBytes.{Appends}
+use Rattle.vsi_devices.specs.Counted.{device_of}
+use Rattle.vsi_drive.specs.Control.{control}
+use Rattle.vsi_drive.specs.Cycles.{cycle}
+use Rattle.vsi.proofs.Driven.{ended_begun, grown_begun, grown_long, grown_short, line_ended, line_goes_on}
+use Rattle.vsi.proofs.driving.drive_bytes.Goals as goal
+use Rattle.vsi.proofs.driving.drive_bytes.Goals.{then-byte-eq10+in_ok-drive_line, else-byte-eq10+then-len-le-LINE_LIMIT+in_ok-push, else-byte-eq10+else-len-le-LINE_LIMIT}
+
+pub loop-byte-preserved : goal.loop-byte-preserved
+loop-byte-preserved g c =
+    let contents = g.W.Write.contents in
+    let drives = control c.args.controller.now in
+    let line = c.args.line.now.items in
+    let done = take c.loop-byte.byte-index c.args.bytes.now in
+    let byte = get_or c.args.bytes.now c.loop-byte.byte-index 0 in
+    let old = contents (device_of c.args.output.now) in
+    let between = contents (device_of c.loop-byte.output) in
+    let more : take (c.loop-byte.byte-index + 1) c.args.bytes.now ≡ done ++ byte ∷ [] =
+    take_more c.args.bytes.now c.loop-byte.byte-index 0 c.loop-byte-test.true in
+    elim c.if-byte-eq10.branch [
+      | then-byte-eq10+in_ok-drive_line w ↦ rw (w.output-is, w.store-is, w.line-is, more) (record {
+        output = omega (arith, w.in_ok-drive_line.ensures.fault, c.loop-byte.invariant.output);
+        words = omega (arith, w.drive_line.auto.store, c.loop-byte.invariant.words);
+        line = w.clear.ensures.items ∙ sym (ended_begun line done byte w.if-byte-eq10.true);
+        driven = line_ended drives c.args.store.now c.loop-byte.store w.drive_line.new.store line done
+            c.loop-byte.line.items byte old between (contents (device_of w.drive_line.new.output))
+            c.loop-byte.invariant.driven c.loop-byte.invariant.line w.if-byte-eq10.true
+            (subst
+            (λ l. Appends between (contents (device_of w.drive_line.new.output)) (cycle drives c.loop-byte.store
+            l).line)
+            w.deref.ensures.value w.in_ok-drive_line.ensures.written)
+            (w.in_ok-drive_line.ensures.store ∙ ap (λ l. (cycle drives c.loop-byte.store l).store)
+            w.deref.ensures.value);
+      })
+      | else-byte-eq10+then-len-le-LINE_LIMIT+in_ok-push w ↦ rw (w.output-is, w.store-is, w.line-is, more) (record {
+        output = c.loop-byte.invariant.output;
+        words = c.loop-byte.invariant.words;
+        line = w.in_ok-push.ensures.items
+            ∙ sym (grown_short c.loop-byte.line.items byte (omega (arith, w.len.ensures, w.if-len-le-LINE_LIMIT.true)))
+            ∙ grown_begun line done c.loop-byte.line.items byte c.loop-byte.invariant.line w.if-byte-eq10.false;
+        driven = line_goes_on drives c.args.store.now c.loop-byte.store line done byte old between
+            c.loop-byte.invariant.driven w.if-byte-eq10.false;
+      })
+      | else-byte-eq10+else-len-le-LINE_LIMIT w ↦ rw (w.output-is, w.store-is, w.line-is, more) (record {
+        output = c.loop-byte.invariant.output;
+        words = c.loop-byte.invariant.words;
+        line = sym (grown_long c.loop-byte.line.items byte (omega (arith, w.len.ensures, w.if-len-le-LINE_LIMIT.false)))
+            ∙ grown_begun line done c.loop-byte.line.items byte c.loop-byte.invariant.line w.if-byte-eq10.false;
+        driven = line_goes_on drives c.args.store.now c.loop-byte.store line done byte old between
+            c.loop-byte.invariant.driven w.if-byte-eq10.false;
+      })
+    ]

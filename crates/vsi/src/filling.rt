@@ -1,0 +1,69 @@
+//! Puts texts into files.
+
+ghost use Rattle.std.specs.Prelude.{◌<◌, IfErr, OnOk};
+ghost use Rattle.std.specs.Io.KnownBytes.{Appends};
+ghost use Rattle.vsi.specs.Holding.{Delivers, Fills, Replaces};
+ghost use Rattle.vsi.specs.Performed.{shown};
+ghost use Rattle.vsi.specs.Stops.{TellsFault, status_of};
+ghost use Rattle.vsi_devices.specs.Counted.{device_of, faults_of};
+
+use crate::files::Files;
+use crate::stop::{Stop, write};
+use std::alloc::Global;
+use std::io::Write;
+use vsi_devices::{Counted, write_out};
+
+/// Makes or empties a file, and fills it with these bytes.
+pub(crate) fn fill<'a, F: Files>(bytes: &[u8], path: &'a str, files: &mut F) -> Result<(), Stop<'a>>
+    ensures stop { IfErr result (λ stop. 3 < status_of stop) }
+    ensures filled { OnOk result
+        (Fills path.now bytes.now (F.holds files.old) (F.holds files.new)) }
+{
+    let Some(file) = files.create_file(path) else {
+        return Err(Stop::FileFault(path));
+    };
+    let mut writer = Counted::new(file);
+    let answer = write_out(bytes, &mut writer);
+    files.close_file(writer.into_inner());
+    answer.map_err(|_| Stop::FileFault(path))
+}
+
+/// Writes a text to a file, as a whole: to one beside it first, whose name has `.new` behind it.
+pub(crate) fn replace<'a, F: Files>(
+    alloc: Global,
+    text: &[u8],
+    path: &'a str,
+    files: &mut F,
+) -> Result<(), Stop<'a>>
+    ensures stop { IfErr result (λ stop. 3 < status_of stop) }
+    ensures replaced { OnOk result
+        (Replaces path.now text.now (F.holds files.old) (F.holds files.new)) }
+{
+    let fresh = format!(in alloc; "{path}.new")?;
+    match files.replace_file(path, fresh.as_str(), text) {
+        Some(()) => Ok(()),
+        None => Err(Stop::FileFault(path)),
+    }
+}
+
+/// Writes a text to the file that is asked for, as a whole, or else to standard output.
+pub(crate) fn deliver<'a, F: Files, W: Write>(
+    alloc: Global,
+    text: &[u8],
+    out: Option<&'a str>,
+    files: &mut F,
+    output: &mut Counted<W>,
+) -> Result<(), Stop<'a>>
+    requires { faults_of output.old < u64.MAX }
+    ensures fault { TellsFault (faults_of output.old) (faults_of output.new) result }
+    ensures stop { IfErr result (λ stop. 3 < status_of stop) }
+    ensures whole { OnOk result (Appends (W.contents (device_of output.old))
+        (W.contents (device_of output.new)) (shown out.entry text.now)) }
+    ensures delivered { OnOk result
+        (Delivers out.entry text.now (F.holds files.old) (F.holds files.new)) }
+{
+    match out {
+        Some(path) => replace(alloc, text, path, files),
+        None => write(text, output),
+    }
+}

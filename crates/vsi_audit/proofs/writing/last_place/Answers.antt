@@ -1,0 +1,18 @@
+use Rattle.std.proofs.Common.{sym, ◌∙◌, arith}
+use Rattle.vsi_scope.proofs.Scoping.{found_at, not_at}
+use Rattle.vsi_scope.proofs.Meaning.{stands}
+use Rattle.vsi_audit.proofs.writing.last_place.Goals as goal
+
+pub returns-then-eq : goal.returns-then-eq
+returns-then-eq c =
+    stands _ _ _
+    (c.loop-at.invariant.1 ∙ found_at c.args.names.now c.loop-at.at _ c.args.name.now c.loop-at-test.true
+    c.loop-at.invariant.0 (sym c.eq.ensures ∙ c.if-eq.true))
+
+pub loop-at-preserved : goal.loop-at-preserved
+loop-at-preserved c = (
+  omega (arith, c.loop-at.invariant.0),
+  c.loop-at.invariant.1
+      ∙ not_at c.args.names.now c.loop-at.at _ c.args.name.now c.loop-at-test.true c.loop-at.invariant.0
+      (sym c.eq.ensures ∙ c.if-eq.false),
+)

@@ -1,0 +1,8 @@
+-- What a walk through commands and a tree knows: a stepping stone of proofs.
+use Rattle.std.specs.Prelude.{map}
+use Rattle.vsi_scope.specs.Scopes.{Scope}
+use Rattle.vsi_audit.specs.declared.writing.InScope.{InScope}
+
+-- The names in scope, without where they lie in memory.
+abbrev pub names_of : InScope → Scope
+names_of s = map (λ x. x.now) s.names.items

@@ -1,0 +1,329 @@
+//! Whether a tree writes commands, by a walk through both.
+
+ghost use Rattle.std.specs.Prelude.{◌≡◌, true, None, IfSome, IfOk, OnOk, map, pos};
+ghost use Rattle.vsi_syntax.specs.declared.token.Span.{Span};
+ghost use Rattle.vsi_syntax.specs.Tree as tree;
+ghost use Rattle.vsi_syntax.specs.View as view;
+ghost use Rattle.vsi_syntax.specs.CommandView as syntax;
+ghost use Rattle.vsi_image.specs.Fields as fields;
+ghost use Rattle.vsi_scope.specs.Language.{Number, Location, Skip, If, While, Letvar};
+ghost use Rattle.vsi_scope.specs.Scopes.{Scope as Names, StandsFor};
+ghost use Rattle.vsi_scope.specs.View.{expression, command, sequence};
+ghost use Rattle.vsi_audit.specs.Written.{names_of};
+ghost use Rattle.vsi_audit.specs.Writing.{WritesExpression, WritesCommand, WritesPart, WritesAll};
+
+use crate::error::AuditError;
+use std::alloc::{AllocError, Global};
+use vsi_scope::{Cmd, Ex};
+use vsi_syntax::{Expr, Name, Op, Stmt};
+
+/// The names in scope, those of globals first and the innermost last.
+#[derive(Drop)]
+pub(crate) struct InScope<'a> {
+    names: Vec<&'a [u8]>,
+}
+
+impl<'a> InScope<'a> {
+    ghost use Rattle.std.specs.Prelude.{ℕ, ◌-◌, ◌<◌, ◌++◌, ◌∷◌, [], length, take};
+
+    /// The names of the globals.
+    pub(crate) fn of(
+        alloc: Global,
+        globals: &'a [(Vec<u8>, Vec<u8>)],
+    ) -> Result<InScope<'a>, AllocError>
+        ensures { IfOk result
+            (λ s. names_of s ≡ map (λ g. g.0) (fields.globals globals.entry.now)) }
+    {
+        let mut names: Vec<&'a [u8]> = Vec::new(alloc);
+        for global in globals {
+            names.push(&global.0)?;
+        }
+        Ok(InScope { names })
+    }
+
+    /// The location that a name stands for: the last place where it is.
+    fn place(&self, name: &[u8]) -> Option<usize>
+        ensures { IfSome result (StandsFor (names_of self.now) name.now) }
+    {
+        last_place(&self.names, name)
+    }
+
+    /// A letvar's name comes into scope.
+    fn enter(&mut self, name: &'a [u8]) -> Result<(), AllocError>
+        ensures { OnOk result
+            (self.new.names.items ≡ self.old.names.items ++ name.entry ∷ []) }
+    {
+        self.names.push(name)?;
+        Ok(())
+    }
+
+    /// The innermost letvar's name goes out of scope.
+    fn leave(&mut self)
+        requires { 0 < length self.old.names.items }
+        ensures { self.new.names.items ≡
+            take (length self.old.names.items - 1) self.old.names.items }
+    {
+        let before = self.names.len() - 1;
+        self.names.truncate(before);
+    }
+}
+
+/// The last place of a name, by a look at every name from the last on.
+fn last_place(names: &[&[u8]], name: &[u8]) -> Option<usize>
+    ensures { IfSome result (StandsFor (map (λ x. x.now) names.now) name.now) }
+{
+    let mut at = names.len();
+    while at > 0 {
+        at -= 1;
+        if names[at] == name {
+            return Some(at);
+        }
+    }
+    None
+}
+
+/// Whether a tree is this number.
+fn is_number(written: &Expr<'_>, n: i64) -> bool
+    ensures { result ≡ true → view.tree written.now ≡ tree.Number n }
+{
+    match written {
+        Expr::Number(m) => *m == n,
+        _ => false,
+    }
+}
+
+/// Whether a tree writes a number.
+fn writes_number(written: &Expr<'_>, number: &i64) -> bool
+    ensures { (names : Names) → result ≡ true →
+        WritesExpression names (Number number.now) (view.tree written.now) }
+{
+    let n = *number;
+    if n >= 0 {
+        return is_number(written, n);
+    }
+    let Expr::Binary(op, left, right) = written else {
+        return false;
+    };
+    match op {
+        Op::Add => {
+            if n > i64::MIN {
+                return false;
+            }
+            if !is_number(left, i64::MAX) {
+                return false;
+            }
+            is_number(right, 1)
+        }
+        Op::Sub => {
+            if n == i64::MIN {
+                return false;
+            }
+            if !is_number(left, 0) {
+                return false;
+            }
+            let opposite = -n;
+            is_number(right, opposite)
+        }
+        _ => false,
+    }
+}
+
+/// Whether a tree is a name that stands for a location.
+fn writes_location(written: &Expr<'_>, location: u16, names: &InScope<'_>) -> bool
+    ensures { (span : Span) → result ≡ true →
+        WritesExpression (names_of names.now) (Location location span) (view.tree written.now) }
+{
+    let Expr::Name(name) = written else {
+        return false;
+    };
+    stands_for(*name, location, names)
+}
+
+/// Whether a name stands for a location.
+fn stands_for(name: Name<'_>, location: u16, names: &InScope<'_>) -> bool
+    ensures { result ≡ true → StandsFor (names_of names.now) name.entry.text.now location }
+{
+    match names.place(name.text) {
+        Some(place) => place == location as usize,
+        None => false,
+    }
+}
+
+/// Whether a tree writes an expression.
+fn writes_expression(written: &Expr<'_>, e: &Ex, names: &InScope<'_>) -> bool
+    ensures { result ≡ true →
+        WritesExpression (names_of names.now) (expression e.now) (view.tree written.now) }
+{
+    if let Expr::Bracket(inner) = written {
+        return writes_expression(inner, e, names);
+    }
+    match e {
+        Ex::Num(n) => writes_number(written, n),
+        Ex::Loc(location, _) => writes_location(written, *location, names),
+        Ex::Op(op, left, right) => {
+            let Expr::Binary(other, first, second) = written else {
+                return false;
+            };
+            if *op != *other {
+                return false;
+            }
+            if !writes_expression(first, left, names) {
+                return false;
+            }
+            writes_expression(second, right, names)
+        }
+    }
+}
+
+/// Refuses a tree that doesn't write an expression.
+fn check_expression(written: &Expr<'_>, e: &Ex, names: &InScope<'_>) -> Result<(), AuditError>
+    ensures { OnOk result
+        (WritesExpression (names_of names.now) (expression e.now) (view.tree written.now)) }
+{
+    if writes_expression(written, e, names) {
+        Ok(())
+    } else {
+        Err(AuditError::NoText)
+    }
+}
+
+/// Refuses a name that doesn't stand for a location.
+fn check_name(name: Name<'_>, location: u16, names: &InScope<'_>) -> Result<(), AuditError>
+    ensures { OnOk result (StandsFor (names_of names.now) name.entry.text.now location) }
+{
+    if stands_for(name, location, names) {
+        Ok(())
+    } else {
+        Err(AuditError::NoText)
+    }
+}
+
+/// Refuses a pair of trees that aren't both 0.
+fn check_zeros(first: &Expr<'_>, second: &Expr<'_>) -> Result<(), AuditError>
+    ensures first { OnOk result (view.tree first.now ≡ tree.Number (pos 0)) }
+    ensures second { OnOk result (view.tree second.now ≡ tree.Number (pos 0)) }
+{
+    if !is_number(first, 0) {
+        return Err(AuditError::NoText);
+    }
+    if !is_number(second, 0) {
+        return Err(AuditError::NoText);
+    }
+    Ok(())
+}
+
+/// Refuses a command that isn't a letvar that is given 0 and put to 0.
+fn check_idle(written: &Stmt<'_>) -> Result<(), AuditError>
+    ensures { (names : Names) → OnOk result
+        (WritesAll names Skip (tree.Then (syntax.command written.now) tree.Done)) }
+{
+    let Stmt::Letvar(outer, class, value, body) = written else {
+        return Err(AuditError::NoText);
+    };
+    let Stmt::Assign(inner, again) = &**body else {
+        return Err(AuditError::NoText);
+    };
+    if class.is_some() {
+        return Err(AuditError::NoText);
+    }
+    if outer.text == inner.text {
+        check_zeros(value, again)
+    } else {
+        Err(AuditError::NoText)
+    }
+}
+
+/// Refuses a tree that doesn't write a command.
+#[cycle(writing)]
+fn check_one<'a>(c: &Cmd, written: &Stmt<'a>, names: &mut InScope<'a>) -> Result<(), AuditError>
+    ensures kept { OnOk result (names.new.names.items ≡ names.old.names.items) }
+    ensures written { OnOk result
+        (WritesCommand (names_of names.old) (command c.now) (syntax.command written.now)) }
+{
+    match c {
+        Cmd::Assign { loc, value, .. } => {
+            let Stmt::Assign(name, e) = written else {
+                return Err(AuditError::NoText);
+            };
+            check_name(*name, *loc, names)?;
+            check_expression(e, value, names)
+        }
+        Cmd::If { guard, yes, no } => {
+            let Stmt::If(e, first, second) = written else {
+                return Err(AuditError::NoText);
+            };
+            check_expression(e, guard, names)?;
+            check_part(yes, first, names)?;
+            check_part(no, second, names)
+        }
+        Cmd::While { guard, body } => {
+            let Stmt::While(e, inner) = written else {
+                return Err(AuditError::NoText);
+            };
+            check_expression(e, guard, names)?;
+            check_part(body, inner, names)
+        }
+        Cmd::Letvar { value, body } => {
+            let Stmt::Letvar(name, class, e, inner) = written else {
+                return Err(AuditError::NoText);
+            };
+            if class.is_some() {
+                return Err(AuditError::NoText);
+            }
+            check_expression(e, value, names)?;
+            names.enter(name.text)?;
+            check_part(body, inner, names)?;
+            names.leave();
+            Ok(())
+        }
+    }
+}
+
+/// Refuses one command that doesn't write a sequence.
+#[cycle(writing)]
+fn check_part<'a>(
+    body: &[Cmd],
+    written: &Stmt<'a>,
+    names: &mut InScope<'a>,
+) -> Result<(), AuditError>
+    ensures kept { OnOk result (names.new.names.items ≡ names.old.names.items) }
+    ensures written { OnOk result
+        (WritesPart (names_of names.old) (sequence body.now) (syntax.command written.now)) }
+{
+    if let Stmt::Block(inner) = written {
+        return check_all(body, inner, names);
+    }
+    match body {
+        [] => check_idle(written),
+        [c] => check_one(c, written, names),
+        _ => Err(AuditError::NoText),
+    }
+}
+
+/// Refuses a sequence that doesn't write these commands.
+#[cycle(writing)]
+pub(crate) fn check_all<'a>(
+    body: &[Cmd],
+    written: &[Stmt<'a>],
+    names: &mut InScope<'a>,
+) -> Result<(), AuditError>
+    ensures kept { OnOk result (names.new.names.items ≡ names.old.names.items) }
+    ensures written { OnOk result
+        (WritesAll (names_of names.old) (sequence body.now) (syntax.body_of written.now)) }
+{
+    if body.is_empty() {
+        let [only] = written else {
+            return Err(AuditError::NoText);
+        };
+        return check_idle(only);
+    }
+    if body.len() != written.len() {
+        return Err(AuditError::NoText);
+    }
+    let mut place = 0;
+    for c in body {
+        check_one(c, &written[place], names)?;
+        place += 1;
+    }
+    Ok(())
+}

@@ -1,0 +1,55 @@
+-- The line of an answer as JSON.
+use Rattle.std.proofs.Common.{◌≡◌, ℕ, Bool, true, false, not, ◌&&◌, List, [], ◌∷◌, ◌++◌, codes, Option, Some, None, is_some, refl, sym, ap, ◌∙◌}
+use Rattle.serde_json.specs.Data.{Data, string, no_members}
+use Rattle.serde_json.specs.View.{items_of}
+use Rattle.serde_json.specs.Written.{items_have_float, items_text}
+use Rattle.vsi_syntax.specs.Tree.{Declared}
+use Rattle.vsi_lattice.specs.declared.lattice.Lattice.{Lattice}
+use Rattle.vsi_steady.specs.declared.unsteady.UnsteadyError.{UnsteadyError}
+use Rattle.vsi_conform.specs.declared.interface.Interface.{Interface}
+use Rattle.vsi_conform.specs.declared.point.Answer.{Answer}
+use Rattle.vsi_conform.specs.declared.point.Point.{Point}
+use Rattle.vsi_conform.specs.Points.{is_conforming, is_none_told}
+use Rattle.vsi_conform.specs.Shown.{Declares, Page}
+use Rattle.vsi_conform.specs.Lines.{page_of}
+use Rattle.vsi_conform.specs.Json as json
+use Rattle.vsi_conform.proofs.Plain.{refusal_plain, points_plain, append_plain}
+use Rattle.vsi_conform.proofs.Begins.{conforming_so, differing_so}
+
+-- Where there is no refusal and no point, the line is known.
+conforming_line_so : (l : Lattice) (p : Page) (r : Option UnsteadyError) (ps : List Point) (first : List Data)
+    (out : List ℕ) → json.TellsRefusal l p r first → (not (is_some r) && is_none_told ps) ≡ true →
+    out ≡ json.answer_line (not (is_some r) && is_none_told ps) (first ++ json.objects_of_points p ps) →
+    out ≡ json.conforming_line
+conforming_line_so l p None [] first out told h line =
+    line ∙ ap (λ (ds : List Data). json.answer_line true (ds ++ [])) told.objects ∙ conforming_so
+conforming_line_so l p None (point ∷ ps) first out told h line = absurd cc
+conforming_line_so l p (Some e) ps first out told h line = absurd cc
+
+-- Where there is one, the line begins so.
+differing_line_so : (b : Bool) (ds : List Data) (out : List ℕ) → out ≡ json.answer_line b ds → b ≡ false →
+    (rest : List ℕ) × (out ≡ json.differing_begin ++ rest)
+differing_line_so true ds out line h = absurd cc
+differing_line_so false ds out line h =
+    ((items_text false (items_of ds) ++ codes "}") ++ codes "\n", line ∙ differing_so ds)
+
+-- The object of the refusal, and those of the points behind it.
+pub json_so : (l : Lattice) (text : List ℕ) (i : Interface) (a : Answer) (ds : List Declared) (first all : List Data)
+    (out : List ℕ) → Declares text ds → json.TellsRefusal l (page_of text ds i) a.refusal first →
+    all ≡ first ++ json.objects_of_points (page_of text ds i) a.points.items →
+    (items_have_float (items_of all) ≡ false → out ≡ json.answer_line (is_conforming a) all) →
+    json.IsConformJson l text i a out
+json_so l text i a ds first all out declares told parts written =
+    let page = page_of text ds i in
+    let objects = json.objects_of_points page a.points.items in
+    let plain : items_have_float (items_of all) ≡ false =
+    ap (λ (es : List Data). items_have_float (items_of es)) parts
+    ∙ append_plain first objects (ap (λ (es : List Data). items_have_float (items_of es)) told.objects
+    ∙ refusal_plain a.refusal told.lines) (points_plain page a.points.items) in
+    let line : out ≡ json.answer_line (is_conforming a) (first ++ objects) =
+    written plain ∙ ap (json.answer_line (is_conforming a)) parts in
+    record {
+      tells = record { globals = ds; declares = declares; first = first; refusal = told; line = line };
+      conforms = λ h. conforming_line_so l page a.refusal a.points.items first out told h line;
+      differs = λ h. differing_line_so (is_conforming a) (first ++ objects) out line h;
+    }

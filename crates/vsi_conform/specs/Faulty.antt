@@ -1,0 +1,56 @@
+-- The line of a refused interface.
+use Rattle.std.specs.Prelude.{ℕ, List, [], ◌++◌, codes, decimal, Option, Some, None}
+use Rattle.vsi_conform.specs.declared.error.InterfaceError.{InterfaceError}
+use Rattle.vsi_conform.specs.declared.error.InterfaceError.TheVariants.{NotToml, UnknownKey, BadLattice, BadProfile, BadOrder, BadGlobals, BadName, RepeatedGlobal, UnknownClass, BadRuns, BadRun, BadStore, NoBudget, NothingExpected, UnknownGlobal, Memory}
+
+-- The name of a fault.
+abbrev pub name_of : InterfaceError → List ℕ
+name_of NotToml = codes "NotToml"
+name_of (UnknownKey key) = codes "UnknownKey"
+name_of BadLattice = codes "BadLattice"
+name_of BadProfile = codes "BadProfile"
+name_of BadOrder = codes "BadOrder"
+name_of BadGlobals = codes "BadGlobals"
+name_of (BadName name) = codes "BadName"
+name_of (RepeatedGlobal name) = codes "RepeatedGlobal"
+name_of (UnknownClass name) = codes "UnknownClass"
+name_of BadRuns = codes "BadRuns"
+name_of (BadRun run) = codes "BadRun"
+name_of (BadStore run) = codes "BadStore"
+name_of (NoBudget run) = codes "NoBudget"
+name_of (NothingExpected run) = codes "NothingExpected"
+name_of (UnknownGlobal run name) = codes "UnknownGlobal"
+name_of Memory = codes "Memory"
+
+-- The number of the run that is faulty, from 1.
+abbrev pub run_of : InterfaceError → Option ℕ
+run_of (BadRun run) = Some run
+run_of (BadStore run) = Some run
+run_of (NoBudget run) = Some run
+run_of (NothingExpected run) = Some run
+run_of (UnknownGlobal run name) = Some run
+run_of _ = None
+
+-- The name or the key that is faulty.
+abbrev pub word_of : InterfaceError → Option (List ℕ)
+word_of (UnknownKey key) = Some key.items
+word_of (BadName name) = Some name.items
+word_of (RepeatedGlobal name) = Some name.items
+word_of (UnknownClass name) = Some name.items
+word_of (UnknownGlobal run name) = Some name.items
+word_of _ = None
+
+-- A number behind a space, where there is one.
+abbrev pub run_field : Option ℕ → List ℕ
+run_field None = []
+run_field (Some run) = codes " " ++ decimal run
+
+-- A name or a key behind a space, where there is one.
+abbrev pub word_field : Option (List ℕ) → List ℕ
+word_field None = []
+word_field (Some word) = codes " " ++ word
+
+-- `refused interface: NAME`, the run, the name or the key, and a line feed.
+abbrev pub interface_line : InterfaceError → List ℕ
+interface_line e =
+    codes "refused interface: " ++ name_of e ++ run_field (run_of e) ++ word_field (word_of e) ++ codes "\n"

@@ -1,0 +1,152 @@
+-- What is written of an answer as JSON.
+use Rattle.std.specs.Prelude.{◌≡◌, ℕ, ℤ, Bool, true, false, List, [], ◌∷◌, ◌++◌, map, codes, Option, Some, None, slice_get}
+use Rattle.std.specs.Str.Lossy.{utf8_lossy}
+use Rattle.serde_json.specs.Data.{Data, null, boolean, number, string, array, object, unsigned, Members, no_members, put}
+use Rattle.serde_json.specs.Find.{of_integer}
+use Rattle.serde_json.specs.View.{items_of}
+use Rattle.serde_json.specs.Written.{compact_text}
+use Rattle.vsi_syntax.specs.Tree.{Declared}
+use Rattle.vsi_lattice.specs.declared.lattice.Lattice.{Lattice}
+use Rattle.vsi_image.specs.Fields.{Global}
+use Rattle.vsi_steady.specs.declared.unsteady.UnsteadyError.{UnsteadyError}
+use Rattle.vsi_conform.specs.declared.interface.Interface.{Interface}
+use Rattle.vsi_conform.specs.declared.interface.Trial.{Trial}
+use Rattle.vsi_conform.specs.declared.point.Answer.{Answer}
+use Rattle.vsi_conform.specs.declared.point.Point.{Point}
+use Rattle.vsi_conform.specs.declared.point.Point.TheVariants.{Missing, Unexpected, WrongClass, WrongOrder, OutOfBudget, WrongWord, NoWord}
+use Rattle.vsi_conform.specs.Points.{Entry, is_conforming}
+use Rattle.vsi_conform.specs.Shown.{asked, expected, run_number, Declares, Shown, Page, by_name, by_class}
+use Rattle.vsi_conform.specs.Lines.{AreFirst, page_of}
+
+-- ---- members of objects, whose keys stand in byte order.
+
+-- A text more, in which what is no UTF-8 is replaced.
+abbrev pub with_text : List ℕ → List ℕ → Members → Members
+with_text key bytes ms = put key (string (utf8_lossy bytes)) ms
+
+-- A number of at least 0 more.
+abbrev pub with_natural : List ℕ → ℕ → Members → Members
+with_natural key n ms = put key (number (unsigned n)) ms
+
+-- A word more.
+abbrev pub with_word : List ℕ → ℤ → Members → Members
+with_word key word ms = put key (number (of_integer word)) ms
+
+-- The kind of a point.
+abbrev pub kind : List ℕ → Members
+kind word = put (codes "point") (string word) no_members
+
+-- A global of the text more, with its place.
+abbrev pub with_shown : Shown → Members → Members
+with_shown s ms =
+    with_natural (codes "column") s.column (with_natural (codes "line") s.line
+    (with_text (codes "class") s.class (with_text (codes "name") s.name ms)))
+
+-- ---- points.
+
+-- A global that the text lacks.
+abbrev pub missing : Global → Members
+missing g = with_text (codes "class") g.1 (with_text (codes "name") g.0 (kind (codes "missing")))
+
+-- A global that isn't asked for.
+abbrev pub unexpected : Shown → Members
+unexpected s = with_shown s (kind (codes "unexpected"))
+
+-- A global with another class than this one.
+abbrev pub wrong_class : Shown → List ℕ → Members
+wrong_class s class = with_text (codes "expected") class (with_shown s (kind (codes "class")))
+
+-- A global out of order, where one of this name is expected.
+abbrev pub wrong_order : Shown → List ℕ → Members
+wrong_order s name = with_text (codes "expected") name (with_shown s (kind (codes "order")))
+
+-- The number of a run more.
+abbrev pub with_run : ℕ → Members → Members
+with_run run ms = with_natural (codes "run") (run_number run) ms
+
+-- A budget more, where the run is there.
+abbrev pub with_budget : Option Trial → Members → Members
+with_budget None ms = ms
+with_budget (Some t) ms = with_natural (codes "budget") t.budget ms
+
+-- A run that doesn't halt.
+abbrev pub out_of_budget : ℕ → Option Trial → Members
+out_of_budget run t = with_budget t (with_run run (kind (codes "budget")))
+
+-- The word that is found, or `null`.
+abbrev pub found : Option ℤ → Data
+found None = null
+found (Some word) = number (of_integer word)
+
+-- A word that isn't as is expected.
+abbrev pub wrong_word : ℕ → Entry → Option ℤ → Members
+wrong_word run e word =
+    put (codes "word") (found word) (with_word (codes "expected") e.1
+    (with_text (codes "name") e.0 (with_run run (kind (codes "word")))))
+
+-- The members of the object of a point.
+abbrev pub members_of_point : Page → Point → Members
+members_of_point p (Missing n) = missing (asked p.interface n)
+members_of_point p (Unexpected place) = unexpected (by_name p place)
+members_of_point p (WrongClass place n) = wrong_class (by_class p place) (asked p.interface n).1
+members_of_point p (WrongOrder place) = wrong_order (by_name p place) (asked p.interface place).0
+members_of_point p (OutOfBudget run) = out_of_budget run (slice_get p.interface.trials.items run)
+members_of_point p (WrongWord run n word) = wrong_word run (expected p.interface run n) (Some word)
+members_of_point p (NoWord run n) = wrong_word run (expected p.interface run n) None
+
+-- The objects of points.
+abbrev pub objects_of_points : Page → List Point → List Data
+objects_of_points p points = map (λ point. object (members_of_point p point)) points
+
+-- ---- the whole.
+
+-- The members of the object of a refusal with these lines.
+abbrev pub members_of_refusal : List ℕ → Members
+members_of_refusal lines = with_text (codes "text") lines (kind (codes "refused"))
+
+-- The object of a refusal with these lines, where there is one.
+abbrev pub objects_of_refusal : Option UnsteadyError → List ℕ → List Data
+objects_of_refusal None lines = []
+objects_of_refusal (Some e) lines = object (members_of_refusal lines) ∷ []
+
+-- These are the objects of the refusal.
+pub record TellsRefusal (l : Lattice) (p : Page) (r : Option UnsteadyError) (ds : List Data) : Type 0 where
+  pub lines : List ℕ
+  pub refusal : AreFirst l p.text p.interface r lines
+  pub objects : ds ≡ objects_of_refusal r lines
+
+-- The object of an answer with these points.
+abbrev pub answer_data : Bool → List Data → Data
+answer_data conforms points =
+    object (put (codes "points") (array (items_of points)) (put (codes "conforms") (boolean conforms) no_members))
+
+-- The line of an answer with these points.
+abbrev pub answer_line : Bool → List Data → List ℕ
+answer_line conforms points = compact_text (answer_data conforms points) ++ codes "\n"
+
+-- The line of a text that conforms.
+abbrev pub conforming_line : List ℕ
+conforming_line = codes "{\"conforms\":true,\"points\":[]}\n"
+
+-- The beginning of the line of another one.
+abbrev pub differing_begin : List ℕ
+differing_begin = codes "{\"conforms\":false,\"points\":["
+
+-- Whether it conforms, the object of the refusal, and then one for each point, in order.
+pub record TellsObjects (l : Lattice) (text : List ℕ) (i : Interface) (a : Answer) (out : List ℕ) : Type 0 where
+  pub globals : List Declared
+  pub declares : Declares text globals
+  pub first : List Data
+  pub refusal : TellsRefusal l (page_of text globals i) a.refusal first
+  pub line : out ≡ answer_line (is_conforming a)
+      (first ++ objects_of_points (page_of text globals i) a.points.items)
+
+-- The line of an answer as JSON: what it tells, and how it begins.
+pub record IsConformJson (l : Lattice) (text : List ℕ) (i : Interface) (a : Answer) (out : List ℕ) : Type 0 where
+  pub tells : TellsObjects l text i a out
+  pub conforms : is_conforming a ≡ true → out ≡ conforming_line
+  pub differs : is_conforming a ≡ false → (rest : List ℕ) × (out ≡ differing_begin ++ rest)
+
+-- What begins as the line of a text that doesn't conform isn't that of one that does.
+abbrev pub BeginApart : Type 0
+BeginApart = (rest : List ℕ) → ¬ (conforming_line ≡ differing_begin ++ rest)

@@ -1,0 +1,60 @@
+//! Calls that tell what the words of a line ask for.
+
+use crate::row::Row;
+use crate::wrong::Wrong;
+use std::alloc::{AllocError, Global};
+use vsi_arguments::{ArgumentsError, Request, request_of};
+use vsi_asked::{asks_for, asks_help};
+use vsi_explain::page;
+
+/// The words of a line, which stand behind single spaces; none for an empty line.
+fn words_of(alloc: Global, line: &str) -> Result<Vec<String>, AllocError> {
+    let mut words = Vec::new(alloc);
+    if !line.is_empty() {
+        for word in line.split(' ') {
+            words.push(String::from_str(alloc, word)?)?;
+        }
+    }
+    Ok(words)
+}
+
+/// Adds a line with a verdict.
+fn put_verdict(row: &mut Row<'_>, is_so: bool) {
+    row.put(if is_so { "yes\n" } else { "no\n" });
+}
+
+/// `asked LINE | OTHER`: whether the words of the other line ask for what those of the first are
+/// read as.
+pub(crate) fn asked(alloc: Global, row: &mut Row<'_>) {
+    let Some((line, other)) = row.rest.split_once(" | ") else {
+        row.fail(Wrong::Row);
+        return;
+    };
+    let (Ok(words), Ok(others)) = (words_of(alloc, line), words_of(alloc, other)) else {
+        row.fail(Wrong::Memory);
+        return;
+    };
+    match request_of(alloc, words.as_slice()) {
+        Ok(asked) => put_verdict(row, asks_for(others.as_slice(), &asked.request)),
+        Err(ArgumentsError::Memory) => row.fail(Wrong::Memory),
+        Err(_) => row.fail(Wrong::Row),
+    }
+}
+
+/// `page NUMBER LINE`: whether the words of the line ask for the page of the refusal with this
+/// number, or for an empty page where no refusal has it.
+pub(crate) fn page_asked(alloc: Global, row: &mut Row<'_>) {
+    let request = Request::Explain(page(row.number()).unwrap_or(""));
+    match words_of(alloc, row.rest) {
+        Ok(words) => put_verdict(row, asks_for(words.as_slice(), &request)),
+        Err(_) => row.fail(Wrong::Memory),
+    }
+}
+
+/// `help LINE`: whether the words of the line ask for help or the version.
+pub(crate) fn help_asked(alloc: Global, row: &mut Row<'_>) {
+    match words_of(alloc, row.rest) {
+        Ok(words) => put_verdict(row, asks_help(words.as_slice())),
+        Err(_) => row.fail(Wrong::Memory),
+    }
+}
