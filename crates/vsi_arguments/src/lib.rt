@@ -2,6 +2,8 @@
 //! them.
 #![tactic(auto)]
 
+mod argument;
+mod arguments;
 mod error;
 mod help;
 mod numbers;
@@ -9,7 +11,6 @@ mod request;
 mod tips;
 mod usage;
 mod word_help;
-mod words;
 
 pub use error::ArgumentsError;
 pub use request::{

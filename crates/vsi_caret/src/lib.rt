@@ -11,8 +11,6 @@
 mod manner;
 mod place;
 mod safe;
-#[cfg(test)]
-mod tests;
 mod window;
 
 pub use manner::Manner;

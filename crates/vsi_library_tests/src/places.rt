@@ -1,8 +1,8 @@
 //! Places as they are shown.
 
-use crate::{Manner, put_place, put_place_in, put_safe, put_text};
 use std::alloc::{AllocError, Global};
 use std::test::Fail;
+use vsi_caret::{Manner, put_place, put_place_in, put_safe, put_text};
 
 /// A place of a text called `t`.
 fn placed(alloc: Global, source: &[u8], start: usize, stop: usize) -> Result<Vec<u8>, AllocError> {

@@ -1,0 +1,221 @@
+//! The arguments of the subcommands, each with its help.
+
+use crate::argument::{Argument, Form};
+use crate::word_help;
+
+pub(crate) const LATTICE: Argument = Argument {
+    name: "LATTICE",
+    form: Form::Place,
+    line: "The lattice file",
+    whole: word_help::LATTICE,
+};
+
+pub(crate) const SOURCE: Argument = Argument {
+    name: "SOURCE",
+    form: Form::Place,
+    line: "The source text",
+    whole: word_help::SOURCE,
+};
+
+pub(crate) const DRAWN_SOURCE: Argument = Argument {
+    name: "SOURCE",
+    form: Form::FreePlace,
+    line: "The source text, whose flows are drawn too",
+    whole: word_help::SOURCE,
+};
+
+pub(crate) const INTERFACE: Argument = Argument {
+    name: "INTERFACE",
+    form: Form::Place,
+    line: "The interface file",
+    whole: word_help::INTERFACE,
+};
+
+pub(crate) const IMAGE: Argument = Argument {
+    name: "IMAGE",
+    form: Form::Place,
+    line: "The image file",
+    whole: word_help::IMAGE,
+};
+
+pub(crate) const NEW_IMAGE: Argument = Argument {
+    name: "IMAGE",
+    form: Form::Place,
+    line: "The image file that is written",
+    whole: word_help::NEW_IMAGE,
+};
+
+pub(crate) const REFUSAL: Argument = Argument {
+    name: "NUMBER",
+    form: Form::Place,
+    line: "The number of the refusal",
+    whole: word_help::REFUSAL,
+};
+
+pub(crate) const STRICT: Argument = Argument {
+    name: "strict",
+    form: Form::Flag,
+    line: "Asks that the ending of loops tells nothing either",
+    whole: word_help::STRICT,
+};
+
+pub(crate) const STEADY: Argument = Argument {
+    name: "steady",
+    form: Form::Flag,
+    line: "Asks that the number of instructions tells nothing",
+    whole: word_help::STEADY,
+};
+
+pub(crate) const STEADY_SOURCE: Argument = Argument {
+    name: "steady",
+    form: Form::Flag,
+    line: "Asks that the number of instructions tells nothing",
+    whole: word_help::STEADY_SOURCE,
+};
+
+pub(crate) const JSON: Argument = Argument {
+    name: "json",
+    form: Form::Flag,
+    line: "Writes the answer as JSON",
+    whole: word_help::JSON,
+};
+
+pub(crate) const CHECK_JSON: Argument = Argument {
+    name: "json",
+    form: Form::Flag,
+    line: "Writes the answer as JSON",
+    whole: word_help::CHECK_JSON,
+};
+
+pub(crate) const WALKS: Argument = Argument {
+    name: "walks",
+    form: Form::Flag,
+    line: "Prints the steps of a shortest chain below each line",
+    whole: word_help::WALKS,
+};
+
+pub(crate) const TRACE: Argument = Argument {
+    name: "trace",
+    form: Form::Flag,
+    line: "Prints each instruction before it is done",
+    whole: word_help::TRACE,
+};
+
+pub(crate) const COUNT: Argument = Argument {
+    name: "count",
+    form: Form::Flag,
+    line: "Tells how many instructions were done",
+    whole: word_help::COUNT,
+};
+
+pub(crate) const EXPLAIN: Argument = Argument {
+    name: "explain",
+    form: Form::Flag,
+    line: "Explains a refusal on standard error",
+    whole: word_help::EXPLAINED,
+};
+
+pub(crate) const COLOR: Argument = Argument {
+    name: "color",
+    form: Form::When("WHEN"),
+    line: "Colours an explanation: auto, always or never",
+    whole: word_help::COLOR,
+};
+
+pub(crate) const CLASS: Argument = Argument {
+    name: "class",
+    form: Form::NeededValue("C"),
+    line: "The class that looks",
+    whole: word_help::CLASS,
+};
+
+pub(crate) const LOOKING: Argument = Argument {
+    name: "class",
+    form: Form::Value("C"),
+    line: "The class that looks; without it each one",
+    whole: word_help::LOOKING,
+};
+
+pub(crate) const BUDGET: Argument = Argument {
+    name: "budget",
+    form: Form::NeededNumber("N"),
+    line: "The most instructions that are done",
+    whole: word_help::BUDGET,
+};
+
+pub(crate) const RUN_BUDGET: Argument = Argument {
+    name: "budget",
+    form: Form::Number("N"),
+    line: "The most instructions of a run, 10000 where it isn't given",
+    whole: word_help::RUN_BUDGET,
+};
+
+pub(crate) const TRIES: Argument = Argument {
+    name: "tries",
+    form: Form::Number("N"),
+    line: "The most pairs of runs, 10000 where it isn't given",
+    whole: word_help::TRIES,
+};
+
+pub(crate) const SEED: Argument = Argument {
+    name: "seed",
+    form: Form::Number("S"),
+    line: "The seed of what is drawn, 0 where it isn't given",
+    whole: word_help::SEED,
+};
+
+pub(crate) const ENDINGS: Argument = Argument {
+    name: "endings",
+    form: Form::Flag,
+    line: "Looks also for runs that are out of budget",
+    whole: word_help::ENDINGS,
+};
+
+pub(crate) const STEPS: Argument = Argument {
+    name: "steps",
+    form: Form::Flag,
+    line: "Looks also for runs of different numbers of instructions",
+    whole: word_help::STEPS,
+};
+
+pub(crate) const STORE: Argument = Argument {
+    name: "store",
+    form: Form::Value("FILE"),
+    line: "The store file; without it the run begins from zeros",
+    whole: word_help::STORE,
+};
+
+pub(crate) const STORES: Argument = Argument {
+    name: "store",
+    form: Form::NeededValues("FILE"),
+    line: "A store file, given twice",
+    whole: word_help::STORES,
+};
+
+pub(crate) const SET: Argument = Argument {
+    name: "set",
+    form: Form::Values("NAME=NUMBER"),
+    line: "Sets a global behind the store file; can be repeated",
+    whole: word_help::SET,
+};
+
+pub(crate) const FULL_STORE: Argument = Argument {
+    name: "full-store",
+    form: Form::Flag,
+    line: "Asks that each global is in the store file or set",
+    whole: word_help::FULL_STORE,
+};
+
+pub(crate) const OUT: Argument = Argument {
+    name: "out",
+    form: Form::Value("FILE"),
+    line: "The file that the store goes to, not standard output",
+    whole: word_help::OUT,
+};
+
+pub(crate) const SAVE: Argument = Argument {
+    name: "save",
+    form: Form::Value("FILE"),
+    line: "The file that gets the last store",
+    whole: word_help::SAVE,
+};
