@@ -10,7 +10,6 @@
 //! proofs.
 #![tactic(auto)]
 
-mod action;
 mod calls;
 mod cells;
 mod loading;

@@ -6,7 +6,8 @@
 //! meaning gives. That there is one is part of them: the meaning gives none where an operand, a
 //! slot or the instruction is missing. The law `never_stuck` says of every run of a valid image
 //! that it has a state, and that its operands have room on the image's stack. So the loop has no
-//! test for any of these.
+//! test for any of these. What one instruction does is `act`, for those that run an image over
+//! arrays of their own.
 //!
 //! To be believed: `specs/Laws`, `specs/Runs`, `specs/Sound`, `specs/Trace`; `specs/Held` is a
 //! stepping stone of proofs.
@@ -18,4 +19,5 @@ pub mod laws;
 mod tracing;
 mod turns;
 
+pub use action::{CAPACITY, INSTRUCTIONS, Position, Words, act};
 pub use interpreter::{Machine, Outcome, StartError};
