@@ -1,8 +1,8 @@
 -- The first fault of marks that stand one behind another.
-use Rattle.std.proofs.Common.{◌≡◌, List, [], ◌∷◌, ◌++◌, refl, ap, ◌∙◌, Option, Some, None}
+use Rattle.std.proofs.Common.{◌≡◌, List, [], ◌∷◌, ◌++◌, refl, sym, ap, subst, ◌∙◌, Option, Some, None, Result, Ok, Err, IsErrAnd}
 use Rattle.vsi_scope.specs.declared.resolution.ScopeError.{ScopeError}
 use Rattle.vsi_scope.specs.declared.resolution.ScopeError.TheVariants as errors
-use Rattle.vsi_scope.specs.Faults.{Known, Mark, first_fault, fault_at, or_else, Refuses}
+use Rattle.vsi_scope.specs.Faults.{Known, Mark, first_fault, fault_at, or_else, Refuses, Judged}
 
 -- The first of three faults doesn't depend on how they are grouped.
 or_else_more : (a b c : Option ScopeError) → or_else a (or_else b c) ≡ or_else (or_else a b) c
@@ -47,6 +47,12 @@ refuses_first e k xs ys p = refuses_as e _ _ (fault_first k xs ys) p
 pub refuses_behind : (e : ScopeError) (k : Known) (xs ys : List Mark) → first_fault k xs ≡ None →
     Refuses e (first_fault k ys) → Refuses e (first_fault k (xs ++ ys))
 refuses_behind e k xs ys n p = refuses_as e _ _ (λ x q. fault_behind k xs ys n ∙ q) p
+
+-- An error that is passed on as it came is judged as it was.
+pub judged_passed : {X : Type 0} (r : Result X ScopeError) (e : ScopeError) (o : Option ScopeError) →
+    IsErrAnd r (λ y. y ≡ e) → Refuses e o → Judged r o
+judged_passed (Ok x) e o h p = absurd h
+judged_passed (Err y) e o h p = subst (λ z. Refuses z o) (sym h) p
 
 -- Two parts without a fault have none together.
 pub none_in_both : (k : Known) (xs ys : List Mark) → first_fault k xs ≡ None → first_fault k ys ≡ None →

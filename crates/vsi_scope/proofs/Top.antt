@@ -174,6 +174,11 @@ pub record Begun (k : Known) (p : tree.Whole) (list : List Global) (w : Resolver
   pub spelled : IsGlobalsSpelled p.globals
   pub shallow : tree.body_depth p.body ≤ 200
 
+-- The walk has gone over the body and found no fault.
+pub record Over (k : Known) (p : tree.Whole) (w new : Resolver) (after : List Cmd) : Type 0 where
+  pub walked : WalkedAll k w new [] after p.body
+  pub none : fault_in_all k w p.body ≡ None
+
 module _ (k : Known) (p : tree.Whole) (list : List Global) (w : Resolver) (b : Begun k p list w) where
   -- As many globals are read as are declared.
   globals_counted : length list ≡ length p.globals
@@ -219,12 +224,10 @@ module _ (k : Known) (p : tree.Whole) (list : List Global) (w : Resolver) (b : B
       (refuses_behind e k (global_marks [] p.globals) (all_marks (global_names p.globals) (length p.globals) p.body)
       b.faultless (rw (b.named, begun_declared) at r))
 
-  module _
-      (new : Resolver) (before after : List Cmd) (empty : before ≡ []) (walked : WalkedAll k w new before after p.body)
-      (none : fault_in_all k w p.body ≡ None) where
+  module _ (new : Resolver) (after : List Cmd) (over : Over k p w new after) where
     -- The body has no fault.
     none_there : first_fault k (all_marks (global_names p.globals) (length p.globals) p.body) ≡ None
-    none_there = rw (b.named, begun_declared) at none
+    none_there = rw (b.named, begun_declared) at over.none
 
     -- The program has no fault.
     pub faultless : first_fault k (program_marks p) ≡ None
@@ -234,9 +237,7 @@ module _ (k : Known) (p : tree.Whole) (list : List Global) (w : Resolver) (b : B
 
     -- The commands are what the function gives.
     commands : map command after ≡ all_commands (global_names p.globals) p.body
-    commands =
-        walked.body ∙ ap (λ l. map command l ++ all_commands (scope_of w) p.body) empty
-        ∙ ap (λ s. all_commands s p.body) b.named
+    commands = over.walked.body ∙ ap (λ s. all_commands s p.body) b.named
 
     -- The body is the sequence of what the function gives.
     sequence_is : sequence after ≡ in_sequence (all_commands (global_names p.globals) p.body)
@@ -244,7 +245,7 @@ module _ (k : Known) (p : tree.Whole) (list : List Global) (w : Resolver) (b : B
 
     -- The entries are the letvars of the tree.
     variables : map variable new.letvars.items ≡ all_variables k p.body
-    variables = walked.letvars ∙ ap (λ l. map variable l ++ all_variables k p.body) b.letvars
+    variables = over.walked.letvars ∙ ap (λ l. map variable l ++ all_variables k p.body) b.letvars
 
     -- There are as many entries as letvars in the tree.
     entries : length new.letvars.items ≡ all_locals p.body

@@ -13,9 +13,9 @@ use Rattle.vsi_scope.specs.Language.{Command, If, While, Letvar}
 use Rattle.vsi_scope.specs.View.{expression, command, sequence}
 use Rattle.vsi_scope.specs.Scopes.{in_sequence}
 use Rattle.vsi_scope.specs.Places.{expression_of, commands_of}
-use Rattle.vsi_scope.specs.Faults.{Known, locals, all_locals}
+use Rattle.vsi_scope.specs.Faults.{Known, marks, locals, all_locals, first_fault}
 use Rattle.vsi_scope.specs.Resolving.{Variable, variable, variables, all_variables, class_of, letvar}
-use Rattle.vsi_scope.specs.Resolver.{Walked, IsWithin, names_of, scope_of, declared}
+use Rattle.vsi_scope.specs.Resolver.{Walked, IsWithin, names_of, scope_of, declared, fault_in}
 use Rattle.vsi_scope.proofs.Views.{command_If, command_While, command_Letvar, sequence_in}
 
 -- A branch that has begun empty.
@@ -52,7 +52,7 @@ same_names old new g l =
     ∙ ap (λ ns. map (λ (x : Bor (List ℕ)). x.now) old.globals.keys ++ map (λ (x : Bor (List ℕ)). x.now) ns) l
 
 -- A walk leaves the names in scope as they were.
-pub scope_after : (old new : Resolver) {b a : List Cmd} {vs : List Variable} {cs : List Command} →
+scope_after : (old new : Resolver) {b a : List Cmd} {vs : List Variable} {cs : List Command} →
     Walked old new b a vs cs → scope_of new ≡ scope_of old
 scope_after old new w = same_names old.names new.names w.globals w.locals
 
@@ -69,6 +69,14 @@ declared_after known c old new w =
       length-append (map variable old.letvars.items) (variables known c),
       counted known c,
     )
+
+-- What is judged behind a walk over a command is judged with the names before it and its letvars declared.
+pub judged_after : (known : Known) (c d : tree.Command) (old new : Resolver) {b a : List Cmd} {cs : List Command} →
+    Walked old new b a (variables known c) cs →
+    fault_in known new d ≡ first_fault known (marks (scope_of old) (declared old + locals c) d)
+judged_after known c d old new w =
+    ap (λ s. first_fault known (marks s (declared new) d)) (scope_after old new w)
+    ∙ ap (λ n. first_fault known (marks (scope_of old) n d)) (declared_after known c old new w)
 
 -- One command more is the last of the list.
 put : (before after : List Cmd) (c : Cmd) (d : Command) → after ≡ before ++ c ∷ [] → command c ≡ d →
@@ -125,7 +133,7 @@ pub record Entered (old new : Resolver) (x : Bor (List ℕ)) (v : Variable) : Ty
   pub letvars : map variable new.letvars.items ≡ map variable old.letvars.items ++ v ∷ []
 
 -- The name that came into scope is the last.
-pub entered_scope : (old new : Resolver) (x : Bor (List ℕ)) (v : Variable) → Entered old new x v →
+entered_scope : (old new : Resolver) (x : Bor (List ℕ)) (v : Variable) → Entered old new x v →
     scope_of new ≡ scope_of old ++ x.now ∷ []
 entered_scope old new x v w =
     let globals = map (λ (y : Bor (List ℕ)). y.now) old.names.globals.keys in
@@ -135,7 +143,7 @@ entered_scope old new x v w =
     ∙ sym (append_assoc globals (map (λ y. y.now) old.names.locals.items) (x.now ∷ []))
 
 -- One variable more is declared.
-pub entered_declared : (old new : Resolver) (x : Bor (List ℕ)) (v : Variable) → Entered old new x v →
+entered_declared : (old new : Resolver) (x : Bor (List ℕ)) (v : Variable) → Entered old new x v →
     declared new ≡ suc (declared old)
 entered_declared old new x v w =
     omega (
@@ -146,6 +154,14 @@ entered_declared old new x v w =
       length-map old.letvars.items variable,
       length-append (map variable old.letvars.items) (v ∷ []),
     )
+
+-- What is judged behind a variable is judged with its name the last and one declaration more.
+pub judged_inside : (known : Known) (c : tree.Command) (old new : Resolver) (x : Bor (List ℕ)) (v : Variable) →
+    Entered old new x v →
+    fault_in known new c ≡ first_fault known (marks (scope_of old ++ x.now ∷ []) (suc (declared old)) c)
+judged_inside known c old new x v w =
+    ap (λ s. first_fault known (marks s (declared new) c)) (entered_scope old new x v w)
+    ∙ ap (λ n. first_fault known (marks (scope_of old ++ x.now ∷ []) n c)) (entered_declared old new x v w)
 
 -- Not too many are declared where one more fits.
 pub entered_within : (old new : Resolver) (x : Bor (List ℕ)) (v : Variable) → Entered old new x v → IsWithin old →

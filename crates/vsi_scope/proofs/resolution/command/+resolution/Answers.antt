@@ -1,5 +1,4 @@
-use Rattle.std.proofs.Common.{option_map, rules, ◌≡◌, ◌<◌, refl, ap, arith}
-use Rattle.std.proofs.lemmas.Result.{err_from_is_err_and}
+use Rattle.std.proofs.Common.{option_map, rules, ◌≡◌, ℕ, ◌<◌, refl, ap, arith}
 use Rattle.vsi_syntax.specs.View.{tree}
 use Rattle.vsi_syntax.specs.CommandView as syntax
 use Rattle.vsi_lattice.specs.LatticeView.{class_named}
@@ -8,11 +7,27 @@ use Rattle.vsi_scope.specs.Resolver.{scope_of, declared}
 use Rattle.vsi_syntax.specs.Tree as t
 use Rattle.vsi_syntax.specs.View.{named}
 use Rattle.vsi_syntax.specs.declared.tree.Stmt.{the_lemmas}
+use Rattle.vsi_scope.proofs.Faulty.{judged_passed}
 use Rattle.vsi_scope.proofs.Forms.{choose_guard, choose_first, choose_second, choose_none, loop_guard, loop_body, loop_none, local_value, local_body, local_none}
 use Rattle.vsi_scope.proofs.Weights.{weight, one_weight, from_place}
-use Rattle.vsi_scope.proofs.Walks.{chosen, looped, localled, Entered, entered_scope, entered_declared, entered_within, scope_after, declared_after}
+use Rattle.vsi_scope.proofs.Walks.{chosen, looped, localled, Entered, entered_within, judged_after, judged_inside}
 use Rattle.vsi_scope.proofs.Midway.{midway_more, midway_refuses}
 use Rattle.vsi_scope.proofs.resolution.command.+resolution.Goals as goal
+use Rattle.vsi_scope.proofs.resolution.command.+resolution.Goals.{local-Else-declared-ge-MAX_DECLARATIONS, local-In_ok-enter}
+
+-- One declaration more fits where the limit isn't reached.
+few : (u : ℕ) (c : local-Else-declared-ge-MAX_DECLARATIONS u) → declared c.args.resolver.now < 1024
+few u c = omega (arith, c.if-declared-ge-MAX_DECLARATIONS.false, c.declared.ensures)
+
+-- The letvar has come into scope.
+entered : (u : ℕ) (c : local-In_ok-enter u) →
+    Entered c.args.resolver.now c.enter.new.self c.args.x.text
+    (letvar (named c.args.x) (class_of (class_named c.args.lattice.now) (option_map named c.args.written)))
+entered u c = record {
+  globals = c.in_ok-enter.ensures.globals;
+  locals = c.in_ok-enter.ensures.locals;
+  letvars = rw (c.in_ok-class.ensures.value) at c.in_ok-enter.ensures.letvars;
+}
 
 pub choose-statement-requires : goal.choose-statement-requires
 choose-statement-requires u c = (omega (arith, c.decreases), c.requires)
@@ -28,8 +43,7 @@ sequence-statement-requires u c = (
   omega (
     arith,
     c.decreases,
-    one_weight c.args.body.now c.loop-c.c-index c.c-item.result c.loop-c-test.true
-        c.c-item.is,
+    one_weight c.args.body.now c.loop-c.c-index c.c-item.result c.loop-c-test.true c.c-item.is,
   ),
   c.loop-c.invariant.within,
 )
@@ -42,8 +56,8 @@ sequence-loop-c-preserved u c =
 
 pub sequence-returns-in_err-statement-clause-fault : goal.sequence-returns-in_err-statement-clause-fault
 sequence-returns-in_err-statement-clause-fault u c =
-    let p = err_from_is_err_and c.from_residual.result c.from_residual.ensures.1 in
-    rw (p.1, p.2) (midway_refuses (class_named c.args.lattice.now) _ _ _ _ _ _ _ _ _
+    judged_passed c.from_residual.result _ _ c.from_residual.ensures.1
+    (midway_refuses (class_named c.args.lattice.now) _ _ _ _ _ _ _ _ c.in_err-statement.field-0.0
     (from_place c.args.body.now c.loop-c.c-index c.c-item.result c.loop-c-test.true c.c-item.is)
     c.loop-c.invariant c.in_err-statement.ensures.fault)
 
@@ -89,170 +103,113 @@ repeat-returns-clause-value u c =
 pub choose-returns-in_err-guard-clause-fault : goal.choose-returns-in_err-guard-clause-fault
 choose-returns-in_err-guard-clause-fault u c =
     let known = class_named c.args.lattice.now in
-    let p = err_from_is_err_and c.from_residual.result c.from_residual.ensures.1 in
-    rw (p.1, p.2) (choose_guard known (scope_of c.args.resolver.now) (declared c.args.resolver.now)
-    (tree c.args.guard.now)
-    (syntax.command c.args.then_branch.now) (syntax.command c.args.else_branch.now) c.in_err-guard.field-0.0
-    (c.in_err-guard.ensures.fault known))
+    let r = c.args.resolver.now in
+    judged_passed c.from_residual.result _ _ c.from_residual.ensures.1
+    (choose_guard known (scope_of r) (declared r) (tree c.args.guard.now)
+    (syntax.command c.args.then_branch.now) (syntax.command c.args.else_branch.now)
+    c.in_err-guard.field-0.0 (c.in_err-guard.ensures.fault known))
 
 pub choose-returns-in_err-statement-clause-fault : goal.choose-returns-in_err-statement-clause-fault
 choose-returns-in_err-statement-clause-fault u c =
     let known = class_named c.args.lattice.now in
-    let p = err_from_is_err_and c.from_residual-in_err-statement.result c.from_residual-in_err-statement.ensures.1 in
-    rw (p.1, p.2) (choose_first known (scope_of c.args.resolver.now) (declared c.args.resolver.now)
-    (tree c.args.guard.now)
-    (syntax.command c.args.then_branch.now) (syntax.command c.args.else_branch.now) c.in_err-statement.field-0.0
-    (c.in_ok-guard.ensures.fault known) c.in_err-statement.ensures.fault)
+    let r = c.args.resolver.now in
+    judged_passed c.from_residual-in_err-statement.result _ _ c.from_residual-in_err-statement.ensures.1
+    (choose_first known (scope_of r) (declared r) (tree c.args.guard.now)
+    (syntax.command c.args.then_branch.now) (syntax.command c.args.else_branch.now)
+    c.in_err-statement.field-0.0 (c.in_ok-guard.ensures.fault known) c.in_err-statement.ensures.fault)
 
 pub choose-returns-in_err-statement-2-clause-fault : goal.choose-returns-in_err-statement-2-clause-fault
 choose-returns-in_err-statement-2-clause-fault u c =
     let known = class_named c.args.lattice.now in
-    let first = c.in_ok-statement.ensures.value in
-    let s = scope_after c.args.resolver.now c.statement.new.resolver first in
-    let n = declared_after known (syntax.command c.args.then_branch.now) c.args.resolver.now c.statement.new.resolver
-    first in
-    let p = err_from_is_err_and c.from_residual-in_err-statement-2.result c.from_residual-in_err-statement-2.ensures.1
-    in
-    rw (p.1, p.2) (choose_second known (scope_of c.args.resolver.now) (declared c.args.resolver.now)
-    (tree c.args.guard.now)
-    (syntax.command c.args.then_branch.now) (syntax.command c.args.else_branch.now) c.in_err-statement-2.field-0.0
-    (c.in_ok-guard.ensures.fault known) c.in_ok-statement.ensures.fault
-    (rw (s, n) at c.in_err-statement-2.ensures.fault))
+    let r = c.args.resolver.now in
+    let judged = judged_after known (syntax.command c.args.then_branch.now) (syntax.command c.args.else_branch.now) r _
+    c.in_ok-statement.ensures.value in
+    judged_passed c.from_residual-in_err-statement-2.result _ _ c.from_residual-in_err-statement-2.ensures.1
+    (choose_second known (scope_of r) (declared r) (tree c.args.guard.now)
+    (syntax.command c.args.then_branch.now) (syntax.command c.args.else_branch.now)
+    c.in_err-statement-2.field-0.0 (c.in_ok-guard.ensures.fault known) c.in_ok-statement.ensures.fault
+    (rw judged at c.in_err-statement-2.ensures.fault))
 
 pub choose-returns-clause-fault : goal.choose-returns-clause-fault
 choose-returns-clause-fault u c =
     let known = class_named c.args.lattice.now in
-    let first = c.in_ok-statement.ensures.value in
-    let s = scope_after c.args.resolver.now c.statement.new.resolver first in
-    let n = declared_after known (syntax.command c.args.then_branch.now) c.args.resolver.now c.statement.new.resolver
-    first in
-    choose_none known (scope_of c.args.resolver.now) (declared c.args.resolver.now) (tree c.args.guard.now)
+    let r = c.args.resolver.now in
+    let judged = judged_after known (syntax.command c.args.then_branch.now) (syntax.command c.args.else_branch.now) r _
+    c.in_ok-statement.ensures.value in
+    choose_none known (scope_of r) (declared r) (tree c.args.guard.now)
     (syntax.command c.args.then_branch.now) (syntax.command c.args.else_branch.now)
     (c.in_ok-guard.ensures.fault known) c.in_ok-statement.ensures.fault
-    (rw (s, n) at c.in_ok-statement-2.ensures.fault)
+    (rw judged at c.in_ok-statement-2.ensures.fault)
 
 pub repeat-returns-in_err-guard-clause-fault : goal.repeat-returns-in_err-guard-clause-fault
 repeat-returns-in_err-guard-clause-fault u c =
     let known = class_named c.args.lattice.now in
-    let p = err_from_is_err_and c.from_residual.result c.from_residual.ensures.1 in
-    rw (p.1, p.2) (loop_guard known (scope_of c.args.resolver.now) (declared c.args.resolver.now)
-    (tree c.args.guard.now)
-    (syntax.command c.args.c.now) c.in_err-guard.field-0.0
-    (c.in_err-guard.ensures.fault known))
+    let r = c.args.resolver.now in
+    judged_passed c.from_residual.result _ _ c.from_residual.ensures.1
+    (loop_guard known (scope_of r) (declared r) (tree c.args.guard.now) (syntax.command c.args.c.now)
+    c.in_err-guard.field-0.0 (c.in_err-guard.ensures.fault known))
 
 pub repeat-returns-in_err-statement-clause-fault : goal.repeat-returns-in_err-statement-clause-fault
 repeat-returns-in_err-statement-clause-fault u c =
     let known = class_named c.args.lattice.now in
-    let p = err_from_is_err_and c.from_residual-in_err-statement.result c.from_residual-in_err-statement.ensures.1 in
-    rw (p.1, p.2) (loop_body known (scope_of c.args.resolver.now) (declared c.args.resolver.now) (tree c.args.guard.now)
-    (syntax.command c.args.c.now) c.in_err-statement.field-0.0
-    (c.in_ok-guard.ensures.fault known) c.in_err-statement.ensures.fault)
+    let r = c.args.resolver.now in
+    judged_passed c.from_residual-in_err-statement.result _ _ c.from_residual-in_err-statement.ensures.1
+    (loop_body known (scope_of r) (declared r) (tree c.args.guard.now) (syntax.command c.args.c.now)
+    c.in_err-statement.field-0.0 (c.in_ok-guard.ensures.fault known) c.in_err-statement.ensures.fault)
 
 pub repeat-returns-clause-fault : goal.repeat-returns-clause-fault
 repeat-returns-clause-fault u c =
     let known = class_named c.args.lattice.now in
-    loop_none known (scope_of c.args.resolver.now) (declared c.args.resolver.now) (tree c.args.guard.now)
-    (syntax.command c.args.c.now) (c.in_ok-guard.ensures.fault known)
-    c.in_ok-statement.ensures.fault
+    let r = c.args.resolver.now in
+    loop_none known (scope_of r) (declared r) (tree c.args.guard.now) (syntax.command c.args.c.now)
+    (c.in_ok-guard.ensures.fault known) c.in_ok-statement.ensures.fault
 
 pub local-statement-requires : goal.local-statement-requires
 local-statement-requires u c =
-    let known = class_named c.args.lattice.now in
-    let few : declared c.args.resolver.now < 1024 = omega (
-      arith,
-      c.if-declared-ge-MAX_DECLARATIONS.false,
-      c.declared.ensures,
-    ) in
-    let entered : Entered c.args.resolver.now c.enter.new.self c.args.x.text
-    (letvar (named c.args.x) (class_of known (option_map named c.args.written))) =
-    record {
-      globals = c.in_ok-enter.ensures.globals;
-      locals = c.in_ok-enter.ensures.locals;
-      letvars = rw
-          (c.in_ok-class.ensures.value) at c.in_ok-enter.ensures.letvars;
-    } in
-    (omega (arith, c.decreases), entered_within _ _ _ _ entered c.requires few)
+    let at = goal.at.local-statement-requires u c in (
+      omega (arith, c.decreases),
+      entered_within _ _ _ _ (entered u at.In_ok-enter) c.requires (few u at.Else-declared-ge-MAX_DECLARATIONS),
+    )
 
 pub local-returns-in_err-value-clause-fault : goal.local-returns-in_err-value-clause-fault
 local-returns-in_err-value-clause-fault u c =
     let known = class_named c.args.lattice.now in
-    let few : declared c.args.resolver.now < 1024 = omega (
-      arith,
-      c.if-declared-ge-MAX_DECLARATIONS.false,
-      c.declared.ensures,
-    ) in
-    let p = err_from_is_err_and c.from_residual-in_err-value.result c.from_residual-in_err-value.ensures.1 in
-    rw (p.1, p.2) (local_value known (scope_of c.args.resolver.now) (declared c.args.resolver.now) (tree c.args.e.now)
-    (syntax.command c.args.c.now) (named c.args.x) (option_map named c.args.written) c.in_err-value.field-0.0 few
-    c.in_ok-class.ensures.fault (c.in_err-value.ensures.fault known))
+    let r = c.args.resolver.now in
+    let at = goal.at.local-returns-in_err-value-clause-fault u c in
+    judged_passed c.from_residual-in_err-value.result _ _ c.from_residual-in_err-value.ensures.1
+    (local_value known (scope_of r) (declared r) (tree c.args.e.now) (syntax.command c.args.c.now)
+    (named c.args.x) (option_map named c.args.written)
+    c.in_err-value.field-0.0 (few u at.Else-declared-ge-MAX_DECLARATIONS) c.in_ok-class.ensures.fault
+    (c.in_err-value.ensures.fault known))
 
 pub local-returns-in_err-statement-clause-fault : goal.local-returns-in_err-statement-clause-fault
 local-returns-in_err-statement-clause-fault u c =
     let known = class_named c.args.lattice.now in
-    let few : declared c.args.resolver.now < 1024 = omega (
-      arith,
-      c.if-declared-ge-MAX_DECLARATIONS.false,
-      c.declared.ensures,
-    ) in
-    let entered : Entered c.args.resolver.now c.enter.new.self c.args.x.text
-    (letvar (named c.args.x) (class_of known (option_map named c.args.written))) =
-    record {
-      globals = c.in_ok-enter.ensures.globals;
-      locals = c.in_ok-enter.ensures.locals;
-      letvars = rw
-          (c.in_ok-class.ensures.value) at c.in_ok-enter.ensures.letvars;
-    } in
-    let s = entered_scope _ _ _ _ entered in
-    let n = entered_declared _ _ _ _ entered in
-    let p = err_from_is_err_and c.from_residual-in_err-statement.result c.from_residual-in_err-statement.ensures.1 in
-    rw (p.1, p.2) (local_body known (scope_of c.args.resolver.now) (declared c.args.resolver.now) (tree c.args.e.now)
-    (syntax.command c.args.c.now) (named c.args.x) (option_map named c.args.written) c.in_err-statement.field-0.0
-    few c.in_ok-class.ensures.fault (c.in_ok-value.ensures.fault known)
-    (rw (s, n) at c.in_err-statement.ensures.fault))
+    let r = c.args.resolver.now in
+    let at = goal.at.local-returns-in_err-statement-clause-fault u c in
+    let judged = judged_inside known (syntax.command c.args.c.now) r _ _ _ (entered u at.In_ok-enter) in
+    judged_passed c.from_residual-in_err-statement.result _ _ c.from_residual-in_err-statement.ensures.1
+    (local_body known (scope_of r) (declared r) (tree c.args.e.now) (syntax.command c.args.c.now)
+    (named c.args.x) (option_map named c.args.written)
+    c.in_err-statement.field-0.0 (few u at.Else-declared-ge-MAX_DECLARATIONS) c.in_ok-class.ensures.fault
+    (c.in_ok-value.ensures.fault known) (rw judged at c.in_err-statement.ensures.fault))
 
 pub local-returns-clause-fault : goal.local-returns-clause-fault
 local-returns-clause-fault u c =
     let known = class_named c.args.lattice.now in
-    let few : declared c.args.resolver.now < 1024 = omega (
-      arith,
-      c.if-declared-ge-MAX_DECLARATIONS.false,
-      c.declared.ensures,
-    ) in
-    let entered : Entered c.args.resolver.now c.enter.new.self c.args.x.text
-    (letvar (named c.args.x) (class_of known (option_map named c.args.written))) =
-    record {
-      globals = c.in_ok-enter.ensures.globals;
-      locals = c.in_ok-enter.ensures.locals;
-      letvars = rw
-          (c.in_ok-class.ensures.value) at c.in_ok-enter.ensures.letvars;
-    } in
-    let s = entered_scope _ _ _ _ entered in
-    let n = entered_declared _ _ _ _ entered in
-    local_none known (scope_of c.args.resolver.now) (declared c.args.resolver.now) (tree c.args.e.now)
-    (syntax.command c.args.c.now) (named c.args.x)
-    (option_map named c.args.written) few c.in_ok-class.ensures.fault
-    (c.in_ok-value.ensures.fault known)
-    (rw (s, n) at c.in_ok-statement.ensures.fault)
+    let r = c.args.resolver.now in
+    let at = goal.at.local-returns-clause-fault u c in
+    let judged = judged_inside known (syntax.command c.args.c.now) r _ _ _ (entered u at.In_ok-enter) in
+    local_none known (scope_of r) (declared r) (tree c.args.e.now) (syntax.command c.args.c.now)
+    (named c.args.x) (option_map named c.args.written)
+    (few u at.Else-declared-ge-MAX_DECLARATIONS) c.in_ok-class.ensures.fault (c.in_ok-value.ensures.fault known)
+    (rw judged at c.in_ok-statement.ensures.fault)
 
 pub local-returns-clause-value : goal.local-returns-clause-value
 local-returns-clause-value u c =
-    let known = class_named c.args.lattice.now in
-    let few : declared c.args.resolver.now < 1024 = omega (
-      arith,
-      c.if-declared-ge-MAX_DECLARATIONS.false,
-      c.declared.ensures,
-    ) in
-    let entered : Entered c.args.resolver.now c.enter.new.self c.args.x.text
-    (letvar (named c.args.x) (class_of known (option_map named c.args.written))) =
-    record {
-      globals = c.in_ok-enter.ensures.globals;
-      locals = c.in_ok-enter.ensures.locals;
-      letvars = rw
-          (c.in_ok-class.ensures.value) at c.in_ok-enter.ensures.letvars;
-    } in
-    localled known c.args.resolver.now c.enter.new.self c.statement.new.resolver c.leave.new.self c.args.x.text
-    (named c.args.x) (option_map named c.args.written) c.in_ok-value.value (tree c.args.e.now)
-    (syntax.command c.args.c.now) _ _ _ _ c.requires entered refl
-    c.in_ok-value.ensures.value c.new-body.ensures.items
-    c.in_ok-statement.ensures.value c.leave.ensures.locals c.leave.ensures.globals c.leave.ensures.letvars
-    c.in_ok-push.ensures.items
+    let at = goal.at.local-returns-clause-value u c in
+    localled (class_named c.args.lattice.now) c.args.resolver.now c.enter.new.self c.statement.new.resolver
+    c.leave.new.self c.args.x.text (named c.args.x) (option_map named c.args.written) c.in_ok-value.value
+    (tree c.args.e.now) (syntax.command c.args.c.now) _ _ _ _ c.requires (entered u at.In_ok-enter) refl
+    c.in_ok-value.ensures.value c.new-body.ensures.items c.in_ok-statement.ensures.value c.leave.ensures.locals
+    c.leave.ensures.globals c.leave.ensures.letvars c.in_ok-push.ensures.items
