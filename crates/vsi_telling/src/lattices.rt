@@ -83,8 +83,8 @@ fn place_in(names: &[&[u8]], value: Option<&Value>) -> usize {
     names.len()
 }
 
-/// The classes and the pairs of a table.
-fn order_in<'t>(alloc: Global, table: &'t Table) -> Result<Order<'t>, AllocError> {
+/// The classes of a table.
+fn classes_in<'t>(alloc: Global, table: &'t Table) -> Result<Vec<&'t [u8]>, AllocError> {
     let mut names = Vec::new(alloc);
     for place in 0..MOST_CLASSES {
         let Some(name) = class_in(table, place) else {
@@ -92,16 +92,32 @@ fn order_in<'t>(alloc: Global, table: &'t Table) -> Result<Order<'t>, AllocError
         };
         names.push(name)?;
     }
+    Ok(names)
+}
+
+/// The pairs of a table, by the places of their classes among the names.
+fn pairs_in(
+    alloc: Global,
+    table: &Table,
+    names: &[&[u8]],
+) -> Result<Vec<(usize, usize)>, AllocError> {
     let mut pairs = Vec::new(alloc);
     let Some(Some(array)) = table.get("below").map(|value| value.as_array()) else {
-        return Ok(Order { names, pairs });
+        return Ok(pairs);
     };
     for item in array.as_slice() {
         if let Some(pair) = item.as_array() {
             let pair = pair.as_slice();
-            pairs.push((place_in(&names, pair.get(0)), place_in(&names, pair.get(1))))?;
+            pairs.push((place_in(names, pair.get(0)), place_in(names, pair.get(1))))?;
         }
     }
+    Ok(pairs)
+}
+
+/// The classes and the pairs of a table.
+fn order_in<'t>(alloc: Global, table: &'t Table) -> Result<Order<'t>, AllocError> {
+    let names = classes_in(alloc, table)?;
+    let pairs = pairs_in(alloc, table, &names)?;
     Ok(Order { names, pairs })
 }
 
@@ -258,26 +274,46 @@ pub(crate) fn of_lattice(
     bytes: &[u8],
     error: LatticeError,
 ) -> Result<Telling, AllocError> {
-    let table = table_in(alloc, bytes)?;
     let mut words = Vec::new(alloc);
-    let place = match error {
-        LatticeError::Memory => return Err(AllocError),
-        LatticeError::NotToml => put_not_toml(&mut words, path, bytes)?,
-        LatticeError::BadShape => put_bad_shape(&mut words, bytes, &table)?,
-        LatticeError::NoClass => {
-            words.extend_from_slice(b"The list of classes is empty. Hint: name one at least.\n")?;
-            words.extend_from_slice(SHAPE)?;
-            key_place(bytes, b"classes")
-        }
-        LatticeError::TooManyClasses => {
-            words.extend_from_slice(b"There are more than 64 classes. Hint: leave some out.\n")?;
-            key_place(bytes, b"classes")
-        }
-        LatticeError::BadName(_) | LatticeError::DuplicateName(_) | LatticeError::UnknownName(_) =>
-            { put_name_fault(&mut words, bytes, &table, error)? }
-        LatticeError::Cycle(_, _) | LatticeError::NoJoin(_, _) | LatticeError::NoMeet(_, _) => {
-            put_pair_fault(alloc, &mut words, bytes, &table, error)?
-        }
-    };
+    let place = put_lattice(alloc, &mut words, path, bytes, error)?;
     Ok(Telling { place, words })
+}
+
+/// Adds what is told of a refused lattice file, and answers where it is wrong.
+fn put_lattice(
+    alloc: Global,
+    words: &mut Vec<u8>,
+    path: &[u8],
+    bytes: &[u8],
+    error: LatticeError,
+) -> Result<Option<Span>, AllocError> {
+    let table = table_in(alloc, bytes)?;
+    match error {
+        LatticeError::Memory => Err(AllocError),
+        LatticeError::NotToml => put_not_toml(words, path, bytes),
+        LatticeError::BadShape => put_bad_shape(words, bytes, &table),
+        LatticeError::NoClass | LatticeError::TooManyClasses => put_count_fault(
+            words, bytes, error,
+        ),
+        LatticeError::BadName(_) | LatticeError::DuplicateName(_) | LatticeError::UnknownName(_) =>
+            { put_name_fault(words, bytes, &table, error) }
+        LatticeError::Cycle(_, _) | LatticeError::NoJoin(_, _) | LatticeError::NoMeet(_, _) => {
+            put_pair_fault(alloc, words, bytes, &table, error)
+        }
+    }
+}
+
+/// Adds what is told where there are no classes or too many, and answers where they stand.
+fn put_count_fault(
+    words: &mut Vec<u8>,
+    bytes: &[u8],
+    error: LatticeError,
+) -> Result<Option<Span>, AllocError> {
+    if let LatticeError::NoClass = error {
+        words.extend_from_slice(b"The list of classes is empty. Hint: name one at least.\n")?;
+        words.extend_from_slice(SHAPE)?;
+    } else {
+        words.extend_from_slice(b"There are more than 64 classes. Hint: leave some out.\n")?;
+    }
+    Ok(key_place(bytes, b"classes"))
 }

@@ -42,6 +42,30 @@ pub fn put_names(words: &mut Vec<u8>, names: &[&[u8]]) -> Result<(), AllocError>
     Ok(())
 }
 
+/// A part of a sentence.
+#[derive(Clone, Copy)]
+pub enum Part<'a> {
+    Text(&'a [u8]),
+    /// A word between back quotes.
+    Quoted(&'a [u8]),
+}
+
+/// Adds a part of a sentence.
+fn put_part(words: &mut Vec<u8>, part: Part<'_>) -> Result<(), AllocError> {
+    match part {
+        Part::Text(text) => words.extend_from_slice(text),
+        Part::Quoted(word) => put_quoted(words, word),
+    }
+}
+
+/// Adds a sentence, part by part.
+pub fn put_parts(words: &mut Vec<u8>, parts: &[Part<'_>]) -> Result<(), AllocError> {
+    for part in parts {
+        put_part(words, *part)?;
+    }
+    Ok(())
+}
+
 /// The part of a text where a token stands.
 pub fn part_of(text: &[u8], span: Span) -> &[u8] {
     let stop = span.stop.min(text.len());

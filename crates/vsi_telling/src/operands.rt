@@ -217,6 +217,46 @@ fn put_form(words: &mut Vec<u8>, form: &str, left: &[u8], right: &[u8]) -> Resul
     words.extend_from_slice(b"`")
 }
 
+/// A sign or a word of other languages with its operands, and how it is written here.
+#[derive(Clone, Copy)]
+struct Foreign<'a> {
+    meant: &'a str,
+    written: &'a str,
+    rest: &'a str,
+    left: &'a [u8],
+    right: &'a [u8],
+}
+
+/// What a sign or a word of other languages at a place means, where it is one.
+fn foreign_at<'a>(source: &'a [u8], sign: &[u8], at: usize) -> Option<Foreign<'a>> {
+    let (meant, written, rest) = form_of(sign)?;
+    let behind = at.saturating_add(sign.len());
+    if rest == NEGATED {
+        if let Some(inner) = negated(source, at, behind) {
+            return Some(Foreign {
+                meant: if sign.len() == 1 { "!(P)" } else { "not (P)" },
+                written: "1 - (P)",
+                rest: OPPOSITE,
+                left: inner,
+                right: b"",
+            });
+        }
+    }
+    let own = if rest == NEGATED {
+        None
+    } else {
+        operands(source, at, behind)
+    };
+    let (left, right) = own.unwrap_or((b"P", b"Q"));
+    Some(Foreign {
+        meant,
+        written,
+        rest,
+        left,
+        right,
+    })
+}
+
 /// Adds how a sign or a word of other languages is written here, and answers whether it is one.
 pub(crate) fn put_operator(
     words: &mut Vec<u8>,
@@ -224,31 +264,27 @@ pub(crate) fn put_operator(
     sign: &[u8],
     at: usize,
 ) -> Result<bool, AllocError> {
-    let Some(form) = form_of(sign) else {
+    let Some(foreign) = foreign_at(source, sign, at) else {
         return Ok(false);
     };
-    let behind = at.saturating_add(sign.len());
-    let (mut meant, mut written, mut rest) = form;
-    let mut sides: (&[u8], &[u8]) = (b"P", b"Q");
-    if rest == NEGATED {
-        if let Some(inner) = negated(source, at, behind) {
-            sides = (inner, b"");
-            meant = if sign.len() == 1 { "!(P)" } else { "not (P)" };
-            written = "1 - (P)";
-            rest = OPPOSITE;
-        }
-    } else if let Some(own) = operands(source, at, behind) {
-        sides = own;
-    }
+    put_foreign_form(words, sign, &foreign)?;
+    Ok(true)
+}
+
+/// Adds how a sign or a word of other languages is written here.
+fn put_foreign_form(
+    words: &mut Vec<u8>,
+    sign: &[u8],
+    foreign: &Foreign<'_>,
+) -> Result<(), AllocError> {
     words.extend_from_slice(b"Hint: there is no ")?;
     put_quoted(words, sign)?;
     words.extend_from_slice(b". ")?;
-    put_form(words, meant, sides.0, sides.1)?;
+    put_form(words, foreign.meant, foreign.left, foreign.right)?;
     words.extend_from_slice(b" is written ")?;
-    put_form(words, written, sides.0, sides.1)?;
-    words.extend_from_slice(rest.as_bytes())?;
-    words.extend_from_slice(b".\n")?;
-    Ok(true)
+    put_form(words, foreign.written, foreign.left, foreign.right)?;
+    words.extend_from_slice(foreign.rest.as_bytes())?;
+    words.extend_from_slice(b".\n")
 }
 
 /// Whether an operand is one name or number.

@@ -2,7 +2,7 @@
 //! below both.
 
 use crate::finding::key_place;
-use crate::names::{put_names, put_quoted};
+use crate::names::{Part, put_names, put_parts, put_quoted};
 use crate::operands::put_pattern;
 use std::alloc::{AllocError, Global};
 use vsi_syntax::Span;
@@ -239,6 +239,25 @@ fn put_unplaced(
     Ok(true)
 }
 
+/// The classes that two classes both reach, by their names.
+fn reached_by_both<'t>(
+    alloc: Global,
+    order: &Order<'t>,
+    a: usize,
+    b: usize,
+    is_up: bool,
+) -> Result<Vec<&'t [u8]>, AllocError> {
+    let others = order.reached(alloc, b, is_up)?;
+    let reached = order.reached(alloc, a, is_up)?;
+    let mut names = Vec::new(alloc);
+    for class in &reached {
+        if others.contains(class) {
+            names.push(order.name(*class))?;
+        }
+    }
+    Ok(names)
+}
+
 /// Adds what is told where several classes are above, or below, both, and answers whether some are.
 fn put_several(
     alloc: Global,
@@ -248,31 +267,36 @@ fn put_several(
     b: usize,
     is_up: bool,
 ) -> Result<bool, AllocError> {
-    let others = order.reached(alloc, b, is_up)?;
-    let mut names = Vec::new(alloc);
-    for class in order.reached(alloc, a, is_up)? {
-        if others.contains(&class) {
-            names.push(order.name(class))?;
-        }
-    }
+    let names = reached_by_both(alloc, order, a, b, is_up)?;
     if names.is_empty() {
         return Ok(false);
     }
     let side: &[u8] = if is_up { b"above" } else { b"below" };
     let other_side: &[u8] = if is_up { b"below" } else { b"above" };
-    words.extend_from_slice(if is_up { b"Above " } else { b"Below " })?;
-    put_quoted(words, order.name(a))?;
-    words.extend_from_slice(b" and ")?;
-    put_quoted(words, order.name(b))?;
-    words.extend_from_slice(b" stand ")?;
+    let begin: &[u8] = if is_up { b"Above " } else { b"Below " };
+    put_parts(
+        words,
+        &[
+            Part::Text(begin),
+            Part::Quoted(order.name(a)),
+            Part::Text(b" and "),
+            Part::Quoted(order.name(b)),
+            Part::Text(b" stand "),
+        ],
+    )?;
     put_names(words, &names)?;
-    words.extend_from_slice(b", and none of these is ")?;
-    words.extend_from_slice(other_side)?;
-    words.extend_from_slice(b" all others. Hint: add a class that is ")?;
-    words.extend_from_slice(side)?;
-    words.extend_from_slice(b" both and ")?;
-    words.extend_from_slice(other_side)?;
-    words.extend_from_slice(b" all of these, by its pairs in `below`.\n")?;
+    put_parts(
+        words,
+        &[
+            Part::Text(b", and none of these is "),
+            Part::Text(other_side),
+            Part::Text(b" all others. Hint: add a class that is "),
+            Part::Text(side),
+            Part::Text(b" both and "),
+            Part::Text(other_side),
+            Part::Text(b" all of these, by its pairs in `below`.\n"),
+        ],
+    )?;
     Ok(true)
 }
 
