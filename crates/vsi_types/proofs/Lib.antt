@@ -10,3 +10,4 @@ pub mod Places
 pub mod Tables
 pub mod Looping
 pub mod Choosing
+pub mod Visiting

@@ -6,8 +6,9 @@ use Rattle.std.proofs.Math.Seq.{take-append_seam}
 use Rattle.vsi_lattice.specs.Order.{Lattice}
 use Rattle.vsi_syntax.specs.declared.token.Span.{Span}
 use Rattle.vsi_scope.specs.declared.program.Cmd.{Cmd}
-use Rattle.vsi_scope.specs.Language.{Expression, Command, Assign, Sequence, If, While, Letvar, letvars, has_loop}
+use Rattle.vsi_scope.specs.Language.{Expression, Command, Assign, Sequence, If, While, Letvar, letvars, has_loop, HasPlaces}
 use Rattle.vsi_scope.specs.View.{command, sequence}
+use Rattle.vsi_scope.proofs.Views.{letvars_more}
 use Rattle.vsi_types.specs.declared.error.CheckError.{CheckError}
 use Rattle.vsi_types.specs.declared.error.CheckError.TheVariants.{Flow}
 use Rattle.vsi_types.specs.declared.rules.Profile.{Profile}
@@ -19,7 +20,7 @@ use Rattle.vsi_types.specs.declared.rules.FlowFault.{FlowFault}
 use Rattle.vsi_types.specs.Steps.{reads, guarded, flows, endings, steps, AreInOrder, IsFirstFault}
 use Rattle.vsi_types.specs.Checking.{TellsFault, StepsJudged, FlowsJudged, Judged}
 use Rattle.vsi_types.specs.Walker.{Place}
-use Rattle.vsi_types.proofs.Judging.{fault_left, tells_left, tells_right, order_append, judged_err, judged_both, steps_at, steps_more}
+use Rattle.vsi_types.proofs.Judging.{fault_left, tells_left, tells_right, order_append, judged_err, judged_both, steps_at, steps_more, places_at, letvars_at}
 
 -- A place by its parts.
 abbrev pub place : List ℕ → List Guard → ℕ → Place
@@ -238,25 +239,33 @@ module _ (L : Lattice) (P : Profile) (classes : ℕ → ℕ) where
 
   -- One command more is reached.
   pub reached_more : (a b d : Place) (cs : List Cmd) (i : ℕ) (c : Cmd) → i < length cs → c ≡ get_or cs i c →
-      letvars (sequence (take (i + 1) cs)) ≡ letvars (sequence (take i cs)) + letvars (command c) →
       Reached a cs i b → Judged {U = ⊤} L P classes b (command c) d (Ok tt) → Reached a cs (i + 1) d
-  reached_more a b d cs i c lt is count h k =
+  reached_more a b d cs i c lt is h k =
       let both = judged_then a b d (sequence (take i cs)) (command c) (Ok tt) h k in (
         both.0,
         both.1,
-        omega (arith, both.2, count),
+        omega (arith, both.2, letvars_more cs i c lt is),
         λ names. subst (AreInOrder L classes) (sym (steps_more P names a.guards a.scope a.next cs i c lt is))
             (both.3 names),
       )
 
+  -- What the next command asks, where a list is reached up to it.
+  pub reached_asks : (a b : Place) (cs : List Cmd) (i : ℕ) (c : Cmd) → i < length cs → c ≡ get_or cs i c →
+      Reached a cs i b → HasPlaces (length a.scope) (sequence cs) → a.next + letvars (sequence cs) ≤ 1024 →
+      HasPlaces (length b.scope) (command c) × (b.next + letvars (command c) ≤ 1024)
+  reached_asks a b cs i c lt is h p l = (
+    subst (λ s. HasPlaces (length s) (command c)) (sym h.0) (places_at (length a.scope) cs i c lt is p),
+    omega (arith, letvars_at cs i c lt is, h.2, l),
+  )
+
   -- An error of the next command is one of the list.
-  pub reached_fault : (a b d d' : Place) (cs : List Cmd) (i : ℕ) (c : Cmd) → i < length cs → c ≡ get_or cs i c →
+  pub reached_fault : (a b d : Place) (cs : List Cmd) (i : ℕ) (c : Cmd) → i < length cs → c ≡ get_or cs i c →
       Reached a cs i b → (e : CheckError) (r : Result ⊤ CheckError) → IsErrAnd r (λ y. y ≡ e) →
-      Judged {U = ⊤} L P classes b (command c) d (Err e) → Judged L P classes a (sequence cs) d' r
-  reached_fault a b d d' cs i c lt is h e r err k =
+      Judged {U = ⊤} L P classes b (command c) d (Err e) → Judged L P classes a (sequence cs) d r
+  reached_fault a b d cs i c lt is h e r err k =
       let next = a.next + letvars (sequence (take i cs)) in
       let k' = at_place b.scope a.scope b.guards a.guards b.next next d (command c) (Err e) h.0 h.1 h.2 k in
-      judged_error a d' (sequence cs) e r err (λ names.
+      judged_error a d (sequence cs) e r err (λ names.
       let s = steps_at P names a.guards a.scope a.next cs i c lt is in
       subst (λ l. TellsFault L classes l e) (sym s.1)
       (tells_right L classes (steps P names a.guards a.scope a.next (sequence (take i cs))) _ e (h.3 names)

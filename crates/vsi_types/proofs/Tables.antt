@@ -80,13 +80,13 @@ module _ (L : Lattice) (laws : IsLattice L) (P : Profile) (p : Program) (s : Lis
       b p.body r sc gu ne h)
 
   -- Ok is answered of a typable program.
-  pub typable_answer : IsChoice p s → (r : Result ⊤ CheckError) → Judged L P (class_of L table) a p.body b r →
+  typable_answer : IsChoice p s → (r : Result ⊤ CheckError) → Judged L P (class_of L table) a p.body b r →
       OnOk r (IsTypable L P p s)
   typable_answer kept (Err e) h = tt
   typable_answer kept (Ok u) h = (steps_decide L P p s laws res cls).1 (kept, (at_start (Ok u) h).3 p.names)
 
   -- A typable program is refused for want of memory alone.
-  pub complete_answer : (r : Result ⊤ CheckError) → Judged L P (class_of L table) a p.body b r →
+  complete_answer : (r : Result ⊤ CheckError) → Judged L P (class_of L table) a p.body b r →
       IsTypable L P p s → IfErr r (λ e. e ≡ Memory)
   complete_answer (Ok u) h typed = tt
   complete_answer (Err e) h typed =
@@ -94,10 +94,16 @@ module _ (L : Lattice) (laws : IsLattice L) (P : Profile) (p : Program) (s : Lis
       (at_start (Err e) h p.names)
 
   -- An error tells of the steps of the program.
-  pub refused_answer : (r : Result ⊤ CheckError) → Judged L P (class_of L table) a p.body b r →
+  refused_answer : (r : Result ⊤ CheckError) → Judged L P (class_of L table) a p.body b r →
       IfErr r (TellsFault L (class_of L (p.globals ++ s)) (steps_of P p))
   refused_answer (Ok u) h = tt
   refused_answer (Err e) h = at_start (Err e) h p.names
+
+  -- What an answer says of the program, whichever it is.
+  pub program_answer : IsChoice p s → (r : Result ⊤ CheckError) → Judged L P (class_of L table) a p.body b r →
+      OnOk r (IsTypable L P p s) × (IsTypable L P p s → IfErr r (λ e. e ≡ Memory))
+      × IfErr r (TellsFault L (class_of L (p.globals ++ s)) (steps_of P p))
+  program_answer kept r h = (typable_answer kept r h, complete_answer r h, refused_answer r h)
 
 -- What a flow's fault says once the choice is one.
 pub tells_why : (L : Lattice) (P : Profile) (p : Program) (s : List ℕ) → IsChoice p s → (r : Result ⊤ CheckError) →

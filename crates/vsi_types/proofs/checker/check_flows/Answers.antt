@@ -8,12 +8,11 @@ use Rattle.vsi_types.specs.Walker.{walker_place}
 use Rattle.vsi_types.specs.Security.{class_of, count_from, program}
 use Rattle.vsi_types.proofs.Places.{place}
 use Rattle.vsi_types.proofs.Programs.{length_count}
-use Rattle.vsi_types.proofs.Tables.{resolved_program, typable_answer, complete_answer, refused_answer}
+use Rattle.vsi_types.proofs.Tables.{resolved_program, program_answer}
 use Rattle.vsi_types.proofs.checker.check_flows.Goals as goal
 
 pub check_commands-requires-clause-places : goal.check_commands-requires-clause-places
 check_commands-requires-clause-places g c =
-    let L = g.C.Classes.lattice c.args.lattice.now in
     let few = c.body-body.ensures.resolved.few_globals in
     let n : length c.in_ok-first_variables.field-0.items ≡ length c.args.program.now.globals =
     ap length c.in_ok-first_variables.ensures
@@ -23,54 +22,19 @@ check_commands-requires-clause-places g c =
     c.body-body.ensures.resolved.places in
     subst (λ k. HasPlaces k (sequence c.body-body.result.now)) (sym n) p
 
-pub returns-clause-typable : goal.returns-clause-typable
-returns-clause-typable g c =
+pub returns : goal.returns
+returns g c =
     let L = g.C.Classes.lattice c.args.lattice.now in
-    let P = c.args.profile in
-    let p = program c.args.program.now in
     let laws : IsLattice L = g.met.C.Classes.laws c.args.lattice.now in
     let size = ap length c.globals-globals.ensures ∙ sym (length-map c.args.program.now.globals (λ g. g.class)) in
     let t = c.deref.ensures.value ∙ c.in_ok-table.ensures
     ∙ ap (λ gs. map (λ g. g.class) gs ++ c.args.choice.now) c.globals-globals.ensures in
     let a = place c.in_ok-first_variables.field-0.items c.new.result.items (length c.globals-globals.result.now) in
     let b = walker_place c.check_commands.new.walk in
-    let h = subst (λ l. Judged L P (class_of L c.deref.result.now) a (sequence l) b c.check_commands.result)
+    let h = subst (λ l. Judged L c.args.profile (class_of L c.deref.result.now) a (sequence l) b c.check_commands.result)
     c.body-body.ensures.value c.check_commands.ensures in
     let res = resolved_program L c.args.program.now c.requires.globals c.body-body.ensures.resolved in
-    typable_answer L laws P p c.args.choice.now res c.requires.choice c.deref.result.now t a b
-    (c.in_ok-first_variables.ensures ∙ ap (count_from 0) size)
-    c.new.ensures.items size c.requires.kept c.check_commands.result h
-
-pub returns-clause-complete : goal.returns-clause-complete
-returns-clause-complete g c =
-    let L = g.C.Classes.lattice c.args.lattice.now in
-    let P = c.args.profile in
-    let p = program c.args.program.now in
-    let laws : IsLattice L = g.met.C.Classes.laws c.args.lattice.now in
-    let size = ap length c.globals-globals.ensures ∙ sym (length-map c.args.program.now.globals (λ g. g.class)) in
-    let t = c.deref.ensures.value ∙ c.in_ok-table.ensures
-    ∙ ap (λ gs. map (λ g. g.class) gs ++ c.args.choice.now) c.globals-globals.ensures in
-    let a = place c.in_ok-first_variables.field-0.items c.new.result.items (length c.globals-globals.result.now) in
-    let b = walker_place c.check_commands.new.walk in
-    let h = subst (λ l. Judged L P (class_of L c.deref.result.now) a (sequence l) b c.check_commands.result)
-    c.body-body.ensures.value c.check_commands.ensures in
-    let res = resolved_program L c.args.program.now c.requires.globals c.body-body.ensures.resolved in
-    complete_answer L laws P p c.args.choice.now res c.requires.choice c.deref.result.now t a b
-    (c.in_ok-first_variables.ensures ∙ ap (count_from 0) size) c.new.ensures.items size c.check_commands.result h
-
-pub returns-clause-refused : goal.returns-clause-refused
-returns-clause-refused g c =
-    let L = g.C.Classes.lattice c.args.lattice.now in
-    let P = c.args.profile in
-    let p = program c.args.program.now in
-    let laws : IsLattice L = g.met.C.Classes.laws c.args.lattice.now in
-    let size = ap length c.globals-globals.ensures ∙ sym (length-map c.args.program.now.globals (λ g. g.class)) in
-    let t = c.deref.ensures.value ∙ c.in_ok-table.ensures
-    ∙ ap (λ gs. map (λ g. g.class) gs ++ c.args.choice.now) c.globals-globals.ensures in
-    let a = place c.in_ok-first_variables.field-0.items c.new.result.items (length c.globals-globals.result.now) in
-    let b = walker_place c.check_commands.new.walk in
-    let h = subst (λ l. Judged L P (class_of L c.deref.result.now) a (sequence l) b c.check_commands.result)
-    c.body-body.ensures.value c.check_commands.ensures in
-    let res = resolved_program L c.args.program.now c.requires.globals c.body-body.ensures.resolved in
-    refused_answer L laws P p c.args.choice.now res c.requires.choice c.deref.result.now t a b
-    (c.in_ok-first_variables.ensures ∙ ap (count_from 0) size) c.new.ensures.items size c.check_commands.result h
+    let told = program_answer L laws c.args.profile (program c.args.program.now) c.args.choice.now res c.requires.choice
+    c.deref.result.now t a b (c.in_ok-first_variables.ensures ∙ ap (count_from 0) size) c.new.ensures.items size
+    c.requires.kept c.check_commands.result h in
+    record { typable = told.0; complete = told.1; refused = told.2 }
