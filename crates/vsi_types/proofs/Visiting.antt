@@ -64,7 +64,8 @@ module _ (L : Lattice) (P : Profile) (table : List ℕ) (w : Walker) (guard : Ex
         (pushed : gs ≡ w.guards.items ++ guarded typing.If (reads seen' (expression guard))) where
       -- The guard of a choice is in order in the scope of the walk.
       ends : StepsJudged {U = ⊤} L (class_of L table)
-          (endings P (has_loop (sequence ks) || has_loop (sequence ks')) (reads w.scope.items (expression guard))) (Ok tt)
+          (endings P (has_loop (sequence ks) || has_loop (sequence ks'))
+          (reads w.scope.items (expression guard))) (Ok tt)
       ends =
           endings_at L P (class_of L table) (has_loop (sequence ks) || has_loop (sequence ks')) (expression guard) seen
           w.scope.items is (Ok tt) up
@@ -79,7 +80,8 @@ module _ (L : Lattice) (P : Profile) (table : List ℕ) (w : Walker) (guard : Ex
 
       -- An error of the first branch is one of the choice.
       pub choice_first : (d : Place) (e : CheckError) (r : Result ⊤ CheckError) → IsErrAnd r (λ y. y ≡ e) →
-          Judged {U = ⊤} L P (class_of L table) (place w.scope.items gs w.next) (sequence ks) d (Err e) → ChoiceTold d r
+          Judged {U = ⊤} L P (class_of L table) (place w.scope.items gs w.next) (sequence ks) d (Err e) →
+          ChoiceTold d r
       choice_first d e r err h =
           if_branches L P (class_of L table) (walker_place w) d (expression guard) (sequence ks) (sequence ks') e r err
           ends (judged_first L P (class_of L table) (inside typing.If (expression guard) (walker_place w)) d d
@@ -113,7 +115,8 @@ module _ (L : Lattice) (P : Profile) (table : List ℕ) (w : Walker) (guard : Ex
 
     -- A fault of the guard of a loop is one of the loop.
     pub loop_guard : (b : Place) (f : FlowFault) (r : Result ⊤ CheckError) → IsErrAnd r (λ e. e ≡ Flow f) →
-        StepsJudged {U = ⊤} L (class_of L table) (endings P true (reads seen (expression guard))) (Err f) → LoopTold b r
+        StepsJudged {U = ⊤} L (class_of L table) (endings P true (reads seen (expression guard))) (Err f) →
+        LoopTold b r
     loop_guard b f r err h =
         while_endings L P (class_of L table) (walker_place w) b (expression guard) (sequence ks) f r err
         (endings_at L P (class_of L table) true (expression guard) seen w.scope.items is (Err f) h)
@@ -146,7 +149,8 @@ module _ (L : Lattice) (P : Profile) (table : List ℕ) (w : Walker) (guard : Ex
 
     -- A fault of the initial value of a letvar is one of the letvar.
     pub letvar_value : (b : Place) (f : FlowFault) (r : Result ⊤ CheckError) → IsErrAnd r (λ e. e ≡ Flow f) →
-        FlowsJudged {U = ⊤} L (class_of L table) w.next (guarded typing.Letvar (reads seen (expression guard))) (Err f) →
+        FlowsJudged {U = ⊤} L (class_of L table) w.next
+        (guarded typing.Letvar (reads seen (expression guard))) (Err f) →
         LetvarTold b r
     letvar_value b f r err h =
         letvar_reads L P (class_of L table) (walker_place w) b (expression guard) (sequence ks) f r err

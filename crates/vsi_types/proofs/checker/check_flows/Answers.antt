@@ -31,10 +31,11 @@ returns g c =
     ∙ ap (λ gs. map (λ g. g.class) gs ++ c.args.choice.now) c.globals-globals.ensures in
     let a = place c.in_ok-first_variables.field-0.items c.new.result.items (length c.globals-globals.result.now) in
     let b = walker_place c.check_commands.new.walk in
-    let h = subst (λ l. Judged L c.args.profile (class_of L c.deref.result.now) a (sequence l) b c.check_commands.result)
+    let h = subst
+    (λ l. Judged L c.args.profile (class_of L c.deref.result.now) a (sequence l) b c.check_commands.result)
     c.body-body.ensures.value c.check_commands.ensures in
     let res = resolved_program L c.args.program.now c.requires.globals c.body-body.ensures.resolved in
-    let told = program_answer L laws c.args.profile (program c.args.program.now) c.args.choice.now res c.requires.choice
-    c.deref.result.now t a b (c.in_ok-first_variables.ensures ∙ ap (count_from 0) size) c.new.ensures.items size
+    let told = program_answer L laws c.args.profile (program c.args.program.now) c.args.choice.now res
+    c.requires.choice c.deref.result.now t a b (c.in_ok-first_variables.ensures ∙ ap (count_from 0) size) c.new.ensures.items size
     c.requires.kept c.check_commands.result h in
     record { typable = told.0; complete = told.1; refused = told.2 }

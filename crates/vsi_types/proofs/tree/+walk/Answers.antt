@@ -73,8 +73,10 @@ check_if-returns-in_err-check_choice g t c =
     _ _ _ c.from_residual.ensures.1 c.in_err-check_choice.ensures
 
 pub check_if-check_commands-requires : goal.check_if-check_commands-requires
-check_if-check_commands-requires g t c κs within =
-    (omega (arith, c.decreases), (within, (c.requires.classes, (c.requires.places.1, omega (arith, c.requires.limit)))))
+check_if-check_commands-requires g t c κs within = (
+  omega (arith, c.decreases),
+  (within, (c.requires.classes, (c.requires.places.1, omega (arith, c.requires.limit)))),
+)
 
 pub check_if-returns-in_err-check_commands : goal.check_if-returns-in_err-check_commands
 check_if-returns-in_err-check_commands g t c =
