@@ -300,6 +300,80 @@ fn put_none(page: &mut Page, pairs: u64) -> Result<(), AllocError> {
     page.put(b"the text, and may refuse one that tells nothing.</p></section>\n")
 }
 
+/// Adds the head of a page of a program, up to its source.
+fn put_front(page: &mut Page, is_accepted: bool, profile: Profile) -> Result<(), AllocError> {
+    put_head(page, is_accepted, profile)?;
+    page.put(b"<div class=\"beside\">\n")?;
+    put_before_source(page)
+}
+
+/// Adds what stands behind the source of an accepted text.
+fn put_behind_accepted(
+    alloc: Global,
+    page: &mut Page,
+    profile: Profile,
+    order: &Order,
+    facts: &Facts,
+    lines: &[u8],
+) -> Result<(), AllocError> {
+    put_behind_source(page, true)?;
+    put_listing(page, lines)?;
+    page.put(b"</div>\n<div class=\"beside\">\n")?;
+    put_promise(page, profile)?;
+    put_policy(alloc, page, order)?;
+    page.put(b"</div>\n")?;
+    put_end(alloc, page, profile, order, facts, &[])
+}
+
+/// Adds what stands behind the walk of a refused text: a leak and the lattice.
+fn put_behind_walk(
+    alloc: Global,
+    page: &mut Page,
+    profile: Profile,
+    lattice: &Lattice,
+    order: &Order,
+    source: &[u8],
+) -> Result<(), AllocError> {
+    page.put(b"</div>\n<div class=\"beside\">\n")?;
+    put_leak(alloc, page, profile, lattice, source)?;
+    put_policy(alloc, page, order)?;
+    page.put(b"</div>\n")
+}
+
+/// Adds the flows of a program, and the foot of the page.
+fn put_end(
+    alloc: Global,
+    page: &mut Page,
+    profile: Profile,
+    order: &Order,
+    facts: &Facts,
+    walk: &[Step],
+) -> Result<(), AllocError> {
+    put_all_flows(alloc, page, profile, order, facts, walk)?;
+    put_foot(page)
+}
+
+/// Adds the head of the page of a text that has no program, and why it is refused, up to its
+/// source.
+fn put_refusal(page: &mut Page, profile: Profile, text: &[u8]) -> Result<(), AllocError> {
+    put_head(page, false, profile)?;
+    page.put(b"<section><h2>Why it is refused</h2>\n<p>The text is no program over the ")?;
+    page.put(b"lattice, and none of its flows is judged. The number and the name of the ")?;
+    page.put(b"refusal, and the line and the column, if it has a place:</p>\n")?;
+    page.between(
+        b"<pre class=\"leak\" tabindex=\"0\"><code>",
+        text,
+        b"</code></pre>\n</section>\n",
+    )?;
+    put_before_source(page)
+}
+
+/// Adds the lattice, and the foot of the page.
+fn put_policy_last(alloc: Global, page: &mut Page, order: &Order) -> Result<(), AllocError> {
+    put_policy(alloc, page, order)?;
+    put_foot(page)
+}
+
 /// The page of an accepted text.
 fn accepted_page(
     alloc: Global,
@@ -319,19 +393,9 @@ fn accepted_page(
     let lines = listing(alloc, verified.image())?;
     let panel = source_panel(alloc, &order, &facts, &[], source)?;
     let mut before = Page::new(alloc);
-    put_head(&mut before, true, profile)?;
-    before.put(b"<div class=\"beside\">\n")?;
-    put_before_source(&mut before)?;
+    put_front(&mut before, true, profile)?;
     let mut page = Page::new(alloc);
-    put_behind_source(&mut page, true)?;
-    put_listing(&mut page, &lines)?;
-    page.put(b"</div>\n")?;
-    page.put(b"<div class=\"beside\">\n")?;
-    put_promise(&mut page, profile)?;
-    put_policy(alloc, &mut page, &order)?;
-    page.put(b"</div>\n")?;
-    put_all_flows(alloc, &mut page, profile, &order, &facts, &[])?;
-    put_foot(&mut page)?;
+    put_behind_accepted(alloc, &mut page, profile, &order, &facts, &lines)?;
     let whole = before.with_panel(&panel, &page)?;
     check_size(&whole, source.len(), facts.pairs.len(), lines.len())?;
     Ok(whole)
@@ -355,19 +419,12 @@ fn refused_page(
     let order = order_of(alloc, lattice)?;
     let panel = source_panel(alloc, &order, &facts, walk, source)?;
     let mut before = Page::new(alloc);
-    put_head(&mut before, false, profile)?;
-    before.put(b"<div class=\"beside\">\n")?;
-    put_before_source(&mut before)?;
+    put_front(&mut before, false, profile)?;
     let mut page = Page::new(alloc);
     put_behind_source(&mut page, true)?;
     put_walk(&mut page, &order, &facts, source, walk)?;
-    page.put(b"</div>\n")?;
-    page.put(b"<div class=\"beside\">\n")?;
-    put_leak(alloc, &mut page, profile, lattice, source)?;
-    put_policy(alloc, &mut page, &order)?;
-    page.put(b"</div>\n")?;
-    put_all_flows(alloc, &mut page, profile, &order, &facts, walk)?;
-    put_foot(&mut page)?;
+    put_behind_walk(alloc, &mut page, profile, lattice, &order, source)?;
+    put_end(alloc, &mut page, profile, &order, &facts, walk)?;
     let whole = before.with_panel(&panel, &page)?;
     check_size(&whole, source.len(), facts.pairs.len(), 0)?;
     Ok(whole)
@@ -389,20 +446,10 @@ fn faulty_page(
     let panel = plain_panel(alloc, source)?;
     let text = refusal_text(alloc, lattice, source, error)?;
     let mut before = Page::new(alloc);
-    put_head(&mut before, false, profile)?;
-    before.put(b"<section><h2>Why it is refused</h2>\n<p>The text is no program over the ")?;
-    before.put(b"lattice, and none of its flows is judged. The number and the name of the ")?;
-    before.put(b"refusal, and the line and the column, if it has a place:</p>\n")?;
-    before.between(
-        b"<pre class=\"leak\" tabindex=\"0\"><code>",
-        &text,
-        b"</code></pre>\n</section>\n",
-    )?;
-    put_before_source(&mut before)?;
+    put_refusal(&mut before, profile, &text)?;
     let mut page = Page::new(alloc);
     put_behind_source(&mut page, false)?;
-    put_policy(alloc, &mut page, &order)?;
-    put_foot(&mut page)?;
+    put_policy_last(alloc, &mut page, &order)?;
     let whole = before.with_panel(&panel, &page)?;
     check_size(&whole, source.len(), 0, 0)?;
     Ok(whole)
