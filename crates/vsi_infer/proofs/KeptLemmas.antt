@@ -8,7 +8,7 @@ use Rattle.std.proofs.lemmas.List.Folds.{list_any_at}
 use Rattle.std.proofs.Math.Seq.{take-append_seam}
 use Rattle.vsi_syntax.specs.declared.token.Span.{Span}
 use Rattle.vsi_scope.specs.declared.program.Cmd.{Cmd}
-use Rattle.vsi_scope.specs.Language.{Expression, Command, Assign, If, While, Letvar, letvars, has_loop, HasPlaces}
+use Rattle.vsi_scope.specs.Language.{Expression, Command, Assign, If, While, Letvar, letvars, has_loop}
 use Rattle.vsi_scope.specs.View.{command, sequence}
 use Rattle.vsi_scope.proofs.Views.{letvars_more}
 use Rattle.vsi_types.specs.declared.rules.Profile.{Profile}
@@ -18,12 +18,11 @@ use Rattle.vsi_types.specs.declared.rules.Guard.{Guard}
 use Rattle.vsi_types.specs.declared.rules.Read.{Read}
 use Rattle.vsi_types.specs.declared.rules.Step.{Step}
 use Rattle.vsi_types.specs.Steps.{reads, guarded, flow, flows, endings, steps}
-use Rattle.vsi_types.proofs.Judging.{places_at, letvars_at, steps_more}
+use Rattle.vsi_types.proofs.Judging.{steps_more}
 use Rattle.vsi_types.specs.Walker.{Place}
 use Rattle.vsi_types.proofs.Places.{place, inside, within_letvar}
 use Rattle.std.proofs.lemmas.Bool.{false≢true}
 use Rattle.vsi_infer.specs.Leading.{observes_ending}
-use Rattle.vsi_infer.specs.StepSearch.{HasRoom}
 use Rattle.vsi_infer.specs.FirstSteps.{IsFrom, IsGathered}
 use Rattle.vsi_infer.specs.Membership.{same_step}
 
@@ -221,18 +220,6 @@ module _ (P : Profile) (names : ℕ → Span) where
       guards = j.guards ∙ h.guards;
       next = (let e = letvars_more cs i c lt is in omega (arith, j.next, h.next, e));
     }
-
-    -- Room for the list is room for its next command.
-    pub gathered_room : (first count : ℕ) → HasRoom first count a (sequence cs) → HasRoom first count b (command c)
-    gathered_room first count f =
-        let l = letvars_at cs i c lt is in
-        record {
-          places = subst (λ s. HasPlaces (length s) (command c)) (sym h.scope)
-              (places_at (length a.scope) cs i c lt is f.places);
-          after = omega (arith, f.after, h.next);
-          limit = omega (arith, f.limit, h.next, l);
-          small = f.small;
-        }
 
   -- At the end the whole list has been gathered.
   pub gathered_all : (a b : Place) (w x : List Step) (cs : List Cmd) (i : ℕ) → length cs ≤ i

@@ -10,6 +10,7 @@ pub mod TargetLemmas
 pub mod ReachLemmas
 pub mod Bridge
 pub mod DistanceLemmas
+pub mod CommandLemmas
 pub mod StepSearchLemmas
 pub mod KeptLemmas
 pub mod MemberLemmas

@@ -322,65 +322,81 @@ module _ (L : Lattice) (laws : IsLattice L) (P : Profile) (p : Program) (res : I
       all_some (x ∷ xs) h = All-cons (λ d. IfSome d (IsClass L)) (Some x) (map Some xs)
           (All-head (IsClass L) x xs h) (all_some xs (All-tail (IsClass L) x xs h))
 
-  -- The same for a list that is the table.
-  module _ (T : List (Option ℕ)) (same : T ≡ table L p) (rows : List (List ℕ)) (levels : AreLevels L flows T rows)
-      (n : ℕ) (best : IsFewest T rows n) (has : HasBadWalk L.count L.leq flows (table L p)) where
-    -- The rows have the fewest flows from each declared class.
-    levels' : AreLevels L flows (table L p) rows
-    levels' = subst (λ t. AreLevels L flows t rows) same levels
+-- What is known once the fewest steps of a walk that breaks the policy have been counted.
+pub record IsCounted (L : Lattice) (P : Profile) (p : Program) (flows : ℕ → ℕ → Bool) (T : List (Option ℕ))
+    (rows : List (List ℕ)) (n : ℕ) : Type 0 where
+  pub laws : IsLattice L
+  pub resolved : IsWellFormed L p
+  pub letvars : AreClasses L p.declared
+  pub are : AreFlowsOf P p flows
+  pub same : T ≡ table L p
+  pub levels : AreLevels L flows T rows
+  pub best : IsFewest T rows n
+  pub bad : HasBadWalk L.count L.leq flows (table L p)
 
-    -- The number is the fewest of any walk that breaks the policy.
-    best' : IsFewest (table L p) rows n
-    best' = subst (λ t. IsFewest t rows n) same best
+-- The same for a list that is the table.
+module _ (L : Lattice) (P : Profile) (p : Program) (flows : ℕ → ℕ → Bool) (T : List (Option ℕ)) (rows : List (List ℕ))
+    (n : ℕ) (k : IsCounted L P p flows T rows n) where
+  -- The rows have the fewest flows from each declared class.
+  levels' : AreLevels L flows (table L p) rows
+  levels' = subst (λ t. AreLevels L flows t rows) k.same k.levels
 
-    -- The last entry of the table is the ending.
-    pub last_is : length T - 1 ≡ size_of p
-    last_is = omega (arith, ap length same, size)
+  -- The number is the fewest of any walk that breaks the policy.
+  best' : IsFewest (table L p) rows n
+  best' = subst (λ t. IsFewest t rows n) k.same k.best
 
-    -- A bad walk has a step at least.
-    pub length_some : 1 ≤ n
-    length_some = (begin_there rows levels' n best' has).0
+  -- The last entry of the table is the ending.
+  pub last_is : length T - 1 ≡ size_of p
+  last_is = omega (arith, ap length k.same, size L k.laws P p k.resolved k.letvars flows k.are)
 
-    -- Some step begins a shortest bad walk.
-    pub first_step : (s : Step) × Contains (steps_of P p) s × (begins T rows (length T - 1) n (n - 1) s ≡ true)
-    first_step =
-        let r = (begin_there rows levels' n best' has).1 in (
-          r.0,
-          r.1,
-          subst (λ t. begins t rows (length T - 1) n (n - 1) r.0 ≡ true) (sym same)
-              (subst (λ (k : ℕ). begins (table L p) rows k n (n - 1) r.0 ≡ true) (sym last_is) r.2),
-        )
+  -- A bad walk has a step at least.
+  pub length_some : 1 ≤ n
+  length_some = (begin_there L k.laws P p k.resolved k.letvars flows k.are rows levels' n best' k.bad).0
 
-    module _ (s : Step) (there : Contains (steps_of P p) s) (c : ℕ) (o : Some c ≡ get_or T s.source None) where
-      -- The source of the first step has its declared class.
-      here : get_or (table L p) s.source None ≡ Some c
-      here = sym (o ∙ ap (λ t. get_or t s.source None) same)
+  -- Some step begins a shortest bad walk.
+  pub first_step : (s : Step) × Contains (steps_of P p) s × (begins T rows (length T - 1) n (n - 1) s ≡ true)
+  first_step =
+      let r = (begin_there L k.laws P p k.resolved k.letvars flows k.are rows levels' n best' k.bad).1 in (
+        r.0,
+        r.1,
+        subst (λ t. begins t rows (length T - 1) n (n - 1) r.0 ≡ true) (sym k.same)
+            (subst (λ (l : ℕ). begins (table L p) rows l n (n - 1) r.0 ≡ true) (sym last_is) r.2),
+      )
 
-      -- The source of the first step has that class in the table.
-      declared_here : slice_get (table L p) s.source ≡ Some (Some c)
-      declared_here = let lt = source_within s there in slice_get-get_or (table L p) s.source None
-          (omega (arith, lt, size)) ∙ ap Some here
+  module _ (s : Step) (there : Contains (steps_of P p) s) (c : ℕ) (o : Some c ≡ get_or T s.source None) where
+    -- The source of the first step has its declared class.
+    here : get_or (table L p) s.source None ≡ Some c
+    here = sym (o ∙ ap (λ t. get_or t s.source None) k.same)
 
-      -- The row of the class leads down by steps of the program.
-      pub row_leads : LeadsDown (steps_of P p) (length T - 1) (get_or rows c [])
-      row_leads = subst (λ (k : ℕ). LeadsDown (steps_of P p) k (get_or rows c [])) (sym last_is)
-          (leads_down c (get_or rows c []) (levels' s.source c declared_here))
+    -- The source of the first step has that class in the table.
+    declared_here : slice_get (table L p) s.source ≡ Some (Some c)
+    declared_here =
+        let lt = source_within L k.laws P p k.resolved k.letvars flows k.are s there in
+        slice_get-get_or (table L p) s.source None
+        (omega (arith, lt, size L k.laws P p k.resolved k.letvars flows k.are)) ∙ ap Some here
 
-      -- Behind the first step one step less is left.
-      pub level_after : begins T rows (length T - 1) n (n - 1) s ≡ true
-          → get_or (get_or rows c []) (row_of (length T - 1) s.target) 0 ≡ n - 1
-      level_after w =
-          let q = begin_parts rows (length T - 1) n (n - 1) (get_or T s.source None) s w in
-          let e = some_same c q.0 (o ∙ q.1) in
-          ap (λ (k : ℕ). far_at rows k (row_of (length T - 1) s.target)) e ∙ q.3
+    -- The row of the class leads down by steps of the program.
+    pub row_leads : LeadsDown (steps_of P p) (length T - 1) (get_or rows c [])
+    row_leads = subst (λ (l : ℕ). LeadsDown (steps_of P p) l (get_or rows c [])) (sym last_is)
+        (leads_down L k.laws P p k.resolved k.letvars flows k.are c (get_or rows c [])
+        (levels' s.source c declared_here))
 
-      -- What goes on so is a shortest bad walk.
-      pub shortest : (items : List Step) → (rest : List Step) × (items ≡ s ∷ rest)
-          × IsArrived (steps_of P p) (length T - 1) (get_or rows c []) s.source (n - 1 + 1) (s ∷ rest)
-          → IsShortest L P p items
-      shortest items (rest, e, a) =
-          let m : n - 1 + 1 ≡ n = omega (arith, length_some) in
-          let a' = subst (λ (k : ℕ). IsArrived (steps_of P p) k (get_or rows c []) s.source n (s ∷ rest)) last_is
-          (subst (λ (k : ℕ). IsArrived (steps_of P p) (length T - 1) (get_or rows c []) s.source k (s ∷ rest)) m
-          a) in
-          subst (IsShortest L P p) (sym e) (arrived_shortest rows levels' n best' s rest c there here a')
+    -- Behind the first step one step less is left.
+    pub level_after : begins T rows (length T - 1) n (n - 1) s ≡ true
+        → get_or (get_or rows c []) (row_of (length T - 1) s.target) 0 ≡ n - 1
+    level_after w =
+        let q = begin_parts rows (length T - 1) n (n - 1) (get_or T s.source None) s w in
+        let e = some_same c q.0 (o ∙ q.1) in
+        ap (λ (l : ℕ). far_at rows l (row_of (length T - 1) s.target)) e ∙ q.3
+
+    -- What goes on so is a shortest bad walk.
+    pub shortest : (items : List Step) → (rest : List Step) × (items ≡ s ∷ rest)
+        × IsArrived (steps_of P p) (length T - 1) (get_or rows c []) s.source (n - 1 + 1) (s ∷ rest)
+        → IsShortest L P p items
+    shortest items (rest, e, a) =
+        let m : n - 1 + 1 ≡ n = omega (arith, length_some) in
+        let a' = subst (λ (l : ℕ). IsArrived (steps_of P p) l (get_or rows c []) s.source n (s ∷ rest)) last_is
+        (subst (λ (l : ℕ). IsArrived (steps_of P p) (length T - 1) (get_or rows c []) s.source l (s ∷ rest)) m
+        a) in
+        subst (IsShortest L P p) (sym e) (arrived_shortest L k.laws P p k.resolved k.letvars flows k.are rows levels' n
+        best' s rest c there here a')

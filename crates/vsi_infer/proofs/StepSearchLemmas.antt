@@ -24,69 +24,26 @@ found_right p xs ys o e f = f ∙ sym (find-append p xs ys ∙ ap (λ x. option_
 -- One more guard, which isn't wanted.
 pub guards_passed : (p : Step → Bool) (target : ℕ) (written : Span) (gs : List Guard) (i : ℕ) (g : Guard)
     → i < length gs → g ≡ get_or gs i g → find p (flows target written (take i gs)) ≡ None
-    → p (record {
-      rule = g.rule;
-      source = g.read.variable;
-      target = target;
-      read = g.read.place;
-      written =
-          written;
-    }) ≡ false
-    → find p (flows target written (take (i + 1) gs)) ≡ None
+    → p (flow target written g) ≡ false → find p (flows target written (take (i + 1) gs)) ≡ None
 guards_passed p target written gs i g lt is none not =
     let e : flows target written (take (i + 1) gs) ≡ flows target written (take i gs)
     ++ flows target written (g ∷ []) =
     ap (flows target written) (take_more gs i g lt) ∙ map-append _ (take i gs) (get_or gs i g ∷ [])
     ∙ ap (λ x. flows target written (take i gs) ++ flows target written (x ∷ [])) (sym is) in
     ap (find p) e ∙ sym (found_right p (flows target written (take i gs)) (flows target written (g ∷ [])) None none
-    (sym (ap (λ t. cond t (Some (record {
-      rule = g.rule;
-      source = g.read.variable;
-      target = target;
-      read =
-          g.read.place;
-      written = written;
-    })) None) not)))
+    (sym (ap (λ t. cond t (Some (flow target written g)) None) not)))
 
 -- A flow of the next guard is found behind those before it.
 pub guards_found : (p : Step → Bool) (target : ℕ) (written : Span) (gs : List Guard) (i : ℕ) (g : Guard)
     → i < length gs → g ≡ get_or gs i g → find p (flows target written (take i gs)) ≡ None
-    → p (record {
-      rule = g.rule;
-      source = g.read.variable;
-      target = target;
-      read = g.read.place;
-      written =
-          written;
-    }) ≡ true
-    → Some (record {
-      rule = g.rule;
-      source = g.read.variable;
-      target = target;
-      read = g.read.place;
-      written =
-          written;
-    }) ≡ find p (flows target written gs)
+    → p (flow target written g) ≡ true → Some (flow target written g) ≡ find p (flows target written gs)
 guards_found p target written [] i g lt is none hit = absurd (omega (arith, lt))
 guards_found p target written (x ∷ gs) zero g lt is none hit =
     sym (ap (λ y. find p (flows target written (y ∷ gs))) (sym is)
-    ∙ ap (λ t. cond t (Some (record {
-      rule = g.rule;
-      source = g.read.variable;
-      target = target;
-      read =
-          g.read.place;
-      written = written;
-    })) (find p (flows target written gs))) hit)
+    ∙ ap (λ t. cond t (Some (flow target written g)) (find p (flows target written gs))) hit)
 guards_found p target written (x ∷ gs) (suc i) g lt is none hit =
-    later (p (record {
-      rule = x.rule;
-      source = x.read.variable;
-      target = target;
-      read = x.read.place;
-      written =
-          written;
-    })) _ _ _ _ none (λ e. guards_found p target written gs i g (omega (arith, lt)) is e hit)
+    later (p (flow target written x)) _ _ _ _ none (λ e.
+    guards_found p target written gs i g (omega (arith, lt)) is e hit)
   where
     later : (b : Bool) (x y : Step) (xs ys : Option Step) → cond b (Some x) xs ≡ None → (xs ≡ None → Some y ≡ ys)
         → Some y ≡ cond b (Some x) ys

@@ -1,11 +1,9 @@
-use Rattle.std.proofs.Common.{rules, ◌≡◌, ◌∙◌, ◌++◌, ◌∷◌, [], ◌||◌, sym, ap, subst, arith, refl, ◌+◌, ◌-◌, ◌≤◌, length, take, true}
+use Rattle.std.proofs.Common.{rules, ◌≡◌, ◌∙◌, ◌++◌, ◌∷◌, [], ◌||◌, sym, ap, subst, arith, refl, ◌+◌, ◌≤◌, length, take, true}
 use Rattle.std.proofs.lemmas.Grind.{common_steps}
-use Rattle.std.proofs.lemmas.List.{get_or-map, take_all}
+use Rattle.std.proofs.lemmas.List.{take_all}
 use Rattle.vsi_scope.specs.declared.program.Cmd.{the_lemmas}
-use Rattle.vsi_scope.specs.declared.resolved.Entry.{Entry}
-use Rattle.vsi_scope.specs.Language.{Assign, If, While, Letvar, has_loop}
+use Rattle.vsi_scope.specs.Language.{Assign, has_loop}
 use Rattle.vsi_scope.specs.View.{expression, command, sequence}
-use Rattle.vsi_scope.proofs.Views.{command_If, command_While, command_Letvar}
 use Rattle.vsi_types.specs.declared.rules.Rule.TheVariants as typing
 use Rattle.vsi_types.specs.Steps.{reads, guarded, flows, endings}
 use Rattle.vsi_types.specs.Security.{name_place}
@@ -14,41 +12,42 @@ use Rattle.vsi_types.proofs.Looping.{loop_more}
 use Rattle.vsi_types.proofs.Places.{place}
 use Rattle.vsi_infer.specs.StepSearch.{HasRoom}
 use Rattle.vsi_infer.specs.FirstSteps.{IsFrom, IsGathered, Gathers}
-use Rattle.vsi_infer.proofs.KeptLemmas.{gathered_at, gathered_none, gathered_choose, gathered_repeat, gathered_allocate, gathered_more, gathered_room, gathered_all}
+use Rattle.vsi_infer.proofs.CommandLemmas.{choice_read, loop_read, letvar_read, name_at, room_next}
+use Rattle.vsi_infer.proofs.KeptLemmas.{gathered_at, gathered_none, gathered_choose, gathered_repeat, gathered_allocate, gathered_more, gathered_all}
 use Rattle.vsi_infer.proofs.gathering.+walk.Goals as goal
 
 pub gather_command-gather_if-requires : goal.gather_command-gather_if-requires
-gather_command-gather_if-requires g t c κs within =
-    let e : command c.args.c.now ≡ If (expression c.in-If.guard) (sequence c.deref.result.now)
-    (sequence c.deref-in-If.result.now) =
-    ap command c.in-If.is ∙ command_If c.in-If.guard c.in-If.yes c.in-If.no
-    ∙ ap (λ l. If (expression c.in-If.guard) (sequence l) (sequence c.in-If.no.items)) (sym c.deref.ensures.value)
-    ∙ ap (λ l. If (expression c.in-If.guard) (sequence c.deref.result.now) (sequence l))
-    (sym c.deref-in-If.ensures.value) in
-    let r = subst (HasRoom c.args.first (length c.args.entries.now) (walker_place c.args.walk.now)) e c.requires in (
-      first_of (search (rules, the_lemmas), grind (arith, the_lemmas, common_steps), omega (arith, c.decreases)),
-      search (rules, r),
-    )
+gather_command-gather_if-requires g t c κs within = (
+  first_of (search (rules, the_lemmas), grind (arith, the_lemmas, common_steps), omega (arith, c.decreases)),
+  search (
+    rules,
+    subst (HasRoom c.args.first (length c.args.entries.now) (walker_place c.args.walk.now))
+        (choice_read c.args.c.now c.in-If.guard c.in-If.yes c.in-If.no c.deref.result.now c.deref-in-If.result.now
+        c.in-If.is c.deref.ensures.value c.deref-in-If.ensures.value) c.requires,
+  ),
+)
 
 pub gather_command-gather_while-requires : goal.gather_command-gather_while-requires
-gather_command-gather_while-requires g t c κs within =
-    let e : command c.args.c.now ≡ While (expression c.in-While.guard) (sequence c.deref-in-While.result.now) =
-    ap command c.in-While.is ∙ command_While c.in-While.guard c.in-While.body
-    ∙ ap (λ l. While (expression c.in-While.guard) (sequence l)) (sym c.deref-in-While.ensures.value) in
-    let r = subst (HasRoom c.args.first (length c.args.entries.now) (walker_place c.args.walk.now)) e c.requires in (
-      first_of (search (rules, the_lemmas), grind (arith, the_lemmas, common_steps), omega (arith, c.decreases)),
-      search (rules, r),
-    )
+gather_command-gather_while-requires g t c κs within = (
+  first_of (search (rules, the_lemmas), grind (arith, the_lemmas, common_steps), omega (arith, c.decreases)),
+  search (
+    rules,
+    subst (HasRoom c.args.first (length c.args.entries.now) (walker_place c.args.walk.now))
+        (loop_read c.args.c.now c.in-While.guard c.in-While.body c.deref-in-While.result.now c.in-While.is
+        c.deref-in-While.ensures.value) c.requires,
+  ),
+)
 
 pub gather_command-gather_letvar-requires : goal.gather_command-gather_letvar-requires
-gather_command-gather_letvar-requires g t c κs within =
-    let e : command c.args.c.now ≡ Letvar (expression c.in-Letvar.value) (sequence c.deref-in-Letvar.result.now) =
-    ap command c.in-Letvar.is ∙ command_Letvar c.in-Letvar.value c.in-Letvar.body
-    ∙ ap (λ l. Letvar (expression c.in-Letvar.value) (sequence l)) (sym c.deref-in-Letvar.ensures.value) in
-    let r = subst (HasRoom c.args.first (length c.args.entries.now) (walker_place c.args.walk.now)) e c.requires in (
-      first_of (search (rules, the_lemmas), grind (arith, the_lemmas, common_steps), omega (arith, c.decreases)),
-      search (rules, r),
-    )
+gather_command-gather_letvar-requires g t c κs within = (
+  first_of (search (rules, the_lemmas), grind (arith, the_lemmas, common_steps), omega (arith, c.decreases)),
+  search (
+    rules,
+    subst (HasRoom c.args.first (length c.args.entries.now) (walker_place c.args.walk.now))
+        (letvar_read c.args.c.now c.in-Letvar.value c.in-Letvar.body c.deref-in-Letvar.result.now c.in-Letvar.is
+        c.deref-in-Letvar.ensures.value) c.requires,
+  ),
+)
 
 pub gather_command-returns-in-Assign : goal.gather_command-returns-in-Assign
 gather_command-returns-in-Assign g t c =
@@ -61,43 +60,38 @@ gather_command-returns-in-Assign g t c =
 
 pub gather_command-returns-in-If : goal.gather_command-returns-in-If
 gather_command-returns-in-If g t c =
-    let e : command c.args.c.now ≡ If (expression c.in-If.guard) (sequence c.deref.result.now)
-    (sequence c.deref-in-If.result.now) =
-    ap command c.in-If.is ∙ command_If c.in-If.guard c.in-If.yes c.in-If.no
-    ∙ ap (λ l. If (expression c.in-If.guard) (sequence l) (sequence c.in-If.no.items)) (sym c.deref.ensures.value)
-    ∙ ap (λ l. If (expression c.in-If.guard) (sequence c.deref.result.now) (sequence l))
-    (sym c.deref-in-If.ensures.value) in
     subst (λ k. Gathers c.args.profile (name_place c.args.entries.now c.args.first) (walker_place c.args.walk.now)
     c.args.log.now.kept.steps.items k (walker_place c.gather_if.new.walk) c.gather_if.new.log.kept.steps.items
-    c.gather_if.result) (sym e) c.gather_if.ensures
+    c.gather_if.result)
+    (sym (choice_read c.args.c.now c.in-If.guard c.in-If.yes c.in-If.no c.deref.result.now c.deref-in-If.result.now
+    c.in-If.is c.deref.ensures.value c.deref-in-If.ensures.value)) c.gather_if.ensures
 
 pub gather_command-returns-in-While : goal.gather_command-returns-in-While
 gather_command-returns-in-While g t c =
-    let e : command c.args.c.now ≡ While (expression c.in-While.guard) (sequence c.deref-in-While.result.now) =
-    ap command c.in-While.is ∙ command_While c.in-While.guard c.in-While.body
-    ∙ ap (λ l. While (expression c.in-While.guard) (sequence l)) (sym c.deref-in-While.ensures.value) in
     subst (λ k. Gathers c.args.profile (name_place c.args.entries.now c.args.first) (walker_place c.args.walk.now)
     c.args.log.now.kept.steps.items k (walker_place c.gather_while.new.walk) c.gather_while.new.log.kept.steps.items
-    c.gather_while.result) (sym e) c.gather_while.ensures
+    c.gather_while.result)
+    (sym (loop_read c.args.c.now c.in-While.guard c.in-While.body c.deref-in-While.result.now c.in-While.is
+    c.deref-in-While.ensures.value)) c.gather_while.ensures
 
 pub gather_command-returns-in-Letvar : goal.gather_command-returns-in-Letvar
 gather_command-returns-in-Letvar g t c =
-    let e : command c.args.c.now ≡ Letvar (expression c.in-Letvar.value) (sequence c.deref-in-Letvar.result.now) =
-    ap command c.in-Letvar.is ∙ command_Letvar c.in-Letvar.value c.in-Letvar.body
-    ∙ ap (λ l. Letvar (expression c.in-Letvar.value) (sequence l)) (sym c.deref-in-Letvar.ensures.value) in
     subst (λ k. Gathers c.args.profile (name_place c.args.entries.now c.args.first) (walker_place c.args.walk.now)
     c.args.log.now.kept.steps.items k (walker_place c.gather_letvar.new.walk) c.gather_letvar.new.log.kept.steps.items
-    c.gather_letvar.result) (sym e) c.gather_letvar.ensures
+    c.gather_letvar.result)
+    (sym (letvar_read c.args.c.now c.in-Letvar.value c.in-Letvar.body c.deref-in-Letvar.result.now c.in-Letvar.is
+    c.deref-in-Letvar.ensures.value)) c.gather_letvar.ensures
 
 pub gather_commands-gather_command-requires : goal.gather_commands-gather_command-requires
-gather_commands-gather_command-requires g t c κs within =
-    let r = gathered_room c.args.profile (name_place c.args.entries.now c.args.first) (walker_place c.args.walk.now)
-    (walker_place c.loop-c.walk) c.args.log.now.kept.steps.items c.loop-c.log.kept.steps.items
-    c.args.body.now c.loop-c.c-index c.c-item.result c.loop-c-test.true c.c-item.is c.loop-c.invariant.gathered
-    c.args.first (length c.args.entries.now) c.requires in (
-      first_of (search (rules, the_lemmas), grind (arith, the_lemmas, common_steps), omega (arith, c.decreases)),
-      search (rules, r),
-    )
+gather_commands-gather_command-requires g t c κs within = (
+  first_of (search (rules, the_lemmas), grind (arith, the_lemmas, common_steps), omega (arith, c.decreases)),
+  search (
+    rules,
+    room_next (walker_place c.args.walk.now) (walker_place c.loop-c.walk) c.args.body.now c.loop-c.c-index
+        c.c-item.result c.loop-c-test.true c.c-item.is c.loop-c.invariant.gathered.scope
+        c.loop-c.invariant.gathered.next c.args.first (length c.args.entries.now) c.requires,
+  ),
+)
 
 pub gather_commands-loop-c-init : goal.gather_commands-loop-c-init
 gather_commands-loop-c-init g t c = record {
@@ -202,9 +196,7 @@ gather_letvar-returns g t c =
     let w = c.args.log.now.kept.steps.items in
     let u = c.look_reads.new.log.kept.steps.items in
     let v = c.gather_commands.new.log.kept.steps.items in
-    let at = sym (get_or-map (λ (y : Entry). y.span) c.args.entries.now
-    (c.args.walk.now.next - c.args.first) c.index-entries-walk.result (record { start = 0; stop = 0 })
-    (omega (arith, c.requires.after, c.requires.limit))) in
+    let at = name_at c.args.entries.now c.args.first a x body c.index-entries-walk.result c.requires in
     let h = subst (λ s. IsFrom (flows c.args.walk.now.next (N c.args.walk.now.next)
     (guarded typing.Letvar (reads s x))) w u)
     c.deref.ensures.value
