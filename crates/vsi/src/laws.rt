@@ -8,8 +8,8 @@ pub fn checked_is_accepted()
     ensures { CheckedIsAccepted }
 {}
 
-/// Where `build` makes an image and `view` shows a class two runs of it under the same lattice, from
-/// stores that agree at and below the class, the views are the same.
+/// Where `build` makes an image and `view` shows a class two runs of it under the same lattice,
+/// from stores that agree at and below the class, the views are the same.
 pub fn built_is_seen_alike()
     ensures { BuiltIsSeenAlike }
 {}

@@ -7,8 +7,8 @@
 //! file is refused. `command` does what the words of a command line ask for. What an error holds,
 //! as a `LexError` or a `Walk` of `Step`s, stands here beside it.
 //!
-//! To be believed: of `specs/` `Words`, `Holding`, `Driven`, `Performed`, `Reasons`, `Done`, `Input`
-//! and `Laws`, and of `Stops` all but `StopsFor`; `Silent` is a stepping stone of proofs.
+//! To be believed: of `specs/` `Words`, `Holding`, `Driven`, `Performed`, `Reasons`, `Done`,
+//! `Input` and `Laws`, and of `Stops` all but `StopsFor`; `Silent` is a stepping stone of proofs.
 #![tactic(auto)]
 
 mod auditing;

@@ -49,7 +49,8 @@ fn compiled_steadily(
     }
 }
 
-/// The image of a text that is accepted as is asked for, or its refusal. An error is want of memory.
+/// The image of a text that is accepted as is asked for, or its refusal. An error is want of
+/// memory.
 pub fn judged(
     alloc: Global,
     judgement: Judgement,

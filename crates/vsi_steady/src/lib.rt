@@ -3,9 +3,9 @@
 //! A verified image comes in, with or without structure, whoever made it. `steady_in` gives each
 //! slot the least class for the whole code and checks that the code can be gone through with these:
 //! what it accepts does the same instructions in any two runs whose stores agree at the bottom
-//! class, and shows nothing from above a class to it; what it refuses for a flow can be gone through
-//! with no classes of its slots. `laws` says the first of the definition. `steady_text` tells why an
-//! image is refused: for a flow, a chain of steps of its code.
+//! class, and shows nothing from above a class to it; what it refuses for a flow can be gone
+//! through with no classes of its slots. `laws` says the first of the definition. `steady_text`
+//! tells why an image is refused: for a flow, a chain of steps of its code.
 //!
 //! `compile_steady` makes such an image of a source text, or tells a shortest walk from a secret to
 //! a guard, the lines of which `steady_explanation` writes.
