@@ -26,7 +26,7 @@ abbrev pub IsUnknownAt : Known → List Global → ℕ → Type 0
 IsUnknownAt known gs i = (g : Global) × (slice_get gs i ≡ Some g) × (known g.1 ≡ None)
 
 -- The image is that of a program, of which these steps are a bad walk, and no bad walk has fewer.
-pub record HasBadWalk (known : Known) (L : Lattice) (P : Profile) (im : Image) (steps : List Step) : Type 0 where
+pub record IsBadWalkOfImage (known : Known) (L : Lattice) (P : Profile) (im : Image) (steps : List Step) : Type 0 where
   pub read : Resolved
   pub classes : HaveClasses known read.globals
   pub stands : StandsFor read im
@@ -39,5 +39,5 @@ Refuses known L P im (UnknownClass i) = IsUnknownAt known (globals im.globals.it
 Refuses known L P im (Unstructured place) = Unit {0}
 Refuses known L P im WrongFields = Unit {0}
 Refuses known L P im NoText = ⊥
-Refuses known L P im (Flow walk) = HasBadWalk known L P im walk.steps.items
+Refuses known L P im (Flow walk) = IsBadWalkOfImage known L P im walk.steps.items
 Refuses known L P im Memory = Unit {0}

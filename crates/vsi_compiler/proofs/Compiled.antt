@@ -1,7 +1,8 @@
 -- What the layers promise of a text together.
 use Rattle.std.proofs.Common.{◌≡◌, ℕ, ◌+◌, ◌<◌, ◌≤◌, List, map, length, refl, sym, ap, subst, ◌∙◌, Option, Some, None, IfSome, arith}
+use Rattle.std.specs.List.{All}
 use Rattle.vsi_syntax.specs.Tree.{Whole}
-use Rattle.vsi_lattice.specs.Order.{Lattice as Order, IsLattice}
+use Rattle.vsi_lattice.specs.Order.{Lattice as Order, IsClass, IsLattice}
 use Rattle.vsi_lattice.specs.declared.lattice.Lattice.{Lattice}
 use Rattle.vsi_lattice.specs.LatticeView.{class_named, order, names}
 use Rattle.vsi_lattice.specs.Laws.{lawful_is_lattice}
@@ -9,7 +10,7 @@ use Rattle.vsi_lattice.proofs.NameLemmas.{found}
 use Rattle.vsi_scope.specs.Faults.{Known}
 use Rattle.vsi_scope.specs.Language.{Command, size}
 use Rattle.vsi_scope.specs.Program.{Resolved}
-use Rattle.vsi_scope.specs.Resolving.{IsResolution, AreBelow}
+use Rattle.vsi_scope.specs.Resolving.{IsResolution, AreBelow, HasClassesBelow}
 use Rattle.vsi_scope.specs.Scopes.{in_sequence}
 use Rattle.vsi_scope.specs.View.{command, sequence}
 use Rattle.vsi_scope.proofs.Complete.{does_all_one}
@@ -17,7 +18,7 @@ use Rattle.vsi_types.specs.declared.rules.Profile.{Profile}
 use Rattle.vsi_types.specs.declared.rules.Step.{Step}
 use Rattle.vsi_types.specs.Security.{program, IsTypable, IsWellFormed}
 use Rattle.vsi_types.proofs.Walking.{bad_walks_refute}
-use Rattle.vsi_infer.specs.Inference.{IsShortest, IsLeast}
+use Rattle.vsi_infer.specs.Inference.{AreClasses, IsShortest, IsLeast}
 use Rattle.vsi_image.specs.declared.instr.Image.{Image}
 use Rattle.vsi_image.specs.Fields as image
 use Rattle.vsi_code.specs.Behaves.{Behaves}
@@ -35,7 +36,7 @@ use Rattle.vsi_compiler.specs.declared.error.CompileError.TheVariants.{Memory}
 use Rattle.vsi_infer.specs.declared.error.InferError.{InferError}
 use Rattle.vsi_infer.specs.declared.error.InferError.TheVariants as infer
 use Rattle.vsi_infer.specs.Inference as inference
-use Rattle.vsi_compiler.proofs.Programs.{program_is, names_are, count_is, body_is}
+use Rattle.vsi_compiler.proofs.Programs.{program_is, names_are, count_is, body_is, global_classes, declared_classes}
 
 -- A class that a name stands for is one of the lattice.
 pub known_below : (l : Lattice) → AreBelow (order l).count (class_named l)
@@ -44,6 +45,16 @@ known_below l x = below (class_named l x) refl
     below : (o : Option ℕ) → class_named l x ≡ o → IfSome o (λ c. c < (order l).count)
     below None e = tt
     below (Some c) e = omega (arith, (found (names l) x c e).0, l.named.one_each)
+
+-- The globals of a program whose classes the lattice knows have classes of it.
+pub globals_of : (l : Lattice) (r : Resolved) → ((n : ℕ) → AreBelow n (class_named l) → HasClassesBelow n r)
+    → All (IsClass (order l)) (program r).globals
+globals_of l r known = global_classes (order l) r (known (order l).count (known_below l))
+
+-- And so do its other declarations, where they have any.
+pub declared_of : (l : Lattice) (r : Resolved) → ((n : ℕ) → AreBelow n (class_named l) → HasClassesBelow n r)
+    → AreClasses (order l) (program r).declared
+declared_of l r known = declared_classes (order l) r (known (order l).count (known_below l))
 
 -- The order of a lattice with names has the laws.
 pub lawful : (l : Lattice) → IsLattice (order l)

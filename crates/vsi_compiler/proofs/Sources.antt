@@ -8,7 +8,7 @@ use Rattle.vsi_syntax.specs.declared.parser.ParseError.TheVariants as parser
 use Rattle.vsi_syntax.specs.Cut.{IsCut, pieces, ExplainsText}
 use Rattle.vsi_syntax.specs.View.{lexeme, lexemes}
 use Rattle.vsi_syntax.specs.Tree.{Whole, Lexeme, IsProgram, write_program}
-use Rattle.vsi_syntax.specs.Parsing.{Fails}
+use Rattle.vsi_syntax.specs.Given.{Fails}
 use Rattle.vsi_syntax.specs.Spelling.{word_at}
 use Rattle.vsi_syntax.proofs.Unique.{one_cut}
 use Rattle.vsi_compiler.specs.declared.error.CompileError.TheVariants.{Memory}

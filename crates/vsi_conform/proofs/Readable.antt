@@ -4,7 +4,7 @@ use Rattle.vsi_syntax.specs.declared.token.Token.{Token}
 use Rattle.vsi_syntax.specs.Cut.{Piece, IsCut, pieces}
 use Rattle.vsi_syntax.specs.Tree.{Whole, Declared, IsProgram, write_program}
 use Rattle.vsi_syntax.specs.View.{lexemes}
-use Rattle.vsi_syntax.specs.Parsing.{Fails}
+use Rattle.vsi_syntax.specs.Given.{Fails}
 use Rattle.vsi_syntax.specs.declared.parser.ParseError.{ParseError}
 use Rattle.vsi_syntax.specs.declared.parser.ParseError.TheVariants as parser
 use Rattle.vsi_compiler.proofs.Sources.{reads_from, reads_tokens}

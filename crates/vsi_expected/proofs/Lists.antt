@@ -8,7 +8,7 @@ use Rattle.vsi_expected.specs.declared.sort.Sort.TheVariants as s
 use Rattle.vsi_expected.specs.declared.sort.TheConstants.{SORTS}
 use Rattle.vsi_expected.specs.declared.wanted.Wanted.{Wanted}
 use Rattle.vsi_expected.specs.declared.wanted.Wanted.TheVariants as w
-use Rattle.vsi_expected.specs.Rules.{same}
+use Rattle.vsi_expected.specs.Sorts.{same}
 use Rattle.vsi_expected.specs.Told.{told}
 
 -- One part more is put, from the last to the first.

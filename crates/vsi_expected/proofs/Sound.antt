@@ -8,7 +8,8 @@ use Rattle.vsi_expected.specs.declared.wanted.Wanted.{Wanted}
 use Rattle.vsi_expected.specs.declared.wanted.Wanted.TheVariants as w
 use Rattle.vsi_expected.specs.Goes.{AreSpelled, IsWritten}
 use Rattle.vsi_expected.specs.Sorts.{lexeme_sort}
-use Rattle.vsi_expected.specs.Rules.{Rule, rules, same, parts_of, may_be_empty, begun, step, can_end, run, start}
+use Rattle.vsi_expected.specs.Sorts.{same}
+use Rattle.vsi_expected.specs.Rules.{Rule, rules, parts_of, may_be_empty, begun, step, can_end, run, start}
 use Rattle.vsi_expected.proofs.Lists.{same_is}
 use Rattle.vsi_expected.proofs.Joining.{weaken}
 use Rattle.vsi_expected.proofs.Languages.{Is, a_name, a_name_is, some_lexeme, AreProper, Writes, WritesAll, AllHold, rules_hold}

@@ -1,11 +1,10 @@
 -- The rules by which a program is read token by token. They are a stepping stone: what `expected_after` promises speaks
 -- of the programs that write the tokens, and of none of these rules.
 use Rattle.std.specs.Prelude.{◌≡◌, Bool, true, false, ◌&&◌, if◌then◌else◌, List, [], ◌∷◌, ◌++◌, Option, Some, None}
-use denote.Enum.Bare.{sameb}
 use Rattle.vsi_syntax.specs.Parsing.{◌>>=◌}
-use Rattle.vsi_expected.specs.contracts.sort.Sort.{the_type}
 use Rattle.vsi_expected.specs.declared.sort.Sort.{Sort}
 use Rattle.vsi_expected.specs.declared.sort.Sort.TheVariants as s
+use Rattle.vsi_expected.specs.Sorts.{same}
 use Rattle.vsi_expected.specs.declared.wanted.Wanted.{Wanted}
 use Rattle.vsi_expected.specs.declared.wanted.Wanted.TheVariants as w
 
@@ -59,10 +58,6 @@ may_be_empty w.Sum = false
 may_be_empty w.Operators = true
 may_be_empty w.SumOperators = true
 may_be_empty (w.Token sort) = false
-
--- Two sorts are the same.
-abbrev pub same : Sort → Sort → Bool
-same a b = sameb the_type a b
 
 -- The parts of the first rule for this sort.
 abbrev pub parts_of : Sort → List Rule → Option (List Wanted)

@@ -1,9 +1,16 @@
 -- Sorts of tokens.
+use Rattle.std.specs.Prelude.{Bool}
+use denote.Enum.Bare.{sameb}
 use Rattle.vsi_syntax.specs.declared.token.Kind.{Kind}
 use Rattle.vsi_syntax.specs.declared.token.Kind.TheVariants as k
 use Rattle.vsi_syntax.specs.Tree.{Lexeme, Called, Sign}
+use Rattle.vsi_expected.specs.contracts.sort.Sort.{the_type}
 use Rattle.vsi_expected.specs.declared.sort.Sort.{Sort}
 use Rattle.vsi_expected.specs.declared.sort.Sort.TheVariants as s
+
+-- Two sorts are the same.
+abbrev pub same : Sort → Sort → Bool
+same a b = sameb the_type a b
 
 -- The sort of a kind of tokens.
 abbrev pub sort_of : Kind → Sort

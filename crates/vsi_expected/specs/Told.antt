@@ -1,7 +1,7 @@
 -- Which sorts a list tells.
 use Rattle.std.specs.Prelude.{Bool, false, ◌||◌, List, [], ◌∷◌}
 use Rattle.vsi_expected.specs.declared.sort.Sort.{Sort}
-use Rattle.vsi_expected.specs.Rules.{same}
+use Rattle.vsi_expected.specs.Sorts.{same}
 
 -- The sort is one of these.
 abbrev pub told : List Sort → Sort → Bool

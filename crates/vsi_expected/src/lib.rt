@@ -4,8 +4,8 @@
 //! some program goes on there, and whether one may end there (clauses `sorts` and `end` of
 //! `expected_after`). The tokens are read once, with a list of what is still wanted.
 //!
-//! To be believed: `specs/Goes`, `specs/Sorts`, `specs/Told`, `specs/Words`, and `same` of
-//! `specs/Rules`, whose other definitions are stepping stones of proofs.
+//! To be believed: `specs/Goes`, `specs/Sorts`, `specs/Told` and `specs/Words`; `specs/Rules` is a
+//! stepping stone of proofs.
 #![tactic(auto)]
 
 mod expected;

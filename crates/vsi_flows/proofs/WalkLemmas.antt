@@ -90,6 +90,50 @@ module _ (L : Lattice) (laws : IsLattice L) (P : Profile) (p : Program) (res : I
         (d.sound i.0 (omega (arith, i.1)) (omega (arith, at))) in
         i.2 ∙ ap (variable_at (size_of p)) same
 
+    -- The row of a told pair's target has the pair's steps at its source.
+    told_at : b ≤ size_of p → (r : Pair) → r.target ≡ variable_at (size_of p) b → r.source < size_of p
+        → IsTold L P p r → (get_or row r.source 0 ≡ r.steps) × (get_or row r.source 0 < 65535)
+    told_at lb r to from told =
+        let k = size_of p in
+        let is = row_is L laws P p res ds flows are b row lb d in
+        let here : variable_at k r.source ≡ r.source = at_place L p res.entries res.limit r.source from in
+        let path : IsPath (steps_of P p) (variable_at k r.source) told.steps.walk (variable_at k b) =
+        subst (λ (x : ℕ). IsPath (steps_of P p) x told.steps.walk (variable_at k b)) (sym here)
+        (subst (IsPath (steps_of P p) r.source told.steps.walk) to told.steps.path) in
+        let near = is.fewest r.source told.steps.walk (omega (arith, from)) path in
+        let u = is.walk r.source (omega (arith, from)) near.0 in
+        let far = told.steps.fewest u.0 (subst (IsPath (steps_of P p) r.source u.0) (sym to)
+        (subst (λ (x : ℕ). IsPath (steps_of P p) x u.0 (variable_at k b)) here u.1)) in
+        (omega (arith, near.1, far, told.steps.count, u.2), near.0)
+
+    -- What finds the walks down the row finds that of a pair whose target is at the place.
+    pub found_at : b ≤ size_of p → (r : Pair) → r.target ≡ variable_at (size_of p) b → r.source < size_of p
+        → IsTold L P p r → 0 < r.steps → (w : WalksTo) → FindsWalks (steps_of P p) (size_of p) row w
+        → FindsPair (steps_of P p) r w
+    found_at lb r to from told some w f =
+        let k = size_of p in
+        let here : variable_at k r.source ≡ r.source = at_place L p res.entries res.limit r.source from in
+        let place : row_of k r.source ≡ r.source =
+        ap (row_of k) (sym here) ∙ row_back L laws P p res ds flows are r.source (omega (arith, from)) in
+        let at = told_at lb r to from told in
+        record {
+          known = f.known;
+          down = subst (LeadsDown (steps_of P p) w.last) (sym f.same_row)
+              (subst (λ (n : ℕ). LeadsDown (steps_of P p) n row) (sym f.same_last) leads_down);
+          away = ap (λ l. get_or l (row_of w.last r.source) 0) f.same_row
+              ∙ ap (λ (n : ℕ). get_or row (row_of n r.source) 0) f.same_last
+              ∙ ap (λ (n : ℕ). get_or row n 0) place ∙ at.0;
+          small = omega (arith, at.0, at.1);
+          arrives = λ t e q n z. come t e q n
+              (sym (ap (λ l. get_or l (row_of w.last e) 0) f.same_row
+              ∙ ap (λ (n : ℕ). get_or row (row_of n e) 0) f.same_last) ∙ z);
+        }
+      where
+        come : (u : List Step) (e : ℕ) → IsPath (steps_of P p) r.source u e → length u ≡ r.steps
+            → get_or row (row_of (size_of p) e) 0 ≡ 0 → e ≡ r.target
+        come [] e q n z = absurd (omega (arith, n, some))
+        come (s ∷ rest) e q n z = arrives lb r.source e s rest q z ∙ sym to
+
   module _ (rows : List (List ℕ)) (found : List (Option WalksTo)) (find : FindWalks (steps_of P p) (size_of p) rows found) where
     -- What stands at a place of a row that is reached.
     at_row : (b : ℕ) (row : List ℕ) → get_or rows b [] ≡ row → (a : ℕ) → 0 < get_or row a 0 → get_or row a 0 < 65535
@@ -122,43 +166,12 @@ module _ (L : Lattice) (laws : IsLattice L) (P : Profile) (p : Program) (res : I
         → IsFound (steps_of P p) (size_of p) found r
     found_told b lb d r to from told some =
         let row = get_or rows b [] in
-        let k = size_of p in
-        let is = row_is L laws P p res ds flows are b row lb d in
-        let here : variable_at k r.source ≡ r.source = at_place L p res.entries res.limit r.source from in
-        let place : row_of k r.source ≡ r.source =
-        ap (row_of k) (sym here) ∙ row_back L laws P p res ds flows are r.source (omega (arith, from)) in
-        let path : IsPath (steps_of P p) (variable_at k r.source) told.steps.walk (variable_at k b) =
-        subst (λ (x : ℕ). IsPath (steps_of P p) x told.steps.walk (variable_at k b)) (sym here)
-        (subst (IsPath (steps_of P p) r.source told.steps.walk) to told.steps.path) in
-        let near = is.fewest r.source told.steps.walk (omega (arith, from)) path in
-        let w = is.walk r.source (omega (arith, from)) near.0 in
-        let far = told.steps.fewest w.0 (subst (IsPath (steps_of P p) r.source w.0) (sym to)
-        (subst (λ (x : ℕ). IsPath (steps_of P p) x w.0 (variable_at k b)) here w.1)) in
-        let away : get_or row r.source 0 ≡ r.steps = omega (arith, near.1, far, told.steps.count, w.2) in
-        let at = at_row b row refl r.source (omega (arith, away, some)) near.0 in
-        let f = at.2 in (
+        let fewest = told_at b row d lb r to from told in
+        let at = at_row b row refl r.source (omega (arith, fewest.0, some)) fewest.1 in (
           at.0,
-          ap (slice_get found) (ap (row_of k) to ∙ row_back L laws P p res ds flows are b lb) ∙ at.1,
-          record {
-            known = f.known;
-            down = subst (LeadsDown (steps_of P p) at.0.last) (sym f.same_row)
-                (subst (λ (n : ℕ). LeadsDown (steps_of P p) n row) (sym f.same_last) (leads_down b row d));
-            away = ap (λ l. get_or l (row_of at.0.last r.source) 0) f.same_row
-                ∙ ap (λ (n : ℕ). get_or row (row_of n r.source) 0) f.same_last
-                ∙ ap (λ (n : ℕ). get_or row n 0) place ∙ away;
-            small = omega (arith, near.0, away);
-            arrives = λ u e q n z. come b row d lb r u e to some q n
-                (sym (ap (λ l. get_or l (row_of at.0.last e) 0) f.same_row
-                ∙ ap (λ (n : ℕ). get_or row (row_of n e) 0) f.same_last) ∙ z);
-          },
+          ap (slice_get found) (ap (row_of (size_of p)) to ∙ row_back L laws P p res ds flows are b lb) ∙ at.1,
+          found_at b row d lb r to from told some at.0 at.2,
         )
-      where
-        come : (b : ℕ) (row : List ℕ) → AreLeast flows (size_of p + 1) b row → b ≤ size_of p → (r : Pair)
-            (u : List Step) (e : ℕ) → r.target ≡ variable_at (size_of p) b → 0 < r.steps
-            → IsPath (steps_of P p) r.source u e → length u ≡ r.steps
-            → get_or row (row_of (size_of p) e) 0 ≡ 0 → e ≡ r.target
-        come b row d lb r [] e to some q n z = absurd (omega (arith, n, some))
-        come b row d lb r (s ∷ rest) e to some q n z = arrives b row d lb r.source e s rest q z ∙ sym to
 
     -- A pair that is told is found where its row is.
     found_one : ((b c : ℕ) → b ≤ size_of p → declared_class L p (variable_at (size_of p) b) ≡ Some c

@@ -22,7 +22,8 @@ use Rattle.vsi_types.specs.Steps.{reads, guarded, flows, endings, steps, sink}
 use Rattle.vsi_types.specs.Security.{Program, steps_of}
 use Rattle.vsi_types.specs.Walks.{IsChain, last_target, IsBad, declared_class}
 use Rattle.vsi_infer.specs.Leading.{observes_ending}
-use Rattle.vsi_infer.specs.Membership.{same_rule, same_span, read_is, written_is, same_step, reads_pass, ends_pass, passes}
+use Rattle.vsi_infer.specs.StepsBetween.{same_rule}
+use Rattle.vsi_infer.specs.Membership.{same_span, read_is, written_is, same_step, reads_pass, ends_pass, passes}
 use Rattle.vsi_infer.specs.Paths.{IsPath}
 
 -- A step before all others.

@@ -13,10 +13,10 @@ use Rattle.vsi_types.specs.Steps.{sink}
 use Rattle.vsi_types.specs.Security.{Program, IsWellFormed, steps_of}
 use Rattle.vsi_types.specs.Walks.{IsChain, last_target, IsBadFrom, IsBad, declared_class}
 use Rattle.vsi_types.proofs.Walking.{some_same}
-use Rattle.vsi_infer.specs.Leading.{has_step}
+use Rattle.vsi_infer.specs.StepsBetween.{has_step}
 use Rattle.vsi_infer.specs.Flowing.{size_of, variable_at, AreFlowsOf}
 use Rattle.vsi_infer.specs.Inference.{table, AreClasses, IsShortest}
-use Rattle.vsi_infer.specs.Choices.{HasBadWalk, Walk}
+use Rattle.vsi_infer.specs.Choices.{HasPlacedBadWalk, Walk}
 use Rattle.vsi_infer.specs.Distances.{Leads, IsGoal, IsAway, AreDistances}
 use Rattle.vsi_infer.specs.Paths.{IsPath}
 use Rattle.vsi_infer.specs.Shortest.{is_high, goals_of, far_at, AreLevels, IsFewest, row_of, steps_from, begins, LeadsDown, IsArrived}
@@ -214,7 +214,7 @@ module _ (L : Lattice) (laws : IsLattice L) (P : Profile) (p : Program) (res : I
         omega (arith, f.1, b)
 
     -- A program with a bad walk has a shortest length, and a step that begins such a walk.
-    pub some_length : HasBadWalk L.count L.leq flows (table L p) → n < 65535
+    pub some_length : HasPlacedBadWalk L.count L.leq flows (table L p) → n < 65535
     some_length has = elim (cases_lt n 65535) [
       | inl lt ↦ lt
       | inr ge ↦ absurd (has (λ m a b w.
@@ -234,7 +234,7 @@ module _ (L : Lattice) (laws : IsLattice L) (P : Profile) (p : Program) (res : I
         unwrap d c e = ap (λ o. elim o as (λ _. Option ℕ) [ None ↦ d | Some x ↦ x ]) e
 
     -- Where a bad walk exists some step begins a shortest one.
-    pub begin_there : HasBadWalk L.count L.leq flows (table L p) → (1 ≤ n)
+    pub begin_there : HasPlacedBadWalk L.count L.leq flows (table L p) → (1 ≤ n)
         × ((s : Step) × Contains (steps_of P p) s × (begins (table L p) rows (size_of p) n (n - 1) s ≡ true))
     begin_there has = elim best.attained [
       | inl e ↦ absurd (let lt = some_length has in omega (arith, e, lt))
@@ -332,7 +332,7 @@ pub record IsCounted (L : Lattice) (P : Profile) (p : Program) (flows : ℕ → 
   pub same : T ≡ table L p
   pub levels : AreLevels L flows T rows
   pub best : IsFewest T rows n
-  pub bad : HasBadWalk L.count L.leq flows (table L p)
+  pub bad : HasPlacedBadWalk L.count L.leq flows (table L p)
 
 -- The same for a list that is the table.
 module _ (L : Lattice) (P : Profile) (p : Program) (flows : ℕ → ℕ → Bool) (T : List (Option ℕ)) (rows : List (List ℕ))

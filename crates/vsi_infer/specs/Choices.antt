@@ -38,8 +38,8 @@ module _ (size : ℕ) (leq : ℕ → ℕ → Bool) (flows : ℕ → ℕ → Bool
     pub unordered : leq from_class to_class ≡ false
 
   -- Some walk is bad.
-  abbrev pub HasBadWalk : Type 0
-  HasBadWalk = ¬ ((n a b : ℕ) → ¬ (IsBadWalk n a b))
+  abbrev pub HasPlacedBadWalk : Type 0
+  HasPlacedBadWalk = ¬ ((n a b : ℕ) → ¬ (IsBadWalk n a b))
 
   -- Every declared class that flows to v is below x.
   abbrev pub ReachedBelow : ℕ → ℕ → Type 0

@@ -1,6 +1,7 @@
 pub mod FlowRows
-pub mod Leading
+pub mod StepsBetween
 pub mod Flowing
+pub mod Leading
 pub mod Orders
 pub mod Choices
 pub mod Ranks

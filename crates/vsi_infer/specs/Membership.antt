@@ -8,16 +8,8 @@ use Rattle.vsi_types.specs.declared.rules.Rule.TheVariants as typing
 use Rattle.vsi_types.specs.declared.rules.Step.{Step}
 use Rattle.vsi_types.specs.Steps.{sink}
 use Rattle.vsi_infer.specs.Leading.{observes_ending}
+use Rattle.vsi_infer.specs.StepsBetween.{same_rule}
 use Rattle.vsi_infer.specs.declared.membership.Cursor.{Cursor}
-
--- Two rules are one.
-abbrev pub same_rule : Rule → Rule → Bool
-same_rule typing.Assign typing.Assign = true
-same_rule typing.If typing.If = true
-same_rule typing.While typing.While = true
-same_rule typing.Letvar typing.Letvar = true
-same_rule typing.Loop typing.Loop = true
-same_rule _ _ = false
 
 -- Two places are one.
 abbrev pub same_span : Span → Span → Bool

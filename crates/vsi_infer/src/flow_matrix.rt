@@ -1,17 +1,19 @@
-//! The flows of a program, by one walk over its commands.
+//! The flows of a program by the rules of a filter, by one walk over its commands.
 
 ghost use Rattle.std.specs.Prelude.{◌≡◌, ◌+◌, ◌*◌, ◌<◌, ◌≤◌, ◌&&◌, ◌||◌, ◌==◌, ℕ, length};
 ghost use Rattle.std.specs.List.{All};
 ghost use Rattle.vsi_scope.specs.Language.{HasLocations, Assign, If, While, Letvar};
 ghost use Rattle.vsi_scope.specs.View.{expression, command, sequence};
+ghost use Rattle.vsi_types.specs.declared.rules.Rule.TheVariants as typing;
 ghost use Rattle.vsi_infer.specs.FlowRows.{flow_has};
-ghost use Rattle.vsi_infer.specs.Leading.{reads_it, row_reads, observes_ending as observes, IsReady, IsNoted, Noted, position_of};
+ghost use Rattle.vsi_infer.specs.Leading.{reads_it, reads_by, row_reads, observes_ending as observes, IsReady, IsNoted, Noted, position_of};
 
 use crate::rows::{note, note_row};
+use crate::rule_filter::{RuleFilter, takes};
 use std::alloc::AllocError;
 use vsi_scope::{Cmd, Ex, Var};
 use vsi_syntax::Span;
-use vsi_types::Profile;
+use vsi_types::{Profile, Rule};
 
 /// For each variable a row of what flows to it, the variable of each location, and the next
 /// declaration's number.
@@ -44,6 +46,20 @@ fn note_reads(rows: &mut [u64], row: usize, scope: &[Var], e: &Ex)
     }
 }
 
+/// Notes what an expression reads by a rule in a row, if the filter takes it.
+fn note_reads_by(filter: RuleFilter, rule: Rule, rows: &mut [u64], row: usize, scope: &[Var], e: &Ex)
+    requires places { HasLocations (length scope.now) (expression e.now) }
+    requires scope { All (λ v. v < 1024) scope.now }
+    requires room { row * 16 + 16 ≤ length rows.old }
+    ensures len { length rows.new ≡ length rows.old }
+    ensures bits { (a b : ℕ) → flow_has rows.new b a ≡ (flow_has rows.old b a ||
+        ((b == row) && reads_by filter rule scope.now (expression e.now) a)) }
+{
+    if takes(filter, rule) {
+        note_reads(rows, row, scope, e);
+    }
+}
+
 /// Whether the profile asks after the ending of what loops.
 pub(crate) fn observes_ending(profile: Profile, looping: bool) -> bool
     ensures { result ≡ observes profile looping }
@@ -55,7 +71,14 @@ pub(crate) fn observes_ending(profile: Profile, looping: bool) -> bool
 }
 
 /// Notes the ending of what loops.
-fn note_ending(walk: &mut FlowMatrix, profile: Profile, looping: bool, sink: u16, guard: &Ex)
+fn note_ending(
+    walk: &mut FlowMatrix,
+    filter: RuleFilter,
+    profile: Profile,
+    looping: bool,
+    sink: u16,
+    guard: &Ex,
+)
     requires places { HasLocations (length walk.old.scope.items) (expression guard.now) }
     requires scope { All (λ v. v < 1024) walk.old.scope.items }
     requires room { sink * 16 + 16 ≤ length walk.old.rows.items }
@@ -64,28 +87,31 @@ fn note_ending(walk: &mut FlowMatrix, profile: Profile, looping: bool, sink: u16
     ensures len { length walk.new.rows.items ≡ length walk.old.rows.items }
     ensures bits { (a b : ℕ) → flow_has walk.new.rows.items b a ≡
         (flow_has walk.old.rows.items b a || (observes profile looping
-        && ((b == sink) && reads_it walk.old.scope.items (expression guard.now) a))) }
+        && ((b == sink)
+        && reads_by filter typing.Loop walk.old.scope.items (expression guard.now) a))) }
 {
     if observes_ending(profile, looping) {
-        note_reads(&mut walk.rows, sink as usize, &walk.scope, guard);
+        let row = sink as usize;
+        note_reads_by(filter, Rule::Loop, &mut walk.rows, row, &walk.scope, guard);
     }
 }
 
-/// The guards around, and one more.
-fn within(around: &[u64; 16], scope: &[Var], guard: &Ex) -> [u64; 16]
+/// The guards around, and one more where the filter takes its rule.
+fn within(filter: RuleFilter, rule: Rule, around: &[u64; 16], scope: &[Var], guard: &Ex) -> [u64; 16]
     requires places { HasLocations (length scope.now) (expression guard.now) }
     requires scope { All (λ v. v < 1024) scope.now }
     ensures { (a : ℕ) → row_reads result a
-        ≡ (row_reads around.now a || reads_it scope.now (expression guard.now) a) }
+        ≡ (row_reads around.now a || reads_by filter rule scope.now (expression guard.now) a) }
 {
     let mut words = *around;
-    note_reads(&mut words, 0, scope, guard);
+    note_reads_by(filter, rule, &mut words, 0, scope, guard);
     words
 }
 
 /// Notes an assignment.
 fn note_assign(
     walk: &mut FlowMatrix,
+    filter: RuleFilter,
     profile: Profile,
     sink: u16,
     around: &[u64; 16],
@@ -94,13 +120,13 @@ fn note_assign(
     value: &Ex,
 )
     requires { IsReady sink (position_of walk.old) (Assign location span (expression value.now)) }
-    ensures { IsNoted profile sink (row_reads around.now) (position_of walk.old)
+    ensures { IsNoted filter profile sink (row_reads around.now) (position_of walk.old)
         (Assign location span (expression value.now))
         (position_of walk.new) }
 {
     let target = walk.scope[location as usize];
     let row = target.0 as usize;
-    note_reads(&mut walk.rows, row, &walk.scope, value);
+    note_reads_by(filter, Rule::Assign, &mut walk.rows, row, &walk.scope, value);
     note_row(&mut walk.rows, row, around, 0);
 }
 
@@ -108,6 +134,7 @@ fn note_assign(
 #[cycle(walk)]
 fn note_if(
     walk: &mut FlowMatrix,
+    filter: RuleFilter,
     profile: Profile,
     sink: u16,
     around: &[u64; 16],
@@ -118,15 +145,15 @@ fn note_if(
     requires { IsReady sink (position_of walk.old)
         (If (expression guard.now) (sequence then_branch.now)
         (sequence else_branch.now)) }
-    ensures { Noted profile sink (row_reads around.now) (position_of walk.old)
+    ensures { Noted filter profile sink (row_reads around.now) (position_of walk.old)
         (If (expression guard.now) (sequence then_branch.now) (sequence else_branch.now))
         (position_of walk.new) result }
 {
-    let inner = within(around, &walk.scope, guard);
-    let one = note_commands(walk, profile, sink, &inner, then_branch)?;
-    let two = note_commands(walk, profile, sink, &inner, else_branch)?;
+    let inner = within(filter, Rule::If, around, &walk.scope, guard);
+    let one = note_commands(walk, filter, profile, sink, &inner, then_branch)?;
+    let two = note_commands(walk, filter, profile, sink, &inner, else_branch)?;
     let looping = one | two;
-    note_ending(walk, profile, looping, sink, guard);
+    note_ending(walk, filter, profile, looping, sink, guard);
     Ok(looping)
 }
 
@@ -134,6 +161,7 @@ fn note_if(
 #[cycle(walk)]
 fn note_while(
     walk: &mut FlowMatrix,
+    filter: RuleFilter,
     profile: Profile,
     sink: u16,
     around: &[u64; 16],
@@ -142,12 +170,12 @@ fn note_while(
 ) -> Result<bool, AllocError>
     requires { IsReady sink (position_of walk.old)
         (While (expression guard.now) (sequence body.now)) }
-    ensures { Noted profile sink (row_reads around.now) (position_of walk.old)
+    ensures { Noted filter profile sink (row_reads around.now) (position_of walk.old)
         (While (expression guard.now) (sequence body.now)) (position_of walk.new) result }
 {
-    note_ending(walk, profile, true, sink, guard);
-    let inner = within(around, &walk.scope, guard);
-    note_commands(walk, profile, sink, &inner, body)?;
+    note_ending(walk, filter, profile, true, sink, guard);
+    let inner = within(filter, Rule::While, around, &walk.scope, guard);
+    note_commands(walk, filter, profile, sink, &inner, body)?;
     Ok(true)
 }
 
@@ -155,6 +183,7 @@ fn note_while(
 #[cycle(walk)]
 fn note_letvar(
     walk: &mut FlowMatrix,
+    filter: RuleFilter,
     profile: Profile,
     sink: u16,
     around: &[u64; 16],
@@ -163,15 +192,15 @@ fn note_letvar(
 ) -> Result<bool, AllocError>
     requires { IsReady sink (position_of walk.old)
         (Letvar (expression value.now) (sequence body.now)) }
-    ensures { Noted profile sink (row_reads around.now) (position_of walk.old)
+    ensures { Noted filter profile sink (row_reads around.now) (position_of walk.old)
         (Letvar (expression value.now) (sequence body.now)) (position_of walk.new) result }
 {
     let row = walk.next as usize;
-    note_reads(&mut walk.rows, row, &walk.scope, value);
+    note_reads_by(filter, Rule::Letvar, &mut walk.rows, row, &walk.scope, value);
     let outside = walk.scope.len();
     walk.scope.push(Var(walk.next))?;
     walk.next += 1;
-    let looping = note_commands(walk, profile, sink, around, body)?;
+    let looping = note_commands(walk, filter, profile, sink, around, body)?;
     walk.scope.truncate(outside);
     Ok(looping)
 }
@@ -180,18 +209,19 @@ fn note_letvar(
 #[cycle(walk)]
 pub(crate) fn note_commands(
     walk: &mut FlowMatrix,
+    filter: RuleFilter,
     profile: Profile,
     sink: u16,
     around: &[u64; 16],
     body: &[Cmd],
 ) -> Result<bool, AllocError>
     requires { IsReady sink (position_of walk.old) (sequence body.now) }
-    ensures { Noted profile sink (row_reads around.now) (position_of walk.old) (sequence body.now)
+    ensures { Noted filter profile sink (row_reads around.now) (position_of walk.old) (sequence body.now)
         (position_of walk.new) result }
 {
     let mut looping = false;
     for c in body {
-        let one = note_command(walk, profile, sink, around, c)?;
+        let one = note_command(walk, filter, profile, sink, around, c)?;
         looping |= one;
     }
     Ok(looping)
@@ -201,22 +231,23 @@ pub(crate) fn note_commands(
 #[cycle(walk)]
 fn note_command(
     walk: &mut FlowMatrix,
+    filter: RuleFilter,
     profile: Profile,
     sink: u16,
     around: &[u64; 16],
     c: &Cmd,
 ) -> Result<bool, AllocError>
     requires { IsReady sink (position_of walk.old) (command c.now) }
-    ensures { Noted profile sink (row_reads around.now) (position_of walk.old) (command c.now)
+    ensures { Noted filter profile sink (row_reads around.now) (position_of walk.old) (command c.now)
         (position_of walk.new) result }
 {
     match c {
         Cmd::Assign { loc, span, value } => {
-            note_assign(walk, profile, sink, around, *loc, *span, value);
+            note_assign(walk, filter, profile, sink, around, *loc, *span, value);
             Ok(false)
         }
-        Cmd::If { guard, yes, no } => note_if(walk, profile, sink, around, yes, no, guard),
-        Cmd::While { guard, body } => note_while(walk, profile, sink, around, body, guard),
-        Cmd::Letvar { value, body } => note_letvar(walk, profile, sink, around, body, value),
+        Cmd::If { guard, yes, no } => note_if(walk, filter, profile, sink, around, yes, no, guard),
+        Cmd::While { guard, body } => note_while(walk, filter, profile, sink, around, body, guard),
+        Cmd::Letvar { value, body } => note_letvar(walk, filter, profile, sink, around, body, value),
     }
 }

@@ -6,9 +6,9 @@
 //! writes one as text. The laws of bad walks stand in `laws`.
 //!
 //! To be believed: `specs/Explanation`, `specs/Inference`, `specs/Laws`, `specs/Paths` for what
-//! users call; `specs/FlowRows`, `specs/Flowing`, `specs/Lines`, `specs/Shortest`, `AreLeast` of
-//! `specs/Distances`, `has_step` of `specs/Leading` and `same_rule` of `specs/Membership` for what
-//! other crates call. The other definitions are stepping stones of proofs.
+//! users call; `specs/FlowRows`, `specs/Flowing`, `specs/StepsBetween`, `specs/Lines`,
+//! `specs/Shortest` and `AreLeast` of `specs/Distances` for what other crates call. The other
+//! definitions are stepping stones of proofs.
 #![tactic(auto)]
 
 mod along;
@@ -27,6 +27,7 @@ mod looking;
 mod membership;
 mod reach;
 mod rows;
+mod rule_filter;
 mod shortest;
 mod step_search;
 mod walk;
@@ -34,7 +35,7 @@ mod worklist;
 
 pub use error::InferError;
 pub use explanation::{explain, put_steps, put_variable};
-pub use flows::{FlowRows, flow_rows};
+pub use flows::{FlowRows, flow_rows, flow_rows_by};
 pub use inference::{infer, infer_in};
 pub use lines::{Mark, marks_of};
 pub use reach::fewest_flows;

@@ -1,13 +1,14 @@
 //! Whether a step is one of a program's, by one walk over its commands and without memory.
 
-ghost use Rattle.std.specs.Prelude.{◌≡◌, ◌+◌, ◌≤◌, ◌<◌, ◌||◌, ◌&&◌, length, slice_index};
+ghost use Rattle.std.specs.Prelude.{◌≡◌, ◌+◌, ◌<◌, ◌||◌, ◌&&◌, length, slice_index};
 ghost use Rattle.vsi_scope.specs.Language.{HasLocations, Assign, If, While, Letvar};
 ghost use Rattle.vsi_scope.specs.View.{expression, command, sequence};
 ghost use Rattle.vsi_types.specs.declared.rules.Rule.TheVariants as typing;
 ghost use Rattle.vsi_types.specs.Security.{name_place};
-ghost use Rattle.vsi_infer.specs.Membership.{same_rule as same_rule_of, same_step as same_step_of, same_span as same_span_of, read_is as read_is_of, written_is as written_is_of, reads_pass as reads_pass_of, ends_pass as ends_pass_of, IsFor, IsPast, stand_of};
+ghost use Rattle.vsi_infer.specs.Membership.{same_step as same_step_of, same_span as same_span_of, read_is as read_is_of, written_is as written_is_of, reads_pass as reads_pass_of, ends_pass as ends_pass_of, IsFor, IsPast, stand_of};
 
 use crate::flow_matrix::observes_ending;
+use crate::rule_filter::same_rule;
 use arrayvec::ArrayVec;
 use vsi_scope::{Cmd, Entry, Ex};
 use vsi_syntax::Span;
@@ -21,20 +22,6 @@ pub(crate) const SCOPE: usize = 512;
 pub(crate) struct Cursor {
     pub(crate) scope: ArrayVec<u16, SCOPE>,
     pub(crate) next: u16,
-}
-
-/// Whether two rules are one.
-fn same_rule(first: Rule, second: Rule) -> bool
-    ensures { result ≡ same_rule_of first second }
-{
-    match (first, second) {
-        (Rule::Assign, Rule::Assign) => true,
-        (Rule::If, Rule::If) => true,
-        (Rule::While, Rule::While) => true,
-        (Rule::Letvar, Rule::Letvar) => true,
-        (Rule::Loop, Rule::Loop) => true,
-        _ => false,
-    }
 }
 
 /// Whether two places are one.

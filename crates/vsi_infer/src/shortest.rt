@@ -5,7 +5,7 @@ ghost use Rattle.std.specs.List.{All, Contains, find};
 ghost use Rattle.vsi_lattice.specs.Order.{IsClass};
 ghost use Rattle.vsi_types.specs.Security.{program as program_of, steps_of};
 ghost use Rattle.vsi_types.specs.declared.rules.Step.{Step};
-ghost use Rattle.vsi_infer.specs.Choices.{HasBadWalk};
+ghost use Rattle.vsi_infer.specs.Choices.{HasPlacedBadWalk};
 ghost use Rattle.vsi_infer.specs.Flowing.{AreFlowsOf};
 ghost use Rattle.vsi_infer.specs.Inference.{table, AreClasses, IsShortest};
 ghost use Rattle.vsi_infer.specs.Paths.{IsPath};
@@ -301,7 +301,7 @@ pub(crate) fn shortest_walk<C: Classes, F: Flow>(
     requires letvars { AreClasses (C.lattice lattice.now) (program_of program.now).declared }
     requires flows { AreFlowsOf profile (program_of program.now) (F.flows flow.now) }
     requires declared { declared.now ≡ table (C.lattice lattice.now) (program_of program.now) }
-    requires bad { HasBadWalk (C.lattice lattice.now).count (C.lattice lattice.now).leq
+    requires bad { HasPlacedBadWalk (C.lattice lattice.now).count (C.lattice lattice.now).leq
         (F.flows flow.now)
         (table (C.lattice lattice.now) (program_of program.now)) }
     ensures { IfOk result

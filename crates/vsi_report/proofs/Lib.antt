@@ -1,8 +1,5 @@
 pub mod EscapeLemmas
 pub mod CoveringLemmas
 pub mod NameLemmas
-pub mod ByRuleLemmas
-pub mod ByRuleSteps
-pub mod ByRuleRows
 pub mod FlowsGraphLemmas
 pub mod SizeLemmas

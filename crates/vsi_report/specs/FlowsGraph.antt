@@ -9,15 +9,14 @@ use Rattle.vsi_types.specs.declared.rules.Profile.{Profile}
 use Rattle.vsi_types.specs.declared.rules.Profile.TheVariants.{Base, Strict}
 use Rattle.vsi_types.specs.declared.rules.Rule.{Rule}
 use Rattle.vsi_types.specs.declared.rules.Rule.TheVariants.{Assign, If, While, Letvar, Loop}
-use Rattle.vsi_types.specs.declared.rules.Step.{Step}
 use Rattle.vsi_types.specs.Security.{Program, program, count_from, steps_of}
 use Rattle.vsi_types.specs.Walks.{declared_class}
 use Rattle.vsi_infer.specs.Explanation.{name_of, rule_text}
 use Rattle.vsi_infer.specs.Flowing.{size_of, variable_at}
 use Rattle.vsi_infer.specs.Inference.{IsLeast}
+use Rattle.vsi_infer.specs.StepsBetween.{has_step_by}
 use Rattle.vsi_compiler.specs.Stands.{Stands}
 use Rattle.vsi_flows.specs.Table.{HasBadWalk}
-use Rattle.vsi_report.specs.ByRule.{has_step_by}
 use Rattle.vsi_report.specs.Graph.{head_lines, name_at}
 
 -- The classes of the letvars are the least typable choice; none where the program is refused.

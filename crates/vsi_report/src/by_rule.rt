@@ -1,304 +1,22 @@
-//! The flows of a program by one rule, by a walk over its commands.
+//! The flows of a program by each of the rules.
 
-ghost use Rattle.std.specs.Prelude.{◌≡◌, ◌+◌, ◌*◌, ◌^◌, ◌<◌, ◌≤◌, ◌&&◌, ◌||◌, ◌==◌, ℕ, length, IfOk};
-ghost use Rattle.std.specs.List.{All};
-ghost use Rattle.vsi_scope.specs.Language.{HasLocations, Assign, If, While, Letvar};
-ghost use Rattle.vsi_scope.specs.View.{expression, command, sequence};
-ghost use Rattle.vsi_infer.specs.FlowRows.{flow_has};
+ghost use Rattle.std.specs.Prelude.{◌≡◌, IfOk};
 ghost use Rattle.vsi_types.specs.Security.{program as program_of};
-ghost use Rattle.vsi_types.specs.declared.rules.Rule.TheVariants as typing;
-ghost use Rattle.vsi_infer.specs.Leading.{reads_it, row_reads, observes_ending as observes, IsReady};
-ghost use Rattle.vsi_infer.specs.Membership.{same_rule as same_rule_of};
-ghost use Rattle.vsi_report.specs.ByRule.{reads_by, rows_of, AreFlowsBy, HasFlows, IsNotedBy, NotedBy, position_of};
+ghost use Rattle.vsi_report.specs.ByRule.{flows_in_rows, HasFlows};
 
-use crate::rows::{has_bit, note, note_row};
 use std::alloc::{AllocError, Global};
-use vsi_scope::{Cmd, Ex, Resolved, Var};
-use vsi_syntax::Span;
-use vsi_types::{Profile, Rule, first_variables};
-
-/// For each variable a row of what flows to it, the variable of each location, and the next
-/// declaration's number.
-#[derive(Drop)]
-pub(crate) struct RuleWalk {
-    pub(crate) rows: Vec<u64>,
-    pub(crate) scope: Vec<Var>,
-    pub(crate) next: u16,
-}
-
-/// Notes what an expression reads in a row.
-fn note_reads(rows: &mut [u64], row: usize, scope: &[Var], e: &Ex)
-    requires places { HasLocations (length scope.now) (expression e.now) }
-    requires scope { All (λ v. v < 1024) scope.now }
-    requires room { row * 16 + 16 ≤ length rows.old }
-    ensures len { length rows.new ≡ length rows.old }
-    ensures bits { (a b : ℕ) → flow_has rows.new b a ≡ (flow_has rows.old b a ||
-        ((b == row) && reads_it scope.now (expression e.now) a)) }
-{
-    match e {
-        Ex::Num(_) => {}
-        Ex::Loc(l, _) => {
-            let source = scope[*l as usize];
-            note(rows, row, source.0 as usize);
-        }
-        Ex::Op(_, a, b) => {
-            note_reads(rows, row, scope, a);
-            note_reads(rows, row, scope, b);
-        }
-    }
-}
-
-/// Whether two rules are one.
-fn same_rule(first: Rule, second: Rule) -> bool
-    ensures { result ≡ same_rule_of first second }
-{
-    match (first, second) {
-        (Rule::Assign, Rule::Assign) => true,
-        (Rule::If, Rule::If) => true,
-        (Rule::While, Rule::While) => true,
-        (Rule::Letvar, Rule::Letvar) => true,
-        (Rule::Loop, Rule::Loop) => true,
-        _ => false,
-    }
-}
-
-/// Notes what an expression reads by a rule in a row, if that is the one that is asked for.
-fn note_reads_by(rule: Rule, by: Rule, rows: &mut [u64], row: usize, scope: &[Var], e: &Ex)
-    requires places { HasLocations (length scope.now) (expression e.now) }
-    requires scope { All (λ v. v < 1024) scope.now }
-    requires room { row * 16 + 16 ≤ length rows.old }
-    ensures len { length rows.new ≡ length rows.old }
-    ensures bits { (a b : ℕ) → flow_has rows.new b a ≡ (flow_has rows.old b a ||
-        ((b == row) && reads_by rule by scope.now (expression e.now) a)) }
-{
-    if same_rule(rule, by) {
-        note_reads(rows, row, scope, e);
-    }
-}
-
-/// Whether the profile asks after the ending of what loops.
-fn observes_ending(profile: Profile, looping: bool) -> bool
-    ensures { result ≡ observes profile looping }
-{
-    match profile {
-        Profile::Base => false,
-        Profile::Strict => looping,
-    }
-}
-
-/// Notes the ending of what loops.
-fn note_ending(
-    walk: &mut RuleWalk,
-    rule: Rule,
-    profile: Profile,
-    looping: bool,
-    sink: u16,
-    guard: &Ex,
-)
-    requires places { HasLocations (length walk.old.scope.items) (expression guard.now) }
-    requires scope { All (λ v. v < 1024) walk.old.scope.items }
-    requires room { sink * 16 + 16 ≤ length walk.old.rows.items }
-    ensures scope { walk.new.scope.items ≡ walk.old.scope.items }
-    ensures next { walk.new.next ≡ walk.old.next }
-    ensures len { length walk.new.rows.items ≡ length walk.old.rows.items }
-    ensures bits { (a b : ℕ) → flow_has walk.new.rows.items b a ≡
-        (flow_has walk.old.rows.items b a || (observes profile looping
-        && ((b == sink)
-        && reads_by rule typing.Loop walk.old.scope.items (expression guard.now) a))) }
-{
-    if observes_ending(profile, looping) {
-        let row = sink as usize;
-        note_reads_by(rule, Rule::Loop, &mut walk.rows, row, &walk.scope, guard);
-    }
-}
-
-/// The guards around, and one more where its rule is the one that is asked for.
-fn within(rule: Rule, by: Rule, around: &[u64; 16], scope: &[Var], guard: &Ex) -> [u64; 16]
-    requires places { HasLocations (length scope.now) (expression guard.now) }
-    requires scope { All (λ v. v < 1024) scope.now }
-    ensures { (a : ℕ) → row_reads result a
-        ≡ (row_reads around.now a || reads_by rule by scope.now (expression guard.now) a) }
-{
-    let mut words = *around;
-    note_reads_by(rule, by, &mut words, 0, scope, guard);
-    words
-}
-
-/// Notes an assignment.
-fn note_assign(
-    walk: &mut RuleWalk,
-    rule: Rule,
-    profile: Profile,
-    sink: u16,
-    around: &[u64; 16],
-    location: u16,
-    span: Span,
-    value: &Ex,
-)
-    requires { IsReady sink (position_of walk.old) (Assign location span (expression value.now)) }
-    ensures { IsNotedBy rule profile sink (row_reads around.now) (position_of walk.old)
-        (Assign location span (expression value.now))
-        (position_of walk.new) }
-{
-    let target = walk.scope[location as usize];
-    let row = target.0 as usize;
-    note_reads_by(rule, Rule::Assign, &mut walk.rows, row, &walk.scope, value);
-    note_row(&mut walk.rows, row, around, 0);
-}
-
-/// Notes a choice, and says whether it loops.
-#[cycle(walk)]
-fn note_if(
-    walk: &mut RuleWalk,
-    rule: Rule,
-    profile: Profile,
-    sink: u16,
-    around: &[u64; 16],
-    then_branch: &[Cmd],
-    else_branch: &[Cmd],
-    guard: &Ex,
-) -> Result<bool, AllocError>
-    requires { IsReady sink (position_of walk.old)
-        (If (expression guard.now) (sequence then_branch.now)
-        (sequence else_branch.now)) }
-    ensures { NotedBy rule profile sink (row_reads around.now) (position_of walk.old)
-        (If (expression guard.now) (sequence then_branch.now) (sequence else_branch.now))
-        (position_of walk.new) result }
-{
-    let inner = within(rule, Rule::If, around, &walk.scope, guard);
-    let one = note_commands(walk, rule, profile, sink, &inner, then_branch)?;
-    let two = note_commands(walk, rule, profile, sink, &inner, else_branch)?;
-    let looping = one | two;
-    note_ending(walk, rule, profile, looping, sink, guard);
-    Ok(looping)
-}
-
-/// Notes a loop.
-#[cycle(walk)]
-fn note_while(
-    walk: &mut RuleWalk,
-    rule: Rule,
-    profile: Profile,
-    sink: u16,
-    around: &[u64; 16],
-    body: &[Cmd],
-    guard: &Ex,
-) -> Result<bool, AllocError>
-    requires { IsReady sink (position_of walk.old)
-        (While (expression guard.now) (sequence body.now)) }
-    ensures { NotedBy rule profile sink (row_reads around.now) (position_of walk.old)
-        (While (expression guard.now) (sequence body.now)) (position_of walk.new) result }
-{
-    note_ending(walk, rule, profile, true, sink, guard);
-    let inner = within(rule, Rule::While, around, &walk.scope, guard);
-    note_commands(walk, rule, profile, sink, &inner, body)?;
-    Ok(true)
-}
-
-/// Notes a letvar, and says whether it loops.
-#[cycle(walk)]
-fn note_letvar(
-    walk: &mut RuleWalk,
-    rule: Rule,
-    profile: Profile,
-    sink: u16,
-    around: &[u64; 16],
-    body: &[Cmd],
-    value: &Ex,
-) -> Result<bool, AllocError>
-    requires { IsReady sink (position_of walk.old)
-        (Letvar (expression value.now) (sequence body.now)) }
-    ensures { NotedBy rule profile sink (row_reads around.now) (position_of walk.old)
-        (Letvar (expression value.now) (sequence body.now)) (position_of walk.new) result }
-{
-    let row = walk.next as usize;
-    note_reads_by(rule, Rule::Letvar, &mut walk.rows, row, &walk.scope, value);
-    let outside = walk.scope.len();
-    walk.scope.push(Var(walk.next))?;
-    walk.next += 1;
-    let looping = note_commands(walk, rule, profile, sink, around, body)?;
-    walk.scope.truncate(outside);
-    Ok(looping)
-}
-
-/// Notes the commands of a list, and says whether one loops.
-#[cycle(walk)]
-pub(crate) fn note_commands(
-    walk: &mut RuleWalk,
-    rule: Rule,
-    profile: Profile,
-    sink: u16,
-    around: &[u64; 16],
-    body: &[Cmd],
-) -> Result<bool, AllocError>
-    requires { IsReady sink (position_of walk.old) (sequence body.now) }
-    ensures { NotedBy rule profile sink (row_reads around.now) (position_of walk.old) (sequence body.now)
-        (position_of walk.new) result }
-{
-    let mut looping = false;
-    for c in body {
-        let one = note_command(walk, rule, profile, sink, around, c)?;
-        looping |= one;
-    }
-    Ok(looping)
-}
-
-/// Notes one command, and says whether it loops.
-#[cycle(walk)]
-fn note_command(
-    walk: &mut RuleWalk,
-    rule: Rule,
-    profile: Profile,
-    sink: u16,
-    around: &[u64; 16],
-    c: &Cmd,
-) -> Result<bool, AllocError>
-    requires { IsReady sink (position_of walk.old) (command c.now) }
-    ensures { NotedBy rule profile sink (row_reads around.now) (position_of walk.old) (command c.now)
-        (position_of walk.new) result }
-{
-    match c {
-        Cmd::Assign { loc, span, value } => {
-            note_assign(walk, rule, profile, sink, around, *loc, *span, value);
-            Ok(false)
-        }
-        Cmd::If { guard, yes, no } => note_if(walk, rule, profile, sink, around, yes, no, guard),
-        Cmd::While { guard, body } => note_while(walk, rule, profile, sink, around, body, guard),
-        Cmd::Letvar { value, body } => note_letvar(walk, rule, profile, sink, around, body, value),
-    }
-}
-
-/// For each variable 16 words, a bit for each variable that flows to it by the rule; the last row
-/// is that of the loops' ending.
-pub(crate) fn flows_by(
-    alloc: Global,
-    rule: Rule,
-    profile: Profile,
-    program: &Resolved<'_>,
-) -> Result<Vec<u64>, AllocError>
-    ensures { IfOk result (λ rows. AreFlowsBy rule profile (program_of program.now) rows.items) }
-{
-    let body = program.body();
-    let count = program.globals().len() as u16;
-    let sink = count + program.letvars().len() as u16;
-    let mut walk = RuleWalk {
-        rows: vec![in alloc; 0; sink as usize * 16 + 16]?,
-        scope: first_variables(alloc, count)?,
-        next: count,
-    };
-    note_commands(&mut walk, rule, profile, sink, &[0; 16], body)?;
-    let RuleWalk { rows, .. } = walk;
-    Ok(rows)
-}
+use vsi_infer::{Flow, FlowRows, flow_rows_by};
+use vsi_scope::Resolved;
+use vsi_types::{Profile, Rule};
 
 /// The flows of a program, by each of the rules.
 #[derive(Drop)]
 pub(crate) struct Flows {
-    assignments: Vec<u64>,
-    choices: Vec<u64>,
-    loops: Vec<u64>,
-    letvars: Vec<u64>,
-    endings: Vec<u64>,
+    assignments: FlowRows,
+    choices: FlowRows,
+    loops: FlowRows,
+    letvars: FlowRows,
+    endings: FlowRows,
 }
 
 /// The flows of a program.
@@ -310,25 +28,24 @@ pub(crate) fn flows_of(
     ensures { IfOk result (HasFlows profile (program_of program.now)) }
 {
     Ok(Flows {
-        assignments: flows_by(alloc, Rule::Assign, profile, program)?,
-        choices: flows_by(alloc, Rule::If, profile, program)?,
-        loops: flows_by(alloc, Rule::While, profile, program)?,
-        letvars: flows_by(alloc, Rule::Letvar, profile, program)?,
-        endings: flows_by(alloc, Rule::Loop, profile, program)?,
+        assignments: flow_rows_by(alloc, Rule::Assign, profile, program)?,
+        choices: flow_rows_by(alloc, Rule::If, profile, program)?,
+        loops: flow_rows_by(alloc, Rule::While, profile, program)?,
+        letvars: flow_rows_by(alloc, Rule::Letvar, profile, program)?,
+        endings: flow_rows_by(alloc, Rule::Loop, profile, program)?,
     })
 }
 
 /// Whether a variable flows to another by a rule in one step.
 pub(crate) fn has_flow(flows: &Flows, rule: Rule, source: usize, target: usize) -> bool
-    requires { target < 2 ^ 48 }
-    ensures { result ≡ flow_has (rows_of flows.now rule) target source }
+    ensures { result ≡ flows_in_rows flows.now rule source target }
 {
     let rows = match rule {
-        Rule::Assign => flows.assignments.as_slice(),
-        Rule::If => flows.choices.as_slice(),
-        Rule::While => flows.loops.as_slice(),
-        Rule::Letvar => flows.letvars.as_slice(),
-        Rule::Loop => flows.endings.as_slice(),
+        Rule::Assign => &flows.assignments,
+        Rule::If => &flows.choices,
+        Rule::While => &flows.loops,
+        Rule::Letvar => &flows.letvars,
+        Rule::Loop => &flows.endings,
     };
-    has_bit(rows, target, source)
+    rows.has(source, target)
 }

@@ -6,8 +6,8 @@
 //! `put_escaped`, and the panel of a source text shows the text (`Shows` of `specs/Reading`).
 //!
 //! To be believed: `specs/Covering`, `specs/Escape`, `specs/FlowsGraph`, `specs/Graph`,
-//! `specs/Page`, `specs/Reading`, `specs/Size`, and the first two definitions of `specs/ByRule`;
-//! its others and the other files of `specs/` are stepping stones of proofs.
+//! `specs/Page`, `specs/Reading` and `specs/Size`; the other files of `specs/` are stepping stones
+//! of proofs.
 #![tactic(auto)]
 
 mod bands;
@@ -24,7 +24,6 @@ mod page;
 mod panel;
 mod passage;
 mod report;
-mod rows;
 mod size;
 mod source_view;
 mod style;

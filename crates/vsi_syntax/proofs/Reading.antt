@@ -5,7 +5,8 @@ use Rattle.vsi_syntax.specs.declared.operator.Op.{Op}
 use Rattle.vsi_syntax.specs.Tree.{Lexeme, Tree, Binary, right_level, depth}
 use Rattle.vsi_syntax.specs.declared.parser.ParseError.{ParseError}
 use Rattle.vsi_syntax.specs.declared.parser.ParseError.TheVariants as errors
-use Rattle.vsi_syntax.specs.Parsing.{Fails, own_level, next, Reads, first, more, whole, parse, inside}
+use Rattle.vsi_syntax.specs.Given.{Fails}
+use Rattle.vsi_syntax.specs.Parsing.{own_level, next, Reads, first, more, whole, parse, inside}
 
 -- An expression of bounded depth is read with what a bracket may hold as the reader inside.
 pub parse_is : (room l : ℕ) (ws : List Lexeme) → parse room l ws ≡ whole (inside room) room l ws

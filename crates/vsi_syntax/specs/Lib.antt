@@ -1,6 +1,7 @@
 pub mod Words
 pub mod Tree
 pub mod View
+pub mod Given
 pub mod Parsing
 pub mod Cut
 pub mod CommandView

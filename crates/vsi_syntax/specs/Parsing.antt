@@ -1,13 +1,11 @@
 -- Reading an expression from the left, as a function on lexemes. This is a stepping stone of the proof: the code is
 -- compared with it, and it finds exactly the levelled trees of a bounded depth that write the lexemes. What `parse`
 -- promises speaks of `write_program`, levels and depth, and of none of the readers here.
-use Rattle.std.specs.Prelude.{◌≡◌, ℕ, zero, suc, Bool, ◌&&◌, nat_le, nat_lt, if◌then◌else◌, List, [], ◌∷◌, Option, Some, None, Result, Ok, Err}
+use Rattle.std.specs.Prelude.{ℕ, zero, suc, Bool, ◌&&◌, nat_le, nat_lt, if◌then◌else◌, List, [], ◌∷◌, Option, Some, None}
 use Rattle.vsi_syntax.specs.declared.token.Kind.{Kind}
 use Rattle.vsi_syntax.specs.declared.token.Kind.TheVariants as k
 use Rattle.vsi_syntax.specs.declared.operator.Op.{Op}
 use Rattle.vsi_syntax.specs.declared.operator.Op.TheVariants as o
-use Rattle.vsi_syntax.specs.declared.parser.ParseError.{ParseError}
-use Rattle.vsi_syntax.specs.declared.parser.ParseError.TheVariants as errors
 use Rattle.vsi_syntax.specs.Tree.{Lexeme, Called, Sign, Tree, Number, Name, Bracket, Binary, level, left_level, right_level, depth}
 
 -- The second reader goes on where the first found something.
@@ -15,17 +13,6 @@ infixl 10 ◌>>=◌
 abbrev pub ◌>>=◌ : {A B : Type 0} → Option A → (A → Option B) → Option B
 None >>= f = None
 (Some x) >>= f = f x
-
--- An error other than want of memory says that reading gives nothing.
-abbrev pub Fails : {Y : Type 0} → ParseError → Option Y → Type 0
-Fails errors.Memory read = Unit {0}
-Fails (errors.Unexpected _) read = read ≡ None
-Fails (errors.TooDeep _) read = read ≡ None
-
--- What a function returned, seen by view, is what reading gives, unless memory ran out.
-abbrev pub Gives : {X Y : Type 0} → (X → Y) → Result X ParseError → Option Y → Type 0
-Gives view (Ok x) read = read ≡ Some (view x)
-Gives view (Err e) read = Fails e read
 
 -- The operator of a symbol.
 abbrev pub operator : Kind → Option Op

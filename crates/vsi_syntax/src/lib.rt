@@ -7,9 +7,9 @@
 //! `Op::apply` is the meaning of the operators for all layers above.
 //!
 //! To be believed: `specs/Apart`, `specs/Canon`, `specs/CommandView`, `specs/Cut`,
-//! `specs/FaultPlaces`, `specs/Lines`, `specs/Operators`, `specs/ProgramView`, `specs/Spelling`,
-//! `specs/Tree`, `specs/View`, `specs/Words`, and `Fails` and `Gives` of `specs/Parsing`; its other
-//! definitions and the other files of `specs/` are stepping stones of proofs.
+//! `specs/FaultPlaces`, `specs/Given`, `specs/Lines`, `specs/Operators`, `specs/ProgramView`,
+//! `specs/Spelling`, `specs/Tree`, `specs/View` and `specs/Words`; the other files of `specs/` are
+//! stepping stones of proofs.
 #![tactic(auto)]
 
 pub mod laws;

@@ -4,7 +4,7 @@
 ghost use Rattle.std.specs.Prelude.{◌≡◌, ◌≤◌, ◌<◌, IfOk, Some, None, option_map, ◌+◌, max};
 ghost use Rattle.vsi_syntax.specs.Tree.{level, left_level, right_level, depth, Binary};
 ghost use Rattle.vsi_syntax.specs.View.{lexemes, tree, IsMeasured};
-ghost use Rattle.vsi_syntax.specs.Parsing.{Gives};
+ghost use Rattle.vsi_syntax.specs.Given.{Gives};
 ghost use Rattle.vsi_syntax.specs.Parsing as spec;
 
 use super::ParseError;

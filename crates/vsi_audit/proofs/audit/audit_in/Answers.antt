@@ -3,8 +3,8 @@ use Rattle.vsi_lattice.specs.LatticeView.{class_named, order}
 use Rattle.vsi_scope.specs.View.{sequence}
 use Rattle.vsi_types.specs.Security.{program, IsTypable}
 use Rattle.vsi_code.specs.Behaves.{Behaves}
-use Rattle.vsi_compiler.proofs.Compiled.{known_below, lawful}
-use Rattle.vsi_compiler.proofs.Programs.{typing_ready, declared_classes}
+use Rattle.vsi_compiler.proofs.Compiled.{known_below, lawful, globals_of, declared_of}
+use Rattle.vsi_compiler.proofs.Programs.{typing_ready}
 use Rattle.vsi_compiler.proofs.Security.{noninterfering, ends_alike}
 use Rattle.vsi_audit.specs.Standing.{StandsFor}
 use Rattle.vsi_audit.proofs.Standing.{names_stand, known_classes}
@@ -12,14 +12,11 @@ use Rattle.vsi_audit.proofs.audit.audit_in.Goals as goal
 
 pub infer_in-requires-clause-globals : goal.infer_in-requires-clause-globals
 infer_in-requires-clause-globals c =
-    let l = c.args.lattice.now in
-    let p = c.in_ok-program.ensures in
-    (typing_ready (order l) c.in_ok-program.program p.kept (p.classes _ (known_below l))).classes
+    globals_of c.args.lattice.now c.in_ok-program.program c.in_ok-program.ensures.classes
 
 pub infer_in-requires-clause-declared : goal.infer_in-requires-clause-declared
 infer_in-requires-clause-declared c =
-    let l = c.args.lattice.now in
-    declared_classes (order l) c.in_ok-program.program (c.in_ok-program.ensures.classes _ (known_below l))
+    declared_of c.args.lattice.now c.in_ok-program.program c.in_ok-program.ensures.classes
 
 pub returns-in-Ok-clause-classes : goal.returns-in-Ok-clause-classes
 returns-in-Ok-clause-classes c =

@@ -5,22 +5,19 @@ use Rattle.vsi_types.specs.Security.{program, IsTypable}
 use Rattle.vsi_code.specs.Names.{all_named}
 use Rattle.vsi_image.specs.declared.instr.Image.{Image}
 use Rattle.vsi_image.specs.Fields.{HasOpcode}
-use Rattle.vsi_compiler.proofs.Compiled.{known_below, lawful, accepted, globals_kept, meaning_kept, image_kept, size_kept, flow_refused, flow_memory}
+use Rattle.vsi_compiler.proofs.Compiled.{known_below, lawful, accepted, globals_kept, meaning_kept, image_kept, size_kept, flow_refused, flow_memory, globals_of, declared_of}
 use Rattle.vsi_compiler.proofs.Coded.{coded}
-use Rattle.vsi_compiler.proofs.Programs.{typing_ready, declared_classes, have_classes}
+use Rattle.vsi_compiler.proofs.Programs.{typing_ready, have_classes}
 use Rattle.vsi_compiler.proofs.Security.{behaves_source, noninterfering, ends_alike}
 use Rattle.vsi_compiler.proofs.compiler.compile_in.Goals as goal
 
 pub infer_in-requires-clause-globals : goal.infer_in-requires-clause-globals
 infer_in-requires-clause-globals c =
-    let l = c.args.lattice.now in
-    let below = c.in_ok-resolved.ensures.classes _ (known_below l) in
-    (typing_ready (order l) c.in_ok-resolved.resolved c.in_ok-resolved.ensures.kept below).classes
+    globals_of c.args.lattice.now c.in_ok-resolved.resolved c.in_ok-resolved.ensures.classes
 
 pub infer_in-requires-clause-declared : goal.infer_in-requires-clause-declared
 infer_in-requires-clause-declared c =
-    let l = c.args.lattice.now in
-    declared_classes (order l) c.in_ok-resolved.resolved (c.in_ok-resolved.ensures.classes _ (known_below l))
+    declared_of c.args.lattice.now c.in_ok-resolved.resolved c.in_ok-resolved.ensures.classes
 
 pub returns-in_err-_classes-clause-refused : goal.returns-in_err-_classes-clause-refused
 returns-in_err-_classes-clause-refused c =

@@ -2,29 +2,24 @@ use Rattle.std.proofs.Common.{sym, subst, ◌∙◌, inr, true≢false}
 use Rattle.vsi_lattice.specs.LatticeView.{class_named, order}
 use Rattle.vsi_types.specs.declared.rules.Profile.TheVariants.{Strict}
 use Rattle.vsi_types.specs.Walks.{IsBad}
-use Rattle.vsi_compiler.proofs.Compiled.{known_below, one_program}
-use Rattle.vsi_compiler.proofs.Programs.{global_classes, declared_classes}
+use Rattle.vsi_compiler.proofs.Compiled.{one_program, globals_of, declared_of}
 use Rattle.vsi_compiler.proofs.refused.explanation_text.Goals as goal
 
 pub check_walk_once-requires-clause-globals : goal.check_walk_once-requires-clause-globals
 check_walk_once-requires-clause-globals c =
-    let l = c.args.lattice.now in
-    global_classes (order l) c.in-Ok.resolved (c.in-Ok.ensures.classes _ (known_below l))
+    globals_of c.args.lattice.now c.in-Ok.resolved c.in-Ok.ensures.classes
 
 pub check_walk_once-requires-clause-declared : goal.check_walk_once-requires-clause-declared
 check_walk_once-requires-clause-declared c =
-    let l = c.args.lattice.now in
-    declared_classes (order l) c.in-Ok.resolved (c.in-Ok.ensures.classes _ (known_below l))
+    declared_of c.args.lattice.now c.in-Ok.resolved c.in-Ok.ensures.classes
 
 pub explain-requires-clause-globals : goal.explain-requires-clause-globals
 explain-requires-clause-globals c =
-    let l = c.args.lattice.now in
-    global_classes (order l) c.in-Ok.resolved (c.in-Ok.ensures.classes _ (known_below l))
+    globals_of c.args.lattice.now c.in-Ok.resolved c.in-Ok.ensures.classes
 
 pub explain-requires-clause-declared : goal.explain-requires-clause-declared
 explain-requires-clause-declared c =
-    let l = c.args.lattice.now in
-    declared_classes (order l) c.in-Ok.resolved (c.in-Ok.ensures.classes _ (known_below l))
+    declared_of c.args.lattice.now c.in-Ok.resolved c.in-Ok.ensures.classes
 
 pub returns : goal.returns
 returns c =

@@ -11,19 +11,17 @@ use Rattle.vsi_syntax.specs.CommandView.{declared}
 use Rattle.vsi_compiler.specs.Classes.{global_lines, letvar_lines}
 use Rattle.vsi_compiler.specs.Errors.{scoping}
 use Rattle.vsi_compiler.specs.Stands.{Stands}
-use Rattle.vsi_compiler.proofs.Compiled.{known_below, lawful, flow_refused, flow_memory, least_tree}
-use Rattle.vsi_compiler.proofs.Programs.{typing_ready, global_classes, declared_classes, zip_length}
+use Rattle.vsi_compiler.proofs.Compiled.{known_below, lawful, flow_refused, flow_memory, least_tree, globals_of, declared_of}
+use Rattle.vsi_compiler.proofs.Programs.{typing_ready, zip_length}
 use Rattle.vsi_compiler.proofs.texts.classes_text_in.Goals as goal
 
 pub infer_in-requires-clause-globals : goal.infer_in-requires-clause-globals
 infer_in-requires-clause-globals c =
-    let l = c.args.lattice.now in
-    global_classes (order l) c.in_ok-resolved.resolved (c.in_ok-resolved.ensures.classes _ (known_below l))
+    globals_of c.args.lattice.now c.in_ok-resolved.resolved c.in_ok-resolved.ensures.classes
 
 pub infer_in-requires-clause-declared : goal.infer_in-requires-clause-declared
 infer_in-requires-clause-declared c =
-    let l = c.args.lattice.now in
-    declared_classes (order l) c.in_ok-resolved.resolved (c.in_ok-resolved.ensures.classes _ (known_below l))
+    declared_of c.args.lattice.now c.in_ok-resolved.resolved c.in_ok-resolved.ensures.classes
 
 pub returns-in_err-classes-clause-refused : goal.returns-in_err-classes-clause-refused
 returns-in_err-classes-clause-refused c =

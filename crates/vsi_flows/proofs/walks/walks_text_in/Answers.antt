@@ -3,7 +3,7 @@ use Rattle.std.specs.List.{All}
 use Rattle.vsi_lattice.specs.LatticeView.{order}
 use Rattle.vsi_types.specs.Security.{program, steps_of}
 use Rattle.vsi_infer.specs.Flowing.{size_of}
-use Rattle.vsi_compiler.proofs.Compiled.{known_below, lawful}
+use Rattle.vsi_compiler.proofs.Compiled.{known_below, lawful, globals_of, declared_of}
 use Rattle.vsi_compiler.proofs.Programs.{typing_ready, declared_classes}
 use Rattle.vsi_flows.specs.Rows.{AreRowsOf}
 use Rattle.vsi_flows.specs.Table.{IsTable}
@@ -13,30 +13,23 @@ use Rattle.vsi_flows.proofs.walks.walks_text_in.Goals as goal
 
 pub program_rows-requires : goal.program_rows-requires
 program_rows-requires c =
-    let l = c.args.lattice.now in
-    declared_classes (order l) c.in_ok-resolved.resolved (c.in_ok-resolved.ensures.classes _ (known_below l))
+    declared_of c.args.lattice.now c.in_ok-resolved.resolved c.in_ok-resolved.ensures.classes
 
 pub pairs_of-requires-clause-globals : goal.pairs_of-requires-clause-globals
 pairs_of-requires-clause-globals c =
-    let l = c.args.lattice.now in
-    let below = c.in_ok-resolved.ensures.classes _ (known_below l) in
-    (typing_ready (order l) c.in_ok-resolved.resolved c.in_ok-resolved.ensures.kept below).classes
+    globals_of c.args.lattice.now c.in_ok-resolved.resolved c.in_ok-resolved.ensures.classes
 
 pub pairs_of-requires-clause-declared : goal.pairs_of-requires-clause-declared
 pairs_of-requires-clause-declared c =
-    let l = c.args.lattice.now in
-    declared_classes (order l) c.in_ok-resolved.resolved (c.in_ok-resolved.ensures.classes _ (known_below l))
+    declared_of c.args.lattice.now c.in_ok-resolved.resolved c.in_ok-resolved.ensures.classes
 
 pub walk_lines-requires-clause-globals : goal.walk_lines-requires-clause-globals
 walk_lines-requires-clause-globals c =
-    let l = c.args.lattice.now in
-    let below = c.in_ok-resolved.ensures.classes _ (known_below l) in
-    (typing_ready (order l) c.in_ok-resolved.resolved c.in_ok-resolved.ensures.kept below).classes
+    globals_of c.args.lattice.now c.in_ok-resolved.resolved c.in_ok-resolved.ensures.classes
 
 pub walk_lines-requires-clause-declared : goal.walk_lines-requires-clause-declared
 walk_lines-requires-clause-declared c =
-    let l = c.args.lattice.now in
-    declared_classes (order l) c.in_ok-resolved.resolved (c.in_ok-resolved.ensures.classes _ (known_below l))
+    declared_of c.args.lattice.now c.in_ok-resolved.resolved c.in_ok-resolved.ensures.classes
 
 pub walk_lines-requires-clause-found : goal.walk_lines-requires-clause-found
 walk_lines-requires-clause-found c =

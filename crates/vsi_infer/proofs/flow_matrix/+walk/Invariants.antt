@@ -9,8 +9,8 @@ use Rattle.vsi_infer.proofs.flow_matrix.+walk.Given as goal
 abbrev pub invariant-note_commands-loop-c : goal.invariant-note_commands-loop-c
 invariant-note_commands-loop-c l = record {
   loops : l.looping ≡ has_loop (sequence (take l.c-index l.body));
-  noted : IsNoted l.profile l.sink (row_reads l.around) (position_of l.initial.walk) (sequence (take l.c-index l.body))
-      (position_of l.walk);
+  noted : IsNoted l.filter l.profile l.sink (row_reads l.around) (position_of l.initial.walk) (sequence
+      (take l.c-index l.body)) (position_of l.walk);
 }
 
 abbrev pub decreases-note_if : goal.decreases-note_if

@@ -3,7 +3,7 @@ use Rattle.std.proofs.lemmas.List.{length-map}
 use Rattle.vsi_lattice.specs.Order.{IsLattice}
 use Rattle.vsi_types.specs.Security.{program}
 use Rattle.vsi_types.proofs.Tables.{resolved_program}
-use Rattle.vsi_infer.specs.Choices.{IsProgram, IsLeastOrderedChoice, HasBadWalk}
+use Rattle.vsi_infer.specs.Choices.{IsProgram, IsLeastOrderedChoice, HasPlacedBadWalk}
 use Rattle.vsi_infer.specs.Inference.{IsLeast}
 use Rattle.vsi_infer.specs.FlowRows.{flow_has}
 use Rattle.vsi_infer.proofs.Bridge.{is_program, is_least_choice}
@@ -26,9 +26,9 @@ shortest_walk-requires-clause-bad g c =
     let L = g.C.Classes.lattice c.args.lattice.now in
     let t = c.deref.ensures.value ∙ c.in_ok-declared.ensures in
     let fl : ℕ → ℕ → Bool = λ x y. flow_has c.in_ok-flow.flow.rows.items y x in
-    let bad = subst (λ o. MatchOption o (HasBadWalk L.count L.leq fl c.deref.result.now)
+    let bad = subst (λ o. MatchOption o (HasPlacedBadWalk L.count L.leq fl c.deref.result.now)
     (λ v. IsLeastOrderedChoice L.count L.leq fl c.deref.result.now v.items)) c.in_default.is c.in_ok-choice.ensures in
-    subst (HasBadWalk L.count L.leq fl) t bad
+    subst (HasPlacedBadWalk L.count L.leq fl) t bad
 
 pub returns-clause-ok : goal.returns-clause-ok
 returns-clause-ok g c =
@@ -38,7 +38,7 @@ returns-clause-ok g c =
     let res = resolved_program L c.args.program.now c.requires.globals c.body-body.ensures.resolved in
     let t = c.deref.ensures.value ∙ c.in_ok-declared.ensures in
     let fl : ℕ → ℕ → Bool = λ x y. flow_has c.in_ok-flow.flow.rows.items y x in
-    let least = subst (λ o. MatchOption o (HasBadWalk L.count L.leq fl c.deref.result.now)
+    let least = subst (λ o. MatchOption o (HasPlacedBadWalk L.count L.leq fl c.deref.result.now)
     (λ v. IsLeastOrderedChoice L.count L.leq fl c.deref.result.now v.items)) c.in-Some.is c.in_ok-choice.ensures in
     let n : length c.args.program.now.globals ≡ length p.globals =
     sym (length-map c.args.program.now.globals (λ g. g.class)) in

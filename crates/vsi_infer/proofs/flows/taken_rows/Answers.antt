@@ -3,13 +3,11 @@ use Rattle.std.proofs.lemmas.List.{length-map}
 use Rattle.vsi_scope.specs.Language.{HasPlaces}
 use Rattle.vsi_scope.specs.View.{sequence}
 use Rattle.vsi_types.specs.Security.{program, count_from}
-use Rattle.vsi_infer.specs.Leading.{IsReady, row_reads}
-use Rattle.vsi_report.specs.ByRule.{IsNotedBy, position_of}
+use Rattle.vsi_infer.specs.Leading.{IsReady, IsNoted, position_of, row_reads}
 use Rattle.vsi_infer.specs.Flowing.{size_of}
 use Rattle.vsi_infer.proofs.FlowMatrixLemmas.{position}
-use Rattle.vsi_infer.proofs.RowsOf.{ready, all_zero}
-use Rattle.vsi_report.proofs.ByRuleRows.{rows_by}
-use Rattle.vsi_report.proofs.by_rule.flows_by.Goals as goal
+use Rattle.vsi_infer.proofs.RowsOf.{ready, rows_of, all_zero}
+use Rattle.vsi_infer.proofs.flows.taken_rows.Goals as goal
 
 pub note_commands-requires : goal.note_commands-requires
 note_commands-requires c =
@@ -44,13 +42,13 @@ returns c =
     let small : length c.globals.result.now + length c.letvars.result.now ≤ 1024 =
     omega (arith, size, r.few_declarations, n) in
     let places = subst (λ k. HasPlaces k p.body) (sym n) r.places in
-    rows_by c.args.rule c.args.profile p (length c.globals.result.now + length c.letvars.result.now) size small places
+    rows_of c.args.profile p (length c.globals.result.now + length c.letvars.result.now) size small places c.args.filter
     (position c.in_ok-vec.field-0.items c.in_ok-first_variables.field-0.items (length c.globals.result.now))
     (position_of c.note_commands.new.walk)
-    (c.in_ok-first_variables.ensures ∙ ap (count_from 0) gs) gs
+    (c.in_ok-first_variables.ensures ∙ ap (count_from 0) gs) gs (omega (arith, c.in_ok-vec.ensures.len))
     (all_zero _ c.in_ok-vec.field-0.items (c.in_ok-vec.ensures.items_if_clones_equal (λ y h. h)))
     (row_reads (replicate {A = ℕ} 16 0)) (λ v. all_zero 16 (replicate {A = ℕ} 16 0) refl v 0)
-    (subst (λ l. IsNotedBy c.args.rule c.args.profile (length c.globals.result.now + length c.letvars.result.now)
+    (subst (λ l. IsNoted c.args.filter c.args.profile (length c.globals.result.now + length c.letvars.result.now)
     (row_reads (replicate {A = ℕ} 16 0)) (position c.in_ok-vec.field-0.items c.in_ok-first_variables.field-0.items
     (length c.globals.result.now)) (sequence l) (position_of c.note_commands.new.walk)) c.body-body.ensures.value
     c.in_ok-note_commands.ensures.1)

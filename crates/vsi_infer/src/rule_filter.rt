@@ -1,0 +1,38 @@
+//! The rules whose flows are asked for.
+
+ghost use Rattle.std.specs.Prelude.{◌≡◌};
+ghost use Rattle.vsi_infer.specs.Leading.{takes as takes_of};
+ghost use Rattle.vsi_infer.specs.StepsBetween.{same_rule as same_rule_of};
+
+use vsi_types::Rule;
+
+/// The rules whose flows are asked for: every one, or one alone.
+#[derive(Clone, Copy)]
+pub(crate) enum RuleFilter {
+    Every,
+    Only(Rule),
+}
+
+/// Whether two rules are one.
+pub(crate) fn same_rule(first: Rule, second: Rule) -> bool
+    ensures { result ≡ same_rule_of first second }
+{
+    match (first, second) {
+        (Rule::Assign, Rule::Assign) => true,
+        (Rule::If, Rule::If) => true,
+        (Rule::While, Rule::While) => true,
+        (Rule::Letvar, Rule::Letvar) => true,
+        (Rule::Loop, Rule::Loop) => true,
+        _ => false,
+    }
+}
+
+/// Whether the flows of a rule are asked for.
+pub(crate) fn takes(filter: RuleFilter, rule: Rule) -> bool
+    ensures { result ≡ takes_of filter rule }
+{
+    match filter {
+        RuleFilter::Every => true,
+        RuleFilter::Only(one) => same_rule(one, rule),
+    }
+}
