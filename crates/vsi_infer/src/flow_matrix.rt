@@ -47,7 +47,14 @@ fn note_reads(rows: &mut [u64], row: usize, scope: &[Var], e: &Ex)
 }
 
 /// Notes what an expression reads by a rule in a row, if the filter takes it.
-fn note_reads_by(filter: RuleFilter, rule: Rule, rows: &mut [u64], row: usize, scope: &[Var], e: &Ex)
+fn note_reads_by(
+    filter: RuleFilter,
+    rule: Rule,
+    rows: &mut [u64],
+    row: usize,
+    scope: &[Var],
+    e: &Ex,
+)
     requires places { HasLocations (length scope.now) (expression e.now) }
     requires scope { All (λ v. v < 1024) scope.now }
     requires room { row * 16 + 16 ≤ length rows.old }
@@ -97,7 +104,13 @@ fn note_ending(
 }
 
 /// The guards around, and one more where the filter takes its rule.
-fn within(filter: RuleFilter, rule: Rule, around: &[u64; 16], scope: &[Var], guard: &Ex) -> [u64; 16]
+fn within(
+    filter: RuleFilter,
+    rule: Rule,
+    around: &[u64; 16],
+    scope: &[Var],
+    guard: &Ex,
+) -> [u64; 16]
     requires places { HasLocations (length scope.now) (expression guard.now) }
     requires scope { All (λ v. v < 1024) scope.now }
     ensures { (a : ℕ) → row_reads result a
@@ -126,7 +139,14 @@ fn note_assign(
 {
     let target = walk.scope[location as usize];
     let row = target.0 as usize;
-    note_reads_by(filter, Rule::Assign, &mut walk.rows, row, &walk.scope, value);
+    note_reads_by(
+        filter,
+        Rule::Assign,
+        &mut walk.rows,
+        row,
+        &walk.scope,
+        value,
+    );
     note_row(&mut walk.rows, row, around, 0);
 }
 
@@ -196,7 +216,14 @@ fn note_letvar(
         (Letvar (expression value.now) (sequence body.now)) (position_of walk.new) result }
 {
     let row = walk.next as usize;
-    note_reads_by(filter, Rule::Letvar, &mut walk.rows, row, &walk.scope, value);
+    note_reads_by(
+        filter,
+        Rule::Letvar,
+        &mut walk.rows,
+        row,
+        &walk.scope,
+        value,
+    );
     let outside = walk.scope.len();
     walk.scope.push(Var(walk.next))?;
     walk.next += 1;
@@ -248,6 +275,8 @@ fn note_command(
         }
         Cmd::If { guard, yes, no } => note_if(walk, filter, profile, sink, around, yes, no, guard),
         Cmd::While { guard, body } => note_while(walk, filter, profile, sink, around, body, guard),
-        Cmd::Letvar { value, body } => note_letvar(walk, filter, profile, sink, around, body, value),
+        Cmd::Letvar { value, body } => note_letvar(
+            walk, filter, profile, sink, around, body, value,
+        ),
     }
 }
