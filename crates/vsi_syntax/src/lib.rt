@@ -4,7 +4,8 @@
 //! `lex` promises the cut of the text or its first fault, `parse` the one program that writes the
 //! tokens, `print` exactly the canonical text. `laws` states what follows from the definitions
 //! alone: one text has one cut and one program, and what is printed reads back as the same program.
-//! `Op::apply` is the meaning of the operators for all layers above.
+//! `Op::apply` is the meaning of the operators for all layers above, and numbers and places are
+//! written for all of them by `put_number`, `put_word` and `put_place`.
 //!
 //! To be believed: `specs/Apart`, `specs/Canon`, `specs/CommandView`, `specs/Cut`,
 //! `specs/FaultPlaces`, `specs/Given`, `specs/Lines`, `specs/Operators`, `specs/ProgramView`,
@@ -15,6 +16,7 @@
 pub mod laws;
 mod lexer;
 mod lines;
+mod numbers;
 mod operator;
 mod parser;
 mod printer;
@@ -24,6 +26,7 @@ mod tree;
 
 pub use lexer::{LexError, MAX_TEXT_LENGTH, is_name, lex};
 pub use lines::line_column;
+pub use numbers::{put_number, put_place, put_word};
 pub use operator::Op;
 pub use parser::{ParseError, parse};
 pub use printer::print;

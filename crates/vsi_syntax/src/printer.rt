@@ -1,17 +1,16 @@
 //! Prints a program in its canonical form.
 
 ghost use Rattle.std.specs.Prelude.{◌≡◌, ◌≤◌, ◌+◌, ◌++◌, IfOk, OnOk, option_map, map};
-ghost use Rattle.std.specs.Fmt.{signed_decimal};
 ghost use Rattle.vsi_syntax.specs.Tree.{command_depth, body_depth};
 ghost use Rattle.vsi_syntax.specs.View.{tree, named};
 ghost use Rattle.vsi_syntax.specs.CommandView.{command, body_of, declared};
 ghost use Rattle.vsi_syntax.specs.ProgramView.{whole};
 ghost use Rattle.vsi_syntax.specs.Canon as spec;
 
+use crate::numbers::put_word;
 use crate::operator::Op;
 use crate::program::Program;
 use crate::tree::{Declaration, Expr, Name, Stmt};
-use itoa::Buffer;
 use std::alloc::{AllocError, Global};
 
 /// The canonical text of a program, which reads back as the same program, spans apart.
@@ -66,20 +65,12 @@ fn print_op(out: &mut Vec<u8>, op: Op) -> Result<(), AllocError>
     }
 }
 
-/// A number in decimal.
-fn print_number(out: &mut Vec<u8>, n: i64) -> Result<(), AllocError>
-    ensures { OnOk result (out.new.items ≡ out.old.items ++ signed_decimal n) }
-{
-    let mut buffer = Buffer::new();
-    out.extend_from_slice(buffer.format(n).as_bytes())
-}
-
 /// An expression.
 fn print_expression(out: &mut Vec<u8>, e: &Expr) -> Result<(), AllocError>
     ensures { OnOk result (out.new.items ≡ out.old.items ++ spec.canon_tree (tree e.now)) }
 {
     match e {
-        Expr::Number(n) => print_number(out, *n),
+        Expr::Number(n) => put_word(out, *n),
         Expr::Name(x) => out.extend_from_slice(x.text),
         Expr::Bracket(e) => {
             out.extend_from_slice(b"(")?;
