@@ -3,9 +3,10 @@ use Rattle.std.proofs.Common.{◌≡◌, ℕ, zero, suc, ◌+◌, ◌≤◌, Boo
 use Rattle.vsi_syntax.specs.declared.operator.Op.{Op}
 use Rattle.vsi_scope.specs.Language.{Expression, Number, Location, Operator, Command, Skip, Assign, Sequence, If, While, Letvar, HasLocations, HasPlaces, letvars, expression_size, size}
 use Rattle.vsi_opt.specs.Folding.{fold_operator, folded, one, append, truth_of, branch, loop, fold}
-use Rattle.vsi_opt.specs.Liveness.{Locations, with_bit, all_reads, throughout, before, kept, kept_in_loop, kept_live}
+use Rattle.vsi_opt.specs.Liveness.{Locations, kept_live}
 use Rattle.vsi_opt.specs.Ranges.{Fits}
 use Rattle.vsi_opt.specs.Folded.{IsFoldedExpression, IsFolded}
+use Rattle.vsi_opt.proofs.Removal.{append_sum, IsCarried, kept_live_carried}
 use Rattle.vsi_opt.proofs.Depths.{optimised_depth, optimised_nesting}
 use Rattle.vsi_opt.specs.Optimised.{globals_alone, NotLarger, NothingToFold, PlacesKept}
 
@@ -29,19 +30,9 @@ append_whole P w (Letvar e c) b x y = w.to_then (Letvar e c) b x y
 one_whole : (P : Command → Type 0) → IsWhole P → (c : Command) → P c → P (one c)
 one_whole P w c x = w.to_then c Skip x w.nothing
 
--- A command that passes does so whether it stays or goes.
-kept_whole : (P : Command → Type 0) → IsWhole P → (b : Bool) (c : Command) → P c → P (kept b c)
-kept_whole P w true c x = one_whole P w c x
-kept_whole P w false c x = w.nothing
-
 -- Two sequences joined have the sum of their sizes.
 append_size : (a b : Command) → size (append a b) ≡ size a + size b
-append_size Skip b = omega arith
-append_size (Assign l s e) b = refl
-append_size (Sequence a c) b = omega (arith, append_size c b)
-append_size (If e a c) b = refl
-append_size (While e c) b = refl
-append_size (Letvar e c) b = refl
+append_size = append_sum size refl (λ a b. refl)
 
 -- A folded operator is no larger.
 operator_size : (o : Op) (a b : Expression) →
@@ -91,47 +82,22 @@ fold_size (While e c) = omega (
 )
 fold_size (Letvar e c) = omega (arith, folded_size e, fold_size c)
 
--- A command that stays or goes is no larger.
-kept_size : (b : Bool) (c : Command) → size (kept b c) ≤ size c
-kept_size true c = omega arith
-kept_size false c = omega arith
-
--- Removal in a loop makes no command larger.
-kept_in_loop_size : (c : Command) (k : ℕ) (live : Locations) → size (kept_in_loop k c live) ≤ size c
-kept_in_loop_size Skip k live = omega arith
-kept_in_loop_size (Assign l s e) k live = kept_size (live l) (Assign l s e)
-kept_in_loop_size (Sequence a b) k live = omega (
-  arith,
-  append_size (kept_in_loop k a live)
-      (kept_in_loop k b live),
-  kept_in_loop_size a k live,
-  kept_in_loop_size b k live,
-)
-kept_in_loop_size (If e a b) k live = omega (arith, kept_in_loop_size a k live, kept_in_loop_size b k live)
-kept_in_loop_size (While e c) k live = omega (arith, kept_in_loop_size c k live)
-kept_in_loop_size (Letvar e c) k live = omega (arith, kept_in_loop_size c (k + 1) (with_bit live k (all_reads c k)))
-
--- Removal makes no command larger.
-kept_live_size : (c : Command) (g k : ℕ) (live : Locations) → size (kept_live g k c live) ≤ size c
-kept_live_size Skip g k live = omega arith
-kept_live_size (Assign l s e) g k live = kept_size (live l) (Assign l s e)
-kept_live_size (Sequence a b) g k live =
-    let after = before g k b live in
-    omega (
-      arith,
-      append_size (kept_live g k a after) (kept_live g k b live),
-      kept_live_size a g k after,
-      kept_live_size b g k
-          live,
-    )
-kept_live_size (If e a b) g k live = omega (arith, kept_live_size a g k live, kept_live_size b g k live)
-kept_live_size (While e c) g k live = omega (arith, kept_in_loop_size c k (throughout e c live))
-kept_live_size (Letvar e c) g k live = omega (arith, kept_live_size c g (k + 1) (with_bit live k false))
+-- Removal makes nothing larger where it makes no part larger.
+no_larger : IsCarried (λ a c. size a ≤ size c)
+no_larger = record {
+  nothing = omega arith;
+  stays = λ l s e. omega arith;
+  goes = λ l s e. omega arith;
+  joined = λ a b c d x y. omega (arith, append_size a b, x, y);
+  choice = λ e a b c d x y. omega (arith, x, y);
+  repeated = λ e a c x. omega (arith, x);
+  local = λ e a c x. omega (arith, x);
+}
 
 -- The optimised body is no larger, nor deeper.
 pub not_larger : NotLarger
 not_larger c g = (
-  omega (arith, kept_live_size (fold c) g g (globals_alone g), fold_size c),
+  omega (arith, kept_live_carried (λ a c. size a ≤ size c) no_larger (fold c) g g (globals_alone g), fold_size c),
   optimised_depth c g,
   optimised_nesting c g,
 )
@@ -203,43 +169,22 @@ fold_folded (If e a b) = fold_if_folded (folded e) (fold a) (fold b) (expression
 fold_folded (While e c) = fold_while_folded (folded e) (fold c) (expression_folded e) (fold_folded c)
 fold_folded (Letvar e c) = ((expression_folded e, fold_folded c), tt)
 
--- Removal in a loop leaves nothing new to fold.
-kept_in_loop_folded : (c : Command) (k : ℕ) (live : Locations) → IsFolded c → IsFolded (kept_in_loop k c live)
-kept_in_loop_folded Skip k live x = tt
-kept_in_loop_folded (Assign l s e) k live x = kept_whole IsFolded folded_parts (live l) (Assign l s e) x
-kept_in_loop_folded (Sequence a b) k live x =
-    append_whole IsFolded folded_parts (kept_in_loop k a live) (kept_in_loop k b live)
-    (kept_in_loop_folded a k live x.0) (kept_in_loop_folded b k live x.1)
-kept_in_loop_folded (If e a b) k live x =
-    ((x.0, x.1, kept_in_loop_folded a k live x.2, kept_in_loop_folded b k live x.3), tt)
-kept_in_loop_folded (While e c) k live x = ((x.0, x.1, kept_in_loop_folded c k live x.2), tt)
-kept_in_loop_folded (Letvar e c) k live x =
-    ((x.0, kept_in_loop_folded c (k + 1) (with_bit live k (all_reads c k)) x.1), tt)
-
--- Removal leaves nothing new to fold.
-kept_live_folded : (c : Command) (g k : ℕ) (live : Locations) → IsFolded c → IsFolded (kept_live g k c live)
-kept_live_folded Skip g k live x = tt
-kept_live_folded (Assign l s e) g k live x = kept_whole IsFolded folded_parts (live l) (Assign l s e) x
-kept_live_folded (Sequence a b) g k live x =
-    let after = before g k b live in
-    append_whole IsFolded folded_parts (kept_live g k a after) (kept_live g k b live) (kept_live_folded a g k after x.0)
-    (kept_live_folded b g k live x.1)
-kept_live_folded (If e a b) g k live x = (
-  (
-    x.0,
-    x.1,
-    kept_live_folded a g k live x.2,
-    kept_live_folded b g k live
-        x.3,
-  ),
-  tt,
-)
-kept_live_folded (While e c) g k live x = ((x.0, x.1, kept_in_loop_folded c k (throughout e c live) x.2), tt)
-kept_live_folded (Letvar e c) g k live x = ((x.0, kept_live_folded c g (k + 1) (with_bit live k false) x.1), tt)
+-- Removal leaves nothing new to fold where it leaves nothing new in the parts.
+stays_folded : IsCarried (λ a c. IsFolded c → IsFolded a)
+stays_folded = record {
+  nothing = λ x. tt;
+  stays = λ l s e x. one_whole IsFolded folded_parts (Assign l s e) x;
+  goes = λ l s e x. tt;
+  joined = λ a b c d f g x. append_whole IsFolded folded_parts a b (f x.0) (g x.1);
+  choice = λ e a b c d f g x. ((x.0, x.1, f x.2, g x.3), tt);
+  repeated = λ e a c f x. ((x.0, x.1, f x.2), tt);
+  local = λ e a c f x. ((x.0, f x.1), tt);
+}
 
 -- In the optimised body nothing is left to fold.
 pub nothing_to_fold : NothingToFold
-nothing_to_fold c g = kept_live_folded (fold c) g g (globals_alone g) (fold_folded c)
+nothing_to_fold c g =
+    kept_live_carried (λ a c. IsFolded c → IsFolded a) stays_folded (fold c) g g (globals_alone g) (fold_folded c)
 
 -- A sequence uses existing locations where its parts do.
 places_parts : (k : ℕ) → IsWhole (HasPlaces k)
@@ -287,80 +232,43 @@ fold_places (While e c) k x = fold_while_places k (truth_of (folded e)) (folded 
     (folded_places k e x.0) (fold_places c k x.1)
 fold_places (Letvar e c) k x = ((folded_places k e x.0, fold_places c (k + 1) x.1), tt)
 
--- Removal in a loop leaves existing locations.
-kept_in_loop_places : (c : Command) (k : ℕ) (live : Locations) → HasPlaces k c → HasPlaces k (kept_in_loop k c live)
-kept_in_loop_places Skip k live x = tt
-kept_in_loop_places (Assign l s e) k live x = kept_whole (HasPlaces k) (places_parts k) (live l) (Assign l s e) x
-kept_in_loop_places (Sequence a b) k live x =
-    append_whole (HasPlaces k) (places_parts k) (kept_in_loop k a live) (kept_in_loop k b live)
-    (kept_in_loop_places a k live x.0) (kept_in_loop_places b k live x.1)
-kept_in_loop_places (If e a b) k live x =
-    ((x.0, kept_in_loop_places a k live x.1, kept_in_loop_places b k live x.2), tt)
-kept_in_loop_places (While e c) k live x = ((x.0, kept_in_loop_places c k live x.1), tt)
-kept_in_loop_places (Letvar e c) k live x =
-    ((x.0, kept_in_loop_places c (k + 1) (with_bit live k (all_reads c k)) x.1), tt)
-
--- Removal leaves existing locations.
-kept_live_places : (c : Command) (g k : ℕ) (live : Locations) → HasPlaces k c → HasPlaces k (kept_live g k c live)
-kept_live_places Skip g k live x = tt
-kept_live_places (Assign l s e) g k live x = kept_whole (HasPlaces k) (places_parts k) (live l) (Assign l s e) x
-kept_live_places (Sequence a b) g k live x =
-    let after = before g k b live in
-    append_whole (HasPlaces k) (places_parts k) (kept_live g k a after) (kept_live g k b live)
-    (kept_live_places a g k after x.0) (kept_live_places b g k live x.1)
-kept_live_places (If e a b) g k live x = ((x.0, kept_live_places a g k live x.1, kept_live_places b g k live x.2), tt)
-kept_live_places (While e c) g k live x = ((x.0, kept_in_loop_places c k (throughout e c live) x.1), tt)
-kept_live_places (Letvar e c) g k live x = ((x.0, kept_live_places c g (k + 1) (with_bit live k false) x.1), tt)
+-- Removal leaves existing locations where it leaves such in the parts.
+stays_placed : IsCarried (λ a c. (k : ℕ) → HasPlaces k c → HasPlaces k a)
+stays_placed = record {
+  nothing = λ k x. tt;
+  stays = λ l s e k x. one_whole (HasPlaces k) (places_parts k) (Assign l s e) x;
+  goes = λ l s e k x. tt;
+  joined = λ a b c d f g k x. append_whole (HasPlaces k) (places_parts k) a b (f k x.0) (g k x.1);
+  choice = λ e a b c d f g k x. ((x.0, f k x.1, g k x.2), tt);
+  repeated = λ e a c f k x. ((x.0, f k x.1), tt);
+  local = λ e a c f k x. ((x.0, f (k + 1) x.1), tt);
+}
 
 -- The optimised body uses existing locations.
 pub places_kept : PlacesKept
-places_kept c g h = kept_live_places (fold c) g g (globals_alone g) (fold_places c g h)
+places_kept c g h =
+    kept_live_carried (λ a c. (k : ℕ) → HasPlaces k c → HasPlaces k a) stays_placed (fold c) g g (globals_alone g) g
+    (fold_places c g h)
 
 -- Two sequences joined have the letvars of both.
 pub append_letvars : (a b : Command) → letvars (append a b) ≡ letvars a + letvars b
-append_letvars Skip b = omega arith
-append_letvars (Assign l s e) b = refl
-append_letvars (Sequence a c) b = omega (arith, append_letvars c b)
-append_letvars (If e a c) b = refl
-append_letvars (While e c) b = refl
-append_letvars (Letvar e c) b = refl
+append_letvars = append_sum letvars refl (λ a b. refl)
 
--- An assignment has no letvars, whether it stays or goes.
-kept_letvars : (b : Bool) (l : ℕ) (s : _) (e : Expression) → letvars (kept b (Assign l s e)) ≡ 0
-kept_letvars true l s e = refl
-kept_letvars false l s e = refl
-
--- Removal in a loop keeps the number of letvars.
-kept_in_loop_letvars : (c : Command) (k : ℕ) (live : Locations) → letvars (kept_in_loop k c live) ≡ letvars c
-kept_in_loop_letvars Skip k live = refl
-kept_in_loop_letvars (Assign l s e) k live = kept_letvars (live l) l s e
-kept_in_loop_letvars (Sequence a b) k live = omega (
-  arith,
-  append_letvars (kept_in_loop k a live)
-      (kept_in_loop k b live),
-  kept_in_loop_letvars a k live,
-  kept_in_loop_letvars b k live,
-)
-kept_in_loop_letvars (If e a b) k live = omega (arith, kept_in_loop_letvars a k live, kept_in_loop_letvars b k live)
-kept_in_loop_letvars (While e c) k live = omega (arith, kept_in_loop_letvars c k live)
-kept_in_loop_letvars (Letvar e c) k live =
-    omega (arith, kept_in_loop_letvars c (k + 1) (with_bit live k (all_reads c k)))
+-- Removal keeps the number of letvars where it keeps that of the parts.
+same_letvars : IsCarried (λ a c. letvars a ≡ letvars c)
+same_letvars = record {
+  nothing = refl;
+  stays = λ l s e. refl;
+  goes = λ l s e. refl;
+  joined = λ a b c d x y. omega (arith, append_letvars a b, x, y);
+  choice = λ e a b c d x y. omega (arith, x, y);
+  repeated = λ e a c x. omega (arith, x);
+  local = λ e a c x. omega (arith, x);
+}
 
 -- Removal keeps the number of letvars.
 pub kept_live_letvars : (c : Command) (g k : ℕ) (live : Locations) → letvars (kept_live g k c live) ≡ letvars c
-kept_live_letvars Skip g k live = refl
-kept_live_letvars (Assign l s e) g k live = kept_letvars (live l) l s e
-kept_live_letvars (Sequence a b) g k live =
-    let after = before g k b live in
-    omega (
-      arith,
-      append_letvars (kept_live g k a after) (kept_live g k b live),
-      kept_live_letvars a g k after,
-      kept_live_letvars b g k live,
-    )
-kept_live_letvars (If e a b) g k live = omega (arith, kept_live_letvars a g k live, kept_live_letvars b g k live)
-kept_live_letvars (While e c) g k live = omega (arith, kept_in_loop_letvars c k (throughout e c live))
-kept_live_letvars (Letvar e c) g k live = omega (arith, kept_live_letvars c g (k + 1) (with_bit live k false))
+kept_live_letvars = kept_live_carried (λ a c. letvars a ≡ letvars c) same_letvars
 
 -- A folded choice has no more letvars than its branches.
 fold_if_letvars : (t : Option Bool) (e : Expression) (a b : Command) → letvars (branch t e a b) ≤ letvars a + letvars b

@@ -1,5 +1,6 @@
 pub mod FoldedRuns
 pub mod LiveRuns
+pub mod Removal
 pub mod Depths
 pub mod Kept
 pub mod Sequences
