@@ -1,38 +1,42 @@
 -- Heights and nestings of sequences, and the height that the depth allows.
-use Rattle.std.proofs.Common.{◌≡◌, ℕ, ◌+◌, ◌<◌, ◌≤◌, max, List, [], ◌∷◌, ◌++◌, length, take, get_or, sym, ap, ◌∙◌, arith}
+use Rattle.std.proofs.Common.{◌≡◌, ℕ, ◌+◌, ◌<◌, ◌≤◌, max, List, [], ◌∷◌, ◌++◌, length, take, get_or, refl, sym, ap, ◌∙◌, arith}
 use Rattle.std.proofs.lemmas.List.{take_more}
 use Rattle.vsi_scope.specs.declared.program.Cmd.{Cmd}
 use Rattle.vsi_scope.specs.Language.{Expression, Number, Location, Operator, Command, Skip, Assign, Sequence, If, While, Letvar, nesting, expression_depth, depth}
 use Rattle.vsi_scope.specs.View.{command, sequence}
 use Rattle.vsi_code.specs.Needs.{expression_height, height}
 
--- A sequence with one command more is as high as the higher of the two.
-height_push : (cs : List Cmd) (c : Cmd) →
-    height (sequence (cs ++ c ∷ [])) ≡ max (height (sequence cs)) (height (command c))
-height_push [] c = omega arith
-height_push (d ∷ cs) c = omega (arith, height_push cs c)
+-- A measure that is the greater one of the parts of a sequence is so with one command more.
+most_push : (f : Command → ℕ) → f Skip ≡ 0 → ((a b : Command) → f (Sequence a b) ≡ max (f a) (f b)) →
+    (cs : List Cmd) (c : Cmd) → f (sequence (cs ++ c ∷ [])) ≡ max (f (sequence cs)) (f (command c))
+most_push f z s [] c =
+    let whole : f (sequence ([] ++ c ∷ [])) ≡ max (f (command c)) (f Skip) = s (command c) Skip in
+    let none : f (sequence []) ≡ 0 = z in
+    omega (arith, whole, z, none)
+most_push f z s (d ∷ cs) c =
+    let whole : f (sequence ((d ∷ cs) ++ c ∷ [])) ≡ max (f (command d)) (f (sequence (cs ++ c ∷ []))) =
+    s (command d) (sequence (cs ++ c ∷ [])) in
+    let before : f (sequence (d ∷ cs)) ≡ max (f (command d)) (f (sequence cs)) = s (command d) (sequence cs) in
+    omega (arith, whole, before, most_push f z s cs c)
+
+-- It is so of the commands up to one of them and that one.
+most_more : (f : Command → ℕ) → f Skip ≡ 0 → ((a b : Command) → f (Sequence a b) ≡ max (f a) (f b)) →
+    (cs : List Cmd) (i : ℕ) (c : Cmd) → i < length cs → c ≡ get_or cs i c →
+    f (sequence (take (i + 1) cs)) ≡ max (f (sequence (take i cs))) (f (command c))
+most_more f z s cs i c lt e =
+    ap (λ l. f (sequence l)) (take_more cs i c lt)
+    ∙ most_push f z s (take i cs) (get_or cs i c)
+    ∙ ap (λ x. max (f (sequence (take i cs))) (f (command x))) (sym e)
 
 -- The height of the commands up to one of them and that one.
 pub height_more : (cs : List Cmd) (i : ℕ) (c : Cmd) → i < length cs → c ≡ get_or cs i c →
     height (sequence (take (i + 1) cs)) ≡ max (height (sequence (take i cs))) (height (command c))
-height_more cs i c lt e =
-    ap (λ l. height (sequence l)) (take_more cs i c lt)
-    ∙ height_push (take i cs) (get_or cs i c)
-    ∙ ap (λ x. max (height (sequence (take i cs))) (height (command x))) (sym e)
-
--- A sequence with one command more nests as deep as the deeper of the two.
-nesting_push : (cs : List Cmd) (c : Cmd) →
-    nesting (sequence (cs ++ c ∷ [])) ≡ max (nesting (sequence cs)) (nesting (command c))
-nesting_push [] c = omega arith
-nesting_push (d ∷ cs) c = omega (arith, nesting_push cs c)
+height_more = most_more height refl (λ a b. refl)
 
 -- The nesting of the commands up to one of them and that one.
 pub nesting_more : (cs : List Cmd) (i : ℕ) (c : Cmd) → i < length cs → c ≡ get_or cs i c →
     nesting (sequence (take (i + 1) cs)) ≡ max (nesting (sequence (take i cs))) (nesting (command c))
-nesting_more cs i c lt e =
-    ap (λ l. nesting (sequence l)) (take_more cs i c lt)
-    ∙ nesting_push (take i cs) (get_or cs i c)
-    ∙ ap (λ x. max (nesting (sequence (take i cs))) (nesting (command x))) (sym e)
+nesting_more = most_more nesting refl (λ a b. refl)
 
 -- An expression has at most one operand more at a time than it is deep.
 expression_height-within_depth : (e : Expression) → expression_height e ≤ expression_depth e + 1

@@ -26,6 +26,13 @@ part_long old c1 c pc k h = ap length h ∙ omega (arith, command_long c pc k, l
 pub one_long : (old c1 : List Instr) (i : Instr) → c1 ≡ old ++ i ∷ [] → length c1 ≡ length old + 1
 one_long old c1 i h = ap length h ∙ omega (arith, length-append old (i ∷ []))
 
+-- Code behind a guard, a command's and one instruction.
+pub jump_long : (old c1 c2 c3 : List Instr) (e : Expression) (i j : Instr) (c : Command) (pc k : ℕ) →
+    c1 ≡ old ++ (expression_code e ++ i ∷ []) → c2 ≡ c1 ++ code_at pc k c → c3 ≡ c2 ++ j ∷ [] →
+    length c3 ≡ length old + expression_size e + 1 + size c + 1
+jump_long old c1 c2 c3 e i j c pc k h1 h2 h3 =
+    omega (arith, guard_long old c1 e i h1, part_long c1 c2 c pc k h2, one_long c2 c3 j h3)
+
 -- Code in which one instruction was written again.
 pub set_long : (old c1 : List Instr) (n : ℕ) (i : Instr) → c1 ≡ slice_set old n i → length c1 ≡ length old
 set_long old c1 n i h = ap length h ∙ length-set old n i
@@ -80,8 +87,7 @@ choice_patched old k e a b c1 c2 c3 c4 c5 c6 t u h1 ht h2 hu h3 h4 h5 h6 =
     let first = length old + expression_size e + 1 in
     let second = first + size a + 1 in
     let n1 : length c1 ≡ first = guard_long old c1 e (Jz 0) h1 in
-    let n2 = part_long c1 c2 a (length c1) k h2 in
-    let n3 : length c3 ≡ second = omega (arith, n1, n2, one_long c2 c3 (Jmp 0) h3) in
+    let n3 : length c3 ≡ second = jump_long old c1 c2 c3 e (Jz 0) (Jmp 0) a (length c1) k h1 h2 h3 in
     let n4 : length c4 ≡ second = set_long c3 c4 t (Jz (length c3)) h4 ∙ n3 in
     let n5 : length c5 ≡ second + size b = omega (arith, n4, part_long c4 c5 b (length c4) k h5) in
     let A = code_at first k a in
@@ -104,8 +110,7 @@ loop_patched old k e c c1 c2 c3 c4 s t hs h1 ht h2 h3 h4 =
     let body = length old + expression_size e + 1 in
     let end = body + size c + 1 in
     let n1 : length c1 ≡ body = guard_long old c1 e (Jz 0) h1 in
-    let n2 = part_long c1 c2 c (length c1) k h2 in
-    let n3 : length c3 ≡ end = omega (arith, n1, n2, one_long c2 c3 (Jmp s) h3) in
+    let n3 : length c3 ≡ end = jump_long old c1 c2 c3 e (Jz 0) (Jmp s) c (length c1) k h1 h2 h3 in
     let at : t ≡ length old + length (expression_code e) = omega (arith, ht, expression_long e) in
     one_patched old G (code_at (length c1) k c) c1 c2 c3 c4 (Jz 0) (Jz (length c3)) (Jmp s) t h1 at h2 h3 h4
     ∙ ap (λ n. old ++ loop_code G (length c3) (code_at n k c) s) n1

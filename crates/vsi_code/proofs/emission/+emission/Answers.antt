@@ -5,7 +5,7 @@ use Rattle.vsi_scope.specs.Language.{If, While, expression_size, size}
 use Rattle.vsi_scope.specs.View.{expression, command, sequence}
 use Rattle.vsi_code.specs.Layout.{Fits, expression_code, code_at}
 use Rattle.vsi_code.proofs.Placed.{expression_long}
-use Rattle.vsi_code.proofs.Patched.{guard_long, part_long, one_long, set_long, choice_patched, loop_patched, letvar_joined}
+use Rattle.vsi_code.proofs.Patched.{guard_long, part_long, one_long, jump_long, set_long, choice_patched, loop_patched, letvar_joined}
 use Rattle.vsi_code.proofs.Parts.{code_more, fits_next, choice_is, loop_is, letvar_is, fits_as, fits_first, fits_second, fits_loop, fits_letvar}
 use Rattle.vsi_code.proofs.emission.+emission.Goals as goal
 
@@ -55,10 +55,9 @@ emit_one-aim_test-requires-clause-within t c =
     let old = c.args.code.now.items in
     let e = expression c.in-If.guard in
     let a = sequence c.as_slice.result.now in
-    let n1 = guard_long old c.emit_guard.new.code.items e _ c.in_ok-test-in-If.ensures.code in
-    let n2 = part_long c.emit_guard.new.code.items c.emit_all.new.code.items a _ _ c.in_ok-emit_all-in-If.ensures in
-    let n3 = one_long c.emit_all.new.code.items c.put-in-If.new.code.items _ c.in_ok-put-in-If.ensures in
-    omega (arith, n1, n2, n3, c.in_ok-test-in-If.ensures.place)
+    let n3 = jump_long old _ _ _ e _ _ a _ _ c.in_ok-test-in-If.ensures.code c.in_ok-emit_all-in-If.ensures
+    c.in_ok-put-in-If.ensures in
+    omega (arith, n3, c.in_ok-test-in-If.ensures.place)
 
 pub emit_one-aim_test-requires-clause-small : goal.emit_one-aim_test-requires-clause-small
 emit_one-aim_test-requires-clause-small t c =
@@ -69,10 +68,9 @@ emit_one-aim_test-requires-clause-small t c =
     let is = choice_is c.args.c.now c.in-If.guard c.in-If.yes c.in-If.no _ _
     c.in-If.is c.as_slice.ensures.value refl in
     let fits = fits_as (length old) c.args.scope (command c.args.c.now) c.requires (If e a b) is in
-    let n1 = guard_long old c.emit_guard.new.code.items e _ c.in_ok-test-in-If.ensures.code in
-    let n2 = part_long c.emit_guard.new.code.items c.emit_all.new.code.items a _ _ c.in_ok-emit_all-in-If.ensures in
-    let n3 = one_long c.emit_all.new.code.items c.put-in-If.new.code.items _ c.in_ok-put-in-If.ensures in
-    omega (arith, n1, n2, n3, fits.size)
+    let n3 = jump_long old _ _ _ e _ _ a _ _ c.in_ok-test-in-If.ensures.code c.in_ok-emit_all-in-If.ensures
+    c.in_ok-put-in-If.ensures in
+    omega (arith, n3, fits.size)
 
 pub emit_one-emit_all-requires-in-If : goal.emit_one-emit_all-requires-in-If
 emit_one-emit_all-requires-in-If t c =
@@ -82,12 +80,11 @@ emit_one-emit_all-requires-in-If t c =
     let b = sequence c.as_slice-in-If.result.now in
     let is = choice_is c.args.c.now c.in-If.guard c.in-If.yes c.in-If.no _ _
     c.in-If.is c.as_slice.ensures.value c.as_slice-in-If.ensures.value in
-    let n1 = guard_long old c.emit_guard.new.code.items e _ c.in_ok-test-in-If.ensures.code in
-    let n2 = part_long c.emit_guard.new.code.items c.emit_all.new.code.items a _ _ c.in_ok-emit_all-in-If.ensures in
-    let n3 = one_long c.emit_all.new.code.items c.put-in-If.new.code.items _ c.in_ok-put-in-If.ensures in
+    let n3 = jump_long old _ _ _ e _ _ a _ _ c.in_ok-test-in-If.ensures.code c.in_ok-emit_all-in-If.ensures
+    c.in_ok-put-in-If.ensures in
     let n4 = set_long c.put-in-If.new.code.items c.aim_test.new.code.items _ _ c.aim_test.ensures in
     let at : length c.aim_test.new.code.items ≡ length old + expression_size e + 1 + size a + 1 =
-    omega (arith, n1, n2, n3, n4) in (
+    omega (arith, n3, n4) in (
       first_of (search (rules, the_lemmas), grind (arith, the_lemmas, common_steps), omega (arith, c.decreases)),
       fits_second (length old) c.args.scope (command c.args.c.now) c.requires e a b is _ at,
     )
@@ -101,13 +98,12 @@ emit_one-aim_jump-requires-clause-small t c =
     let is = choice_is c.args.c.now c.in-If.guard c.in-If.yes c.in-If.no _ _
     c.in-If.is c.as_slice.ensures.value c.as_slice-in-If.ensures.value in
     let fits = fits_as (length old) c.args.scope (command c.args.c.now) c.requires (If e a b) is in
-    let n1 = guard_long old c.emit_guard.new.code.items e _ c.in_ok-test-in-If.ensures.code in
-    let n2 = part_long c.emit_guard.new.code.items c.emit_all.new.code.items a _ _ c.in_ok-emit_all-in-If.ensures in
-    let n3 = one_long c.emit_all.new.code.items c.put-in-If.new.code.items _ c.in_ok-put-in-If.ensures in
+    let n3 = jump_long old _ _ _ e _ _ a _ _ c.in_ok-test-in-If.ensures.code c.in_ok-emit_all-in-If.ensures
+    c.in_ok-put-in-If.ensures in
     let n4 = set_long c.put-in-If.new.code.items c.aim_test.new.code.items _ _ c.aim_test.ensures in
     let c5 = c.emit_all-in-If.new.code.items in
     let n5 = part_long c.aim_test.new.code.items c5 b _ _ c.in_ok-emit_all-in-If-2.ensures in
-    omega (arith, n1, n2, n3, n4, n5, fits.size)
+    omega (arith, n3, n4, n5, fits.size)
 
 pub emit_one-returns-in_ok-emit_all-in-If-2 : goal.emit_one-returns-in_ok-emit_all-in-If-2
 emit_one-returns-in_ok-emit_all-in-If-2 t c =
@@ -142,27 +138,21 @@ emit_one-aim_test-requires-in-While-clause-within t c =
     let old = c.args.code.now.items in
     let e = expression c.in-While.guard in
     let a = sequence c.as_slice-in-While.result.now in
-    let c1 = c.emit_guard-in-While.new.code.items in
-    let c2 = c.emit_all-in-While.new.code.items in
-    let n1 = guard_long old c1 e _ c.in_ok-test-in-While.ensures.code in
-    let n2 = part_long c1 c2 a _ _ c.in_ok-emit_all-in-While.ensures in
-    let n3 = one_long c2 c.put-in-While.new.code.items _ c.in_ok-put-in-While.ensures in
-    omega (arith, n1, n2, n3, c.in_ok-test-in-While.ensures.place)
+    let n3 = jump_long old _ _ _ e _ _ a _ _ c.in_ok-test-in-While.ensures.code c.in_ok-emit_all-in-While.ensures
+    c.in_ok-put-in-While.ensures in
+    omega (arith, n3, c.in_ok-test-in-While.ensures.place)
 
 pub emit_one-aim_test-requires-in-While-clause-small : goal.emit_one-aim_test-requires-in-While-clause-small
 emit_one-aim_test-requires-in-While-clause-small t c =
     let old = c.args.code.now.items in
     let e = expression c.in-While.guard in
     let a = sequence c.as_slice-in-While.result.now in
-    let c1 = c.emit_guard-in-While.new.code.items in
-    let c2 = c.emit_all-in-While.new.code.items in
     let is = loop_is c.args.c.now c.in-While.guard c.in-While.body _ c.in-While.is c.as_slice-in-While.ensures.value
     in
     let fits = fits_as (length old) c.args.scope (command c.args.c.now) c.requires (While e a) is in
-    let n1 = guard_long old c1 e _ c.in_ok-test-in-While.ensures.code in
-    let n2 = part_long c1 c2 a _ _ c.in_ok-emit_all-in-While.ensures in
-    let n3 = one_long c2 c.put-in-While.new.code.items _ c.in_ok-put-in-While.ensures in
-    omega (arith, n1, n2, n3, fits.size)
+    let n3 = jump_long old _ _ _ e _ _ a _ _ c.in_ok-test-in-While.ensures.code c.in_ok-emit_all-in-While.ensures
+    c.in_ok-put-in-While.ensures in
+    omega (arith, n3, fits.size)
 
 pub emit_one-returns-in_ok-put-in-While : goal.emit_one-returns-in_ok-put-in-While
 emit_one-returns-in_ok-put-in-While t c =
