@@ -5,6 +5,7 @@ use Rattle.vsi_image.specs.declared.instr.Instr.TheVariants as i
 use Rattle.vsi_syntax.specs.declared.operator.Op.{Op}
 use Rattle.vsi_syntax.specs.declared.operator.Op.TheVariants as o
 use Rattle.vsi_scope.specs.Language.{Expression, Number, Location, Operator, Command, Skip, Assign, Sequence, If, While, Letvar, expression_size, size, nesting}
+use Rattle.vsi_image.specs.Fields.{max_instructions, max_slots}
 
 -- The instruction of an operator.
 abbrev pub op_code : Op → Instr
@@ -55,15 +56,7 @@ with_code before k c = before ++ code_at (length before) k c
 abbrev pub whole_code : ℕ → Command → List Instr
 whole_code globals c = code_at 0 globals c ++ i.Halt ∷ []
 
--- The most instructions of an image, its HALT among them.
-abbrev pub most_instructions : ℕ
-most_instructions = 65535
-
--- The most slots of an image.
-abbrev pub most_slots : ℕ
-most_slots = 512
-
 -- A command's code fits between this many instructions and a HALT, and its letvars above this many words.
 pub record Fits (pc k : ℕ) (c : Command) : Type 0 where
-  pub size : pc + size c < most_instructions
-  pub slots : k + nesting c ≤ most_slots
+  pub size : pc + size c < max_instructions
+  pub slots : k + nesting c ≤ max_slots

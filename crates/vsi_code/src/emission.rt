@@ -2,11 +2,12 @@
 //! code that it passes stands, so that each instruction is written once and no part is measured.
 
 ghost use Rattle.std.specs.Prelude.{◌≡◌, ◌+◌, ◌<◌, ◌≤◌, [], ◌∷◌, ◌++◌, length, slice_set, IfOk, OnOk};
-ghost use Rattle.vsi_code.specs.Layout.{Fits, most_instructions, op_code, expression_code, guard_code, with_code, whole_code};
+ghost use Rattle.vsi_code.specs.Layout.{Fits, op_code, expression_code, guard_code, with_code, whole_code};
 ghost use Rattle.vsi_image.specs.declared.instr.Instr.{Instr};
 ghost use Rattle.vsi_image.specs.declared.instr.Instr.TheVariants as spec;
 ghost use Rattle.vsi_scope.specs.Language.{expression_size};
 ghost use Rattle.vsi_scope.specs.View.{expression, command, sequence};
+ghost use Rattle.vsi_image.specs.Fields.{max_instructions};
 
 use std::alloc::{AllocError, Global};
 use vsi_image::Instr;
@@ -65,7 +66,7 @@ fn emit_guard(code: &mut Vec<Instr>, guard: &Ex) -> Result<usize, AllocError>
 /// Aims the test at this place behind the code.
 fn aim_test(code: &mut Vec<Instr>, place: usize)
     requires within { place < length code.old.items }
-    requires small { length code.old.items ≤ most_instructions }
+    requires small { length code.old.items ≤ max_instructions }
     ensures { code.new.items ≡ slice_set code.old.items place (spec.Jz (length code.old.items)) }
 {
     code[place] = Instr::Jz(code.len() as u32);
@@ -74,7 +75,7 @@ fn aim_test(code: &mut Vec<Instr>, place: usize)
 /// Aims the jump at this place behind the code.
 fn aim_jump(code: &mut Vec<Instr>, place: usize)
     requires within { place < length code.old.items }
-    requires small { length code.old.items ≤ most_instructions }
+    requires small { length code.old.items ≤ max_instructions }
     ensures { code.new.items ≡ slice_set code.old.items place (spec.Jmp (length code.old.items)) }
 {
     code[place] = Instr::Jmp(code.len() as u32);

@@ -3,7 +3,7 @@ use Rattle.std.specs.Prelude.{ℕ, ◌+◌, List, [], ◌∷◌, ◌++◌, lengt
 use Rattle.vsi_image.specs.declared.limits.Limit.{Limit}
 use Rattle.vsi_image.specs.declared.limits.Limit.TheVariants.{Globals, Slots, Stack, Count, Name, Class}
 use Rattle.vsi_syntax.specs.Words.{is_name}
-use Rattle.vsi_image.specs.Fields.{Global, Fields, is_taken}
+use Rattle.vsi_image.specs.Fields.{Global, Fields, is_taken, max_globals, max_slots, max_operands, max_instructions}
 
 -- The first fault of these globals, which have numbers from n on and stand behind those before.
 abbrev pub globals_limit : ℕ → List Global → List Global → Option Limit
@@ -16,9 +16,9 @@ globals_limit n before (g ∷ gs) =
 -- The first limit that an image is past: its numbers first, then its globals.
 abbrev pub first_limit : Fields → Option Limit
 first_limit f =
-    if nat_lt 256 (length f.globals) then Some Globals
+    if nat_lt max_globals (length f.globals) then Some Globals
     else if nat_lt f.slots (length f.globals) then Some Slots
-    else if nat_lt 512 f.slots then Some Slots
-    else if nat_lt 256 f.stack then Some Stack
-    else if nat_lt 65535 (length f.code) then Some Count
+    else if nat_lt max_slots f.slots then Some Slots
+    else if nat_lt max_operands f.stack then Some Stack
+    else if nat_lt max_instructions (length f.code) then Some Count
     else globals_limit 0 [] f.globals

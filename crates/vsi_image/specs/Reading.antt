@@ -7,7 +7,7 @@ use Rattle.vsi_image.specs.declared.decoder.DecodeError.{DecodeError}
 use Rattle.vsi_image.specs.declared.decoder.DecodeError.TheVariants.{Memory, BadMagic, BadVersion, BadField, BadOpcode, Truncated, Trailing}
 use Rattle.vsi_image.specs.declared.decoder.Head as made
 use Rattle.vsi_syntax.specs.Words.{is_name}
-use Rattle.vsi_image.specs.Fields.{Global, Fields, is_taken}
+use Rattle.vsi_image.specs.Fields.{Global, Fields, is_taken, max_globals, max_slots, max_operands, max_instructions, newest_version}
 
 -- What is read next, where nothing was refused so far.
 infixl 10 ◌>>=◌
@@ -68,7 +68,7 @@ magic_at whole bytes = do
 unfoldable pub version_at : ℕ → List ℕ → Field ℕ
 version_at whole bytes = do
   version ← byte_at whole bytes
-  if is_within 1 2 version.0 then Ok version else Err BadVersion
+  if is_within 1 newest_version version.0 then Ok version else Err BadVersion
 
 -- A length from 1 to 32, and a name that none of these globals has.
 unfoldable pub name_at : List Global → ℕ → List ℕ → Field (List ℕ)
@@ -141,10 +141,10 @@ unfoldable pub head_at : ℕ → List ℕ → Field Head
 head_at whole bytes = do
   magic ← magic_at whole bytes
   version ← version_at whole magic.1
-  globals ← field_at w16 0 256 whole version.1
-  slots ← field_at w16 globals.0 512 whole globals.1
-  stack ← field_at w16 0 256 whole slots.1
-  count ← field_at w32 0 65535 whole stack.1
+  globals ← field_at w16 0 max_globals whole version.1
+  slots ← field_at w16 globals.0 max_slots whole globals.1
+  stack ← field_at w16 0 max_operands whole slots.1
+  count ← field_at w32 0 max_instructions whole stack.1
   Ok (
     record {
       version = version.0;

@@ -5,7 +5,7 @@ ghost use Rattle.std.specs.List.{flat_map};
 ghost use Rattle.std.specs.Option.{option_map};
 ghost use Rattle.vsi_image.specs.declared.encoder.EncodeError.TheVariants.{Memory, Unencodable};
 ghost use Rattle.vsi_image.specs.Fields as spec;
-ghost use Rattle.vsi_image.specs.Fields.{fields, global, globals, global_bytes, instr_bytes, head_bytes, string, IsAllowed, HasOpcode, HasBytes, Spells};
+ghost use Rattle.vsi_image.specs.Fields.{fields, global, globals, global_bytes, instr_bytes, head_bytes, string, IsAllowed, HasOpcode, HasBytes, Spells, newest_version};
 ghost use Rattle.vsi_image.specs.Limits.{first_limit};
 ghost use Rattle.vsi_image.specs.Reading.{image_of};
 
@@ -74,7 +74,7 @@ fn put_globals(out: &mut Vec<u8>, all: &[(Vec<u8>, Vec<u8>)]) -> Result<(), Allo
 
 /// What the type says of an instruction's operand.
 fn known(instr: Instr)
-    ensures { HasOpcode 2 instr }
+    ensures { HasOpcode newest_version instr }
 {
     match instr {
         Instr::Push(_n) => {}
@@ -93,7 +93,7 @@ fn known(instr: Instr)
 
 /// What the type says of the operands of a code.
 fn known_all(code: &[Instr])
-    ensures { All (HasOpcode 2) code.now }
+    ensures { All (HasOpcode newest_version) code.now }
 {
     for instr in code {
         known(*instr);
@@ -133,8 +133,8 @@ fn put_head(
 /// The bytes of an image that is within its limits.
 fn bytes_of(alloc: Global, image: &Image) -> Result<Vec<u8>, AllocError>
     requires { IsAllowed (fields image.now) }
-    ensures bytes { IfOk result (λ b. b.items ≡ spec.bytes_of 2 (fields image.now)) }
-    ensures fits { OnOk result (HasBytes 2 (fields image.now)) }
+    ensures bytes { IfOk result (λ b. b.items ≡ spec.bytes_of newest_version (fields image.now)) }
+    ensures fits { OnOk result (HasBytes newest_version (fields image.now)) }
 {
     known_all(&image.code);
     let mut out = Vec::new(alloc);
@@ -172,7 +172,7 @@ impl From<AllocError> for EncodeError {
 /// The bytes of the image, in version 2, or the first limit that it is past.
 pub fn encode(alloc: Global, image: &Image) -> Result<Vec<u8>, EncodeError>
     // The bytes are the image's in version 2.
-    ensures bytes { IfOk result (λ b. b.items ≡ spec.bytes_of 2 (fields image.now)) }
+    ensures bytes { IfOk result (λ b. b.items ≡ spec.bytes_of newest_version (fields image.now)) }
     // An image that has bytes is within its limits.
     ensures allowed { OnOk result (IsAllowed (fields image.now)) }
     // The error is the first limit, unless memory ran out.

@@ -7,6 +7,7 @@ ghost use Rattle.vsi_image.specs.Effects.{goes_off, target_of};
 ghost use Rattle.vsi_image.specs.Faults as spec;
 ghost use Rattle.vsi_image.specs.Marks.{AreMarked, MarkDepths, marked};
 ghost use Rattle.vsi_image.specs.Valid.{IsValid};
+ghost use Rattle.vsi_image.specs.Fields.{max_operands, max_instructions};
 
 use crate::effects::{depth_after, gives, goes_off, leaves_none, slot_of, takes, target_of};
 use crate::instr::{Image, Instr};
@@ -72,8 +73,8 @@ fn fault_at(image: &Image, pc: usize, depth: usize, instr: Instr) -> Option<Veri
 
 /// The first instruction's fault, with a mark at each instruction that is met without operands.
 fn check_each(image: &Image, marks: &mut [u64; WORDS]) -> Option<VerifyError>
-    requires short { length image.now.code.items ≤ 65535 }
-    requires stack { image.now.stack ≤ 256 }
+    requires short { length image.now.code.items ≤ max_instructions }
+    requires stack { image.now.stack ≤ max_operands }
     requires blank { (k : ℕ) → marked marks.old k ≡ false }
     ensures fault { result ≡ spec.first_from (spec.own_fault image.now) 0 image.now.code.items }
     ensures marks { IsNone result → MarkDepths image.now.code.items (marked marks.new) }

@@ -6,6 +6,7 @@ use Rattle.vsi_scope.specs.Language.{Command, Skip, Assign, Sequence, If, While,
 use Rattle.vsi_opt.specs.Liveness.{Locations, joined, with_bit, all_reads}
 use Rattle.vsi_opt.specs.Ranges.{Fits, bits}
 use Rattle.vsi_opt.specs.declared.small_set.SmallSet.{SmallSet}
+use Rattle.vsi_scope.specs.Limits.{max_declarations}
 
 -- A set of numbers in which it is noted of each letvar whether its scope reads its variable.
 abbrev pub noted : ℕ → ℕ → Command → Locations → Locations
@@ -27,7 +28,7 @@ Tells own k n (Letvar e c) = (own n ≡ all_reads c k) × Tells own (k + 1) (n +
 
 -- The locations and numbers of a command are within the limits.
 abbrev pub AddFits : ℕ → ℕ → Command → Type 0
-AddFits k n c = Fits k c × (n + letvars c ≤ 1024)
+AddFits k n c = Fits k c × (n + letvars c ≤ max_declarations)
 
 -- A walk has added the reads of a command to one set, has noted its letvars in another, and has gone past them.
 abbrev pub Adds : ℕ → Command → Locations → Locations → ℕ → Locations → Locations → ℕ → Type 0
@@ -40,4 +41,4 @@ AddsTo k c live own n live' own' n' = Adds k c (bits live) (bits own) n (bits li
 
 -- The locations and numbers of a command are within the limits, and its letvars are noted.
 abbrev pub KeptInLoopFits : Locations → ℕ → ℕ → Command → Type 0
-KeptInLoopFits own k n c = Fits k c × Tells own k n c × (n + letvars c ≤ 1024)
+KeptInLoopFits own k n c = Fits k c × Tells own k n c × (n + letvars c ≤ max_declarations)

@@ -3,15 +3,16 @@ use Rattle.std.specs.Prelude.{ℕ, ◌+◌, ◌/◌, ◌%◌, ◌^◌, ◌<◌, 
 use Rattle.vsi_scope.specs.Language.{Command, Skip, Assign, Sequence, If, While, Letvar, HasLocations, letvars}
 use Rattle.vsi_opt.specs.Liveness.{Locations}
 use Rattle.vsi_opt.specs.declared.small_set.SmallSet.{SmallSet}
+use Rattle.vsi_scope.specs.Limits.{max_declarations}
 
 -- Every location is below 1,024, the letvars' own too, with k locations in scope, and no loop has more letvars.
 abbrev pub Fits : ℕ → Command → Type 0
 Fits k Skip = Unit {0}
-Fits k (Assign l s e) = (l < 1024) × HasLocations 1024 e
+Fits k (Assign l s e) = (l < max_declarations) × HasLocations max_declarations e
 Fits k (Sequence a b) = Fits k a × Fits k b
-Fits k (If e a b) = HasLocations 1024 e × Fits k a × Fits k b
-Fits k (While e c) = HasLocations 1024 e × Fits k c × (letvars c ≤ 1024)
-Fits k (Letvar e c) = (k < 1024) × HasLocations 1024 e × Fits (k + 1) c
+Fits k (If e a b) = HasLocations max_declarations e × Fits k a × Fits k b
+Fits k (While e c) = HasLocations max_declarations e × Fits k c × (letvars c ≤ max_declarations)
+Fits k (Letvar e c) = (k < max_declarations) × HasLocations max_declarations e × Fits (k + 1) c
 
 -- The bits of 64-bit words.
 abbrev pub bit_of : List ℕ → Locations

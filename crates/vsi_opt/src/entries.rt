@@ -5,6 +5,7 @@ ghost use Rattle.vsi_scope.specs.Language.{letvars};
 ghost use Rattle.vsi_scope.specs.View.{expression, command, sequence};
 ghost use Rattle.vsi_opt.specs.Folding.{folded, literal_of, truth_of};
 ghost use Rattle.vsi_opt.specs.Remaining.{may_be_true, may_be_false, remaining, HasEntries, Picks, PicksIf};
+ghost use Rattle.vsi_scope.specs.Limits.{max_declarations};
 
 use std::alloc::{AllocError, Global};
 use vsi_scope::{Cmd, Entry, Ex};
@@ -51,7 +52,7 @@ fn can_be_false(guard: &Ex) -> bool
 /// Goes past the letvars of commands that folding takes away.
 #[cycle(passing)]
 fn pass_all(body: &[Cmd], next: &mut usize)
-    requires { next.now + letvars (sequence body.now) ≤ 1024 }
+    requires { next.now + letvars (sequence body.now) ≤ max_declarations }
     ensures { next.new ≡ next.old + letvars (sequence body.now) }
 {
     for c in body {
@@ -61,7 +62,7 @@ fn pass_all(body: &[Cmd], next: &mut usize)
 
 #[cycle(passing)]
 fn pass_one(c: &Cmd, next: &mut usize)
-    requires { next.now + letvars (command c.now) ≤ 1024 }
+    requires { next.now + letvars (command c.now) ≤ max_declarations }
     ensures { next.new ≡ next.old + letvars (command c.now) }
 {
     match c {
@@ -82,7 +83,7 @@ fn pass_one(c: &Cmd, next: &mut usize)
 /// `next`.
 #[cycle(picking)]
 fn pick_all(body: &[Cmd], next: &mut usize, out: &mut Vec<usize>) -> Result<(), AllocError>
-    requires { next.now + letvars (sequence body.now) ≤ 1024 }
+    requires { next.now + letvars (sequence body.now) ≤ max_declarations }
     ensures { OnOk result
         (Picks (sequence body.now) next.old next.new out.old.items out.new.items) }
 {
@@ -100,7 +101,7 @@ fn pick_if(
     next: &mut usize,
     out: &mut Vec<usize>,
 ) -> Result<(), AllocError>
-    requires { next.now + letvars (sequence body.now) ≤ 1024 }
+    requires { next.now + letvars (sequence body.now) ≤ max_declarations }
     ensures { OnOk result
         (PicksIf remains (sequence body.now) next.old next.new out.old.items out.new.items) }
 {
@@ -114,7 +115,7 @@ fn pick_if(
 
 #[cycle(picking)]
 fn pick_one(c: &Cmd, next: &mut usize, out: &mut Vec<usize>) -> Result<(), AllocError>
-    requires { next.now + letvars (command c.now) ≤ 1024 }
+    requires { next.now + letvars (command c.now) ≤ max_declarations }
     ensures { OnOk result (Picks (command c.now) next.old next.new out.old.items out.new.items) }
 {
     match c {
@@ -138,7 +139,7 @@ pub(crate) fn remaining_entries<'a>(
     body: &[Cmd],
     entries: &[Entry<'a>],
 ) -> Result<Vec<Entry<'a>>, AllocError>
-    requires limit { length entries.now ≤ 1024 }
+    requires limit { length entries.now ≤ max_declarations }
     requires entries { length entries.now ≡ letvars (sequence body.now) }
     ensures { IfOk result (λ v. HasEntries v.items entries.now (remaining (sequence body.now) 0)) }
 {

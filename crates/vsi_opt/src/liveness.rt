@@ -11,6 +11,7 @@ ghost use Rattle.vsi_opt.specs.Folding.{append};
 ghost use Rattle.vsi_opt.specs.Liveness.{reads, joined, before, kept_in_loop, kept_live, taken};
 ghost use Rattle.vsi_opt.specs.Loops.{AddFits, AddsTo, KeptInLoopFits};
 ghost use Rattle.vsi_opt.specs.Ranges.{Fits, bits};
+ghost use Rattle.vsi_scope.specs.Limits.{max_declarations};
 
 use crate::small_set::SmallSet;
 use std::alloc::{AllocError, Global};
@@ -42,7 +43,7 @@ fn copy_assignment(loc: u16, span: Span, value: &Ex, alloc: Global) -> Result<Cm
 
 /// Adds what an expression reads.
 fn add_reads(e: &Ex, live: &mut SmallSet)
-    requires { HasLocations 1024 (expression e.now) }
+    requires { HasLocations max_declarations (expression e.now) }
     ensures { bits live.new ≡ joined (bits live.old) (reads (expression e.now)) }
 {
     match e {
@@ -57,7 +58,7 @@ fn add_reads(e: &Ex, live: &mut SmallSet)
 
 /// Takes a location out, if it isn't a global.
 fn take_out(live: &mut SmallSet, globals: u16, l: u16)
-    requires { l < 1024 }
+    requires { l < max_declarations }
     ensures { bits live.new ≡ taken globals l (bits live.old) }
 {
     if globals <= l {

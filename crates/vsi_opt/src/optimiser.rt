@@ -6,6 +6,7 @@ ghost use Rattle.vsi_scope.specs.View.{sequence};
 ghost use Rattle.vsi_opt.specs.Folded.{IsFolded};
 ghost use Rattle.vsi_opt.specs.Optimised.{optimised, RunsAlike};
 ghost use Rattle.vsi_opt.specs.Remaining.{IsRemainder, KeepsEntries};
+ghost use Rattle.vsi_scope.specs.Limits.{max_declarations};
 
 use crate::entries::remaining_entries;
 use crate::folding::fold_all;
@@ -17,7 +18,7 @@ use vsi_scope::{Cmd, Resolved};
 /// The commands of a body, folded and then without their dead assignments.
 fn optimise_body(alloc: Global, body: &[Cmd], globals: u16) -> Result<Vec<Cmd>, AllocError>
     requires places { HasPlaces globals (sequence body.now) }
-    requires limit { globals + letvars (sequence body.now) ≤ 1024 }
+    requires limit { globals + letvars (sequence body.now) ≤ max_declarations }
     ensures { IfOk result (λ v. sequence v.items ≡ optimised globals (sequence body.now)) }
 {
     let mut folded = Vec::new(alloc);

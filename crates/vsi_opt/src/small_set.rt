@@ -4,6 +4,7 @@ ghost use Rattle.std.specs.Prelude.{◌≡◌, ◌<◌, ◌≤◌, true, false};
 ghost use Rattle.vsi_opt.specs.Liveness.{with_bit, joined};
 ghost use Rattle.vsi_opt.specs.Ranges.{bits};
 ghost use Rattle.vsi_opt.specs.Optimised.{globals_alone};
+ghost use Rattle.vsi_scope.specs.Limits.{max_declarations};
 
 /// A set of numbers below 1,024, a bit for each.
 #[derive(Clone, Copy)]
@@ -14,7 +15,7 @@ pub(crate) struct SmallSet {
 impl SmallSet {
     /// The numbers below a number.
     pub(crate) fn below(count: u16) -> SmallSet
-        requires { count ≤ 1024 }
+        requires { count ≤ max_declarations }
         ensures { bits result ≡ globals_alone count }
     {
         let mut set = SmallSet { words: [0; 16] };
@@ -26,7 +27,7 @@ impl SmallSet {
 
     /// Whether a number is in the set.
     pub(crate) fn contains(&self, n: u16) -> bool
-        requires { n < 1024 }
+        requires { n < max_declarations }
         ensures { result ≡ bits self.now n }
     {
         let word = self.words[(n / 64) as usize];
@@ -35,7 +36,7 @@ impl SmallSet {
 
     /// Puts a number in.
     pub(crate) fn insert(&mut self, n: u16)
-        requires { n < 1024 }
+        requires { n < max_declarations }
         ensures { bits self.new ≡ with_bit (bits self.old) n true }
     {
         let at = (n / 64) as usize;
@@ -44,7 +45,7 @@ impl SmallSet {
 
     /// Takes a number out.
     pub(crate) fn remove(&mut self, n: u16)
-        requires { n < 1024 }
+        requires { n < max_declarations }
         ensures { bits self.new ≡ with_bit (bits self.old) n false }
     {
         let at = (n / 64) as usize;
@@ -53,7 +54,7 @@ impl SmallSet {
 
     /// Puts a number in or takes it out.
     pub(crate) fn set(&mut self, n: u16, is_in: bool)
-        requires { n < 1024 }
+        requires { n < max_declarations }
         ensures { bits self.new ≡ with_bit (bits self.old) n is_in }
     {
         if is_in {

@@ -5,6 +5,7 @@ use Rattle.vsi_scope.specs.declared.resolution.ScopeError.{ScopeError}
 use Rattle.vsi_scope.specs.declared.resolution.ScopeError.TheVariants as errors
 use Rattle.vsi_scope.specs.Scopes.{Text, Scope}
 use Rattle.vsi_scope.specs.Places.{place_of}
+use Rattle.vsi_scope.specs.Limits.{max_globals, max_declarations}
 
 -- A place of the text that may be at fault: the name of a global with those above it, the name of a letvar with the
 -- number of declarations before it, the name of a class, or a name that is read or assigned to with those in scope.
@@ -90,8 +91,8 @@ Known = Text → Option ℕ
 abbrev pub fault_at : Known → Mark → Option ScopeError
 fault_at classes (Global above x) =
     if_there (place_of above x.text) (errors.Duplicate x.span)
-    (if nat_lt (length above) 256 then None else Some (errors.TooManyGlobals x.span))
-fault_at classes (Local n x) = if nat_lt n 1024 then None else Some (errors.TooManyDeclarations x.span)
+    (if nat_lt (length above) max_globals then None else Some (errors.TooManyGlobals x.span))
+fault_at classes (Local n x) = if nat_lt n max_declarations then None else Some (errors.TooManyDeclarations x.span)
 fault_at classes (Class x) = if_absent (classes x.text) (errors.UnknownClass x.span)
 fault_at classes (Use scope x) = if_absent (place_of scope x.text) (errors.Unbound x.span)
 

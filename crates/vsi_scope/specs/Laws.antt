@@ -5,6 +5,7 @@ use Rattle.vsi_scope.specs.Language.{Command, size}
 use Rattle.vsi_scope.specs.Scopes.{DoesAll, in_sequence}
 use Rattle.vsi_scope.specs.Faults.{Known, Mark, Global, Local, Class, Use, global_names, program_marks, first_fault}
 use Rattle.vsi_scope.specs.Resolving.{IsResolution}
+use Rattle.vsi_scope.specs.Limits.{max_size}
 
 -- The names that are written, in order.
 abbrev pub called : List tree.Lexeme → List tree.Named
@@ -33,7 +34,7 @@ ResolvesFaultless =
 pub record HasBody (known : Known) (p : tree.Whole) : Type 0 where
   pub commands : List Command
   pub body : DoesAll (global_names p.globals) p.body commands
-  pub resolution : size (in_sequence commands) ≤ 65534 → IsResolution known p commands
+  pub resolution : size (in_sequence commands) ≤ max_size → IsResolution known p commands
 
 -- Every program without a fault has such a body.
 abbrev pub FaultlessResolves : Type 0

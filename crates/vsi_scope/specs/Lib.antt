@@ -1,3 +1,4 @@
+pub mod Limits
 pub mod Language
 pub mod View
 pub mod Meaning

@@ -1,12 +1,14 @@
 -- A resolved program, as its readers see it.
 use Rattle.std.specs.Prelude.{◌≡◌, ◌+◌, ◌≤◌, List, length, map, bytes_eq, IsTrue}
 use Rattle.std.specs.List.{All, IsDistinct}
+use Rattle.vsi_syntax.specs.Limits.{max_depth}
 use Rattle.vsi_syntax.specs.Words.{is_name}
 use Rattle.vsi_scope.specs.declared.program.Cmd.{Cmd}
 use Rattle.vsi_scope.specs.declared.resolved.Global.{Global}
 use Rattle.vsi_scope.specs.declared.resolved.Entry.{Entry}
 use Rattle.vsi_scope.specs.Language.{letvars, size, nesting, depth, HasPlaces}
 use Rattle.vsi_scope.specs.View.{sequence}
+use Rattle.vsi_scope.specs.Limits.{max_globals, max_declarations, max_size}
 
 -- A program: its globals, the entries of its letvars, and its commands.
 pub record Resolved : Type 0 where
@@ -27,10 +29,10 @@ IsNamed g = IsTrue (is_name g.name.now) × IsTrue (is_name g.class_name.now)
 pub record IsResolved (r : Resolved) : Type 0 where
   pub entries : length r.letvars ≡ letvars (sequence r.body)
   pub places : HasPlaces (length r.globals) (sequence r.body)
-  pub few_globals : length r.globals ≤ 256
-  pub few_declarations : length r.globals + letvars (sequence r.body) ≤ 1024
-  pub small : size (sequence r.body) ≤ 65534
-  pub nested : nesting (sequence r.body) ≤ 200
-  pub shallow : depth (sequence r.body) ≤ 200
+  pub few_globals : length r.globals ≤ max_globals
+  pub few_declarations : length r.globals + letvars (sequence r.body) ≤ max_declarations
+  pub small : size (sequence r.body) ≤ max_size
+  pub nested : nesting (sequence r.body) ≤ max_depth
+  pub shallow : depth (sequence r.body) ≤ max_depth
   pub distinct : IsDistinct bytes_eq (map (λ g. g.name.now) r.globals)
   pub named : All IsNamed r.globals

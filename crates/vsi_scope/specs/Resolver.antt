@@ -12,6 +12,7 @@ use Rattle.vsi_scope.specs.Scopes.{Scope}
 use Rattle.vsi_scope.specs.Places.{commands_of, all_commands}
 use Rattle.vsi_scope.specs.Faults.{Known, marks, all_marks, global_names, first_fault}
 use Rattle.vsi_scope.specs.Resolving.{Variable, variable, variables, all_variables, shown, global_of}
+use Rattle.vsi_scope.specs.Limits.{max_declarations}
 
 -- The names in scope: those of globals, then those of letvars.
 abbrev pub names_of : Names → Scope
@@ -40,7 +41,7 @@ declared w = length w.names.globals.keys + length w.letvars.items
 -- The letvars in scope are declared, and not too many declarations are.
 pub record IsWithin (w : Resolver) : Type 0 where
   pub locals : length w.names.locals.items ≤ length w.letvars.items
-  pub few : declared w ≤ 1024
+  pub few : declared w ≤ max_declarations
 
 -- The walk has gone over these letvars and has left these commands.
 pub record Walked

@@ -12,6 +12,7 @@ use Rattle.vsi_scope.specs.View.{command}
 use Rattle.vsi_scope.specs.Program.{Resolved}
 use Rattle.vsi_scope.specs.Scopes.{Text, DoesAll, in_sequence}
 use Rattle.vsi_scope.specs.Faults.{Known, all_locals, program_marks, first_fault, global_names}
+use Rattle.vsi_scope.specs.Limits.{max_globals, max_declarations, max_size}
 
 -- ---- the globals and the letvars of a tree.
 
@@ -93,12 +94,12 @@ abbrev mutual
 -- These commands are the program over locations, within the limits and with every class in the lattice.
 pub record IsResolution (known : Known) (p : tree.Whole) (cs : List Command) : Type 0 where
   pub distinct : IsDistinct bytes_eq (global_names p.globals)
-  pub few_globals : length p.globals ≤ 256
-  pub few_declarations : length p.globals + all_locals p.body ≤ 1024
+  pub few_globals : length p.globals ≤ max_globals
+  pub few_declarations : length p.globals + all_locals p.body ≤ max_declarations
   pub global_classes : HasGlobalClasses known p.globals
   pub classes : HasAllClasses known p.body
   pub body : DoesAll (global_names p.globals) p.body cs
-  pub small : size (in_sequence cs) ≤ 65534
+  pub small : size (in_sequence cs) ≤ max_size
 
 -- The program is the resolution of the tree: its globals, its letvars in text order and its body, spans included.
 pub record Resolves (known : Known) (p : tree.Whole) (r : Resolved) : Type 0 where
@@ -121,7 +122,7 @@ pub record IsTooLarge (known : Known) (p : tree.Whole) : Type 0 where
   pub commands : List Command
   pub faultless : first_fault known (program_marks p) ≡ None
   pub body : DoesAll (global_names p.globals) p.body commands
-  pub large : 65534 < size (in_sequence commands)
+  pub large : max_size < size (in_sequence commands)
 
 -- The error is the first fault in text order, or says that a program without fault is too large.
 abbrev pub ExplainsScope : Known → tree.Whole → ScopeError → Type 0

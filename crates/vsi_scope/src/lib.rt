@@ -6,8 +6,8 @@
 //! is, `refused` what each fault means, and `exact` that a program without fault is refused for
 //! want of memory alone. The laws of evaluation are the contracts of the functions in [`laws`].
 //!
-//! To be believed: `specs/Faults`, `specs/Language`, `specs/Laws`, `specs/Meaning`, `specs/Places`,
-//! `specs/Program`, `specs/Resolving`, `specs/Rules`, `specs/Scopes`, `specs/View`;
+//! To be believed: `specs/Faults`, `specs/Language`, `specs/Laws`, `specs/Limits`, `specs/Meaning`,
+//! `specs/Places`, `specs/Program`, `specs/Resolving`, `specs/Rules`, `specs/Scopes`, `specs/View`;
 //! `specs/Resolver` is a stepping stone of proofs.
 #![tactic(auto)]
 

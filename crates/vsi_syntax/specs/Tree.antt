@@ -1,6 +1,7 @@
 -- The tree without where it lies in memory: what it writes, its levels and its depth.
 use Rattle.std.specs.Prelude.{ℕ, ◌+◌, ◌≤◌, max, ℤ, List, [], ◌∷◌, ◌++◌, Option, Some, None}
 use Rattle.std.specs.Coded.{×_prop, Unit-prop, le_prop}
+use Rattle.vsi_syntax.specs.Limits.{max_depth}
 use mathlib.Core.HLevel.{×₃_prop}
 use Rattle.vsi_syntax.specs.declared.token.Kind.{Kind}
 use Rattle.vsi_syntax.specs.declared.token.Kind.TheVariants as k
@@ -184,7 +185,7 @@ nowhere x = record { text = x.text; span = record { start = 0; stop = 0 } }
 -- What every program keeps: its sums, comparisons and atoms stand where they may, no sequence is empty, and it is not
 -- deep.
 abbrev pub IsProgram : Body → Type 0
-IsProgram b = IsBodyLevelled b × (body_depth b ≤ 200)
+IsProgram b = IsBodyLevelled b × (body_depth b ≤ max_depth)
 
 -- That an expression is levelled has one proof, so that a type can keep it; the same holds of the facts below.
 pub tree_prop : (l : ℕ) (t : Tree) → IsProp (IsLevelled l t)

@@ -8,9 +8,9 @@
 //! written for all of them by `put_number`, `put_word` and `put_place`.
 //!
 //! To be believed: `specs/Apart`, `specs/Canon`, `specs/CommandView`, `specs/Cut`,
-//! `specs/FaultPlaces`, `specs/Given`, `specs/Lines`, `specs/Operators`, `specs/ProgramView`,
-//! `specs/Spelling`, `specs/Tree`, `specs/View` and `specs/Words`; the other files of `specs/` are
-//! stepping stones of proofs.
+//! `specs/FaultPlaces`, `specs/Given`, `specs/Limits`, `specs/Lines`, `specs/Operators`,
+//! `specs/ProgramView`, `specs/Spelling`, `specs/Tree`, `specs/View` and `specs/Words`; the other
+//! files of `specs/` are stepping stones of proofs.
 #![tactic(auto)]
 
 pub mod laws;

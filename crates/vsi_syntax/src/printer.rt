@@ -6,6 +6,7 @@ ghost use Rattle.vsi_syntax.specs.View.{tree, named};
 ghost use Rattle.vsi_syntax.specs.CommandView.{command, body_of, declared};
 ghost use Rattle.vsi_syntax.specs.ProgramView.{whole};
 ghost use Rattle.vsi_syntax.specs.Canon as spec;
+ghost use Rattle.vsi_syntax.specs.Limits.{max_depth};
 
 use crate::numbers::put_word;
 use crate::operator::Op;
@@ -112,7 +113,7 @@ fn print_spaces(out: &mut Vec<u8>, indent: u16) -> Result<(), AllocError>
 /// A sequence at an indent.
 #[cycle(printing)]
 fn print_body(out: &mut Vec<u8>, body: &[Stmt], indent: u16) -> Result<(), AllocError>
-    requires { indent + body_depth (body_of body.now) ≤ 200 }
+    requires { indent + body_depth (body_of body.now) ≤ max_depth }
     ensures { OnOk result
         (out.new.items ≡ out.old.items ++ spec.canon_body indent (body_of body.now)) }
 {
@@ -131,7 +132,7 @@ fn print_body(out: &mut Vec<u8>, body: &[Stmt], indent: u16) -> Result<(), Alloc
 /// A command at an indent, without the spaces before it.
 #[cycle(printing)]
 fn print_command(out: &mut Vec<u8>, c: &Stmt, indent: u16) -> Result<(), AllocError>
-    requires { indent + command_depth (command c.now) ≤ 200 }
+    requires { indent + command_depth (command c.now) ≤ max_depth }
     ensures { OnOk result
         (out.new.items ≡ out.old.items ++ spec.canon_command indent (command c.now)) }
 {

@@ -13,6 +13,7 @@ use Rattle.vsi_types.specs.declared.rules.Profile.TheVariants.{Strict}
 use Rattle.vsi_types.specs.declared.rules.Step.{Step}
 use Rattle.vsi_types.specs.Typing.{Locations, HasData, HasCmd}
 use Rattle.vsi_types.specs.Steps.{sink, steps, AreInOrder}
+use Rattle.vsi_scope.specs.Limits.{max_declarations}
 
 -- The class of each declaration, the globals' first; the sink has the bottom class.
 abbrev pub class_of : Lattice → List ℕ → ℕ → ℕ
@@ -67,7 +68,7 @@ pub record IsWellFormed (L : Lattice) (p : Program) : Type 0 where
   pub classes : All (IsClass L) p.globals
   pub entries : length p.declared ≡ letvars p.body
   pub places : HasPlaces (length p.globals) p.body
-  pub limit : length p.globals + letvars p.body ≤ 1024
+  pub limit : length p.globals + letvars p.body ≤ max_declarations
 
 -- A program is typable exactly where the choice is one and all flow steps are in order.
 abbrev pub StepsDecide : Type 0

@@ -8,6 +8,7 @@ ghost use Rattle.vsi_scope.specs.View.{expression, command, sequence};
 ghost use Rattle.vsi_types.specs.Security.{class_of};
 ghost use Rattle.vsi_types.specs.Checking.{Judged};
 ghost use Rattle.vsi_types.specs.Walker.{walker_place};
+ghost use Rattle.vsi_scope.specs.Limits.{max_declarations};
 
 use crate::error::CheckError;
 use crate::flows::{check_choice, check_guards, check_loop, check_reads};
@@ -30,7 +31,8 @@ fn check_assign<C: Classes>(
     requires classes { All (IsClass (C.lattice lattice.now)) table.now }
     requires places { HasPlaces (length walk.old.scope.items)
         (Assign location span (expression value.now)) }
-    requires limit { walk.old.next + letvars (Assign location span (expression value.now)) ≤ 1024 }
+    requires limit { walk.old.next
+        + letvars (Assign location span (expression value.now)) ≤ max_declarations }
     ensures { Judged (C.lattice lattice.now) profile (class_of (C.lattice lattice.now) table.now)
         (walker_place walk.old)
         (Assign location span (expression value.now)) (walker_place walk.new) result }
@@ -57,7 +59,7 @@ fn check_if<C: Classes>(
         (If (expression guard.now) (sequence then_branch.now) (sequence else_branch.now)) }
     requires limit { walk.old.next + letvars (If (expression guard.now) (sequence then_branch.now)
         (sequence else_branch.now))
-        ≤ 1024 }
+        ≤ max_declarations }
     ensures { Judged (C.lattice lattice.now) profile (class_of (C.lattice lattice.now) table.now)
         (walker_place walk.old)
         (If (expression guard.now) (sequence then_branch.now) (sequence else_branch.now))
@@ -94,7 +96,7 @@ fn check_while<C: Classes>(
     requires places { HasPlaces (length walk.old.scope.items)
         (While (expression guard.now) (sequence body.now)) }
     requires limit { walk.old.next
-        + letvars (While (expression guard.now) (sequence body.now)) ≤ 1024 }
+        + letvars (While (expression guard.now) (sequence body.now)) ≤ max_declarations }
     ensures { Judged (C.lattice lattice.now) profile (class_of (C.lattice lattice.now) table.now)
         (walker_place walk.old)
         (While (expression guard.now) (sequence body.now)) (walker_place walk.new) result }
@@ -121,7 +123,7 @@ fn check_letvar<C: Classes>(
     requires places { HasPlaces (length walk.old.scope.items)
         (Letvar (expression value.now) (sequence body.now)) }
     requires limit { walk.old.next
-        + letvars (Letvar (expression value.now) (sequence body.now)) ≤ 1024 }
+        + letvars (Letvar (expression value.now) (sequence body.now)) ≤ max_declarations }
     ensures { Judged (C.lattice lattice.now) profile (class_of (C.lattice lattice.now) table.now)
         (walker_place walk.old)
         (Letvar (expression value.now) (sequence body.now)) (walker_place walk.new) result }
@@ -147,7 +149,7 @@ pub(crate) fn check_commands<C: Classes>(
 ) -> Result<(), CheckError>
     requires classes { All (IsClass (C.lattice lattice.now)) table.now }
     requires places { HasPlaces (length walk.old.scope.items) (sequence body.now) }
-    requires limit { walk.old.next + letvars (sequence body.now) ≤ 1024 }
+    requires limit { walk.old.next + letvars (sequence body.now) ≤ max_declarations }
     ensures { Judged (C.lattice lattice.now) profile (class_of (C.lattice lattice.now) table.now)
         (walker_place walk.old)
         (sequence body.now) (walker_place walk.new) result }
@@ -169,7 +171,7 @@ fn check_command<C: Classes>(
 ) -> Result<(), CheckError>
     requires classes { All (IsClass (C.lattice lattice.now)) table.now }
     requires places { HasPlaces (length walk.old.scope.items) (command c.now) }
-    requires limit { walk.old.next + letvars (command c.now) ≤ 1024 }
+    requires limit { walk.old.next + letvars (command c.now) ≤ max_declarations }
     ensures { Judged (C.lattice lattice.now) profile (class_of (C.lattice lattice.now) table.now)
         (walker_place walk.old)
         (command c.now) (walker_place walk.new) result }

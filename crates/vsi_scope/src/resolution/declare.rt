@@ -6,6 +6,7 @@ ghost use Rattle.vsi_lattice.specs.LatticeView.{class_named};
 ghost use Rattle.vsi_scope.specs.Places.{place_of};
 ghost use Rattle.vsi_scope.specs.Faults.{global_marks, first_fault, Judged};
 ghost use Rattle.vsi_scope.specs.Resolver.{names_of, HasNone, HasRead};
+ghost use Rattle.vsi_scope.specs.Limits.{max_globals};
 
 use super::scope::Names;
 use super::{MAX_GLOBALS, ScopeError};
@@ -28,10 +29,10 @@ fn class_below<'a>(
     d: &Declaration<'a>,
 ) -> Result<Class, ScopeError>
     requires outer { names.now.locals.items ≡ [] }
-    requires few { length names.now.globals.keys ≤ 256 }
+    requires few { length names.now.globals.keys ≤ max_globals }
     ensures class { IfOk result (λ c. class_named lattice.now d.now.class.text.now ≡ Some c) }
     ensures fresh { IfOk result (λ _. place_of (names_of names.now) d.now.name.text.now ≡ None) }
-    ensures few { IfOk result (λ _. length names.now.globals.keys < 256) }
+    ensures few { IfOk result (λ _. length names.now.globals.keys < max_globals) }
     ensures fault { Judged result (first_fault (class_named lattice.now)
         (global_marks (names_of names.now) (syntax.declared d.now ∷ []))) }
 {

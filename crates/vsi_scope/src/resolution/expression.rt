@@ -6,6 +6,7 @@ ghost use Rattle.vsi_scope.specs.View.{expression};
 ghost use Rattle.vsi_scope.specs.Places.{expression_of};
 ghost use Rattle.vsi_scope.specs.Faults.{Known, uses, first_fault, Judged};
 ghost use Rattle.vsi_scope.specs.Resolver.{names_of};
+ghost use Rattle.vsi_scope.specs.Limits.{max_declarations};
 
 use super::ScopeError;
 use super::scope::Names;
@@ -19,7 +20,7 @@ pub(crate) fn expression<'a>(
     names: &Names<'a>,
     e: &Expr<'a>,
 ) -> Result<Ex, ScopeError>
-    requires { length names.now.globals.keys + length names.now.locals.items ≤ 1024 }
+    requires { length names.now.globals.keys + length names.now.locals.items ≤ max_declarations }
     ensures value { IfOk result
         (λ x. expression x ≡ expression_of (names_of names.now) (tree e.now)) }
     ensures fault { (classes : Known) →

@@ -2,6 +2,7 @@
 
 ghost use Rattle.std.specs.Prelude.{◌≡◌, ◌+◌, ◌<◌, ◌≤◌, length, map, IfSome};
 ghost use Rattle.vsi_scope.specs.Places.{place_of};
+ghost use Rattle.vsi_scope.specs.Limits.{max_declarations};
 
 use super::ScopeError;
 use indexmap::IndexSet;
@@ -36,7 +37,7 @@ impl<'a> Names<'a> {
     /// The last place of a name: that of the innermost letvar behind the globals, or the number of
     /// the global.
     pub(crate) fn find(&self, name: &[u8]) -> Option<u16>
-        requires { length self.now.globals.keys + length self.now.locals.items ≤ 1024 }
+        requires { length self.now.globals.keys + length self.now.locals.items ≤ max_declarations }
         ensures { result ≡ place_of (names_of self.now) name.now }
     {
         let globals = self.globals.len();

@@ -6,6 +6,7 @@ ghost use Rattle.vsi_syntax.specs.Tree.{level, left_level, right_level, depth, B
 ghost use Rattle.vsi_syntax.specs.View.{lexemes, tree, IsMeasured};
 ghost use Rattle.vsi_syntax.specs.Given.{Gives};
 ghost use Rattle.vsi_syntax.specs.Parsing as spec;
+ghost use Rattle.vsi_syntax.specs.Limits.{max_depth};
 
 use super::ParseError;
 use crate::operator::Op;
@@ -127,7 +128,7 @@ fn atom<'t, 'a>(
     room: u8,
     end: usize,
 ) -> Result<(Measured<'a>, &'t [Token<'a>]), ParseError>
-    requires { room ≤ 200 }
+    requires { room ≤ max_depth }
     ensures value { Gives (λ x. (tree x.0.expr, lexemes x.1.now)) result
         (spec.first (spec.inside room) (lexemes tokens.now)) }
     ensures measured { IfOk result (λ x. IsMeasured room x.0) }
@@ -172,8 +173,8 @@ fn join<'a>(
     left: Measured<'a>,
     right: Measured<'a>,
 ) -> Result<Measured<'a>, ParseError>
-    requires left_room { left.depth < 200 }
-    requires right_room { right.depth < 200 }
+    requires left_room { left.depth < max_depth }
+    requires right_room { right.depth < max_depth }
     ensures expr { Gives (λ x. tree x.expr) result
         (Some (Binary op (tree left.entry.expr) (tree right.entry.expr))) }
     ensures depth { IfOk result (λ x. x.depth ≡ 1 + max left.entry.depth right.entry.depth) }
@@ -201,7 +202,7 @@ pub(crate) fn expression<'t, 'a>(
     room: u8,
     end: usize,
 ) -> Result<(Measured<'a>, &'t [Token<'a>]), ParseError>
-    requires { room ≤ 200 }
+    requires { room ≤ max_depth }
     ensures value { Gives (λ x. (tree x.0.expr, lexemes x.1.now)) result
         (spec.parse room least (lexemes tokens.now)) }
     ensures measured { IfOk result (λ x. IsMeasured room x.0) }
