@@ -7,7 +7,8 @@ use vsi_image::{Image, Instr, listing};
 use vsi_infer::Walk;
 use vsi_lattice::{Classes, Lattice};
 use vsi_steady::SteadyError;
-use vsi_telling::names::{class_names, put_decimal, put_names, put_quoted};
+use vsi_syntax::put_number;
+use vsi_telling::names::{class_names, put_names, put_quoted};
 
 /// An image that is refused, and the lattice by which it was judged.
 #[derive(Clone, Copy)]
@@ -57,7 +58,7 @@ impl Judged<'_> {
     fn put_line(&self, words: &mut Vec<u8>, number: usize) -> Result<(), AllocError> {
         let text = listing(self.alloc, self.image)?;
         let mut start = Vec::new(self.alloc);
-        put_decimal(&mut start, number)?;
+        put_number(&mut start, number)?;
         start.extend_from_slice(b": ")?;
         if let Some(line) = line_of(&text, &start) {
             words.extend_from_slice(b"  ")?;
@@ -100,9 +101,9 @@ impl Judged<'_> {
     /// Adds what is told of fields that the code doesn't need.
     fn put_fields(&self, words: &mut Vec<u8>) -> Result<(), AllocError> {
         words.extend_from_slice(b"The fields of the image are slots ")?;
-        put_decimal(words, self.image.slots as usize)?;
+        put_number(words, self.image.slots as usize)?;
         words.extend_from_slice(b" and stack ")?;
-        put_decimal(words, self.image.stack as usize)?;
+        put_number(words, self.image.stack as usize)?;
         words.extend_from_slice(
             b", and its commands need another number in one of them.\n\
             Hint: `vsi source IMAGE` writes the commands as a text; build the image of that.\n",

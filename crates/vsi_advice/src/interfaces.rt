@@ -7,9 +7,9 @@ use std::alloc::{AllocError, Global};
 use toml::Table;
 use vsi_conform::InterfaceError;
 use vsi_lattice::Lattice;
-use vsi_syntax::Span;
+use vsi_syntax::{Span, put_number};
 use vsi_telling::finding::{key_place, quoted_place};
-use vsi_telling::names::{class_names, put_decimal, put_names, put_quoted};
+use vsi_telling::names::{class_names, put_names, put_quoted};
 use vsi_telling::nearest::put_nearest;
 use vsi_telling::tables::{put_syntax, table_in, value_in};
 
@@ -83,7 +83,7 @@ impl Page<'_> {
 
     /// Adds a number.
     pub(crate) fn count(&mut self, number: usize) -> Result<(), AllocError> {
-        put_decimal(self.words, number)
+        put_number(self.words, number)
     }
 
     /// Adds which of the words was perhaps meant, or else a hint.

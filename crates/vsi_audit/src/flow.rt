@@ -8,12 +8,13 @@ ghost use Rattle.vsi_audit.specs.Telling as spec;
 ghost use Rattle.vsi_audit.specs.Telling.{IsAuditText};
 
 use crate::error::AuditError;
-use crate::names::{Names, put_number};
+use crate::names::Names;
 use std::alloc::{AllocError, Global};
 use vsi_image::Image;
 use vsi_infer::Step;
 use vsi_lattice::{Classes, Lattice};
 use vsi_scope::Var;
+use vsi_syntax::put_number;
 use vsi_types::{LOOP, Rule};
 
 /// The word of a rule.
@@ -77,7 +78,7 @@ fn put_step(out: &mut Vec<u8>, names: &Names<'_>, step: &Step) -> Result<(), All
     ensures { OnOk result (out.new.items ≡ out.old.items ++
         spec.step_line (fields.globals names.now.globals.now) names.now.form step.now) }
 {
-    put_number(out, step.read.start as u64)?;
+    put_number(out, step.read.start)?;
     out.extend_from_slice(b" ")?;
     put_name(out, names, step.source)?;
     out.extend_from_slice(b" flows to ")?;
@@ -85,7 +86,7 @@ fn put_step(out: &mut Vec<u8>, names: &Names<'_>, step: &Step) -> Result<(), All
     out.extend_from_slice(b" by ")?;
     out.extend_from_slice(rule_text(step.rule))?;
     out.extend_from_slice(b" at ")?;
-    put_number(out, step.written.start as u64)?;
+    put_number(out, step.written.start)?;
     out.extend_from_slice(b"\n")
 }
 
@@ -144,7 +145,7 @@ fn put_numbered(out: &mut Vec<u8>, start: &[u8], number: usize) -> Result<(), Al
         (out.new.items ≡ out.old.items ++ start.now ++ decimal number ++ codes "\n") }
 {
     out.extend_from_slice(start)?;
-    put_number(out, number as u64)?;
+    put_number(out, number)?;
     out.extend_from_slice(b"\n")
 }
 

@@ -1,13 +1,13 @@
 //! The names of globals and of locals, which have none in an image.
 
-ghost use Rattle.std.specs.Prelude.{◌≡◌, ◌⊎◌, ◌++◌, false, true, OnOk, MatchOption, decimal};
+ghost use Rattle.std.specs.Prelude.{◌≡◌, ◌⊎◌, ◌++◌, false, true, OnOk, MatchOption};
 ghost use Rattle.vsi_image.specs.Fields as fields;
 ghost use Rattle.vsi_audit.specs.MadeNames as spec;
 ghost use Rattle.vsi_audit.specs.MadeNames.{AreTaken, IsFreeAt, IsFirstFree, IsLast, IsForm};
 ghost use Rattle.vsi_audit.specs.Telling.{local_name, class_name};
 
-use itoa::Buffer;
 use std::alloc::{AllocError, Global};
+use vsi_syntax::put_number;
 
 /// What made-up names begin with: a letter, and so many `_`.
 #[derive(Clone, Copy)]
@@ -24,14 +24,6 @@ pub(crate) struct Names<'a> {
     /// The numbers of the locals in scope, from 1, and how many there were so far.
     scope: Vec<usize>,
     count: usize,
-}
-
-/// Adds a number in decimal.
-pub(crate) fn put_number(out: &mut Vec<u8>, n: u64) -> Result<(), AllocError>
-    ensures { OnOk result (out.new.items ≡ out.old.items ++ decimal n) }
-{
-    let mut buffer = Buffer::new();
-    out.extend_from_slice(buffer.format(n).as_bytes())
 }
 
 /// Whether a text is so many `_`, and digits behind them.
@@ -150,7 +142,7 @@ impl<'a> Names<'a> {
         for _ in 0..self.form.bars {
             out.push(b'_')?;
         }
-        put_number(out, number as u64)
+        put_number(out, number)
     }
 
     /// Adds the name of a location.

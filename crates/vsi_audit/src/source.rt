@@ -9,12 +9,12 @@ use crate::builder::{Commands, commands_of};
 use crate::coding::is_code_of;
 use crate::error::AuditError;
 use crate::globals::{declares, put_declarations};
-use crate::names::{Names, put_number};
+use crate::names::Names;
 use crate::writing::{InScope, check_all};
 use std::alloc::{AllocError, Global};
 use vsi_image::{Image, Verified};
 use vsi_scope::{Cmd, Ex};
-use vsi_syntax::{LexError, Op, ParseError, Program, lex, parse, print};
+use vsi_syntax::{LexError, Op, ParseError, Program, lex, parse, print, put_number};
 
 /// What an empty sequence is written as: it does nothing, and nothing flows out of it.
 fn put_nothing(out: &mut Vec<u8>, names: &Names<'_>) -> Result<(), AllocError> {
@@ -51,13 +51,13 @@ fn level(op: Op) -> u8 {
 /// the sum that gives it.
 fn put_word(out: &mut Vec<u8>, n: i64) -> Result<(), AllocError> {
     if n >= 0 {
-        return put_number(out, n.unsigned_abs());
+        return put_number(out, n.unsigned_abs() as usize);
     }
     if n == i64::MIN {
         return out.extend_from_slice(b"9223372036854775807+1");
     }
     out.extend_from_slice(b"0-")?;
-    put_number(out, n.unsigned_abs())
+    put_number(out, n.unsigned_abs() as usize)
 }
 
 /// Adds an expression, in brackets where it binds less tightly than this level: 3 for an atom.

@@ -1,7 +1,7 @@
 -- The lines of the classes of a program's declarations.
-use Rattle.std.specs.Prelude.{◌≡◌, ℕ, ◌+◌, List, [], ◌∷◌, ◌++◌, length, take, codes, decimal, slice_get, unwrap_or}
+use Rattle.std.specs.Prelude.{◌≡◌, ℕ, List, [], ◌∷◌, ◌++◌, codes, slice_get, unwrap_or}
 use Rattle.vsi_syntax.specs.declared.token.Span.{Span}
-use Rattle.vsi_syntax.specs.Lines.{breaks, last_line}
+use Rattle.vsi_syntax.specs.Lines.{place_text}
 use Rattle.vsi_syntax.specs.Tree.{Whole, Declared}
 use Rattle.vsi_lattice.specs.Order.{Lattice}
 use Rattle.vsi_scope.specs.Faults.{Known}
@@ -11,11 +11,6 @@ use Rattle.vsi_types.specs.declared.rules.Profile.{Profile}
 use Rattle.vsi_infer.specs.Inference.{IsLeast}
 use Rattle.vsi_compiler.specs.Source.{Reads}
 use Rattle.vsi_compiler.specs.Acceptance.{program_of}
-
--- `LINE:COLUMN` of a place.
-abbrev pub place_text : List ℕ → ℕ → List ℕ
-place_text text at =
-    decimal (1 + breaks (take at text)) ++ codes ":" ++ decimal (1 + length (last_line (take at text)))
 
 -- `LINE:COLUMN NAME : CLASS` and a line feed, for a name that stands there.
 abbrev pub class_line : List ℕ → Span → List ℕ → List ℕ → List ℕ

@@ -1,6 +1,6 @@
 //! The canonical text of a program, and the lines of its classes.
 
-ghost use Rattle.std.specs.Prelude.{◌≡◌, ◌++◌, ◌≤◌, length, map, decimal, IfOk, IfErr, OnOk};
+ghost use Rattle.std.specs.Prelude.{◌≡◌, ◌++◌, ◌≤◌, length, map, IfOk, IfErr, OnOk};
 ghost use Rattle.std.specs.List.{All};
 ghost use Rattle.vsi_lattice.specs.LatticeView.{class_named, names, order};
 ghost use Rattle.vsi_lattice.specs.Order.{IsClass};
@@ -10,18 +10,17 @@ ghost use Rattle.vsi_types.specs.declared.rules.Profile.TheVariants.{Base};
 ghost use Rattle.vsi_syntax.specs.Tree.{Whole};
 ghost use Rattle.vsi_compiler.specs.declared.error.CompileError.TheVariants.{Memory};
 ghost use Rattle.vsi_compiler.specs.Acceptance.{IsAccepted};
-ghost use Rattle.vsi_compiler.specs.Classes.{place_text, class_line, global_lines, letvar_lines, IsClassText};
+ghost use Rattle.vsi_compiler.specs.Classes.{class_line, global_lines, letvar_lines, IsClassText};
 ghost use Rattle.vsi_compiler.specs.Refusal.{Refuses, RefusesTree};
 ghost use Rattle.vsi_compiler.specs.Source.{Reads, IsCanonicalText};
 
 use crate::error::CompileError;
 use crate::source::read_program;
-use itoa::Buffer;
 use std::alloc::{AllocError, Global};
 use vsi_infer::infer_in;
 use vsi_lattice::{Class, Lattice};
 use vsi_scope::{Entry, resolve};
-use vsi_syntax::{Declaration, Span, line_column, print};
+use vsi_syntax::{Declaration, Span, print, put_place};
 use vsi_types::Profile;
 
 /// The canonical text of the program that a text writes; comments are dropped.
@@ -38,24 +37,6 @@ pub fn format_text(alloc: Global, text: &[u8]) -> Result<Vec<u8>, CompileError>
     Ok(print(alloc, &program)?)
 }
 
-/// A number in decimal more.
-fn push_number(out: &mut Vec<u8>, n: usize) -> Result<(), AllocError>
-    ensures { OnOk result (out.new.items ≡ out.old.items ++ decimal n) }
-{
-    let mut buffer = Buffer::new();
-    out.extend_from_slice(buffer.format(n).as_bytes())
-}
-
-/// The line and the column of a place more.
-fn push_place(out: &mut Vec<u8>, text: &[u8], at: usize) -> Result<(), AllocError>
-    ensures { OnOk result (out.new.items ≡ out.old.items ++ place_text text.now at) }
-{
-    let (line, column) = line_column(text, at);
-    push_number(out, line)?;
-    out.extend_from_slice(b":")?;
-    push_number(out, column)
-}
-
 /// The line of a declaration more.
 fn push_line(
     out: &mut Vec<u8>,
@@ -67,7 +48,7 @@ fn push_line(
     ensures { OnOk result
         (out.new.items ≡ out.old.items ++ class_line text.now span name.now class.now) }
 {
-    push_place(out, text, span.start)?;
+    put_place(out, text, span.start)?;
     out.extend_from_slice(b" ")?;
     out.extend_from_slice(name)?;
     out.extend_from_slice(b" : ")?;

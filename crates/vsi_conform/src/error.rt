@@ -5,9 +5,10 @@ ghost use Rattle.std.specs.Option.{option_copied};
 ghost use Rattle.vsi_conform.specs.Faulty as spec;
 ghost use Rattle.vsi_conform.specs.declared.error.InterfaceError.TheVariants.{Memory};
 
-use crate::texts::{push_number, push_parts};
+use crate::texts::push_parts;
 use std::alloc::{AllocError, AllocFailed, Global};
 use thiserror::Error;
+use vsi_syntax::put_number;
 
 /// Why an interface file is refused. Runs are numbered from 1.
 #[derive(Debug, Drop, Error)]
@@ -131,7 +132,7 @@ pub fn interface_text(alloc: Global, error: &InterfaceError) -> Result<Vec<u8>, 
     let (run, word) = fault_fields(error);
     if let Some(run) = run {
         text.extend_from_slice(b" ")?;
-        push_number(&mut text, run)?;
+        put_number(&mut text, run)?;
     }
     if let Some(word) = word {
         push_parts(&mut text, &[b" ", word])?;

@@ -1,7 +1,6 @@
 //! The lines of what is told.
 
-ghost use Rattle.std.specs.Prelude.{◌≡◌, ◌++◌, Some, true, decimal, IfOk, OnOk};
-ghost use Rattle.std.specs.Fmt.{signed_decimal};
+ghost use Rattle.std.specs.Prelude.{◌≡◌, ◌++◌, Some, true, IfOk, OnOk};
 ghost use Rattle.std.specs.List.{flat_map};
 ghost use Rattle.std.specs.Option.{option_copied};
 ghost use Rattle.vsi_lattice.specs.LatticeView.{class_named};
@@ -12,14 +11,13 @@ ghost use Rattle.vsi_conform.specs.Shown as told;
 use crate::declared::{Shown, declarations, global_at};
 use crate::interface::{Interface, Judgement, Trial};
 use crate::point::{Answer, Point};
-use itoa::Buffer;
 use std::alloc::{AllocError, Global};
 use vsi_compiler::{CompileError, unjudged_image};
 use vsi_faults::refusal_text;
 use vsi_infer::Walk;
 use vsi_lattice::Lattice;
 use vsi_steady::{SteadyError, UnsteadyError, steady_explanation, steady_text};
-use vsi_syntax::Declaration;
+use vsi_syntax::{Declaration, put_number, put_word};
 
 /// A source text and what is asked of it.
 #[derive(Clone, Copy)]
@@ -27,22 +25,6 @@ pub(crate) struct Pages<'a> {
     pub(crate) text: &'a [u8],
     pub(crate) found: &'a [Declaration<'a>],
     pub(crate) interface: &'a Interface,
-}
-
-/// A number in decimal more.
-pub(crate) fn push_number(text: &mut Vec<u8>, number: usize) -> Result<(), AllocError>
-    ensures { OnOk result (text.new.items ≡ text.old.items ++ decimal number) }
-{
-    let mut buffer = Buffer::new();
-    text.extend_from_slice(buffer.format(number).as_bytes())
-}
-
-/// A word in decimal more.
-fn push_word(text: &mut Vec<u8>, word: i64) -> Result<(), AllocError>
-    ensures { OnOk result (text.new.items ≡ text.old.items ++ signed_decimal word) }
-{
-    let mut buffer = Buffer::new();
-    text.extend_from_slice(buffer.format(word).as_bytes())
 }
 
 /// Some texts more.
@@ -137,9 +119,9 @@ pub fn refusal_lines(
 fn push_place(text: &mut Vec<u8>, shown: &Shown) -> Result<(), AllocError>
     ensures { OnOk result (text.new.items ≡ text.old.items ++ spec.place (told.shown shown.now)) }
 {
-    push_number(text, shown.line)?;
+    put_number(text, shown.line)?;
     text.extend_from_slice(b":")?;
-    push_number(text, shown.column)
+    put_number(text, shown.column)
 }
 
 /// The start of a run's line more.
@@ -147,7 +129,7 @@ fn push_run(text: &mut Vec<u8>, trial: usize) -> Result<(), AllocError>
     ensures { OnOk result (text.new.items ≡ text.old.items ++ spec.run_text trial) }
 {
     text.extend_from_slice(b"run ")?;
-    push_number(text, trial.saturating_add(1))
+    put_number(text, trial.saturating_add(1))
 }
 
 /// The global that is asked for under this number.
@@ -237,7 +219,7 @@ fn push_found(text: &mut Vec<u8>, name: &[u8], word: Option<i64>) -> Result<(), 
     match word {
         Some(word) => {
             push_parts(text, &[b" ", name, b" = "])?;
-            push_word(text, word)
+            put_word(text, word)
         }
         None => push_parts(text, &[b" no ", name]),
     }
@@ -256,7 +238,7 @@ fn push_wrong(
     push_run(text, trial)?;
     push_found(text, wanted.0, word)?;
     text.extend_from_slice(b", expected ")?;
-    push_word(text, wanted.1)?;
+    put_word(text, wanted.1)?;
     text.extend_from_slice(b"\n")
 }
 
@@ -266,10 +248,7 @@ fn push_budget(text: &mut Vec<u8>, trial: Option<&Trial>) -> Result<(), AllocErr
         ≡ text.old.items ++ spec.budget_text (option_copied trial.entry)) }
 {
     match trial {
-        Some(trial) => {
-            let mut buffer = Buffer::new();
-            text.extend_from_slice(buffer.format(trial.budget).as_bytes())
-        }
+        Some(trial) => put_number(text, trial.budget as usize),
         None => Ok(()),
     }
 }

@@ -1,19 +1,11 @@
 //! What is told of a count.
 
-ghost use Rattle.std.specs.Prelude.{◌≡◌, ◌++◌, IfOk, OnOk, decimal, false};
+ghost use Rattle.std.specs.Prelude.{◌≡◌, ◌++◌, IfOk, OnOk, false};
 ghost use Rattle.vsi_count.specs.Texts as spec;
 
 use crate::counting::Count;
-use itoa::Buffer;
 use std::alloc::{AllocError, Global};
-
-/// Adds a number in decimal.
-fn put_number(text: &mut Vec<u8>, number: u64) -> Result<(), AllocError>
-    ensures { OnOk result (text.new.items ≡ text.old.items ++ decimal number) }
-{
-    let mut buffer = Buffer::new();
-    text.extend_from_slice(buffer.format(number).as_bytes())
-}
+use vsi_syntax::put_number;
 
 /// The noun behind a number of instructions.
 fn noun(number: u64) -> &'static [u8]
@@ -32,7 +24,7 @@ pub fn count_text(alloc: Global, instructions: u64) -> Result<Vec<u8>, AllocErro
 {
     let mut text = Vec::new(alloc);
     text.extend_from_slice(b"instructions: ")?;
-    put_number(&mut text, instructions)?;
+    put_number(&mut text, instructions as usize)?;
     text.extend_from_slice(b"\n")?;
     Ok(text)
 }
@@ -41,7 +33,7 @@ pub fn count_text(alloc: Global, instructions: u64) -> Result<Vec<u8>, AllocErro
 fn put_instructions(text: &mut Vec<u8>, number: u64) -> Result<(), AllocError>
     ensures { OnOk result (text.new.items ≡ text.old.items ++ spec.number_of number) }
 {
-    put_number(text, number)?;
+    put_number(text, number as usize)?;
     text.extend_from_slice(noun(number))
 }
 

@@ -10,17 +10,16 @@ ghost use Rattle.vsi_drive.specs.Starts as starts;
 use crate::controller::Controller;
 use crate::fault::LineFault;
 use crate::starts::StartFault;
-use itoa::Buffer;
 use std::alloc::{AllocError, Global};
+use vsi_syntax::{put_number, put_word};
 
 /// A name, a space and a number more.
 fn push_numbered(text: &mut Vec<u8>, name: &[u8], number: usize) -> Result<(), AllocError>
     ensures { OnOk result (text.new.items ≡ text.old.items ++ settings.numbered name.now number) }
 {
-    let mut buffer = Buffer::new();
     text.extend_from_slice(name)?;
     text.extend_from_slice(b" ")?;
-    text.extend_from_slice(buffer.format(number).as_bytes())
+    put_number(text, number)
 }
 
 /// The number, the name and the field of a fault more.
@@ -77,10 +76,9 @@ fn push_seen(
         ++ spec.global_seen (control controller.now) (global variable.now) word) }
 {
     if controller.sees(variable.1.as_slice()) {
-        let mut buffer = Buffer::new();
         text.extend_from_slice(variable.0.as_slice())?;
         text.extend_from_slice(b" = ")?;
-        text.extend_from_slice(buffer.format(word).as_bytes())?;
+        put_word(text, word)?;
         text.extend_from_slice(b" ")?;
     }
     Ok(())

@@ -1,11 +1,11 @@
 //! The line of a refusal.
 
-ghost use Rattle.std.specs.Prelude.{◌≡◌, ◌++◌, IfOk, OnOk, decimal};
+ghost use Rattle.std.specs.Prelude.{◌≡◌, ◌++◌, IfOk, OnOk};
 ghost use Rattle.vsi_faults.specs.Line as spec;
 ghost use Rattle.vsi_faults.specs.View.{field_of, line_of};
 
-use itoa::Buffer;
 use std::alloc::{AllocError, Global};
+use vsi_syntax::put_number;
 
 /// What stands behind the name of a refusal.
 #[derive(Clone, Copy, Debug)]
@@ -27,14 +27,6 @@ pub(crate) struct Line<'a> {
     pub(crate) field: Field<'a>,
 }
 
-/// A number in decimal more.
-fn push_number(text: &mut Vec<u8>, n: usize) -> Result<(), AllocError>
-    ensures { OnOk result (text.new.items ≡ text.old.items ++ decimal n) }
-{
-    let mut buffer = Buffer::new();
-    text.extend_from_slice(buffer.format(n).as_bytes())
-}
-
 /// A field more, behind a space.
 fn push_field(text: &mut Vec<u8>, field: Field) -> Result<(), AllocError>
     ensures { OnOk result
@@ -44,19 +36,19 @@ fn push_field(text: &mut Vec<u8>, field: Field) -> Result<(), AllocError>
         Field::Nothing => Ok(()),
         Field::Number(n) => {
             text.extend_from_slice(b" ")?;
-            push_number(text, n)
+            put_number(text, n)
         }
         Field::Pair(a, b) => {
             text.extend_from_slice(b" ")?;
-            push_number(text, a)?;
+            put_number(text, a)?;
             text.extend_from_slice(b" ")?;
-            push_number(text, b)
+            put_number(text, b)
         }
         Field::Place(line, column) => {
             text.extend_from_slice(b" ")?;
-            push_number(text, line)?;
+            put_number(text, line)?;
             text.extend_from_slice(b":")?;
-            push_number(text, column)
+            put_number(text, column)
         }
         Field::Word(word) => {
             text.extend_from_slice(b" ")?;
@@ -66,7 +58,7 @@ fn push_field(text: &mut Vec<u8>, field: Field) -> Result<(), AllocError>
             text.extend_from_slice(b" ")?;
             text.extend_from_slice(word)?;
             text.extend_from_slice(b" ")?;
-            push_number(text, n)
+            put_number(text, n)
         }
     }
 }
@@ -76,7 +68,7 @@ pub(crate) fn line_text(alloc: Global, line: Line) -> Result<Vec<u8>, AllocError
     ensures { IfOk result (λ text. text.items ≡ spec.line_text (line_of line.entry)) }
 {
     let mut text = Vec::from_slice(alloc, b"refused: ")?;
-    push_number(&mut text, line.refusal)?;
+    put_number(&mut text, line.refusal)?;
     text.extend_from_slice(b" ")?;
     text.extend_from_slice(line.name)?;
     push_field(&mut text, line.field)?;

@@ -1,6 +1,6 @@
 //! The table as text.
 
-ghost use Rattle.std.specs.Prelude.{◌≡◌, ◌++◌, List, IfOk, IfErr, OnOk, decimal};
+ghost use Rattle.std.specs.Prelude.{◌≡◌, ◌++◌, List, IfOk, IfErr, OnOk};
 ghost use Rattle.std.specs.List.{All, flat_map};
 ghost use Rattle.vsi_lattice.specs.Order.{IsClass};
 ghost use Rattle.vsi_lattice.specs.LatticeView.{class_named, order};
@@ -17,12 +17,12 @@ ghost use Rattle.vsi_flows.specs.Text as spec;
 use crate::error::FlowsError;
 use crate::pair::Pair;
 use crate::table::flows_in;
-use itoa::Buffer;
 use std::alloc::{AllocError, Global as Heap};
 use vsi_compiler::{CompileError, resolved_program};
 use vsi_infer::put_variable;
 use vsi_lattice::Lattice;
 use vsi_scope::Resolved;
+use vsi_syntax::put_number;
 use vsi_types::Profile;
 
 /// The word of a verdict.
@@ -30,14 +30,6 @@ fn verdict_text(allowed: bool) -> &'static [u8]
     ensures { result.now ≡ spec.verdict_text allowed }
 {
     if allowed { b" allowed " } else { b" refused " }
-}
-
-/// Adds a number in decimal.
-fn put_number(text: &mut Vec<u8>, number: usize) -> Result<(), AllocError>
-    ensures { OnOk result (text.new.items ≡ text.old.items ++ decimal number) }
-{
-    let mut buffer = Buffer::new();
-    text.extend_from_slice(buffer.format(number).as_bytes())
 }
 
 /// Adds the line of a pair.

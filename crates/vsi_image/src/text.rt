@@ -9,14 +9,7 @@ ghost use Rattle.vsi_image.specs.Listing as spec;
 use crate::instr::{Image, Instr};
 use itoa::Buffer;
 use std::alloc::{AllocError, Global};
-
-/// Adds a number in decimal.
-fn put_number(out: &mut Vec<u8>, n: usize) -> Result<(), AllocError>
-    ensures { OnOk result (out.new.items ≡ out.old.items ++ decimal n) }
-{
-    let mut buffer = Buffer::new();
-    out.extend_from_slice(buffer.format(n).as_bytes())
-}
+use vsi_syntax::put_number;
 
 /// Adds a word and its operand, or neither of them.
 fn put_both(out: &mut Vec<u8>, word: &[u8], operand: &[u8]) -> Result<(), AllocError>

@@ -1,7 +1,7 @@
 -- A walk as text.
-use Rattle.std.specs.Prelude.{ℕ, ◌+◌, ◌-◌, ◌==◌, nat_lt, if◌then◌else◌, List, [], ◌∷◌, ◌++◌, map, take, length, Option, Some, None, codes, decimal, slice_index_or}
+use Rattle.std.specs.Prelude.{ℕ, ◌-◌, ◌==◌, nat_lt, if◌then◌else◌, List, [], ◌∷◌, ◌++◌, map, length, Option, Some, None, codes, slice_index_or}
 use Rattle.std.specs.List.{flat_map}
-use Rattle.vsi_syntax.specs.Lines.{breaks, last_line}
+use Rattle.vsi_syntax.specs.Lines.{place_text}
 use Rattle.vsi_lattice.specs.declared.lattice.Lattice.{Lattice}
 use Rattle.vsi_lattice.specs.LatticeView.{names, order}
 use Rattle.vsi_scope.specs.Program.{Resolved}
@@ -11,11 +11,6 @@ use Rattle.vsi_types.specs.declared.rules.Step.{Step}
 use Rattle.vsi_types.specs.Steps.{sink}
 use Rattle.vsi_types.specs.Security.{program}
 use Rattle.vsi_types.specs.Walks.{declared_class, last_target}
-
--- The line and the column of a place, both from 1.
-abbrev pub place_text : List ℕ → ℕ → List ℕ
-place_text source at =
-    decimal (1 + breaks (take at source)) ++ codes ":" ++ decimal (1 + length (last_line (take at source)))
 
 -- The word of a rule.
 abbrev pub rule_text : Rule → List ℕ

@@ -1,7 +1,8 @@
 //! A walk as text.
 
-ghost use Rattle.std.specs.Prelude.{◌≡◌, ◌++◌, [], OnOk, IfOk, IfSome, decimal};
+ghost use Rattle.std.specs.Prelude.{◌≡◌, ◌++◌, [], OnOk, IfOk, IfSome};
 ghost use Rattle.std.specs.List.{All, flat_map};
+ghost use Rattle.vsi_syntax.specs.Lines.{place_text};
 ghost use Rattle.vsi_lattice.specs.Order.{IsClass};
 ghost use Rattle.vsi_lattice.specs.LatticeView.{order};
 ghost use Rattle.vsi_types.specs.Security.{program as program_of};
@@ -13,24 +14,16 @@ ghost use Rattle.vsi_infer.specs.Lines.{IsMarkOf};
 
 use crate::lines::{Mark, marks_of, place_among};
 use crate::walk::{Walk, declared_class};
-use itoa::Buffer;
 use std::alloc::{AllocError, Global as Heap};
 use vsi_lattice::{Class, Lattice};
 use vsi_scope::{Resolved, Var};
+use vsi_syntax::put_number;
 use vsi_types::{LOOP, Rule, Step};
-
-/// Adds a number in decimal.
-fn put_number(text: &mut Vec<u8>, number: usize) -> Result<(), AllocError>
-    ensures { OnOk result (text.new.items ≡ text.old.items ++ decimal number) }
-{
-    let mut buffer = Buffer::new();
-    text.extend_from_slice(buffer.format(number).as_bytes())
-}
 
 /// Adds the line and the column of a place.
 fn put_place(text: &mut Vec<u8>, source: &[u8], marks: &[Mark], at: usize) -> Result<(), AllocError>
     requires { All (IsMarkOf source.now) marks.now }
-    ensures { OnOk result (text.new.items ≡ text.old.items ++ spec.place_text source.now at) }
+    ensures { OnOk result (text.new.items ≡ text.old.items ++ place_text source.now at) }
 {
     let (line, column) = place_among(source, marks, at);
     put_number(text, line)?;

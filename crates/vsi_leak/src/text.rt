@@ -8,10 +8,10 @@ ghost use Rattle.vsi_leak.specs.Texts as spec;
 
 use crate::found::{Ending, Leak};
 use crate::observer::sees;
-use itoa::Buffer;
 use std::alloc::{AllocError, Global};
 use vsi_image::Image;
 use vsi_lattice::{Class, Lattice};
+use vsi_syntax::{put_number, put_word};
 
 /// A row of two cells, marked where they differ.
 fn put_row(
@@ -43,10 +43,9 @@ fn put_row(
 fn word_cell(alloc: Global, name: &[u8], word: i64) -> Result<Vec<u8>, AllocError>
     ensures { IfOk result (λ cell. cell.items ≡ spec.word_cell name.now word) }
 {
-    let mut buffer = Buffer::new();
     let mut cell = name.to_vec(alloc)?;
     cell.extend_from_slice(b" = ")?;
-    cell.extend_from_slice(buffer.format(word).as_bytes())?;
+    put_word(&mut cell, word)?;
     Ok(cell)
 }
 
@@ -57,9 +56,8 @@ fn end_cell(alloc: Global, ending: &Ending) -> Result<Vec<u8>, AllocError>
     let mut cell = Vec::new(alloc);
     match ending {
         Ending::Halted { instructions, .. } => {
-            let mut buffer = Buffer::new();
             cell.extend_from_slice(b"after ")?;
-            cell.extend_from_slice(buffer.format(*instructions).as_bytes())?;
+            put_number(&mut cell, *instructions as usize)?;
             cell.extend_from_slice(b" instructions")?;
         }
         Ending::OutOfBudget => cell.extend_from_slice(b"out of budget")?,

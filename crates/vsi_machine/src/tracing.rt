@@ -1,29 +1,19 @@
 //! The text of a trace line.
 
-ghost use Rattle.std.specs.Prelude.{◌≡◌, ◌++◌, OnOk, IfOk, decimal};
-ghost use Rattle.std.specs.Fmt.{signed_decimal};
+ghost use Rattle.std.specs.Prelude.{◌≡◌, ◌++◌, OnOk, IfOk};
 ghost use Rattle.std.specs.List.{flat_map};
 ghost use Rattle.vsi_machine.specs.Trace as spec;
 
-use itoa::Buffer;
 use std::alloc::{AllocError, Global};
 use vsi_image::Instr;
-
-/// Adds a number in decimal.
-fn put_number(out: &mut Vec<u8>, number: usize) -> Result<(), AllocError>
-    ensures { OnOk result (out.new.items ≡ out.old.items ++ decimal number) }
-{
-    let mut buffer = Buffer::new();
-    out.extend_from_slice(buffer.format(number).as_bytes())
-}
+use vsi_syntax::{put_number, put_word};
 
 /// Adds a space and a word in decimal.
 fn put_operand(out: &mut Vec<u8>, word: i64) -> Result<(), AllocError>
     ensures { OnOk result (out.new.items ≡ out.old.items ++ spec.operand_text word) }
 {
-    let mut buffer = Buffer::new();
     out.extend_from_slice(b" ")?;
-    out.extend_from_slice(buffer.format(word).as_bytes())
+    put_word(out, word)
 }
 
 /// Adds each operand.

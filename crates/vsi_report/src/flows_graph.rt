@@ -1,6 +1,6 @@
 //! The flows of a text in the language of Graphviz.
 
-ghost use Rattle.std.specs.Prelude.{◌≡◌, ◌+◌, ◌++◌, ◌≤◌, ◌<◌, List, IfOk, IfErr, OnOk, decimal, map};
+ghost use Rattle.std.specs.Prelude.{◌≡◌, ◌+◌, ◌++◌, ◌≤◌, ◌<◌, List, IfOk, IfErr, OnOk, map};
 ghost use Rattle.std.specs.List.{All, flat_map};
 ghost use Rattle.vsi_lattice.specs.Order.{IsClass};
 ghost use Rattle.vsi_lattice.specs.LatticeView.{class_named, names, order as order_of_lattice};
@@ -22,21 +22,13 @@ use crate::dot::{put_between, put_head};
 use crate::facts::inferred_classes;
 use crate::order::{Order, name_of, order_of};
 use crate::walking::{MOST_DRAWN, rule_name};
-use itoa::Buffer;
 use std::alloc::{AllocError, Global};
 use vsi_compiler::{CompileError, resolved_program};
 use vsi_infer::declared_class;
 use vsi_lattice::{Class, Lattice};
 use vsi_scope::{Resolved, Var};
+use vsi_syntax::put_number;
 use vsi_types::{LOOP, Profile, Rule};
-
-/// Adds a number in decimal.
-fn put_number(text: &mut Vec<u8>, number: u16) -> Result<(), AllocError>
-    ensures { OnOk result (text.new.items ≡ text.old.items ++ decimal number) }
-{
-    let mut buffer = Buffer::new();
-    text.extend_from_slice(buffer.format(number).as_bytes())
-}
 
 /// The variable of a number; the last number is that of the ending of loops.
 fn variable_at(last: u16, number: u16) -> Var
@@ -121,7 +113,7 @@ fn put_node(
 {
     let variable = variable_at(last, number);
     text.extend_from_slice(b"  v")?;
-    put_number(text, number)?;
+    put_number(text, number as usize)?;
     text.extend_from_slice(b" [label=\"")?;
     put_name(text, program, variable)?;
     put_class(
@@ -181,9 +173,9 @@ fn put_edge(text: &mut Vec<u8>, source: u16, target: u16, rule: Rule) -> Result<
     ensures { OnOk result (text.new.items ≡ text.old.items ++ spec.flow_line source target rule) }
 {
     text.extend_from_slice(b"  v")?;
-    put_number(text, source)?;
+    put_number(text, source as usize)?;
     text.extend_from_slice(b" -> v")?;
-    put_number(text, target)?;
+    put_number(text, target as usize)?;
     text.extend_from_slice(b" [label=\"")?;
     text.extend_from_slice(rule_name(rule))?;
     text.extend_from_slice(b"\", style=")?;

@@ -7,9 +7,8 @@ use crate::facts::{Facts, is_inferred, variable_class};
 use crate::order::{Order, name_of};
 use crate::panel::{Panel, advanced, begun, closed, ended, opened};
 use crate::walking::Use;
-use itoa::Buffer;
 use std::alloc::{AllocError, Global};
-use vsi_syntax::{Kind, Token, lex};
+use vsi_syntax::{Kind, Token, lex, put_number};
 use vsi_types::Step;
 
 /// The names of the colours of classes.
@@ -48,8 +47,7 @@ fn put_word(label: &mut Vec<u8>, number: usize, word: &[u8]) -> Result<(), Alloc
     if !label.is_empty() {
         label.extend_from_slice(b", ")?;
     }
-    let mut buffer = Buffer::new();
-    label.extend_from_slice(buffer.format(number).as_bytes())?;
+    put_number(label, number)?;
     label.extend_from_slice(word)
 }
 

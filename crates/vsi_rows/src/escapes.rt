@@ -7,6 +7,7 @@
 
 use crate::wrong::Wrong;
 use std::alloc::{AllocError, Global};
+use vsi_syntax::put_number;
 
 /// The value of a hexadecimal digit.
 fn digit(byte: u8) -> Result<u8, Wrong> {
@@ -31,12 +32,6 @@ fn put(out: &mut Vec<u8>, first: u8, rest: &[u8]) -> Result<(), Wrong> {
     Ok(())
 }
 
-/// Adds a number in decimal.
-fn put_decimal(out: &mut Vec<u8>, number: u32) -> Result<(), AllocError> {
-    let mut buffer = itoa::Buffer::new();
-    out.extend_from_slice(buffer.format(number).as_bytes())
-}
-
 /// Adds a number below 676 in two capital letters.
 fn put_letters(out: &mut Vec<u8>, number: u32) -> Result<(), AllocError> {
     let first = (number / 26 % 26) as u8;
@@ -48,8 +43,8 @@ fn put_letters(out: &mut Vec<u8>, number: u32) -> Result<(), AllocError> {
 fn put_turn(out: &mut Vec<u8>, part: &str, number: u32) -> Result<(), Wrong> {
     for byte in part.as_bytes() {
         match byte {
-            b'%' => put_decimal(out, number)?,
-            b'~' => put_decimal(out, number.wrapping_sub(1))?,
+            b'%' => put_number(out, number as usize)?,
+            b'~' => put_number(out, number.wrapping_sub(1) as usize)?,
             b'@' => put_letters(out, number)?,
             _ => out.push(*byte)?,
         }

@@ -1,6 +1,6 @@
 //! What is told of an image that isn't steady.
 
-ghost use Rattle.std.specs.Prelude.{◌≡◌, ◌++◌, IfOk, OnOk, decimal};
+ghost use Rattle.std.specs.Prelude.{◌≡◌, ◌++◌, IfOk, OnOk};
 ghost use Rattle.std.specs.List.{flat_map};
 ghost use Rattle.vsi_image.specs.Fields.{globals};
 ghost use Rattle.vsi_steady.specs.Telling as spec;
@@ -8,18 +8,10 @@ ghost use Rattle.vsi_steady.specs.Telling as spec;
 use crate::chain::chain_to;
 use crate::error::SteadyError;
 use crate::step::Step;
-use itoa::Buffer;
 use std::alloc::{AllocError, Global};
 use vsi_image::Image;
 use vsi_lattice::{Classes, Lattice};
-
-/// Adds a number in decimal.
-fn put_number(out: &mut Vec<u8>, n: usize) -> Result<(), AllocError>
-    ensures { OnOk result (out.new.items ≡ out.old.items ++ decimal n) }
-{
-    let mut buffer = Buffer::new();
-    out.extend_from_slice(buffer.format(n).as_bytes())
-}
+use vsi_syntax::put_number;
 
 /// Adds the name of a global, `slot` and the number of another slot, or `(jump)`.
 fn put_name(out: &mut Vec<u8>, image: &Image, end: Option<u16>) -> Result<(), AllocError>

@@ -12,10 +12,10 @@ use crate::comparison::{Comparison, RunEnding};
 use crate::endings::ending_of;
 use crate::observer::{sees, unknown_in};
 use crate::views::ViewError;
-use itoa::Buffer;
 use std::alloc::{AllocError, Global};
 use vsi_image::Verified;
 use vsi_lattice::{Class, Lattice};
+use vsi_syntax::{put_number, put_word};
 
 /// Compares the image's runs from two stores, for at most `budget` instructions each, as the class
 /// sees them.
@@ -150,10 +150,9 @@ fn push_row(text: &mut Vec<u8>, left: &[u8], right: &[u8]) -> Result<(), AllocEr
 fn word_cell(alloc: Global, name: &[u8], word: i64) -> Result<Vec<u8>, AllocError>
     ensures { IfOk result (λ cell. cell.items ≡ spec.word_cell name.now word) }
 {
-    let mut buffer = Buffer::new();
     let mut cell = name.to_vec(alloc)?;
     cell.extend_from_slice(b" = ")?;
-    cell.extend_from_slice(buffer.format(word).as_bytes())?;
+    put_word(&mut cell, word)?;
     Ok(cell)
 }
 
@@ -243,9 +242,8 @@ fn end_cell(alloc: Global, ending: &RunEnding) -> Result<Vec<u8>, AllocError>
 {
     match ending {
         RunEnding::Halted { instructions, .. } => {
-            let mut buffer = Buffer::new();
             let mut cell = Vec::from_slice(alloc, b"after ")?;
-            cell.extend_from_slice(buffer.format(*instructions).as_bytes())?;
+            put_number(&mut cell, *instructions as usize)?;
             cell.extend_from_slice(b" instructions")?;
             Ok(cell)
         }

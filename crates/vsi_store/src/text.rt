@@ -4,9 +4,9 @@ ghost use Rattle.std.specs.Prelude.{◌≡◌, ◌++◌, length, IfOk, OnOk};
 ghost use Rattle.vsi_image.specs.Fields.{globals};
 ghost use Rattle.vsi_store.specs.Text.{line_of, store_text_of};
 
-use itoa::Buffer;
 use std::alloc::{AllocError, Global};
 use vsi_image::Image;
+use vsi_syntax::put_word;
 
 /// A line `name = number` for each global, in order, each ending with a line feed.
 pub fn store_text(alloc: Global, image: &Image, words: &[i64]) -> Result<Vec<u8>, AllocError>
@@ -26,10 +26,9 @@ pub fn store_text(alloc: Global, image: &Image, words: &[i64]) -> Result<Vec<u8>
 pub(crate) fn push_line(text: &mut Vec<u8>, name: &[u8], word: i64) -> Result<(), AllocError>
     ensures { OnOk result (text.new.items ≡ text.old.items ++ line_of name.now word) }
 {
-    let mut buffer = Buffer::new();
     text.extend_from_slice(name)?;
     text.extend_from_slice(b" = ")?;
-    text.extend_from_slice(buffer.format(word).as_bytes())?;
+    put_word(text, word)?;
     text.push(b'\n')?;
     Ok(())
 }

@@ -1,10 +1,10 @@
 //! What is told of bytes and words that are none of the language.
 
 use crate::hints::file_hint;
-use crate::names::{part_of, put_decimal, put_quoted};
+use crate::names::{part_of, put_quoted};
 use crate::operands::{put_division, put_operator};
 use std::alloc::{AllocError, Global};
-use vsi_syntax::LexError;
+use vsi_syntax::{LexError, put_number};
 
 /// The largest number of bytes of a name.
 const LONGEST_NAME: usize = 32;
@@ -98,9 +98,9 @@ fn put_word(words: &mut Vec<u8>, word: &[u8]) -> Result<(), AllocError> {
         Some(b'_') => words.extend_from_slice(b"Hint: a name begins with a letter.\n"),
         _ => {
             words.extend_from_slice(b"Hint: this name has ")?;
-            put_decimal(words, word.len())?;
+            put_number(words, word.len())?;
             words.extend_from_slice(b" letters, digits and `_`. A name has at most ")?;
-            put_decimal(words, LONGEST_NAME)?;
+            put_number(words, LONGEST_NAME)?;
             words.extend_from_slice(b" of them: shorten it.\n")
         }
     }

@@ -1,6 +1,5 @@
 //! Names in sentences.
 
-use itoa::Buffer;
 use std::alloc::{AllocError, Global};
 use vsi_lattice::{Class, Classes, Lattice};
 use vsi_syntax::{Kind, Span, Token};
@@ -20,12 +19,6 @@ pub fn put_quoted(words: &mut Vec<u8>, word: &[u8]) -> Result<(), AllocError> {
         words.extend_from_slice(b"..")?;
     }
     words.extend_from_slice(b"`")
-}
-
-/// Adds a number in decimal.
-pub fn put_decimal(words: &mut Vec<u8>, number: usize) -> Result<(), AllocError> {
-    let mut buffer = Buffer::new();
-    words.extend_from_slice(buffer.format(number).as_bytes())
 }
 
 /// Adds names between back quotes, the first of them where they are many.

@@ -4,24 +4,12 @@ ghost use Rattle.std.specs.Prelude.{◌≡◌, option_map};
 ghost use Rattle.vsi_telling.specs.Places.{scoping_start};
 
 use crate::hints::word_hint;
-use crate::names::{class_names, declared, part_of, put_decimal, put_names, put_quoted, texts_of};
+use crate::names::{class_names, declared, part_of, put_names, put_quoted, texts_of};
 use crate::nearest::put_nearest;
 use std::alloc::{AllocError, Global};
 use vsi_lattice::Lattice;
 use vsi_scope::ScopeError;
-use vsi_syntax::{Kind, Span, Token, lex, line_column};
-
-/// Adds the line and the column of a place.
-pub(crate) fn put_line_column(
-    words: &mut Vec<u8>,
-    source: &[u8],
-    at: usize,
-) -> Result<(), AllocError> {
-    let (line, column) = line_column(source, at);
-    put_decimal(words, line)?;
-    words.extend_from_slice(b":")?;
-    put_decimal(words, column)
-}
+use vsi_syntax::{Kind, Span, Token, lex, put_place};
 
 /// The token of this name among the tokens.
 fn named<'a>(tokens: &[Token<'a>], name: &[u8]) -> Option<Token<'a>> {
@@ -48,7 +36,7 @@ fn put_duplicate(
     let globals = declared(alloc, &tokens, Kind::Var)?;
     if let Some(first) = named(&globals, name) {
         words.extend_from_slice(b"; it is declared at ")?;
-        put_line_column(words, source, first.span.start)?;
+        put_place(words, source, first.span.start)?;
         words.extend_from_slice(b" already")?;
     }
     words.extend_from_slice(b".\nHint: leave one out, or give it another name.\n")
@@ -120,7 +108,7 @@ fn put_unbound(
         return put_choices(alloc, words, &tokens, name);
     };
     words.extend_from_slice(b"Hint: the `letvar` at ")?;
-    put_line_column(words, source, local.span.start)?;
+    put_place(words, source, local.span.start)?;
     words.extend_from_slice(
         b" declares it for the one command behind its `in` alone: put { } round all the commands \
         in which it is to hold.\n",

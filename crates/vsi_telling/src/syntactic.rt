@@ -4,11 +4,10 @@ use crate::hints::{file_hint, is_idle, is_type, place_hint, word_hint};
 use crate::names::{is_declared, part_of, put_quoted};
 use crate::nearest::{KEYWORDS, put_nearest};
 use crate::operands::put_operator;
-use crate::scoping::put_line_column;
 use crate::spot::{Spot, spot_at};
 use std::alloc::{AllocError, Global};
 use vsi_expected::expected_after;
-use vsi_syntax::{Kind, ParseError, Span, Token, lex};
+use vsi_syntax::{Kind, ParseError, Span, Token, lex, put_place};
 
 /// Whether an `if` among the tokens, in the block that they end in, still wants its `else`.
 fn lacks_else(alloc: Global, tokens: &[Token]) -> Result<bool, AllocError> {
@@ -157,7 +156,7 @@ fn put_superfluous(words: &mut Vec<u8>, source: &[u8], spot: &Spot) -> Result<bo
         _ => return Ok(false),
     }
     words.extend_from_slice(b"Hint: the `;` before it, at ")?;
-    put_line_column(words, source, last.span.start)?;
+    put_place(words, source, last.span.start)?;
     words.extend_from_slice(
         b", is one too many: a `;` stands between two commands, not behind the last one.\n",
     )?;
