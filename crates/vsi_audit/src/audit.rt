@@ -1,15 +1,17 @@
 //! The judgement of an image.
 
-ghost use Rattle.std.specs.Prelude.{◌≡◌, ℕ, true, None, All, IfOk, IfErr, OnOk, length};
+ghost use Rattle.std.specs.Prelude.{◌≡◌, ℕ, ◌+◌, ◌≤◌, true, None, All, IfOk, IfErr, OnOk, length};
 ghost use Rattle.vsi_image.specs.Fields.{fields, Spells};
 ghost use Rattle.vsi_image.specs.Valid.{IsValid};
 ghost use Rattle.vsi_lattice.specs.LatticeView.{class_named, order};
+ghost use Rattle.vsi_scope.specs.Language.{size};
 ghost use Rattle.vsi_scope.specs.Program.{IsResolved};
 ghost use Rattle.vsi_scope.specs.Resolving.{AreBelow, HasClassesBelow};
 ghost use Rattle.vsi_scope.specs.View.{sequence};
 ghost use Rattle.vsi_types.specs.declared.rules.Profile.TheVariants.{Strict};
 ghost use Rattle.vsi_code.specs.Behaves.{Behaves};
 ghost use Rattle.vsi_compiler.specs.Observation.{IsNoninterfering, EndsAlike};
+ghost use Rattle.vsi_audit.specs.Fitting.{Fits};
 ghost use Rattle.vsi_audit.specs.Refusal.{Refuses};
 ghost use Rattle.vsi_audit.specs.Standing.{HasKnownClasses, HaveClasses, StandsFor};
 
@@ -23,7 +25,7 @@ use vsi_code::generate;
 use vsi_image::{EncodeError, Image, Verified, encode};
 use vsi_infer::{InferError, infer_in};
 use vsi_lattice::Lattice;
-use vsi_scope::{Entry, Resolved, size};
+use vsi_scope::{Cmd, Entry, Resolved, size};
 use vsi_syntax::MAX_DEPTH;
 use vsi_types::Profile;
 
@@ -49,6 +51,28 @@ fn entries<'a>(
     Ok(entries)
 }
 
+/// Whether commands with this many letvars keep the limits of a program, over so many globals.
+fn is_within(globals: usize, letvars: usize, body: &[Cmd]) -> bool
+    requires { globals ≤ 1024 }
+    ensures fits { result ≡ true → Fits globals 200 letvars (sequence body.now) }
+    ensures few { result ≡ true → globals + letvars ≤ 1024 }
+    ensures small { result ≡ true → size (sequence body.now) ≤ 65534 }
+{
+    let Some(found) = fit_all(body, globals as u16, MAX_DEPTH as u16) else {
+        return false;
+    };
+    if found as usize != letvars {
+        return false;
+    }
+    if letvars > MAX_DECLARATIONS - globals {
+        return false;
+    }
+    if size(body) > MAX_SIZE {
+        return false;
+    }
+    true
+}
+
 /// The program with these commands in place of its own, where they are within the limits.
 fn with_commands<'a>(
     alloc: Global,
@@ -65,16 +89,7 @@ fn with_commands<'a>(
     let Commands { letvars, body } = commands;
     let entries = entries(alloc, name, &letvars)?;
     let count = base.globals().len();
-    let Some(found) = fit_all(&body, count as u16, MAX_DEPTH as u16) else {
-        return Err(Unread::At(0));
-    };
-    if found as usize != entries.len() {
-        return Err(Unread::At(0));
-    }
-    if count + entries.len() > MAX_DECLARATIONS {
-        return Err(Unread::At(0));
-    }
-    if size(&body) > MAX_SIZE {
+    if !is_within(count, entries.len(), &body) {
         return Err(Unread::At(0));
     }
     match base.rebuilt(alloc, entries, body) {

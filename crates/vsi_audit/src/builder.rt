@@ -1,7 +1,7 @@
 //! From events to commands over locations.
 
 use crate::error::Unread;
-use crate::events::{Event, Need};
+use crate::events::{Event, Need, Part};
 use crate::needs::needs_of;
 use crate::reading::{events_of, span_at};
 use std::alloc::Global;
@@ -21,34 +21,27 @@ pub(crate) struct Commands {
     pub body: Vec<Cmd>,
 }
 
-/// A part of the commands that has begun and not ended, and the commands before it in its sequence.
+/// A `letvar` that has begun and not ended, and the commands before it in its sequence.
 #[derive(Drop)]
-enum Frame {
-    Letvar {
-        value: Ex,
-        before: Vec<Cmd>,
-    },
-    Yes {
-        guard: Ex,
-        before: Vec<Cmd>,
-        floor: u16,
-    },
-    No {
-        guard: Ex,
-        yes: Vec<Cmd>,
-        before: Vec<Cmd>,
-        floor: u16,
-    },
-    Body {
-        guard: Ex,
-        before: Vec<Cmd>,
-        floor: u16,
-    },
+struct Local {
+    value: Ex,
+    before: Vec<Cmd>,
+}
+
+/// A conditional or a loop that has begun and not ended: the first branch of a conditional, where
+/// that has ended, and what there was before it.
+#[derive(Drop)]
+struct Frame {
+    guard: Ex,
+    yes: Vec<Cmd>,
+    before: Vec<Cmd>,
+    floor: u16,
 }
 
 /// A builder of commands.
 #[derive(Drop)]
 struct Builder {
+    locals: Vec<Local>,
     frames: Vec<Frame>,
     /// The commands of the innermost sequence.
     done: Vec<Cmd>,
@@ -80,28 +73,45 @@ pub(crate) fn commands_of(alloc: Global, image: &Image) -> Result<Commands, Unre
 fn build(alloc: Global, image: &Image, ends_early: bool) -> Result<Commands, Unread> {
     let globals = image.globals.len().min(256) as u16;
     let events = events_of(alloc, &image.code)?;
-    let mut needs = needs_of(alloc, globals, &events)?;
-    let mut builder = Builder {
-        frames: Vec::new(alloc),
-        done: Vec::new(alloc),
-        letvars: Vec::new(alloc),
-        scope: globals,
-        floor: globals,
-        ends_early,
-    };
-    for event in events {
-        let need = needs.pop().unwrap_or(Need {
-            scope: globals,
-            begins: false,
-        });
-        put_event(&mut builder, alloc, need, event)?;
-    }
+    let needs = needs_of(alloc, globals, &events)?;
+    let mut builder = builder_of(alloc, globals, ends_early);
+    put_events(&mut builder, alloc, events, needs)?;
     end_letvars(&mut builder, globals)?;
     let Builder { letvars, done, .. } = builder;
     Ok(Commands {
         letvars,
         body: done,
     })
+}
+
+/// A builder of no commands yet, over so many globals.
+fn builder_of(alloc: Global, globals: u16, ends_early: bool) -> Builder {
+    Builder {
+        locals: Vec::new(alloc),
+        frames: Vec::new(alloc),
+        done: Vec::new(alloc),
+        letvars: Vec::new(alloc),
+        scope: globals,
+        floor: globals,
+        ends_early,
+    }
+}
+
+/// Events more, with the needs at each of them, the last one's first.
+fn put_events(
+    builder: &mut Builder,
+    alloc: Global,
+    events: Vec<Event>,
+    mut needs: Vec<Need>,
+) -> Result<(), Unread> {
+    for event in events {
+        let need = needs.pop().unwrap_or(Need {
+            scope: 0,
+            begins: false,
+        });
+        put_event(builder, alloc, need, event)?;
+    }
+    Ok(())
 }
 
 /// One event more.
@@ -116,37 +126,17 @@ fn put_event(builder: &mut Builder, alloc: Global, need: Need, event: Event) -> 
             begin(builder, need, place, reads)?;
             put_store(builder, alloc, need.begins, slot, place, value)
         }
-        Event::If {
+        Event::Begin {
             place,
             reads,
             guard,
+            ..
         } => {
             begin(builder, need, place, reads)?;
-            let (before, floor) = open_part(builder, alloc);
-            let frame = Frame::Yes {
-                guard,
-                before,
-                floor,
-            };
-            push(builder, place, frame)
-        }
-        Event::While {
-            place,
-            reads,
-            guard,
-        } => {
-            begin(builder, need, place, reads)?;
-            let (before, floor) = open_part(builder, alloc);
-            let frame = Frame::Body {
-                guard,
-                before,
-                floor,
-            };
-            push(builder, place, frame)
+            begin_part(builder, alloc, place, guard)
         }
         Event::Else => begin_second(builder, alloc),
-        Event::EndIf => end_part(builder),
-        Event::EndWhile => end_part(builder),
+        Event::End(part) => end_part(builder, part),
     }
 }
 
@@ -161,18 +151,24 @@ fn begin(builder: &mut Builder, need: Need, place: usize, reads: u16) -> Result<
     Ok(())
 }
 
-/// A branch or a body begins: what its sequence was so far, and the floor of its `letvar`s.
-fn open_part(builder: &mut Builder, alloc: Global) -> (Vec<Cmd>, u16) {
-    let before = mem::replace(&mut builder.done, Vec::new(alloc));
-    let floor = mem::replace(&mut builder.floor, builder.scope);
-    (before, floor)
-}
-
-/// One part more that has begun.
-fn push(builder: &mut Builder, place: usize, frame: Frame) -> Result<(), Unread> {
-    if builder.frames.len() >= MAX_DEPTH as usize {
+/// Looks whether there is room for one more that has begun.
+fn have_room(builder: &Builder, place: usize) -> Result<(), Unread> {
+    if builder.locals.len().saturating_add(builder.frames.len()) >= MAX_DEPTH as usize {
         return Err(Unread::At(place));
     }
+    Ok(())
+}
+
+/// A conditional or a loop begins.
+fn begin_part(builder: &mut Builder, alloc: Global, place: usize, guard: Ex) -> Result<(), Unread> {
+    have_room(builder, place)?;
+    let frame = Frame {
+        guard,
+        yes: Vec::new(alloc),
+        before: mem::replace(&mut builder.done, Vec::new(alloc)),
+        floor: builder.floor,
+    };
+    builder.floor = builder.scope;
     builder.frames.push(frame)?;
     Ok(())
 }
@@ -187,10 +183,7 @@ fn put_store(
     value: Ex,
 ) -> Result<(), Unread> {
     if begins && slot == builder.scope {
-        let before = mem::replace(&mut builder.done, Vec::new(alloc));
-        builder.letvars.push(place)?;
-        builder.scope = builder.scope.saturating_add(1);
-        return push(builder, place, Frame::Letvar { value, before });
+        return begin_letvar(builder, alloc, place, value);
     }
     if slot >= builder.scope {
         return Err(Unread::At(place));
@@ -203,80 +196,76 @@ fn put_store(
     Ok(())
 }
 
+/// A `letvar` begins.
+fn begin_letvar(
+    builder: &mut Builder,
+    alloc: Global,
+    place: usize,
+    value: Ex,
+) -> Result<(), Unread> {
+    have_room(builder, place)?;
+    let before = mem::replace(&mut builder.done, Vec::new(alloc));
+    builder.locals.push(Local { value, before })?;
+    builder.letvars.push(place)?;
+    builder.scope = builder.scope.saturating_add(1);
+    Ok(())
+}
+
 /// Ends the `letvar`s of the innermost branch or body that have slots from this one on.
 fn end_letvars(builder: &mut Builder, scope: u16) -> Result<(), Unread> {
     let keep = scope.max(builder.floor);
-    for _ in 0..builder.frames.len() {
-        if builder.scope <= keep {
-            return Ok(());
-        }
-        match builder.frames.pop() {
-            Some(Frame::Letvar { value, before }) => {
-                let body = mem::replace(&mut builder.done, before);
-                builder.done.push(Cmd::Letvar { value, body })?;
-                builder.scope = builder.scope.saturating_sub(1);
-            }
-            Some(frame) => {
-                builder.frames.push(frame)?;
-                return Ok(());
-            }
-            None => return Ok(()),
-        }
+    for _ in keep..builder.scope {
+        end_letvar(builder)?;
     }
+    Ok(())
+}
+
+/// Ends the innermost `letvar`.
+fn end_letvar(builder: &mut Builder) -> Result<(), Unread> {
+    let Some(Local { value, before }) = builder.locals.pop() else {
+        return Ok(());
+    };
+    let body = mem::replace(&mut builder.done, before);
+    builder.scope = builder.scope.saturating_sub(1);
+    builder.done.push(Cmd::Letvar { value, body })?;
     Ok(())
 }
 
 /// Ends the first branch of a conditional, and begins the second.
 fn begin_second(builder: &mut Builder, alloc: Global) -> Result<(), Unread> {
     end_letvars(builder, 0)?;
-    if let Some(
-        Frame::Yes {
-            guard,
-            before,
-            floor,
-        },
-    ) = builder.frames.pop()
-    {
-        let yes = mem::replace(&mut builder.done, Vec::new(alloc));
-        builder.frames.push(Frame::No {
-            guard,
-            yes,
-            before,
-            floor,
-        })?;
+    if let Some(frame) = builder.frames.last_mut() {
+        frame.yes = mem::replace(&mut builder.done, Vec::new(alloc));
     }
     Ok(())
 }
 
 /// Ends a conditional or a loop.
-fn end_part(builder: &mut Builder) -> Result<(), Unread> {
+fn end_part(builder: &mut Builder, part: Part) -> Result<(), Unread> {
     end_letvars(builder, 0)?;
-    match builder.frames.pop() {
-        Some(
-            Frame::No {
-                guard,
-                yes,
-                before,
-                floor,
-            },
-        ) => {
-            let no = mem::replace(&mut builder.done, before);
-            builder.done.push(Cmd::If { guard, yes, no })?;
-            builder.floor = floor;
-        }
-        Some(
-            Frame::Body {
-                guard,
-                before,
-                floor,
-            },
-        ) => {
-            let body = mem::replace(&mut builder.done, before);
-            builder.done.push(Cmd::While { guard, body })?;
-            builder.floor = floor;
-        }
-        Some(frame) => builder.frames.push(frame)?,
-        None => {}
-    }
+    let Some(frame) = builder.frames.pop() else {
+        return Ok(());
+    };
+    let Frame {
+        guard,
+        yes,
+        before,
+        floor,
+    } = frame;
+    builder.floor = floor;
+    let last = mem::replace(&mut builder.done, before);
+    builder.done.push(ended(part, guard, yes, last))?;
     Ok(())
+}
+
+/// The command of a part of the code, with its branches or its body.
+fn ended(part: Part, guard: Ex, yes: Vec<Cmd>, last: Vec<Cmd>) -> Cmd {
+    match part {
+        Part::If => Cmd::If {
+            guard,
+            yes,
+            no: last,
+        },
+        Part::While => Cmd::While { guard, body: last },
+    }
 }

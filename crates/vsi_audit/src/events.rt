@@ -2,6 +2,13 @@
 
 use vsi_scope::Ex;
 
+/// What has commands within it, and ends behind them.
+#[derive(Clone, Copy, PartialEq, Eq)]
+pub(crate) enum Part {
+    If,
+    While,
+}
+
 /// What a reader of the code comes by, in the order of the code. `place` is the number of the
 /// instruction that ends the expression, `reads` how many slots must be there for it to be read.
 #[derive(Drop)]
@@ -13,24 +20,17 @@ pub(crate) enum Event {
         reads: u16,
         value: Ex,
     },
-    /// A conditional begins, with its first branch.
-    If {
+    /// A conditional begins, with its first branch, or a loop.
+    Begin {
+        part: Part,
         place: usize,
         reads: u16,
         guard: Ex,
     },
-    /// Its second branch begins.
+    /// The second branch of a conditional begins.
     Else,
-    /// It ends.
-    EndIf,
-    /// A loop begins.
-    While {
-        place: usize,
-        reads: u16,
-        guard: Ex,
-    },
-    /// It ends.
-    EndWhile,
+    /// A conditional or a loop ends.
+    End(Part),
 }
 
 /// What is known of the slots at an event.

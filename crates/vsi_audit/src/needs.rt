@@ -1,6 +1,6 @@
 //! Which slots must be in scope at each event, told from the end of the code to its beginning.
 
-use crate::events::{Event, Need};
+use crate::events::{Event, Need, Part};
 use std::alloc::{AllocError, Global};
 
 /// The need before a store, and whether it begins a `letvar`: its value reads no slot from its own
@@ -19,6 +19,39 @@ fn before_store(globals: u16, after: u16, slot: u16, reads: u16) -> Need {
     }
 }
 
+/// The need at an event, before what follows needs this many slots. `saved` has what was needed
+/// behind the parts of the code that the event stands in.
+fn need_at(
+    saved: &mut Vec<u16>,
+    globals: u16,
+    after: u16,
+    event: &Event,
+) -> Result<Need, AllocError> {
+    let scope = match event {
+        Event::Store { slot, reads, .. } => {
+            return Ok(before_store(globals, after, *slot, *reads));
+        }
+        Event::Begin { part, reads, .. } => before_part(saved, *part, after).max(*reads),
+        Event::Else | Event::End(_) => {
+            saved.push(after)?;
+            0
+        }
+    };
+    Ok(Need {
+        scope,
+        begins: false,
+    })
+}
+
+/// How many slots a part of the code and what follows it need, where its beginning needs so many.
+fn before_part(saved: &mut Vec<u16>, part: Part, first: u16) -> u16 {
+    let behind = saved.pop().unwrap_or(0);
+    match part {
+        Part::If => saved.pop().unwrap_or(0).max(behind).max(first),
+        Part::While => behind.max(first),
+    }
+}
+
 /// The needs at the events, the last one's first.
 pub(crate) fn needs_of(
     alloc: Global,
@@ -28,37 +61,10 @@ pub(crate) fn needs_of(
     let mut needs = Vec::new(alloc);
     let mut saved: Vec<u16> = Vec::new(alloc);
     let mut scope: u16 = 0;
-    for i in 0..events.len() {
-        let mut begins = false;
-        match &events[events.len() - 1 - i] {
-            Event::Store { slot, reads, .. } => {
-                let need = before_store(globals, scope, *slot, *reads);
-                scope = need.scope;
-                begins = need.begins;
-            }
-            Event::EndIf => {
-                saved.push(scope)?;
-                scope = 0;
-            }
-            Event::Else => {
-                saved.push(scope)?;
-                scope = 0;
-            }
-            Event::If { reads, .. } => {
-                let no = saved.pop().unwrap_or(0);
-                let after = saved.pop().unwrap_or(0);
-                scope = scope.max(no).max(after).max(*reads);
-            }
-            Event::EndWhile => {
-                saved.push(scope)?;
-                scope = 0;
-            }
-            Event::While { reads, .. } => {
-                let after = saved.pop().unwrap_or(0);
-                scope = scope.max(after).max(*reads);
-            }
-        }
-        needs.push(Need { scope, begins })?;
+    for place in (0..events.len()).rev() {
+        let need = need_at(&mut saved, globals, scope, &events[place])?;
+        scope = need.scope;
+        needs.push(need)?;
     }
     Ok(needs)
 }

@@ -1,7 +1,7 @@
 //! From code to events, by its jumps.
 
 use crate::error::Unread;
-use crate::events::Event;
+use crate::events::{Event, Part};
 use std::alloc::Global;
 use vsi_image::Instr;
 use vsi_scope::Ex;
@@ -50,26 +50,56 @@ pub(crate) fn events_of(alloc: Global, code: &[Instr]) -> Result<Vec<Event>, Unr
         start: 0,
         reads: 0,
     };
-    for place in 0..code.len() {
+    let halt = first_halt(code);
+    for place in 0..halt {
         end_branches(&mut reader, place)?;
-        match code[place] {
-            Instr::Push(n) => put_operand(&mut reader, place, Ex::Num(n), 0)?,
-            Instr::Load(slot) => {
-                reader.reads = reader.reads.max(slot.saturating_add(1));
-                put_operand(&mut reader, place, Ex::Loc(slot, span_at(place)), 0)?;
-            }
-            Instr::Add => put_operator(&mut reader, alloc, place, Op::Add)?,
-            Instr::Sub => put_operator(&mut reader, alloc, place, Op::Sub)?,
-            Instr::Mul => put_operator(&mut reader, alloc, place, Op::Mul)?,
-            Instr::Eq => put_operator(&mut reader, alloc, place, Op::Eq)?,
-            Instr::Lt => put_operator(&mut reader, alloc, place, Op::Lt)?,
-            Instr::Store(slot) => put_store(&mut reader, place, slot)?,
-            Instr::Jz(target) => begin_region(&mut reader, code, place, target as usize)?,
-            Instr::Jmp(_) => end_region(&mut reader, place)?,
-            Instr::Halt => return end(reader, place, code.len()),
+        put_instruction(&mut reader, alloc, code, place)?;
+    }
+    end_branches(&mut reader, halt)?;
+    look_at_end(&reader, halt, code.len())?;
+    let Reader { events, .. } = reader;
+    Ok(events)
+}
+
+/// The place of the first HALT, or the number of instructions.
+fn first_halt(code: &[Instr]) -> usize {
+    for place in 0..code.len() {
+        if matches!(code[place], Instr::Halt) {
+            return place;
         }
     }
-    Err(Unread::At(code.len()))
+    code.len()
+}
+
+/// One instruction more.
+fn put_instruction(
+    reader: &mut Reader,
+    alloc: Global,
+    code: &[Instr],
+    place: usize,
+) -> Result<(), Unread> {
+    let Some(instr) = code.get(place) else {
+        return Err(Unread::At(place));
+    };
+    match instr {
+        Instr::Push(n) => put_operand(reader, place, Ex::Num(*n), 0),
+        Instr::Load(slot) => put_load(reader, place, *slot),
+        Instr::Add => put_operator(reader, alloc, place, Op::Add),
+        Instr::Sub => put_operator(reader, alloc, place, Op::Sub),
+        Instr::Mul => put_operator(reader, alloc, place, Op::Mul),
+        Instr::Eq => put_operator(reader, alloc, place, Op::Eq),
+        Instr::Lt => put_operator(reader, alloc, place, Op::Lt),
+        Instr::Store(slot) => put_store(reader, place, *slot),
+        Instr::Jz(target) => begin_region(reader, code, place, *target as usize),
+        Instr::Jmp(_) => end_region(reader, place),
+        Instr::Halt => Err(Unread::At(place)),
+    }
+}
+
+/// A word that is read from a slot.
+fn put_load(reader: &mut Reader, place: usize, slot: u16) -> Result<(), Unread> {
+    reader.reads = reader.reads.max(slot.saturating_add(1));
+    put_operand(reader, place, Ex::Loc(slot, span_at(place)), 0)
 }
 
 /// The place of an instruction, as a span.
@@ -92,7 +122,7 @@ fn end_branches(reader: &mut Reader, place: usize) -> Result<(), Unread> {
             _ => return Ok(()),
         }
         let _ended = reader.regions.pop();
-        reader.events.push(Event::EndIf)?;
+        reader.events.push(Event::End(Part::If))?;
     }
     Ok(())
 }
@@ -109,31 +139,39 @@ fn put_operand(reader: &mut Reader, place: usize, value: Ex, depth: u16) -> Resu
     Ok(())
 }
 
+/// The operand on top.
+fn top_operand(reader: &mut Reader, place: usize) -> Result<Operand, Unread> {
+    match reader.operands.pop() {
+        Some(operand) => Ok(operand),
+        None => Err(Unread::At(place)),
+    }
+}
+
 /// An operator on the two operands on top.
 fn put_operator(reader: &mut Reader, alloc: Global, place: usize, op: Op) -> Result<(), Unread> {
-    let Some(right) = reader.operands.pop() else {
-        return Err(Unread::At(place));
-    };
-    let Some(left) = reader.operands.pop() else {
-        return Err(Unread::At(place));
-    };
     let start = reader.start;
+    let right = top_operand(reader, place)?;
+    let left = top_operand(reader, place)?;
     let depth = left.depth.max(right.depth).saturating_add(1);
-    let left = Box::new(alloc, left.value)?;
-    let right = Box::new(alloc, right.value)?;
-    put_operand(reader, place, Ex::Op(op, left, right), depth)?;
+    let value = applied(alloc, op, left, right)?;
+    put_operand(reader, place, value, depth)?;
     reader.start = start;
     Ok(())
 }
 
+/// An operator on two operands.
+fn applied(alloc: Global, op: Op, left: Operand, right: Operand) -> Result<Ex, Unread> {
+    let left = Box::new(alloc, left.value)?;
+    let right = Box::new(alloc, right.value)?;
+    Ok(Ex::Op(op, left, right))
+}
+
 /// The one operand that is there, and how many slots it reads.
 fn only_operand(reader: &mut Reader, place: usize) -> Result<(Ex, u16), Unread> {
-    let Some(operand) = reader.operands.pop() else {
-        return Err(Unread::At(place));
-    };
-    if !reader.operands.is_empty() {
+    if reader.operands.len() > 1 {
         return Err(Unread::At(place));
     }
+    let operand = top_operand(reader, place)?;
     let reads = reader.reads;
     reader.reads = 0;
     Ok((operand.value, reads))
@@ -160,8 +198,25 @@ fn jump_before(code: &[Instr], place: usize) -> Option<(usize, usize)> {
     }
 }
 
-/// A jump on 0: the jump before its target leads back to the guard of a loop, or ahead to the end
-/// of a conditional.
+/// What a jump on 0 begins, as the jump before its target leads back to the guard of a loop, which
+/// starts at `start`, or ahead to the end of a conditional.
+fn region_at(code: &[Instr], start: usize, place: usize, target: usize) -> Result<Region, Unread> {
+    let Some((jump, end)) = jump_before(code, target) else {
+        return Err(Unread::At(place));
+    };
+    if jump <= place {
+        return Err(Unread::At(place));
+    }
+    if end == start {
+        return Ok(Region::Body { jump });
+    }
+    if end < target {
+        return Err(Unread::At(jump));
+    }
+    Ok(Region::Yes { jump, end })
+}
+
+/// A jump on 0, which begins a part of the code.
 fn begin_region(
     reader: &mut Reader,
     code: &[Instr],
@@ -169,26 +224,14 @@ fn begin_region(
     target: usize,
 ) -> Result<(), Unread> {
     let (guard, reads) = only_operand(reader, place)?;
-    let Some((jump, end)) = jump_before(code, target) else {
-        return Err(Unread::At(place));
+    let region = region_at(code, reader.start, place, target)?;
+    reader.regions.push(region)?;
+    let part = match region {
+        Region::Body { .. } => Part::While,
+        _ => Part::If,
     };
-    if jump <= place {
-        return Err(Unread::At(place));
-    }
-    if end == reader.start {
-        reader.regions.push(Region::Body { jump })?;
-        reader.events.push(Event::While {
-            place,
-            reads,
-            guard,
-        })?;
-        return Ok(());
-    }
-    if end < target {
-        return Err(Unread::At(jump));
-    }
-    reader.regions.push(Region::Yes { jump, end })?;
-    reader.events.push(Event::If {
+    reader.events.push(Event::Begin {
+        part,
         place,
         reads,
         guard,
@@ -199,41 +242,31 @@ fn begin_region(
 /// A jump, which ends the innermost part of the code. Where it leads to is looked at by the jump on
 /// 0 that began the part, and by the comparison of the whole code.
 fn end_region(reader: &mut Reader, place: usize) -> Result<(), Unread> {
-    match reader.regions.pop() {
+    let (jump, event) = match reader.regions.pop() {
         Some(Region::Yes { jump, end }) => {
-            if jump != place {
-                return Err(Unread::At(place));
-            }
             reader.regions.push(Region::No { end })?;
-            reader.events.push(Event::Else)?;
+            (jump, Event::Else)
         }
-        Some(Region::Body { jump }) => {
-            if jump != place {
-                return Err(Unread::At(place));
-            }
-            reader.events.push(Event::EndWhile)?;
-        }
+        Some(Region::Body { jump }) => (jump, Event::End(Part::While)),
         _ => return Err(Unread::At(place)),
+    };
+    if jump != place {
+        return Err(Unread::At(place));
     }
+    reader.events.push(event)?;
     Ok(())
 }
 
-/// The end of the code, where nothing is open and nothing follows.
-fn end(reader: Reader, place: usize, length: usize) -> Result<Vec<Event>, Unread> {
-    let Reader {
-        events,
-        operands,
-        regions,
-        ..
-    } = reader;
-    if !operands.is_empty() {
+/// Looks whether the code ends where it halts, with nothing open.
+fn look_at_end(reader: &Reader, place: usize, length: usize) -> Result<(), Unread> {
+    if !reader.operands.is_empty() {
         return Err(Unread::At(place));
     }
-    if !regions.is_empty() {
+    if !reader.regions.is_empty() {
         return Err(Unread::At(place));
     }
     if place.saturating_add(1) != length {
         return Err(Unread::At(place));
     }
-    Ok(events)
+    Ok(())
 }

@@ -103,18 +103,47 @@ fn close(out: &mut Vec<u8>, is_bracketed: bool) -> Result<(), AllocError> {
     Ok(())
 }
 
+/// Adds an assignment.
+fn put_assignment(
+    location: u16,
+    value: &Ex,
+    out: &mut Vec<u8>,
+    names: &Names<'_>,
+) -> Result<(), AllocError> {
+    names.put(out, location)?;
+    out.extend_from_slice(b":=")?;
+    put_expression(value, out, names, 0)
+}
+
+/// Adds a guard, and a word before it and behind it.
+fn put_guard(
+    words: (&[u8], &[u8]),
+    guard: &Ex,
+    out: &mut Vec<u8>,
+    names: &Names<'_>,
+) -> Result<(), AllocError> {
+    out.extend_from_slice(words.0)?;
+    put_expression(guard, out, names, 0)?;
+    out.extend_from_slice(words.1)
+}
+
+/// Adds the beginning of a `letvar`, whose name comes into scope.
+fn put_letvar(value: &Ex, out: &mut Vec<u8>, names: &mut Names<'_>) -> Result<(), AllocError> {
+    out.extend_from_slice(b"letvar ")?;
+    names.put_next(out)?;
+    put_guard((b":=", b" in "), value, out, names)?;
+    names.begin()
+}
+
 /// Adds the commands of a sequence, with `;` between them.
 #[cycle(writing)]
 fn put_all(body: &[Cmd], out: &mut Vec<u8>, names: &mut Names<'_>) -> Result<(), AllocError> {
-    if body.is_empty() {
+    let [first, rest @ ..] = body else {
         return put_nothing(out, names);
-    }
-    let mut is_first = true;
-    for c in body {
-        if !is_first {
-            out.extend_from_slice(b";")?;
-        }
-        is_first = false;
+    };
+    put_one(first, out, names)?;
+    for c in rest {
+        out.extend_from_slice(b";")?;
         put_one(c, out, names)?;
     }
     Ok(())
@@ -123,47 +152,31 @@ fn put_all(body: &[Cmd], out: &mut Vec<u8>, names: &mut Names<'_>) -> Result<(),
 /// Adds a sequence as one command: as a block, where it has more than one.
 #[cycle(writing)]
 fn put_part(body: &[Cmd], out: &mut Vec<u8>, names: &mut Names<'_>) -> Result<(), AllocError> {
-    let is_block = body.len() > 1;
-    if is_block {
-        out.extend_from_slice(b"{")?;
+    if body.len() <= 1 {
+        return put_all(body, out, names);
     }
+    out.extend_from_slice(b"{")?;
     put_all(body, out, names)?;
-    if is_block {
-        out.extend_from_slice(b"}")?;
-    }
-    Ok(())
+    out.extend_from_slice(b"}")
 }
 
 /// Adds a command.
 #[cycle(writing)]
 fn put_one(c: &Cmd, out: &mut Vec<u8>, names: &mut Names<'_>) -> Result<(), AllocError> {
     match c {
-        Cmd::Assign { loc, value, .. } => {
-            names.put(out, *loc)?;
-            out.extend_from_slice(b":=")?;
-            put_expression(value, out, names, 0)
-        }
+        Cmd::Assign { loc, value, .. } => put_assignment(*loc, value, out, names),
         Cmd::If { guard, yes, no } => {
-            out.extend_from_slice(b"if ")?;
-            put_expression(guard, out, names, 0)?;
-            out.extend_from_slice(b" then ")?;
+            put_guard((b"if ", b" then "), guard, out, names)?;
             put_part(yes, out, names)?;
             out.extend_from_slice(b" else ")?;
             put_part(no, out, names)
         }
         Cmd::While { guard, body } => {
-            out.extend_from_slice(b"while ")?;
-            put_expression(guard, out, names, 0)?;
-            out.extend_from_slice(b" do ")?;
+            put_guard((b"while ", b" do "), guard, out, names)?;
             put_part(body, out, names)
         }
         Cmd::Letvar { value, body } => {
-            out.extend_from_slice(b"letvar ")?;
-            names.put_next(out)?;
-            out.extend_from_slice(b":=")?;
-            put_expression(value, out, names, 0)?;
-            out.extend_from_slice(b" in ")?;
-            names.begin()?;
+            put_letvar(value, out, names)?;
             put_part(body, out, names)?;
             names.end();
             Ok(())
@@ -230,8 +243,16 @@ pub fn source_text(alloc: Global, image: &Verified) -> Result<Vec<u8>, AuditErro
 {
     let image = image.image();
     let Commands { body, .. } = commands_of(alloc, image)?;
-    let text = written(alloc, image, &body)?;
+    text_of(alloc, image, &body)
+}
+
+/// The canonical text of commands over an image's globals, where it has been read again and both
+/// are the image's.
+fn text_of(alloc: Global, image: &Image, body: &[Cmd]) -> Result<Vec<u8>, AuditError>
+    ensures { IfOk result (λ out. IsSourceText image.now out.items) }
+{
+    let text = written(alloc, image, body)?;
     let program = read(alloc, &text)?;
-    check(alloc, image, &body, &program)?;
+    check(alloc, image, body, &program)?;
     Ok(print(alloc, &program)?)
 }
