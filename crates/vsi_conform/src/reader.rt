@@ -1,10 +1,10 @@
 //! Reads an interface file.
 
-ghost use Rattle.std.specs.Prelude.{◌≡◌, ◌≤◌, length, map, take, codes, Some, true};
+ghost use Rattle.std.specs.Prelude.{◌≡◌, ◌≤◌, length, map, take, codes, Some, None, true, false};
 ghost use Rattle.std.specs.Prelude.{IsTrue, IfOk, OnOk, option_map, option_and_then, string_bytes};
 ghost use Rattle.std.specs.Str.{IsUtf8};
 ghost use Rattle.std.specs.Str.Lossy.{utf8_lossy};
-ghost use Rattle.toml.specs.Data.{as_bool, get_member};
+ghost use Rattle.toml.specs.Data.{as_bool, as_table, get_member};
 ghost use Rattle.toml.specs.View.{items_view, table_view, view};
 ghost use Rattle.vsi_image.specs.Fields.{global, globals};
 ghost use Rattle.vsi_lattice.specs.Shape as shape;
@@ -107,24 +107,43 @@ fn put_copy(alloc: Global, tables: &mut Table, table: &Table, key: &str) -> Resu
     Ok(())
 }
 
+/// Whether a table has one of the keys of a lattice file.
+fn has_tables(table: &Table) -> bool
+    ensures classes { result ≡ false → get_member (codes "classes") (table_view table.now) ≡ None }
+    ensures below { result ≡ false → get_member (codes "below") (table_view table.now) ≡ None }
+{
+    if value_at(table, "classes").is_some() {
+        return true;
+    }
+    value_at(table, "below").is_some()
+}
+
+/// The path of the lattice file.
+fn file_in(alloc: Global, table: &Table) -> Result<Policy, InterfaceError>
+    ensures { IfOk result (spec.IsPolicy (table_view table.now)) }
+{
+    if has_tables(table) {
+        return Err(InterfaceError::BadLattice);
+    }
+    let Some(path) = text_at(table, "lattice") else {
+        return Err(InterfaceError::BadLattice);
+    };
+    let path = Vec::from_slice(alloc, path.as_bytes())?;
+    Ok(Policy::File(path))
+}
+
 /// Where the lattice is.
 fn policy_in(alloc: Global, table: &Table) -> Result<Policy, InterfaceError>
     ensures { IfOk result (spec.IsPolicy (table_view table.now)) }
 {
-    let has_tables = value_at(table, "classes").is_some() || value_at(table, "below").is_some();
-    let Some(value) = value_at(table, "lattice") else {
-        if has_tables {
-            return Ok(Policy::Tables(tables_text(alloc, table)?));
-        }
-        return Err(InterfaceError::BadLattice);
-    };
-    if has_tables {
+    if value_at(table, "lattice").is_some() {
+        return file_in(alloc, table);
+    }
+    if !has_tables(table) {
         return Err(InterfaceError::BadLattice);
     }
-    match value.as_str() {
-        Some(path) => Ok(Policy::File(Vec::from_slice(alloc, path.as_bytes())?)),
-        None => Err(InterfaceError::BadLattice),
-    }
+    let text = tables_text(alloc, table)?;
+    Ok(Policy::Tables(text))
 }
 
 /// How a text is to be accepted.
@@ -198,6 +217,24 @@ fn pair_of(value: &Value) -> Option<(&str, &str)>
     Some((name, class))
 }
 
+/// The name of a global, which is none of those before it.
+fn fresh_name(
+    alloc: Global,
+    name: &[u8],
+    before: &[(Vec<u8>, Vec<u8>)],
+) -> Result<Vec<u8>, InterfaceError>
+    ensures { IfOk result (λ fresh. fresh.items ≡ name.now) }
+{
+    let fresh = Vec::from_slice(alloc, name)?;
+    if !is_name(name) {
+        return Err(InterfaceError::BadName(fresh));
+    }
+    if is_named(before, name) {
+        return Err(InterfaceError::RepeatedGlobal(fresh));
+    }
+    Ok(fresh)
+}
+
 /// A global that is asked for, whose name is none of those before it.
 fn global_of(
     alloc: Global,
@@ -209,14 +246,8 @@ fn global_of(
     let Some((name, class)) = pair_of(value) else {
         return Err(InterfaceError::BadGlobals);
     };
-    let name = Vec::from_slice(alloc, name.as_bytes())?;
+    let name = fresh_name(alloc, name.as_bytes(), before)?;
     let class = Vec::from_slice(alloc, class.as_bytes())?;
-    if !is_name(&name) {
-        return Err(InterfaceError::BadName(name));
-    }
-    if is_named(before, &name) {
-        return Err(InterfaceError::RepeatedGlobal(name));
-    }
     Ok((name, class))
 }
 
@@ -247,11 +278,46 @@ fn globals_of(alloc: Global, array: &[Value]) -> Result<Vec<(Vec<u8>, Vec<u8>)>,
     Ok(found)
 }
 
+/// The names and the words of a table of numbers, of which each name is one of the globals; nothing
+/// where a value is no number.
+fn known_entries(
+    alloc: Global,
+    number: usize,
+    value: &Value,
+    globals: &[(Vec<u8>, Vec<u8>)],
+) -> Result<Option<Vec<(Vec<u8>, i64)>>, InterfaceError>
+    ensures { IfOk result (λ found. option_map (λ es. entries es.items) found
+        ≡ spec.entries_of (view value.now)) }
+{
+    let Some(entries) = entries_of(alloc, value)? else {
+        return Ok(None);
+    };
+    know_names(alloc, number, globals, &entries)?;
+    Ok(Some(entries))
+}
+
+/// Whether each name is one of the globals.
+fn know_names(
+    alloc: Global,
+    number: usize,
+    globals: &[(Vec<u8>, Vec<u8>)],
+    entries: &[(Vec<u8>, i64)],
+) -> Result<(), InterfaceError> {
+    for entry in entries {
+        if !is_named(globals, &entry.0) {
+            let name = Vec::from_slice(alloc, &entry.0)?;
+            return Err(InterfaceError::UnknownGlobal(number, name));
+        }
+    }
+    Ok(())
+}
+
 /// The store of a run, from 1; without one it is empty.
 fn store_in(
     alloc: Global,
     number: usize,
     table: &Table,
+    globals: &[(Vec<u8>, Vec<u8>)],
 ) -> Result<Vec<(Vec<u8>, i64)>, InterfaceError>
     ensures { IfOk result (λ store. spec.store_from
         (get_member (codes "store") (table_view table.now)) ≡ Some (entries store.items)) }
@@ -259,7 +325,7 @@ fn store_in(
     let Some(value) = value_at(table, "store") else {
         return Ok(Vec::new(alloc));
     };
-    match entries_of(alloc, value)? {
+    match known_entries(alloc, number, value, globals)? {
         Some(entries) => Ok(entries),
         None => Err(InterfaceError::BadStore(number)),
     }
@@ -312,6 +378,7 @@ fn expect_in(
     alloc: Global,
     number: usize,
     table: &Table,
+    globals: &[(Vec<u8>, Vec<u8>)],
 ) -> Result<Vec<(Vec<u8>, i64)>, InterfaceError>
     ensures { IfOk result (λ expect. spec.expect_from
         (get_member (codes "expect") (table_view table.now))
@@ -326,26 +393,23 @@ fn expect_in(
     if value_at(table, "halts").is_some() {
         return Err(InterfaceError::NothingExpected(number));
     }
-    match entries_of(alloc, value)? {
+    match known_entries(alloc, number, value, globals)? {
         Some(entries) => Ok(entries),
         None => Err(InterfaceError::NothingExpected(number)),
     }
 }
 
-/// Whether each name is one of the globals.
-fn know_names(
-    alloc: Global,
-    number: usize,
-    globals: &[(Vec<u8>, Vec<u8>)],
-    entries: &[(Vec<u8>, i64)],
-) -> Result<(), InterfaceError> {
-    for entry in entries {
-        if !is_named(globals, &entry.0) {
-            let name = Vec::from_slice(alloc, &entry.0)?;
-            return Err(InterfaceError::UnknownGlobal(number, name));
-        }
+/// The table of a run, whose keys are those of one.
+fn run_table(number: usize, value: &Value) -> Result<&Table, InterfaceError>
+    ensures { IfOk result (λ table. as_table (view value.now) ≡ Some (table_view table.now)) }
+{
+    let Some(table) = value.as_table() else {
+        return Err(InterfaceError::BadRun(number));
+    };
+    match other_key(table, &RUN_KEYS) {
+        Some(_) => Err(InterfaceError::BadRun(number)),
+        None => Ok(table),
     }
-    Ok(())
 }
 
 /// A run, whose number begins with 1.
@@ -357,17 +421,10 @@ fn trial_of(
 ) -> Result<Trial, InterfaceError>
     ensures { IfOk result (λ trial. spec.run_of (view value.now) ≡ Some (spec.run trial)) }
 {
-    let Some(table) = value.as_table() else {
-        return Err(InterfaceError::BadRun(number));
-    };
-    if other_key(table, &RUN_KEYS).is_some() {
-        return Err(InterfaceError::BadRun(number));
-    }
-    let store = store_in(alloc, number, table)?;
-    know_names(alloc, number, globals, &store)?;
+    let table = run_table(number, value)?;
+    let store = store_in(alloc, number, table, globals)?;
     let budget = budget_in(number, table)?;
-    let expect = expect_in(alloc, number, table)?;
-    know_names(alloc, number, globals, &expect)?;
+    let expect = expect_in(alloc, number, table, globals)?;
     Ok(Trial {
         store,
         budget,
