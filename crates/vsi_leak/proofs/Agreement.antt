@@ -1,13 +1,20 @@
 -- Agreement, global by global.
-use Rattle.std.proofs.Common.{◌≡◌, ◌≢◌, ℕ, ◌+◌, ◌<◌, ◌≤◌, inl, inr, pos, List, length, true, false, refl, sym, ap, ◌∙◌, Option, Some, None, slice_get, slice_index_or, arith}
-use Rattle.std.specs.Option.{option_map_or}
+use Rattle.std.proofs.Common.{◌≡◌, ◌≢◌, ℕ, ◌+◌, ◌<◌, ◌≤◌, inl, inr, pos, List, length, true, false, refl, sym, ap, ◌∙◌, Option, Some, None, slice_get, slice_index_or, get_or, arith}
+use Rattle.std.specs.Global.{Vec}
+use Rattle.std.specs.Option.{option_map, option_map_or}
 use Rattle.std.proofs.lemmas.Bool.{cases_lt}
-use Rattle.std.proofs.lemmas.Option.{same_Some, slice_get_within}
-use Rattle.vsi_image.specs.Fields.{Global}
+use Rattle.std.proofs.lemmas.Option.{same_Some, slice_get-map, slice_get_read, slice_get_within}
+use Rattle.vsi_image.specs.Fields.{Global, global, globals}
 use Rattle.vsi_lattice.specs.Order.{Lattice, Below}
 use Rattle.vsi_scope.specs.Meaning.{Store}
 use Rattle.vsi_compiler.specs.Observation.{Known}
 use Rattle.vsi_leak.specs.Agreement.{is_seen, AgreeIn}
+
+-- The global at a place, as the code reads it.
+pub global_at : (vs : List (Vec ℕ × Vec ℕ)) (i : ℕ) (v : Vec ℕ × Vec ℕ) → i < length vs → v ≡ get_or vs i v →
+    slice_get (globals vs) i ≡ Some (global v)
+global_at vs i v lt is =
+    slice_get-map global vs i ∙ ap (option_map global) (slice_get_read vs (length vs) i v refl lt is)
 
 module _ (known : Known) (L : Lattice) (gs : List Global) (a : ℕ) (m m' : Store) where
   -- Two stores have equal words in each of the first globals that the class sees.

@@ -1,6 +1,6 @@
 //! What an observer at a class sees of stores.
 
-ghost use Rattle.std.specs.Prelude.{◌≡◌, ◌↔◌, IsTrue};
+ghost use Rattle.std.specs.Prelude.{◌≡◌, ◌≢◌, ◌↔◌, IsTrue, true, false, pos, slice_index_or};
 ghost use Rattle.vsi_image.specs.Fields.{globals};
 ghost use Rattle.vsi_lattice.specs.LatticeView.{class_named, order};
 ghost use Rattle.vsi_lattice.specs.Order.{IsClass};
@@ -22,6 +22,31 @@ pub(crate) fn sees(lattice: &Lattice, class: Class, name: &[u8]) -> bool
     }
 }
 
+/// Whether the class sees a global of this class name, whose words differ at this place.
+fn differs(
+    lattice: &Lattice,
+    class: Class,
+    name: &[u8],
+    place: usize,
+    first: &[i64],
+    second: &[i64],
+) -> bool
+    requires { IsClass (order lattice.now) class }
+    ensures seen { IsTrue result →
+        is_seen (class_named lattice.now) (order lattice.now) class name.now ≡ true }
+    ensures apart { IsTrue result →
+        slice_index_or first.now place (pos 0) ≢ slice_index_or second.now place (pos 0) }
+    ensures equal { result ≡ false →
+        is_seen (class_named lattice.now) (order lattice.now) class name.now ≡ true →
+        slice_index_or first.now place (pos 0) ≡ slice_index_or second.now place (pos 0) }
+{
+    if word_at(first, place) == word_at(second, place) {
+        false
+    } else {
+        sees(lattice, class, name)
+    }
+}
+
 /// Whether the words agree in all globals that the class sees.
 fn agree_words(
     lattice: &Lattice,
@@ -35,10 +60,9 @@ fn agree_words(
         (globals variables.now) class first.now second.now }
 {
     for (i, variable) in variables.iter().enumerate() {
-        if sees(lattice, class, variable.1.as_slice()) {
-            if word_at(first, i) != word_at(second, i) {
-                return false;
-            }
+        let name = variable.1.as_slice();
+        if differs(lattice, class, name, i, first, second) {
+            return false;
         }
     }
     true

@@ -174,8 +174,45 @@ fn leak_of_ones(
     Ok(None)
 }
 
+/// What is changed where a probe is made, the preferred globals first, and to which words.
+fn plan_of(probe: &Probe<'_>, image: &Image, preferred: &[usize]) -> Result<Plan, AllocError> {
+    let sources = hidden_sources(probe.alloc, &probe.seen, image, preferred)?;
+    let read = read_globals(probe.alloc, image)?;
+    let values = values_of(probe.alloc, image)?;
+    Ok(Plan {
+        sources,
+        read,
+        values,
+    })
+}
+
+/// Two stores of zeros.
+fn zero_pair(alloc: Global, image: &Image) -> Result<Pair, AllocError> {
+    let first = zeros(alloc, image)?;
+    let second = zeros(alloc, image)?;
+    Ok(Pair { first, second })
+}
+
 /// Two stores that seem to show a leak, made small, and how many pairs were tried for them; `None`
 /// where none were met.
+fn small_pair(
+    probe: &Probe<'_>,
+    plan: &Plan,
+    mut pair: Pair,
+    effort: Effort,
+) -> Result<(Option<Pair>, u64), AllocError>
+    ensures { IfOk result (λ r. r.1 ≤ effort.tries) }
+{
+    let (found, pairs) = propose(probe, plan, &mut pair, effort)?;
+    if !found {
+        return Ok((None, pairs));
+    }
+    pair.shrink(probe)?;
+    Ok((Some(pair), pairs))
+}
+
+/// The pair of `small_pair` for an image at a class, by a sign. None is tried by words where the
+/// class sees nothing.
 fn proposed(
     alloc: Global,
     lattice: &Lattice,
@@ -193,15 +230,6 @@ fn proposed(
     if matches!(sign, Sign::Words) && !seen.contains(&true) {
         return Ok((None, 0));
     }
-    let plan = Plan {
-        sources: hidden_sources(alloc, &seen, image, preferred)?,
-        read: read_globals(alloc, image)?,
-        values: values_of(alloc, image)?,
-    };
-    let mut pair = Pair {
-        first: zeros(alloc, image)?,
-        second: zeros(alloc, image)?,
-    };
     let probe = Probe {
         alloc,
         verified,
@@ -209,12 +237,9 @@ fn proposed(
         sign,
         budget: effort.budget,
     };
-    let (found, pairs) = propose(&probe, &plan, &mut pair, effort)?;
-    if !found {
-        return Ok((None, pairs));
-    }
-    pair.shrink(&probe)?;
-    Ok((Some(pair), pairs))
+    let plan = plan_of(&probe, image, preferred)?;
+    let pair = zero_pair(alloc, image)?;
+    small_pair(&probe, &plan, pair, effort)
 }
 
 /// `find_leak`, for which the hidden globals at these places are changed before others.

@@ -1,6 +1,6 @@
 //! The text of a leak: both runs side by side, a row for each word.
 
-ghost use Rattle.std.specs.Prelude.{◌≡◌, ◌++◌, max, IfOk, IfSome, OnOk};
+ghost use Rattle.std.specs.Prelude.{◌≡◌, ◌++◌, ◌∷◌, [], codes, max, IfOk, IfSome, OnOk};
 ghost use Rattle.vsi_image.specs.Fields.{global, globals};
 ghost use Rattle.vsi_lattice.specs.LatticeView.{class_named, order};
 ghost use Rattle.vsi_lattice.specs.Order.{IsClass};
@@ -13,6 +13,24 @@ use vsi_image::Image;
 use vsi_lattice::{Class, Lattice};
 use vsi_syntax::{put_number, put_word};
 
+/// A cell with as many spaces behind it as bring it to the width.
+fn padded(alloc: Global, width: usize, cell: &[u8]) -> Result<Vec<u8>, AllocError>
+    ensures { IfOk result (λ wide. wide.items ≡ spec.padded width cell.now) }
+{
+    let mut wide = cell.to_vec(alloc)?;
+    if wide.len() < width {
+        wide.resize(width, b' ')?;
+    }
+    Ok(wide)
+}
+
+/// A star before a row whose cells differ.
+fn mark(left: &[u8], right: &[u8]) -> &'static [u8]
+    ensures { result.now ≡ spec.mark left.now right.now }
+{
+    if left == right { b"  " } else { b"* " }
+}
+
 /// A row of two cells, marked where they differ.
 fn put_row(
     alloc: Global,
@@ -23,20 +41,12 @@ fn put_row(
 ) -> Result<(), AllocError>
     ensures { OnOk result (text.new.items ≡ text.old.items ++ spec.row width left.now right.now) }
 {
-    let mut cell = left.to_vec(alloc)?;
-    if cell.len() < width {
-        cell.resize(width, b' ')?;
-    }
-    if left == right {
-        text.extend_from_slice(b"  ")?;
-    } else {
-        text.extend_from_slice(b"* ")?;
-    }
+    let cell = padded(alloc, width, left)?;
+    text.extend_from_slice(mark(left, right))?;
     text.extend_from_slice(&cell)?;
     text.extend_from_slice(b"  ")?;
     text.extend_from_slice(right)?;
-    text.push(b'\n')?;
-    Ok(())
+    text.extend_from_slice(b"\n")
 }
 
 /// The name of a global and its word.
@@ -225,6 +235,27 @@ fn left_width(
     }
 }
 
+/// The row of what both runs end with.
+fn put_ends(alloc: Global, text: &mut Vec<u8>, width: usize, leak: &Leak) -> Result<(), AllocError>
+    ensures { OnOk result (text.new.items ≡ text.old.items
+        ++ spec.row width (spec.end_cell leak.now.first.ending)
+        (spec.end_cell leak.now.second.ending)) }
+{
+    let left = end_cell(alloc, &leak.first.ending)?;
+    let right = end_cell(alloc, &leak.second.ending)?;
+    put_row(alloc, text, width, &left, &right)
+}
+
+/// The first line of a leak at a class of this name.
+fn heading(alloc: Global, name: &[u8]) -> Result<Vec<u8>, AllocError>
+    ensures { IfOk result (λ text. text.items ≡ codes "leak at " ++ name.now ++ 10 ∷ []) }
+{
+    let mut text = Vec::from_slice(alloc, b"leak at ")?;
+    text.extend_from_slice(name)?;
+    text.push(b'\n')?;
+    Ok(text)
+}
+
 /// The text of a leak: both stores side by side, then what the class sees of both runs and after
 /// how many instructions they halt. A star stands before each row whose sides differ.
 pub fn leak_text(
@@ -240,16 +271,12 @@ pub fn leak_text(
     let name = lattice.name(leak.class);
     let variables = image.globals.as_slice();
     let width = left_width(alloc, lattice, variables, leak)?;
-    let mut text = Vec::from_slice(alloc, b"leak at ")?;
-    text.extend_from_slice(name)?;
-    text.push(b'\n')?;
+    let mut text = heading(alloc, name)?;
     let stores = (leak.first.store.as_slice(), leak.second.store.as_slice());
     put_rows(alloc, &mut text, lattice, &None, width, variables, stores)?;
     text.extend_from_slice(name)?;
     text.extend_from_slice(b" sees\n")?;
     put_seen(alloc, &mut text, lattice, width, variables, leak)?;
-    let left = end_cell(alloc, &leak.first.ending)?;
-    let right = end_cell(alloc, &leak.second.ending)?;
-    put_row(alloc, &mut text, width, &left, &right)?;
+    put_ends(alloc, &mut text, width, leak)?;
     Ok(text)
 }
