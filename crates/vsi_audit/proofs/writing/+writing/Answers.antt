@@ -1,4 +1,4 @@
-use Rattle.std.proofs.Common.{rules, arith, ◌≡◌, ◌<◌, length, get_or, option_map, refl, ap, sym, subst, ◌∙◌}
+use Rattle.std.proofs.Common.{rules, arith, ◌≡◌, ℕ, ◌<◌, List, Bor, length, get_or, option_map, refl, ap, sym, subst, ◌∙◌}
 use Rattle.vsi_syntax.specs.declared.tree.Stmt.{the_lemmas}
 use Rattle.vsi_syntax.specs.Tree as tree
 use Rattle.vsi_syntax.specs.View as view
@@ -18,7 +18,7 @@ check_all-loop-c-preserved t c =
     let within : c.loop-c.c-index < length c.args.written.now = omega (arith, c.loop-c-test.true, c.if-body-written.false)
     in
     record {
-      kept = c.in_ok-check_one.ensures.kept ∙ c.loop-c.invariant.kept;
+      kept = ◌∙◌ {A = List (Bor (List ℕ))} c.in_ok-check_one.ensures.kept c.loop-c.invariant.kept;
       place = omega (arith, c.loop-c.invariant.place);
       written = written_more names c.args.body.now c.args.written.now c.loop-c.c-index c.c-item.result statement
           c.loop-c-test.true within c.c-item.is
