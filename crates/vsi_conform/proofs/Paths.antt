@@ -1,8 +1,8 @@
 -- The folder of a path, from its end.
-use Rattle.std.proofs.Common.{◌≡◌, ℕ, ◌+◌, ◌<◌, ◌∷◌, [], ◌++◌, List, Bool, true, false, ◌||◌, refl, sym, ap, ◌∙◌, rules, length, take, get_or}
+use Rattle.std.proofs.Common.{◌≡◌, ℕ, ◌+◌, ◌<◌, ◌∷◌, [], ◌++◌, List, true, false, refl, sym, ap, ◌∙◌, rules, length, take, get_or}
 use Rattle.std.proofs.lemmas.List.{take_more}
 use Rattle.std.specs.List.{list_any}
-use Rattle.vsi_conform.specs.Beside.{is_slash, folder, is_rooted}
+use Rattle.vsi_conform.specs.Beside.{is_slash, folder}
 
 -- A byte more that is no slash.
 pub any_push : (xs : List ℕ) (b : ℕ) → is_slash b ≡ false → list_any is_slash (xs ++ b ∷ []) ≡ list_any is_slash xs

@@ -1,4 +1,3 @@
-use Rattle.std.proofs.Common.{rules, ◌∙◌}
 use Rattle.vsi_syntax.specs.ProgramView.{whole}
 use Rattle.vsi_conform.proofs.Readable.{uncut, unwritten, written, failed}
 use Rattle.vsi_conform.proofs.declared.declarations.Goals as goal

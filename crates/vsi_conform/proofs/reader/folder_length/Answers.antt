@@ -1,4 +1,4 @@
-use Rattle.std.proofs.Common.{rules, ◌≡◌, ◌+◌, ◌-◌, arith, take, ap, ◌∙◌, ne_eqb}
+use Rattle.std.proofs.Common.{◌≡◌, ◌+◌, ◌-◌, arith, take, ap, ◌∙◌, ne_eqb}
 use Rattle.vsi_conform.specs.Beside.{folder}
 use Rattle.vsi_conform.proofs.Paths.{folder_found, folder_left}
 use Rattle.vsi_conform.proofs.reader.folder_length.Goals as goal
