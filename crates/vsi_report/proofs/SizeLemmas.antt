@@ -1,5 +1,5 @@
 -- How long the page of a text is.
-use Rattle.std.proofs.Common.{ℕ, List, [], inl, inr, refl, Result}
+use Rattle.std.proofs.Common.{ℕ, ◌≤◌, List, [], length, inl, inr, refl, Result}
 use Rattle.std.specs.Prelude.{IfOk}
 use Rattle.std.specs.Global.{Vec}
 use Rattle.std.proofs.lemmas.Result.{IfOk-weaker}
@@ -10,7 +10,8 @@ use Rattle.vsi_image.specs.declared.instr.Image.{Image}
 use Rattle.vsi_image.specs.Fields.{fields}
 use Rattle.vsi_image.specs.Listing.{listing}
 use Rattle.vsi_compiler.specs.Headline.{IsCompiled}
-use Rattle.vsi_report.specs.Size.{IsShort, IsBounded}
+use Rattle.vsi_flows.specs.declared.pair.Pair.{Pair}
+use Rattle.vsi_report.specs.Size.{AreFlows, IsShort, IsBounded, most_bytes}
 
 module _ (l : Lattice) (P : Profile) (text : List ℕ) where
   -- A page with the listing of the text's image is bounded.
@@ -35,4 +36,22 @@ module _ (l : Lattice) (P : Profile) (text : List ℕ) where
   bounded_without r h =
       IfOk-weaker r (λ page. IsShort l P text [] page.items) (λ page. IsBounded l P text page.items)
       (λ page short. record { lines = []; image = inr refl; short = short })
+      h
+
+  -- A page that is short enough for the table of flows of the text's program.
+  pub short_with : {E : Type 0} (pairs : List Pair) (lines : List ℕ) (r : Result (Vec ℕ) E) → AreFlows l P text pairs →
+      IfOk r (λ page. length page.items ≤ most_bytes (length text) (length pairs) (length lines)) →
+      IfOk r (λ page. IsShort l P text lines page.items)
+  short_with pairs lines r flows h =
+      IfOk-weaker r (λ page. length page.items ≤ most_bytes (length text) (length pairs) (length lines))
+      (λ page. IsShort l P text lines page.items)
+      (λ page short. record { pairs = pairs; flows = inl flows; short = short })
+      h
+
+  -- A page that is short enough for no flows.
+  pub short_without : {E : Type 0} (r : Result (Vec ℕ) E) →
+      IfOk r (λ page. length page.items ≤ most_bytes (length text) 0 0) → IfOk r (λ page. IsShort l P text [] page.items)
+  short_without r h =
+      IfOk-weaker r (λ page. length page.items ≤ most_bytes (length text) 0 0) (λ page. IsShort l P text [] page.items)
+      (λ page short. record { pairs = []; flows = inr refl; short = short })
       h

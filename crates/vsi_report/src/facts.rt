@@ -38,6 +38,22 @@ pub(crate) struct Facts {
     pub(crate) pairs: Vec<Pair>,
 }
 
+/// Adds a variable of a name.
+fn put_variable(
+    alloc: Global,
+    variables: &mut Vec<Variable>,
+    name: &[u8],
+    class: Option<usize>,
+    is_declared: bool,
+) -> Result<(), AllocError> {
+    variables.push(Variable {
+        name: name.to_vec(alloc)?,
+        class,
+        is_declared,
+    })?;
+    Ok(())
+}
+
 /// Adds the globals.
 fn put_globals(
     alloc: Global,
@@ -45,11 +61,8 @@ fn put_globals(
     variables: &mut Vec<Variable>,
 ) -> Result<(), AllocError> {
     for global in program.globals() {
-        variables.push(Variable {
-            name: global.name.to_vec(alloc)?,
-            class: Some(global.class.index()),
-            is_declared: true,
-        })?;
+        let class = Some(global.class.index());
+        put_variable(alloc, variables, global.name, class, true)?;
     }
     Ok(())
 }
@@ -73,13 +86,23 @@ fn put_letvars(
     variables: &mut Vec<Variable>,
 ) -> Result<(), AllocError> {
     for (number, entry) in program.letvars().iter().enumerate() {
-        variables.push(Variable {
-            name: entry.name.to_vec(alloc)?,
-            class: class_of(entry.class, inferred, number),
-            is_declared: entry.class.is_some(),
-        })?;
+        let class = class_of(entry.class, inferred, number);
+        put_variable(alloc, variables, entry.name, class, entry.class.is_some())?;
     }
     Ok(())
+}
+
+/// Adds the variables of a program, the ending of loops last.
+fn put_variables(
+    alloc: Global,
+    program: &Resolved<'_>,
+    inferred: &[Class],
+    bottom: usize,
+    variables: &mut Vec<Variable>,
+) -> Result<(), AllocError> {
+    put_globals(alloc, program, variables)?;
+    put_letvars(alloc, program, inferred, variables)?;
+    put_variable(alloc, variables, b"(loop)", Some(bottom), true)
 }
 
 /// The variables of a program.
@@ -90,13 +113,7 @@ fn variables_of(
     bottom: usize,
 ) -> Result<Vec<Variable>, AllocError> {
     let mut variables = Vec::new(alloc);
-    put_globals(alloc, program, &mut variables)?;
-    put_letvars(alloc, program, inferred, &mut variables)?;
-    variables.push(Variable {
-        name: Vec::from_slice(alloc, b"(loop)")?,
-        class: Some(bottom),
-        is_declared: true,
-    })?;
+    put_variables(alloc, program, inferred, bottom, &mut variables)?;
     Ok(variables)
 }
 
@@ -179,6 +196,23 @@ fn gathered(
     })
 }
 
+/// What is known of a program.
+fn facts_of_program(
+    alloc: Global,
+    profile: Profile,
+    lattice: &Lattice,
+    program: &Resolved<'_>,
+) -> Result<Facts, AllocError>
+    requires globals { All (IsClass (order lattice.now)) (program_of program.now).globals }
+    requires declared { AreClasses (order lattice.now) (program_of program.now).declared }
+    ensures { IfOk result (λ facts.
+        IsTable (order lattice.now) profile (program_of program.now) facts.pairs.items) }
+{
+    let inferred = inferred_classes(alloc, profile, lattice, program)?;
+    let pairs = pairs_of(alloc, profile, lattice, program)?;
+    gathered(alloc, profile, lattice, program, &inferred, pairs)
+}
+
 /// What is known of the program of a text.
 ///
 /// # Errors
@@ -194,9 +228,7 @@ pub(crate) fn facts_of(
         AreFlows lattice.now profile source.now facts.pairs.items) }
 {
     let program = resolved_program(alloc, lattice, source)?;
-    let pairs = pairs_of(alloc, profile, lattice, &program)?;
-    let inferred = inferred_classes(alloc, profile, lattice, &program)?;
-    Ok(gathered(alloc, profile, lattice, &program, &inferred, pairs)?)
+    Ok(facts_of_program(alloc, profile, lattice, &program)?)
 }
 
 /// The number of a variable; that of the ending of loops is the last.

@@ -108,8 +108,8 @@ fn put_node(
     number: u16,
 ) -> Result<(), AllocError>
     ensures { OnOk result (text.new.items ≡ text.old.items
-        ++ spec.variable_line (texts order.now.names.items) (order_of_lattice lattice.now) program.now
-        inferred.now last number) }
+        ++ spec.variable_line (texts order.now.names.items) (order_of_lattice lattice.now)
+        program.now inferred.now last number) }
 {
     let variable = variable_at(last, number);
     text.extend_from_slice(b"  v")?;
@@ -302,7 +302,8 @@ pub fn flows_dot(
         (λ text. spec.IsFlowsGraph lattice.now profile source.now text.items) }
     ensures refused { IfErr result (RefusesProgram (class_named lattice.now) source.now) }
     ensures exact { (tree : Whole) (commands : List Command) → Reads source.now tree
-        → IsResolution (class_named lattice.now) tree commands → IfErr result (λ e. e ≡ Memory) }
+        → IsResolution (class_named lattice.now) tree commands
+        → IfErr result (λ e. e ≡ Memory) }
 {
     let program = resolved_program(alloc, lattice, source)?;
     let inferred = inferred_classes(alloc, profile, lattice, &program)?;

@@ -2,13 +2,13 @@
 
 use crate::bands::{Band, Banded};
 use crate::facts::{Facts, flows_between, is_inferred, number_of, variable_class, variable_name};
-use crate::lattice_picture::{put_box, put_kind, put_picture, spot_at};
+use crate::lattice_picture::{colour, put_box, put_picture, spot_at};
 use crate::order::{Order, name_of};
-use crate::page::Page;
+use crate::page::{Page, Part};
 use crate::passage::passage;
-use crate::walking::{RULES, bit_of, rule_name};
+use crate::walking::{RULES, rule_name};
 use std::alloc::AllocError;
-use vsi_types::Step;
+use vsi_types::{Rule, Step};
 
 /// The two ends of an arrow, and the points towards which it leaves one and comes to the other.
 #[derive(Clone, Copy)]
@@ -49,13 +49,13 @@ pub(crate) fn has_few_arrows(facts: &Facts) -> bool {
 }
 
 /// How far the arrows of a rule stand to the right.
-fn shift(rule: u8) -> usize {
+fn shift(rule: Rule) -> usize {
     match rule {
-        1 => 8,
-        2 => 16,
-        4 => 0,
-        8 => 22,
-        _ => 4,
+        Rule::Assign => 8,
+        Rule::If => 16,
+        Rule::While => 0,
+        Rule::Letvar => 22,
+        Rule::Loop => 4,
     }
 }
 
@@ -97,7 +97,7 @@ fn flat(x1: usize, x2: usize, y1: usize) -> Arrow {
 }
 
 /// The arrow from a variable to another by a rule: upwards, downwards, or along a row.
-fn arrow_of(picture: &Banded, source: usize, target: usize, rule: u8) -> Arrow {
+fn arrow_of(picture: &Banded, source: usize, target: usize, rule: Rule) -> Arrow {
     let from = spot_at(&picture.layout, source);
     let to = spot_at(&picture.layout, target);
     let x1 = from.x.saturating_add(shift(rule)).saturating_sub(11);
@@ -113,38 +113,37 @@ fn arrow_of(picture: &Banded, source: usize, target: usize, rule: u8) -> Arrow {
     }
 }
 
-/// Adds the curve of an arrow.
-fn put_curve(page: &mut Page, arrow: Arrow) -> Result<(), AllocError> {
-    page.put(b" d=\"M")?;
-    put_point(page, arrow.x1, arrow.y1)?;
-    page.put(b"C")?;
-    put_point(page, arrow.bend1, arrow.bend)?;
-    put_point(page, arrow.bend2, arrow.bend)?;
-    put_point(page, arrow.x2, arrow.y2)?;
-    page.put(b"\"")
-}
-
-/// Adds a point.
-fn put_point(page: &mut Page, x: usize, y: usize) -> Result<(), AllocError> {
-    page.number(x)?;
-    page.put(b" ")?;
-    page.number(y)?;
-    page.put(b" ")
-}
-
-/// Adds the arrow of a rule.
+/// Adds an arrow: what stands before its curve, the curve, and what stands behind it.
 fn put_arrow(
     page: &mut Page,
-    picture: &Banded,
-    source: usize,
-    target: usize,
-    rule: u8,
+    before: &'static [u8],
+    arrow: Arrow,
+    behind: &'static [u8],
 ) -> Result<(), AllocError> {
-    page.put(b"<path class=\"flow r")?;
-    page.value(b"", rule as usize)?;
-    put_curve(page, arrow_of(picture, source, target, rule))?;
-    page.put(b" marker-end=\"url(#tip)\"/>")
+    page.put_parts(&[
+        Part::Markup(before),
+        Part::Point(arrow.x1, arrow.y1),
+        Part::Markup(b"C"),
+        Part::Point(arrow.bend1, arrow.bend),
+        Part::Point(arrow.bend2, arrow.bend),
+        Part::Point(arrow.x2, arrow.y2),
+        Part::Markup(behind),
+    ])
 }
+
+/// What stands before the curve of an arrow of a rule.
+fn before_curve(rule: Rule) -> &'static [u8] {
+    match rule {
+        Rule::Assign => b"<path class=\"flow r1\" d=\"M",
+        Rule::If => b"<path class=\"flow r2\" d=\"M",
+        Rule::While => b"<path class=\"flow r4\" d=\"M",
+        Rule::Letvar => b"<path class=\"flow r8\" d=\"M",
+        Rule::Loop => b"<path class=\"flow r16\" d=\"M",
+    }
+}
+
+/// What stands behind the curve of an arrow.
+const BEHIND_CURVE: &[u8] = b"\" marker-end=\"url(#tip)\"/>";
 
 /// Adds the arrows from a variable to another, one for each rule.
 fn put_arrows(
@@ -159,7 +158,8 @@ fn put_arrows(
     }
     for rule in RULES {
         if flows_between(facts, source, target, rule) {
-            put_arrow(page, picture, source, target, bit_of(rule))?;
+            let arrow = arrow_of(picture, source, target, rule);
+            put_arrow(page, before_curve(rule), arrow, BEHIND_CURVE)?;
         }
     }
     Ok(())
@@ -176,35 +176,41 @@ fn put_all_arrows(page: &mut Page, facts: &Facts, picture: &Banded) -> Result<()
     Ok(())
 }
 
-/// Adds a band with the name of its class.
-fn put_band(page: &mut Page, order: &Order, wide: usize, band: Band) -> Result<(), AllocError> {
-    put_kind(page, b"<g class=\"band ", band.class)?;
-    page.value(b"\"><rect x=\"4\" rx=\"10\" y=\"", band.top)?;
-    page.value(b" width=\"", wide.saturating_sub(8))?;
-    page.value(b" height=\"", band.foot.saturating_sub(band.top))?;
-    page.value(b"/><text x=\"14\" y=\"", band.top.saturating_add(17))?;
-    page.put(b">")?;
+/// The name of a band's class.
+fn band_name<'a>(order: &'a Order, band: Band) -> &'a [u8] {
     match band.class {
-        Some(class) => page.tell(name_of(order, class))?,
-        None => page.put(b"no class fits")?,
+        Some(class) => name_of(order, class),
+        None => b"no class fits",
     }
-    page.put(b"</text></g>")
 }
 
-/// Adds the arrow of a step of the walk.
-fn put_step_arrow(
-    page: &mut Page,
-    facts: &Facts,
-    picture: &Banded,
-    step: &Step,
-) -> Result<(), AllocError> {
+/// Adds a band with the name of its class.
+fn put_band(page: &mut Page, order: &Order, wide: usize, band: Band) -> Result<(), AllocError> {
+    page.put_parts(&[
+        Part::Markup(b"<g class=\"band "),
+        Part::Markup(colour(band.class)),
+        Part::Value(b"\"><rect x=\"4\" rx=\"10\" y=\"", band.top),
+        Part::Value(b" width=\"", wide.saturating_sub(8)),
+        Part::Value(b" height=\"", band.foot.saturating_sub(band.top)),
+        Part::Value(b"/><text x=\"14\" y=\"", band.top.saturating_add(17)),
+        Part::Markup(b">"),
+        Part::Text(band_name(order, band)),
+        Part::Markup(b"</text></g>"),
+    ])
+}
+
+/// The arrow of a step of the walk.
+fn step_arrow(facts: &Facts, picture: &Banded, step: &Step) -> Arrow {
     let source = number_of(facts, step.source);
     let target = number_of(facts, step.target);
-    let arrow = arrow_of(picture, source, target, bit_of(step.rule));
-    page.put(b"<path class=\"told\"")?;
-    put_curve(page, arrow)?;
-    page.put(b" marker-end=\"url(#told)\"/>")
+    arrow_of(picture, source, target, step.rule)
 }
+
+/// What stands before the curve of a step's arrow.
+const BEFORE_TOLD: &[u8] = b"<path class=\"told\" d=\"M";
+
+/// What stands behind it.
+const BEHIND_TOLD: &[u8] = b"\" marker-end=\"url(#told)\"/>";
 
 /// The middle of a curve, of the sum of its ends and that of its bends.
 fn middle_of(ends: usize, bends: usize) -> usize {
@@ -212,29 +218,20 @@ fn middle_of(ends: usize, bends: usize) -> usize {
 }
 
 /// Adds the number of a step of the walk, in the middle of its arrow.
-fn put_step_number(
-    page: &mut Page,
-    facts: &Facts,
-    picture: &Banded,
-    number: usize,
-    step: &Step,
-) -> Result<(), AllocError> {
-    let source = number_of(facts, step.source);
-    let target = number_of(facts, step.target);
-    let arrow = arrow_of(picture, source, target, bit_of(step.rule));
+fn put_step_number(page: &mut Page, arrow: Arrow, number: usize) -> Result<(), AllocError> {
     let bends = arrow.bend1.saturating_add(arrow.bend2);
     let x = middle_of(arrow.x1.saturating_add(arrow.x2), bends);
-    let y = middle_of(
-        arrow.y1.saturating_add(arrow.y2),
-        arrow.bend.saturating_mul(2),
-    );
-    page.value(b"<g class=\"number\"><circle r=\"11\" cx=\"", x)?;
-    page.value(b" cy=\"", y)?;
-    page.value(b"/><text x=\"", x)?;
-    page.value(b" y=\"", y.saturating_add(5))?;
-    page.put(b">")?;
-    page.number(number.saturating_add(1))?;
-    page.put(b"</text></g>")
+    let heights = arrow.y1.saturating_add(arrow.y2);
+    let y = middle_of(heights, arrow.bend.saturating_mul(2));
+    page.put_parts(&[
+        Part::Value(b"<g class=\"number\"><circle r=\"11\" cx=\"", x),
+        Part::Value(b" cy=\"", y),
+        Part::Value(b"/><text x=\"", x),
+        Part::Value(b" y=\"", y.saturating_add(5)),
+        Part::Markup(b">"),
+        Part::Number(number.saturating_add(1)),
+        Part::Markup(b"</text></g>"),
+    ])
 }
 
 /// Adds the sentence of the flows from a variable to another.
@@ -246,9 +243,15 @@ fn put_flow_told(
 ) -> Result<(), AllocError> {
     for rule in RULES {
         if flows_between(facts, source, target, rule) {
-            page.between(b" ", variable_name(facts, source), b" flows to ")?;
-            page.tell(variable_name(facts, target))?;
-            page.between(b" by ", rule_name(rule), b".")?;
+            page.put_parts(&[
+                Part::Markup(b" "),
+                Part::Text(variable_name(facts, source)),
+                Part::Markup(b" flows to "),
+                Part::Text(variable_name(facts, target)),
+                Part::Markup(b" by "),
+                Part::Markup(rule_name(rule)),
+                Part::Markup(b"."),
+            ])?;
         }
     }
     Ok(())
@@ -276,7 +279,25 @@ class=\"tip\" d=\"M0 0L10 5L0 10z\"/></marker><marker id=\"told\" viewBox=\"0 0 
 refY=\"5\" markerWidth=\"13\" markerHeight=\"13\" markerUnits=\"userSpaceOnUse\" orient=\"auto\">\
 <path class=\"toldtip\" d=\"M0 0L10 5L0 10z\"/></marker></defs>";
 
-/// Adds the boxes of the variables; that of an inferred class is dashed.
+/// Adds the box of a variable; that of an inferred class is dashed.
+fn put_variable(
+    page: &mut Page,
+    facts: &Facts,
+    picture: &Banded,
+    number: usize,
+) -> Result<(), AllocError> {
+    if is_inferred(facts, number) {
+        page.put(b"<g class=\"inferred\">")?;
+    } else {
+        page.put(b"<g>")?;
+    }
+    let spot = spot_at(&picture.layout, number);
+    let class = variable_class(facts, number);
+    put_box(page, spot, class, variable_name(facts, number))?;
+    page.put(b"</g>")
+}
+
+/// Adds the boxes of the first variables.
 fn put_boxes(
     page: &mut Page,
     facts: &Facts,
@@ -284,19 +305,7 @@ fn put_boxes(
     shown: usize,
 ) -> Result<(), AllocError> {
     for number in 0..shown {
-        let spot = spot_at(&picture.layout, number);
-        if is_inferred(facts, number) {
-            page.put(b"<g class=\"inferred\">")?;
-        } else {
-            page.put(b"<g>")?;
-        }
-        put_box(
-            page,
-            spot,
-            variable_class(facts, number),
-            variable_name(facts, number),
-        )?;
-        page.put(b"</g>")?;
+        put_variable(page, facts, picture, number)?;
     }
     Ok(())
 }
@@ -309,10 +318,19 @@ fn put_walk(
     walk: &[Step],
 ) -> Result<(), AllocError> {
     for step in walk {
-        put_step_arrow(page, facts, picture, step)?;
+        let arrow = step_arrow(facts, picture, step);
+        put_arrow(page, BEFORE_TOLD, arrow, BEHIND_TOLD)?;
     }
     for (number, step) in walk.iter().enumerate() {
-        put_step_number(page, facts, picture, number, step)?;
+        put_step_number(page, step_arrow(facts, picture, step), number)?;
+    }
+    Ok(())
+}
+
+/// Adds the bands.
+fn put_bands(page: &mut Page, order: &Order, picture: &Banded) -> Result<(), AllocError> {
+    for band in &picture.bands {
+        put_band(page, order, picture.layout.wide, *band)?;
     }
     Ok(())
 }
@@ -331,9 +349,7 @@ pub(crate) fn put_flows(
     put_picture(page, picture.layout.wide, picture.layout.high)?;
     put_told(page, facts, has_arrows)?;
     page.put(TIPS)?;
-    for band in &picture.bands {
-        put_band(page, order, picture.layout.wide, *band)?;
-    }
+    put_bands(page, order, picture)?;
     if has_arrows {
         put_all_arrows(page, facts, picture)?;
     }

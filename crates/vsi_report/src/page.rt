@@ -8,6 +8,21 @@ ghost use Rattle.vsi_report.specs.Reading.{Shows};
 use crate::escape::{put_escaped, put_number};
 use std::alloc::{AllocError, Global};
 
+/// A part of a page.
+#[derive(Clone, Copy)]
+pub(crate) enum Part<'a> {
+    /// A piece of markup that stands in the code.
+    Markup(&'static [u8]),
+    /// A text, escaped.
+    Text(&'a [u8]),
+    /// A number, escaped.
+    Number(usize),
+    /// A piece of markup, a number behind it, and the end of a quoted value.
+    Value(&'static [u8], usize),
+    /// Two numbers, each with a space behind it.
+    Point(usize, usize),
+}
+
 /// The bytes of a page. Nothing comes to them but pieces that stand in this crate's code, texts as
 /// `put_escaped` writes them, and the panel of a source text.
 #[derive(Drop)]
@@ -46,22 +61,37 @@ impl Page {
     }
 
     /// Adds a piece of markup, a number behind it, and the end of a quoted value.
-    pub(crate) fn value(&mut self, piece: &'static [u8], number: usize) -> Result<(), AllocError> {
+    fn put_value(&mut self, piece: &'static [u8], number: usize) -> Result<(), AllocError> {
         self.put(piece)?;
         self.number(number)?;
         self.put(b"\"")
     }
 
-    /// Adds a text between two pieces of markup.
-    pub(crate) fn between(
-        &mut self,
-        before: &'static [u8],
-        text: &[u8],
-        after: &'static [u8],
-    ) -> Result<(), AllocError> {
-        self.put(before)?;
-        self.tell(text)?;
-        self.put(after)
+    /// Adds two numbers, each with a space behind it.
+    fn put_point(&mut self, x: usize, y: usize) -> Result<(), AllocError> {
+        self.number(x)?;
+        self.put(b" ")?;
+        self.number(y)?;
+        self.put(b" ")
+    }
+
+    /// Adds a part.
+    fn put_part(&mut self, part: Part<'_>) -> Result<(), AllocError> {
+        match part {
+            Part::Markup(piece) => self.put(piece),
+            Part::Text(text) => self.tell(text),
+            Part::Number(number) => self.number(number),
+            Part::Value(piece, number) => self.put_value(piece, number),
+            Part::Point(x, y) => self.put_point(x, y),
+        }
+    }
+
+    /// Adds parts, one behind the other.
+    pub(crate) fn put_parts(&mut self, parts: &[Part<'_>]) -> Result<(), AllocError> {
+        for part in parts {
+            self.put_part(*part)?;
+        }
+        Ok(())
     }
 
     /// The bytes of these, then the panel of a source text, and then those of another part.

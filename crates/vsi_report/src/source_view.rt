@@ -95,6 +95,21 @@ struct Reader {
     is_declaring: bool,
 }
 
+/// A panel with a word of a kind up to a place, with the label of its class and that of its step.
+fn with_word<'a>(
+    panel: Panel<'a>,
+    kind: &[u8],
+    class: &[u8],
+    step: &[u8],
+    stop: usize,
+) -> Result<Panel<'a>, AllocError>
+    ensures source { IfOk result (λ p. p.source ≡ panel.entry.source) }
+{
+    let panel = opened(panel, kind, class, step)?;
+    let panel = advanced(panel, stop)?;
+    closed(panel)
+}
+
 /// A panel with a name of a variable.
 fn with_variable<'a>(
     alloc: Global,
@@ -110,18 +125,7 @@ fn with_variable<'a>(
     let class = class_label(alloc, order, facts, variable)?;
     let step = step_label(alloc, walk, token.span.start)?;
     let kind = colour(variable_class(facts, variable));
-    let panel = opened(panel, kind, &class, &step)?;
-    let panel = advanced(panel, token.span.stop)?;
-    closed(panel)
-}
-
-/// A panel with a keyword.
-fn with_keyword<'a>(panel: Panel<'a>, token: &Token<'_>) -> Result<Panel<'a>, AllocError>
-    ensures source { IfOk result (λ p. p.source ≡ panel.entry.source) }
-{
-    let panel = opened(panel, b"word", b"", b"")?;
-    let panel = advanced(panel, token.span.stop)?;
-    closed(panel)
+    with_word(panel, kind, &class, &step, token.span.stop)
 }
 
 /// Whether a token is a keyword.
@@ -168,7 +172,32 @@ fn with_token<'a>(
         return with_variable(alloc, panel, order, facts, walk, variable, token);
     }
     if is_keyword(token.kind) {
-        return with_keyword(panel, token);
+        return with_word(panel, b"word", b"", b"", token.span.stop);
+    }
+    Ok(panel)
+}
+
+/// A panel with the tokens of its text.
+fn with_tokens<'a>(
+    alloc: Global,
+    panel: Panel<'a>,
+    order: &Order,
+    facts: &Facts,
+    walk: &[Step],
+    tokens: &[Token<'_>],
+) -> Result<Panel<'a>, AllocError>
+    ensures source { IfOk result (λ p. p.source ≡ panel.entry.source) }
+{
+    let mut panel = panel;
+    let mut reader = Reader {
+        next: 0,
+        globals: 0,
+        is_declaring: false,
+    };
+    for token in tokens {
+        let (after, variable) = read_token(reader, &facts.uses, token);
+        reader = after;
+        panel = with_token(alloc, panel, order, facts, walk, variable, token)?;
     }
     Ok(panel)
 }
@@ -186,17 +215,8 @@ pub(crate) fn source_panel(
     let Ok(tokens) = lex(alloc, source) else {
         return Err(AllocError);
     };
-    let mut panel = begun(alloc, source)?;
-    let mut reader = Reader {
-        next: 0,
-        globals: 0,
-        is_declaring: false,
-    };
-    for token in &tokens {
-        let (after, variable) = read_token(reader, &facts.uses, token);
-        reader = after;
-        panel = with_token(alloc, panel, order, facts, walk, variable, token)?;
-    }
+    let panel = begun(alloc, source)?;
+    let panel = with_tokens(alloc, panel, order, facts, walk, &tokens)?;
     ended(panel)
 }
 

@@ -2,7 +2,7 @@
 
 use crate::facts::{Facts, number_of};
 use crate::order::Order;
-use crate::page::Page;
+use crate::page::{Page, Part};
 use crate::telling::{put_class_of, put_name};
 use std::alloc::AllocError;
 use vsi_flows::Pair;
@@ -23,21 +23,33 @@ fn put_cells(
 
 /// Adds the row of a pair.
 fn put_row(page: &mut Page, order: &Order, facts: &Facts, pair: Pair) -> Result<(), AllocError> {
-    if pair.allowed {
-        page.put(b"<tr>")?;
-    } else {
-        page.put(b"<tr class=\"refused\">")?;
-    }
+    let (begin, verdict) = looks(pair.allowed);
+    page.put(begin)?;
     put_cells(page, order, facts, number_of(facts, pair.source))?;
     put_cells(page, order, facts, number_of(facts, pair.target))?;
-    if pair.allowed {
-        page.put(b"<td class=\"yes\">\xe2\x9c\x93 allowed</td><td>")?;
-    } else {
-        page.put(b"<td class=\"no\">\xe2\x9c\x97 refused</td><td>")?;
-    }
-    page.number(pair.steps as usize)?;
-    page.put(b"</td></tr>\n")
+    page.put_parts(&[
+        Part::Markup(verdict),
+        Part::Number(pair.steps as usize),
+        Part::Markup(b"</td></tr>\n"),
+    ])
 }
+
+/// The beginning of the row of an allowed or a refused pair, and its verdict.
+fn looks(is_allowed: bool) -> (&'static [u8], &'static [u8]) {
+    if is_allowed {
+        (b"<tr>", b"<td class=\"yes\">\xe2\x9c\x93 allowed</td><td>")
+    } else {
+        (
+            b"<tr class=\"refused\">",
+            b"<td class=\"no\">\xe2\x9c\x97 refused</td><td>",
+        )
+    }
+}
+
+/// What stands above the rows of the table.
+const TABLE: &[u8] = b"<div class=\"scroll\"><table>\n<thead><tr><th scope=\"col\">From</th>\
+<th scope=\"col\">To</th><th scope=\"col\">Verdict</th><th scope=\"col\">Fewest steps</th></tr>\
+</thead>\n<tbody>\n";
 
 /// Adds the table of flows.
 pub(crate) fn put_table(page: &mut Page, order: &Order, facts: &Facts) -> Result<(), AllocError> {
@@ -45,9 +57,7 @@ pub(crate) fn put_table(page: &mut Page, order: &Order, facts: &Facts) -> Result
     if facts.pairs.is_empty() {
         return page.put(b"<p>None: no declared variable flows to another one.</p>\n");
     }
-    page.put(b"<div class=\"scroll\"><table>\n<thead><tr><th scope=\"col\">From</th>")?;
-    page.put(b"<th scope=\"col\">To</th><th scope=\"col\">Verdict</th>")?;
-    page.put(b"<th scope=\"col\">Fewest steps</th></tr></thead>\n<tbody>\n")?;
+    page.put(TABLE)?;
     for pair in &facts.pairs {
         put_row(page, order, facts, *pair)?;
     }

@@ -1,24 +1,23 @@
 //! What a page tells in sentences of a refused flow.
 
 use crate::facts::{Facts, is_inferred, number_of, variable_class, variable_name};
-use crate::lattice_picture::put_kind;
+use crate::lattice_picture::colour;
 use crate::order::{Order, name_of};
-use crate::page::Page;
-use crate::walking::{bit_of, rule_name};
+use crate::page::{Page, Part};
+use crate::walking::rule_name;
 use std::alloc::AllocError;
 use vsi_syntax::line_column;
 use vsi_types::{Rule, Step};
 
 /// Adds the name of a variable.
 pub(crate) fn put_name(page: &mut Page, facts: &Facts, number: usize) -> Result<(), AllocError> {
-    put_kind(page, b"<b class=\"", variable_class(facts, number))?;
-    page.between(b"\">", variable_name(facts, number), b"</b>")
-}
-
-/// Adds the name of a class.
-pub(crate) fn put_class(page: &mut Page, order: &Order, class: usize) -> Result<(), AllocError> {
-    put_kind(page, b"<span class=\"chip ", Some(class))?;
-    page.between(b"\">", name_of(order, class), b"</span>")
+    page.put_parts(&[
+        Part::Markup(b"<b class=\""),
+        Part::Markup(colour(variable_class(facts, number))),
+        Part::Markup(b"\">"),
+        Part::Text(variable_name(facts, number)),
+        Part::Markup(b"</b>"),
+    ])
 }
 
 /// Adds the class of a variable, and whether it was inferred.
@@ -31,25 +30,74 @@ pub(crate) fn put_class_of(
     let Some(class) = variable_class(facts, number) else {
         return page.put(b"<span class=\"chip kn\">no class fits</span>");
     };
-    put_class(page, order, class)?;
-    if is_inferred(facts, number) {
-        page.put(b" <small>inferred</small>")?;
-    }
-    Ok(())
+    let inferred: &'static [u8] = if is_inferred(facts, number) {
+        b" <small>inferred</small>"
+    } else {
+        b""
+    };
+    page.put_parts(&[
+        Part::Markup(b"<span class=\"chip "),
+        Part::Markup(colour(Some(class))),
+        Part::Markup(b"\">"),
+        Part::Text(name_of(order, class)),
+        Part::Markup(b"</span>"),
+        Part::Markup(inferred),
+    ])
 }
 
 /// Adds a place of the source text, as a way there.
 fn put_place(page: &mut Page, source: &[u8], at: usize) -> Result<(), AllocError> {
     let (line, column) = line_column(source, at);
-    page.value(b"<a href=\"#L", line)?;
-    page.put(b">line ")?;
-    page.number(line)?;
-    page.put(b", column ")?;
-    page.number(column)?;
-    page.put(b"</a>")
+    page.put_parts(&[
+        Part::Value(b"<a href=\"#L", line),
+        Part::Markup(b">line "),
+        Part::Number(line),
+        Part::Markup(b", column "),
+        Part::Number(column),
+        Part::Markup(b"</a>"),
+    ])
 }
 
-/// Adds what stands before the place where the source of a step is read.
+/// A part of a sentence.
+#[derive(Clone, Copy)]
+enum Word {
+    /// Words and markup that stand in the code.
+    Plain(&'static [u8]),
+    /// The name of a variable.
+    Name(usize),
+    /// The class of a variable.
+    Class(usize),
+    /// The place of a byte of the source text.
+    Place(usize),
+}
+
+/// What the sentences of a page speak of: the lattice, the variables and the source text.
+#[derive(Clone, Copy)]
+struct Subject<'a> {
+    order: &'a Order,
+    facts: &'a Facts,
+    source: &'a [u8],
+}
+
+/// Adds a part of a sentence.
+fn put_word(page: &mut Page, subject: &Subject<'_>, word: Word) -> Result<(), AllocError> {
+    match word {
+        Word::Plain(words) => page.put(words),
+        Word::Name(number) => put_name(page, subject.facts, number),
+        Word::Class(number) => put_class_of(page, subject.order, subject.facts, number),
+        Word::Place(at) => put_place(page, subject.source, at),
+    }
+}
+
+/// Adds a sentence, part by part.
+fn put_words(page: &mut Page, subject: &Subject<'_>, words: &[Word]) -> Result<(), AllocError> {
+    for word in words {
+        put_word(page, subject, *word)?;
+    }
+    Ok(())
+}
+
+/// What stands before the place where the source of a step is read.
 fn before_read(rule: Rule) -> &'static [u8] {
     match rule {
         Rule::Assign => b"The value of ",
@@ -60,7 +108,7 @@ fn before_read(rule: Rule) -> &'static [u8] {
     }
 }
 
-/// Adds what stands between the place where the source is read and the target's name.
+/// What stands between the place where the source is read and the target's name.
 fn before_target(rule: Rule) -> &'static [u8] {
     match rule {
         Rule::Assign => b", is put, with what else is computed there, into ",
@@ -94,93 +142,135 @@ fn before_source(rule: Rule) -> &'static [u8] {
 /// Adds the heading of a step: from which variable to which, by which rule.
 fn put_heading(
     page: &mut Page,
-    order: &Order,
-    facts: &Facts,
-    step: &Step,
+    subject: &Subject<'_>,
+    source: usize,
+    target: usize,
+    rule: Rule,
 ) -> Result<(), AllocError> {
-    let source = number_of(facts, step.source);
-    let target = number_of(facts, step.target);
-    page.put(b"<p class=\"step\">")?;
-    put_name(page, facts, source)?;
-    page.put(b" ")?;
-    put_class_of(page, order, facts, source)?;
-    page.put(b" flows to ")?;
-    put_name(page, facts, target)?;
-    page.put(b" ")?;
-    put_class_of(page, order, facts, target)?;
-    page.between(b" by <strong>", rule_name(step.rule), b"</strong></p>")
+    put_words(
+        page,
+        subject,
+        &[
+            Word::Plain(b"<li><p class=\"step\">"),
+            Word::Name(source),
+            Word::Plain(b" "),
+            Word::Class(source),
+            Word::Plain(b" flows to "),
+            Word::Name(target),
+            Word::Plain(b" "),
+            Word::Class(target),
+            Word::Plain(b" by <strong>"),
+            Word::Plain(rule_name(rule)),
+            Word::Plain(b"</strong></p>"),
+        ],
+    )
 }
 
-/// Adds where a step reads its source.
-fn put_read(page: &mut Page, facts: &Facts, source: &[u8], step: &Step) -> Result<(), AllocError> {
-    page.put(before_read(step.rule))?;
-    put_name(page, facts, number_of(facts, step.source))?;
-    page.put(b", at ")?;
-    put_place(page, source, step.read.start)
-}
-
-/// Adds where a step writes its target.
-fn put_written(
+/// Adds where a step reads its source, and its target.
+fn put_done(
     page: &mut Page,
-    facts: &Facts,
-    source: &[u8],
+    subject: &Subject<'_>,
+    source: usize,
+    target: usize,
     step: &Step,
 ) -> Result<(), AllocError> {
-    page.put(before_target(step.rule))?;
-    put_name(page, facts, number_of(facts, step.target))?;
-    if step.rule != Rule::Loop {
-        page.put(b", at ")?;
-        put_place(page, source, step.written.start)?;
+    put_words(
+        page,
+        subject,
+        &[
+            Word::Plain(b"<p>"),
+            Word::Plain(before_read(step.rule)),
+            Word::Name(source),
+            Word::Plain(b", at "),
+            Word::Place(step.read.start),
+            Word::Plain(before_target(step.rule)),
+            Word::Name(target),
+        ],
+    )
+}
+
+/// Adds where a step writes its target; nothing is written where a loop ends.
+fn put_written(page: &mut Page, subject: &Subject<'_>, step: &Step) -> Result<(), AllocError> {
+    if step.rule == Rule::Loop {
+        return Ok(());
     }
-    Ok(())
+    put_words(
+        page,
+        subject,
+        &[Word::Plain(b", at "), Word::Place(step.written.start)],
+    )
+}
+
+/// Adds why a step by a rule tells.
+fn put_why(
+    page: &mut Page,
+    subject: &Subject<'_>,
+    source: usize,
+    target: usize,
+    rule: Rule,
+) -> Result<(), AllocError> {
+    put_words(
+        page,
+        subject,
+        &[
+            Word::Plain(before_again(rule)),
+            Word::Name(target),
+            Word::Plain(before_source(rule)),
+            Word::Name(source),
+            Word::Plain(b".</p></li>\n"),
+        ],
+    )
 }
 
 /// Adds a step: its heading, and why it tells.
-fn put_step(
-    page: &mut Page,
-    order: &Order,
-    facts: &Facts,
-    source: &[u8],
-    step: &Step,
-) -> Result<(), AllocError> {
-    page.put(b"<li>")?;
-    put_heading(page, order, facts, step)?;
-    page.put(b"<p>")?;
-    put_read(page, facts, source, step)?;
-    put_written(page, facts, source, step)?;
-    page.put(before_again(step.rule))?;
-    put_name(page, facts, number_of(facts, step.target))?;
-    page.put(before_source(step.rule))?;
-    put_name(page, facts, number_of(facts, step.source))?;
-    page.put(b".</p></li>\n")
+fn put_step(page: &mut Page, subject: &Subject<'_>, step: &Step) -> Result<(), AllocError> {
+    let source = number_of(subject.facts, step.source);
+    let target = number_of(subject.facts, step.target);
+    put_heading(page, subject, source, target, step.rule)?;
+    put_done(page, subject, source, target, step)?;
+    put_written(page, subject, step)?;
+    put_why(page, subject, source, target, step.rule)
 }
 
-/// Adds a variable and its class in a sentence.
-fn put_end(page: &mut Page, order: &Order, facts: &Facts, number: usize) -> Result<(), AllocError> {
-    put_name(page, facts, number)?;
-    page.put(b" has the class ")?;
-    put_class_of(page, order, facts, number)
-}
+/// What is said behind the classes of both ends of a walk.
+const JUDGED: &[u8] = b", and the lattice does not have the first at or below the second. The text \
+is judged by what is written, and not by what a run does: a branch that is never taken counts too.\
+</p>\n";
 
 /// Adds why the walk is bad.
 fn put_verdict(
     page: &mut Page,
-    order: &Order,
-    facts: &Facts,
+    subject: &Subject<'_>,
     first: usize,
     last: usize,
 ) -> Result<(), AllocError> {
-    page.put(b"<p class=\"end\">So something of ")?;
-    put_name(page, facts, first)?;
-    page.put(b" comes to ")?;
-    put_name(page, facts, last)?;
-    page.put(b". But ")?;
-    put_end(page, order, facts, first)?;
-    page.put(b", ")?;
-    put_end(page, order, facts, last)?;
-    page.put(b", and the lattice does not have the first at or below the second. The text is ")?;
-    page.put(b"judged by what is written, and not by what a run does: a branch that is never ")?;
-    page.put(b"taken counts too.</p>\n")
+    put_words(
+        page,
+        subject,
+        &[
+            Word::Plain(b"<p class=\"end\">So something of "),
+            Word::Name(first),
+            Word::Plain(b" comes to "),
+            Word::Name(last),
+            Word::Plain(b". But "),
+            Word::Name(first),
+            Word::Plain(b" has the class "),
+            Word::Class(first),
+            Word::Plain(b", "),
+            Word::Name(last),
+            Word::Plain(b" has the class "),
+            Word::Class(last),
+            Word::Plain(JUDGED),
+        ],
+    )
+}
+
+/// Adds the steps of a walk.
+fn put_steps(page: &mut Page, subject: &Subject<'_>, walk: &[Step]) -> Result<(), AllocError> {
+    for step in walk {
+        put_step(page, subject, step)?;
+    }
+    Ok(())
 }
 
 /// Adds the explanation of a bad walk.
@@ -191,14 +281,17 @@ pub(crate) fn put_walk(
     source: &[u8],
     walk: &[Step],
 ) -> Result<(), AllocError> {
+    let subject = Subject {
+        order,
+        facts,
+        source,
+    };
     page.put(b"<section><h2>Why it is refused</h2>\n<ol class=\"walk\">\n")?;
-    for step in walk {
-        put_step(page, order, facts, source, step)?;
-    }
+    put_steps(page, &subject, walk)?;
     page.put(b"</ol>\n")?;
     if let (Some(first), Some(last)) = (walk.first(), walk.last()) {
         let from = number_of(facts, first.source);
-        put_verdict(page, order, facts, from, number_of(facts, last.target))?;
+        put_verdict(page, &subject, from, number_of(facts, last.target))?;
     }
     page.put(b"</section>\n")
 }

@@ -26,17 +26,6 @@ pub(crate) struct Tour {
     globals: usize,
 }
 
-/// The bit of a rule.
-pub(crate) fn bit_of(rule: Rule) -> u8 {
-    match rule {
-        Rule::Assign => 1,
-        Rule::If => 2,
-        Rule::While => 4,
-        Rule::Letvar => 8,
-        Rule::Loop => 16,
-    }
-}
-
 /// The variable of a location.
 fn variable_of(tour: &Tour, location: u16) -> usize {
     match tour.scope.get(location as usize) {

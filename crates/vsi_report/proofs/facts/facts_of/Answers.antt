@@ -1,18 +1,10 @@
 use Rattle.vsi_compiler.proofs.Compiled.{globals_of, declared_of}
 use Rattle.vsi_report.proofs.facts.facts_of.Goals as goal
 
-pub pairs_of-requires-clause-globals : goal.pairs_of-requires-clause-globals
-pairs_of-requires-clause-globals c =
+pub facts_of_program-requires-clause-globals : goal.facts_of_program-requires-clause-globals
+facts_of_program-requires-clause-globals c =
     globals_of c.args.lattice.now c.in_ok-program.program c.in_ok-program.ensures.classes
 
-pub pairs_of-requires-clause-declared : goal.pairs_of-requires-clause-declared
-pairs_of-requires-clause-declared c =
-    declared_of c.args.lattice.now c.in_ok-program.program c.in_ok-program.ensures.classes
-
-pub inferred_classes-requires-clause-globals : goal.inferred_classes-requires-clause-globals
-inferred_classes-requires-clause-globals c =
-    globals_of c.args.lattice.now c.in_ok-program.program c.in_ok-program.ensures.classes
-
-pub inferred_classes-requires-clause-declared : goal.inferred_classes-requires-clause-declared
-inferred_classes-requires-clause-declared c =
+pub facts_of_program-requires-clause-declared : goal.facts_of_program-requires-clause-declared
+facts_of_program-requires-clause-declared c =
     declared_of c.args.lattice.now c.in_ok-program.program c.in_ok-program.ensures.classes

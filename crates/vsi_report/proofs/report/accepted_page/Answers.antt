@@ -1,22 +1,18 @@
-use Rattle.std.proofs.Common.{◌≡◌, rules, inl, ap, ◌∙◌, length, ◌≤◌, arith}
+use Rattle.std.proofs.Common.{◌≡◌, ◌≤◌, length, ap, ◌∙◌, subst}
+use Rattle.std.specs.Prelude.{IfOk}
 use Rattle.vsi_image.specs.Fields.{fields}
 use Rattle.vsi_image.specs.Listing.{listing}
 use Rattle.vsi_report.specs.Size.{most_bytes}
+use Rattle.vsi_report.proofs.SizeLemmas.{short_with}
 use Rattle.vsi_report.proofs.report.accepted_page.Goals as goal
-
-pub returns-clause-panel : goal.returns-clause-panel
-returns-clause-panel c = c.in_ok-whole.ensures c.args.source.now (search rules)
 
 pub returns-clause-bounded : goal.returns-clause-bounded
 returns-clause-bounded c =
-    let count : c.len.result ≡ c.in-Ok.facts.pairs.len = c.len.ensures in
-    let all = c.in-Ok.facts.pairs.ok in
-    let short : length c.in_ok-whole.whole.items ≤ most_bytes (length c.args.source.now) c.len.result c.len-2.result =
-    c.in_ok-check_size.ensures in
-    let shown : c.len-2.result ≡ c.in_ok-lines.lines.len = c.len-2.ensures in
-    record {
-      pairs = c.in-Ok.facts.pairs.items;
-      flows = inl c.in-Ok.ensures;
-      short =
-          omega (arith, ap length (c.in_ok-lines.ensures ∙ ap (λ i. listing (fields i)) c.image.ensures.same));
-    }
+    let lines = listing (fields c.args.verified.now) in
+    let pairs = c.in-Ok.facts.pairs.items in
+    short_with c.args.lattice.now c.args.profile c.args.source.now pairs lines c.page_with_image.result c.in-Ok.ensures
+    (subst
+    (λ told. IfOk c.page_with_image.result (λ page.
+    length page.items ≤ most_bytes (length c.args.source.now) (length pairs) (length told)))
+    (c.deref.ensures.value ∙ c.in_ok-lines.ensures ∙ ap (λ i. listing (fields i)) c.image.ensures.same)
+    c.page_with_image.ensures.short)

@@ -1,8 +1,7 @@
-use Rattle.std.proofs.Common.{rules, [], refl, inr, arith}
+use Rattle.vsi_report.proofs.SizeLemmas.{short_without}
 use Rattle.vsi_report.proofs.report.faulty_page.Goals as goal
 
-pub returns-clause-panel : goal.returns-clause-panel
-returns-clause-panel c = c.in_ok-whole.ensures c.args.source.now (search rules)
-
 pub returns-clause-bounded : goal.returns-clause-bounded
-returns-clause-bounded c = record { pairs = []; flows = inr refl; short = omega arith }
+returns-clause-bounded c =
+    short_without c.args.lattice.now c.args.profile c.args.source.now c.page_with_refusal.result
+    c.page_with_refusal.ensures.short

@@ -1,0 +1,14 @@
+use Rattle.std.proofs.Common.{◌≡◌, ◌≤◌, length, subst, arith}
+use Rattle.std.specs.Prelude.{IfOk}
+use Rattle.vsi_report.specs.Size.{most_bytes}
+use Rattle.vsi_report.proofs.report.program_page.Goals as goal
+
+pub returns-clause-short : goal.returns-clause-short
+returns-clause-short c =
+    let count : c.len.result ≡ c.args.facts.now.pairs.len = c.len.ensures in
+    let all = c.args.facts.now.pairs.ok in
+    let same : c.len.result ≡ length c.args.facts.now.pairs.items = omega arith in
+    subst
+    (λ n. IfOk c.joined.result (λ page.
+    length page.items ≤ most_bytes (length c.args.source.now) n (length c.args.lines.now)))
+    same c.joined.ensures.short

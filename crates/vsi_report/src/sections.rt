@@ -1,0 +1,206 @@
+//! The sections of a page: the lattice, the flows, the image and what is promised.
+
+use crate::bands::{Banded, bands_of};
+use crate::facts::{Facts, is_drawn, is_strict};
+use crate::flows_picture::{has_few_arrows, put_flows};
+use crate::lattice_picture::put_lattice;
+use crate::layout::{Layout, lattice_layout};
+use crate::order::Order;
+use crate::page::{Page, Part};
+use crate::table::put_table;
+use std::alloc::{AllocError, Global};
+use vsi_types::{Profile, Step};
+
+/// Above how many pixels a picture of a lattice has a row of the page of its own.
+const WIDE: usize = 430;
+
+/// Above how many pixels a picture is higher than a page on paper.
+const HIGH: usize = 2_000;
+
+/// What is said of the picture of a lattice.
+const POLICY: &[u8] = b"<figcaption>Information may flow upwards, along the lines; each line joins \
+a class and one directly above it.</figcaption>";
+
+/// The beginning of a picture that is moved within its frame.
+const SCROLL: &[u8] = b"<div class=\"scroll\" tabindex=\"0\">";
+
+/// Adds the section of the lattice. A wide picture has no section beside it, and a high one stands
+/// below what is said of it.
+pub(crate) fn put_policy(alloc: Global, page: &mut Page, order: &Order) -> Result<(), AllocError> {
+    let layout = lattice_layout(alloc, order)?;
+    put_lattice_section(page, order, &layout)
+}
+
+/// Adds the section of the lattice, whose classes stand so.
+fn put_lattice_section(page: &mut Page, order: &Order, layout: &Layout) -> Result<(), AllocError> {
+    if layout.wide > WIDE {
+        page.put(b"<section class=\"wide\"><h2>Lattice</h2>\n")?;
+    } else {
+        page.put(b"<section><h2>Lattice</h2>\n")?;
+    }
+    if layout.high > HIGH {
+        put_pieces(page, &[b"<figure class=\"high\">", POLICY, b"\n", SCROLL])?;
+        put_lattice(page, order, layout)?;
+        page.put(b"</div></figure></section>\n")
+    } else {
+        put_pieces(page, &[b"<figure>", SCROLL])?;
+        put_lattice(page, order, layout)?;
+        put_pieces(page, &[b"</div>", POLICY, b"</figure></section>\n"])
+    }
+}
+
+/// Adds pieces of markup, one behind the other.
+fn put_pieces(page: &mut Page, pieces: &[&'static [u8]]) -> Result<(), AllocError> {
+    for piece in pieces {
+        page.put(piece)?;
+    }
+    Ok(())
+}
+
+/// What the looks of arrows mean.
+const LEGEND: &[u8] = b"<ul class=\"legend\">\
+<li><svg width=\"44\" height=\"12\" aria-hidden=\"true\">\
+<path class=\"flow r1\" d=\"M2 6H42\"/></svg> \
+ASSIGN: a value into what is assigned</li>\
+<li><svg width=\"44\" height=\"12\" aria-hidden=\"true\">\
+<path class=\"flow r2\" d=\"M2 6H42\"/></svg> \
+IF: a guard into what its branches assign</li>\
+<li><svg width=\"44\" height=\"12\" aria-hidden=\"true\">\
+<path class=\"flow r4\" d=\"M2 6H42\"/></svg> \
+WHILE: a guard into what its body assigns</li>\
+<li><svg width=\"44\" height=\"12\" aria-hidden=\"true\">\
+<path class=\"flow r8\" d=\"M2 6H42\"/></svg> \
+LETVAR: an initial value into its variable</li>\
+<li><svg width=\"44\" height=\"12\" aria-hidden=\"true\">\
+<path class=\"flow r16\" d=\"M2 6H42\"/></svg> \
+LOOP: a guard into the ending of a loop</li></ul>\n";
+
+/// What is said of the arrows in the picture of the flows.
+const ARROWS: &[u8] = b"<figcaption>Each arrow is a flow of one step; what flows upwards or stays \
+in its band is allowed where the lattice has it so. A flow of a variable into itself isn't drawn. \
+A dashed box is a variable whose class was inferred.";
+
+/// What is said of a picture of the flows without arrows.
+const NO_ARROWS: &[u8] = b"<figcaption>There are more than 2,000 flows of one step, and their \
+arrows aren't drawn. A dashed box is a variable whose class was inferred.";
+
+/// What is said of the arrows of a walk.
+const THICK: &[u8] = b" The thick arrows with numbers are the chain for which it is refused.";
+
+/// Adds what is said of the picture of the flows.
+fn put_caption(page: &mut Page, has_arrows: bool, has_walk: bool) -> Result<(), AllocError> {
+    let arrows = if has_arrows { ARROWS } else { NO_ARROWS };
+    let thick = if has_walk { THICK } else { b"" };
+    let legend = if has_arrows { LEGEND } else { b"" };
+    put_pieces(page, &[arrows, thick, b"</figcaption>\n", legend])
+}
+
+/// Adds the picture of the flows.
+fn put_drawn(
+    alloc: Global,
+    page: &mut Page,
+    order: &Order,
+    facts: &Facts,
+    shown: usize,
+    walk: &[Step],
+) -> Result<(), AllocError> {
+    let picture = bands_of(alloc, order, facts, shown)?;
+    put_figure(page, order, facts, &picture, shown, walk)
+}
+
+/// Adds the picture of the flows, whose variables stand so; a high one stands below what is said
+/// of it.
+fn put_figure(
+    page: &mut Page,
+    order: &Order,
+    facts: &Facts,
+    picture: &Banded,
+    shown: usize,
+    walk: &[Step],
+) -> Result<(), AllocError> {
+    let has_arrows = has_few_arrows(facts);
+    if picture.layout.high > HIGH {
+        page.put(b"<figure class=\"high\">")?;
+        put_caption(page, has_arrows, !walk.is_empty())?;
+        page.put(SCROLL)?;
+        put_flows(page, order, facts, picture, shown, has_arrows, walk)?;
+        page.put(b"</div></figure>\n")
+    } else {
+        put_pieces(page, &[b"<figure>", SCROLL])?;
+        put_flows(page, order, facts, picture, shown, has_arrows, walk)?;
+        page.put(b"</div>\n")?;
+        put_caption(page, has_arrows, !walk.is_empty())?;
+        page.put(b"</figure>\n")
+    }
+}
+
+/// What is said where there are too many variables for a picture.
+const NOT_DRAWN: &[u8] = b"<p>There are more than 200 variables: the table has all flows, and no \
+picture is drawn.</p>\n";
+
+/// How many variables of a program are shown: the ending of loops under the strict profile alone.
+fn count_shown(profile: Profile, facts: &Facts) -> usize {
+    let all = facts.variables.len();
+    if is_strict(profile) {
+        all
+    } else {
+        all.saturating_sub(1)
+    }
+}
+
+/// Adds the section of the flows.
+pub(crate) fn put_all_flows(
+    alloc: Global,
+    page: &mut Page,
+    profile: Profile,
+    order: &Order,
+    facts: &Facts,
+    walk: &[Step],
+) -> Result<(), AllocError> {
+    page.put(b"<section><h2>Flows</h2>\n")?;
+    if is_drawn(facts) {
+        put_drawn(alloc, page, order, facts, count_shown(profile, facts), walk)?;
+    } else {
+        page.put(NOT_DRAWN)?;
+    }
+    put_table(page, order, facts)?;
+    page.put(b"</section>\n")
+}
+
+/// Adds the listing of an image.
+pub(crate) fn put_listing(page: &mut Page, lines: &[u8]) -> Result<(), AllocError> {
+    page.put_parts(&[
+        Part::Markup(b"<section><h2>Image</h2>\n"),
+        Part::Markup(b"<pre class=\"listing\" tabindex=\"0\"><code>"),
+        Part::Text(lines),
+        Part::Markup(b"</code></pre>\n</section>\n"),
+    ])
+}
+
+/// What is promised of an accepted text.
+const PROMISE: &[u8] = b"<section><h2>What is promised</h2>\n<p>The image does what the text says. \
+Take any class, and two stores that agree in each global whose class is at or below it: where the \
+runs of the image from both halt, their ends agree in these globals too. So nothing that an \
+observer at the class reads at the end of a run depends on what it may not see. How many \
+instructions a run takes is not promised";
+
+/// What is promised of the ending of runs under the strict profile.
+const ENDINGS: &[u8] =
+    b". Whether a run halts is: from two stores that agree in each global of the \
+least class, either both runs halt or neither does.";
+
+/// What is promised of it under the base profile.
+const NO_ENDINGS: &[u8] = b", and under the base profile neither is whether it halts.";
+
+/// Of what it is promised.
+const PROVED: &[u8] =
+    b" This is proved of the compiler, for every text that it accepts.</p></section>\n";
+
+/// Adds what is promised.
+pub(crate) fn put_promise(page: &mut Page, profile: Profile) -> Result<(), AllocError> {
+    let endings = match profile {
+        Profile::Base => NO_ENDINGS,
+        Profile::Strict => ENDINGS,
+    };
+    put_pieces(page, &[PROMISE, endings, PROVED])
+}
