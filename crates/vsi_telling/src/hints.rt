@@ -28,40 +28,82 @@ pub(crate) fn file_hint(text: &[u8]) -> Option<&'static str> {
     None
 }
 
+/// The words of other languages for a number that is true.
+const TRUE: [&[u8]; 3] = [b"true", b"True", b"TRUE"];
+
+/// The words of other languages for a number that is false.
+const FALSE: [&[u8]; 3] = [b"false", b"False", b"FALSE"];
+
+/// The words of other languages round several commands.
+const BLOCK: [&[u8]; 4] = [b"begin", b"end", b"BEGIN", b"END"];
+
+/// The words of other languages for an `if` in an `else`.
+const ELSE_IF: [&[u8]; 3] = [b"elif", b"elsif", b"elseif"];
+
+/// The words of other languages for a loop.
+const LOOP: [&[u8]; 3] = [b"for", b"repeat", b"until"];
+
+/// The words of other languages for an answer.
+const ANSWER: [&[u8]; 3] = [b"return", b"print", b"printf"];
+
+/// The words that declare a variable in other languages.
+const TYPES: [&[u8]; 13] = [
+    b"let",
+    b"const",
+    b"local",
+    b"auto",
+    b"int",
+    b"long",
+    b"unsigned",
+    b"float",
+    b"double",
+    b"bool",
+    b"boolean",
+    b"char",
+    b"string",
+];
+
+/// The words that do nothing in other languages.
+const IDLE: [&[u8]; 6] = [b"skip", b"pass", b"nop", b"noop", b"nothing", b"SKIP"];
+
+/// The hint for a word of other languages that stands for a number or round commands.
+fn value_hint(word: &[u8]) -> Option<&'static str> {
+    if TRUE.contains(&word) {
+        return Some("Hint: there is no `true`: write `1`.\n");
+    }
+    if FALSE.contains(&word) {
+        return Some("Hint: there is no `false`: write `0`.\n");
+    }
+    if BLOCK.contains(&word) {
+        return Some("Hint: several commands stand between `{` and `}`: `{ x := 1; y := 2 }`.\n");
+    }
+    None
+}
+
 /// The hint for a word of other languages.
 pub(crate) fn word_hint(word: &[u8]) -> Option<&'static str> {
-    match word {
-        b"true" | b"True" | b"TRUE" => Some("Hint: there is no `true`: write `1`.\n"),
-        b"false" | b"False" | b"FALSE" => Some("Hint: there is no `false`: write `0`.\n"),
-        b"begin" | b"end" | b"BEGIN" | b"END" => {
-            Some("Hint: several commands stand between `{` and `}`: `{ x := 1; y := 2 }`.\n")
-        }
-        b"elif" | b"elsif" | b"elseif" => Some("Hint: write `else if`.\n"),
-        b"for" | b"repeat" | b"until" => {
-            Some("Hint: a loop is written `while x < 9 do { x := x + 1 }`.\n")
-        }
-        b"return" | b"print" | b"printf" => {
-            Some("Hint: a program ends with its last command, and its globals are its answer.\n")
-        }
-        _ => None,
+    if ELSE_IF.contains(&word) {
+        return Some("Hint: write `else if`.\n");
     }
+    if LOOP.contains(&word) {
+        return Some("Hint: a loop is written `while x < 9 do { x := x + 1 }`.\n");
+    }
+    if ANSWER.contains(&word) {
+        return Some(
+            "Hint: a program ends with its last command, and its globals are its answer.\n",
+        );
+    }
+    value_hint(word)
 }
 
 /// Whether a word declares a variable in other languages.
 pub(crate) fn is_type(word: &[u8]) -> bool {
-    match word {
-        b"let" | b"const" | b"local" | b"auto" | b"int" | b"long" | b"unsigned" => true,
-        b"float" | b"double" | b"bool" | b"boolean" | b"char" | b"string" => true,
-        _ => false,
-    }
+    TYPES.contains(&word)
 }
 
 /// Whether a word does nothing in other languages.
 pub(crate) fn is_idle(word: &[u8]) -> bool {
-    match word {
-        b"skip" | b"pass" | b"nop" | b"noop" | b"nothing" | b"SKIP" => true,
-        _ => false,
-    }
+    IDLE.contains(&word)
 }
 
 /// The hint for a symbol behind a name with which a command begins.

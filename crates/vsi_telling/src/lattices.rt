@@ -1,10 +1,9 @@
 //! What is told of a refused lattice file.
 
-use crate::Telling;
 use crate::finding::{bare_place, key_place, quoted_place};
-use crate::names::put_quoted;
+use crate::names::{Part, put_parts};
 use crate::orders::{Order, put_missing, put_ring};
-use crate::tables::{table_in, value_in};
+use crate::tables::{array_in, table_in, value_in};
 use std::alloc::{AllocError, Global};
 use toml::{Table, Value};
 use vsi_lattice::LatticeError;
@@ -27,13 +26,10 @@ fn class_in(table: &Table, place: usize) -> Option<&[u8]> {
 
 /// Whether a name is one of the classes.
 fn is_class(table: &Table, name: &str) -> bool {
-    let Some(value) = table.get("classes") else {
+    let Some(classes) = array_in(table, "classes") else {
         return false;
     };
-    let Some(array) = value.as_array() else {
-        return false;
-    };
-    for item in array.as_slice() {
+    for item in classes {
         if item.as_str() == Some(name) {
             return true;
         }
@@ -95,6 +91,12 @@ fn classes_in<'t>(alloc: Global, table: &'t Table) -> Result<Vec<&'t [u8]>, Allo
     Ok(names)
 }
 
+/// The places of the classes of a pair among the names.
+fn pair_of(names: &[&[u8]], item: &Value) -> Option<(usize, usize)> {
+    let pair = item.as_array()?.as_slice();
+    Some((place_in(names, pair.get(0)), place_in(names, pair.get(1))))
+}
+
 /// The pairs of a table, by the places of their classes among the names.
 fn pairs_in(
     alloc: Global,
@@ -102,13 +104,9 @@ fn pairs_in(
     names: &[&[u8]],
 ) -> Result<Vec<(usize, usize)>, AllocError> {
     let mut pairs = Vec::new(alloc);
-    let Some(Some(array)) = table.get("below").map(|value| value.as_array()) else {
-        return Ok(pairs);
-    };
-    for item in array.as_slice() {
-        if let Some(pair) = item.as_array() {
-            let pair = pair.as_slice();
-            pairs.push((place_in(names, pair.get(0)), place_in(names, pair.get(1))))?;
+    for item in array_in(table, "below").unwrap_or(&[]) {
+        if let Some(pair) = pair_of(names, item) {
+            pairs.push(pair)?;
         }
     }
     Ok(pairs)
@@ -121,6 +119,40 @@ fn order_in<'t>(alloc: Global, table: &'t Table) -> Result<Order<'t>, AllocError
     Ok(Order { names, pairs })
 }
 
+/// Adds the hint for a file that is no TOML, and answers a place where it may be wrong.
+fn put_file_hint(
+    words: &mut Vec<u8>,
+    path: &[u8],
+    bytes: &[u8],
+) -> Result<Option<Span>, AllocError> {
+    let start = bytes.trim_ascii_start();
+    if start.starts_with(b"VSI") {
+        words.extend_from_slice(
+            b"Hint: this is an image. The lattice file stands in another place of the line.\n",
+        )?;
+        return Ok(None);
+    }
+    if start.starts_with(b"var") || start.starts_with(b"letvar") {
+        put_parts(
+            words,
+            &[
+                Part::Text(
+                    b"Hint: this looks like a source text. The lattice file is named first, and \
+                    the source text behind it: `vsi check LATTICE ",
+                ),
+                Part::Text(path),
+                Part::Text(b"`.\n"),
+            ],
+        )?;
+        return Ok(None);
+    }
+    let Some(span) = bare_place(bytes) else {
+        return Ok(None);
+    };
+    words.extend_from_slice(b"Hint: the names of classes stand between quotes.\n")?;
+    Ok(Some(span))
+}
+
 /// Adds what is told where the file is no TOML, and answers a place where it may be wrong.
 fn put_not_toml(
     words: &mut Vec<u8>,
@@ -128,56 +160,43 @@ fn put_not_toml(
     bytes: &[u8],
 ) -> Result<Option<Span>, AllocError> {
     words.extend_from_slice(b"The file is no TOML document.\n")?;
-    let start = bytes.trim_ascii_start();
-    if start.starts_with(b"VSI") {
-        words.extend_from_slice(
-            b"Hint: this is an image. The lattice file stands in another place of the line.\n",
-        )?;
-    } else if start.starts_with(b"var") || start.starts_with(b"letvar") {
-        words.extend_from_slice(
-            b"Hint: this looks like a source text. The lattice file is named first, and the source \
-            text behind it: `vsi check LATTICE ",
-        )?;
-        words.extend_from_slice(path)?;
-        words.extend_from_slice(b"`.\n")?;
-    } else if let Some(span) = bare_place(bytes) {
-        words.extend_from_slice(b"Hint: the names of classes stand between quotes.\n")?;
-        words.extend_from_slice(SHAPE)?;
-        return Ok(Some(span));
-    }
-    words.extend_from_slice(SHAPE)?;
-    Ok(None)
-}
-
-/// Adds what is told where the file has other keys or values, and answers where.
-fn put_bad_shape(
-    words: &mut Vec<u8>,
-    bytes: &[u8],
-    table: &Option<Table>,
-) -> Result<Option<Span>, AllocError> {
-    let mut place = None;
-    if let Some(table) = table {
-        if let Some(key) = other_key(table) {
-            words.extend_from_slice(b"A lattice file has no key ")?;
-            put_quoted(words, key)?;
-            words.extend_from_slice(b", but `classes` and `below` alone.\n")?;
-            place = key_place(bytes, key);
-        } else if table.get("classes").is_none() {
-            words.extend_from_slice(b"The key `classes` is missing.\n")?;
-        } else if table.get("below").is_none() {
-            words.extend_from_slice(
-                b"The key `below` is missing. Hint: write `below = []` where no class is below \
-                another one.\n",
-            )?;
-        } else {
-            words.extend_from_slice(
-                b"The value of `classes` is an array of names between quotes, and that of `below` \
-                an array of pairs of them.\n",
-            )?;
-        }
-    }
+    let place = put_file_hint(words, path, bytes)?;
     words.extend_from_slice(SHAPE)?;
     Ok(place)
+}
+
+/// What is wrong with the keys or the values of a table that has no other key.
+fn key_words(table: &Table) -> &'static [u8] {
+    if table.get("classes").is_none() {
+        return b"The key `classes` is missing.\n";
+    }
+    if table.get("below").is_none() {
+        return b"The key `below` is missing. Hint: write `below = []` where no class is below \
+            another one.\n";
+    }
+    b"The value of `classes` is an array of names between quotes, and that of `below` an array of \
+    pairs of them.\n"
+}
+
+/// Adds which keys or values of a table are wrong, and answers where.
+fn put_bad_keys(
+    words: &mut Vec<u8>,
+    bytes: &[u8],
+    table: &Table,
+) -> Result<Option<Span>, AllocError> {
+    let Some(key) = other_key(table) else {
+        words.extend_from_slice(key_words(table))?;
+        return Ok(None);
+    };
+    put_parts(
+        words,
+        &[
+            Part::Text(b"A lattice file has no key "),
+            Part::Quoted(key),
+            Part::Text(b", but `classes` and `below` alone.\n"),
+        ],
+    )?;
+    Ok(key_place(bytes, key))
 }
 
 /// Adds what is told of a name, and answers where it stands behind so many others like it.
@@ -189,12 +208,10 @@ fn put_name(
     text: &str,
 ) -> Result<Option<Span>, AllocError> {
     let Some(name) = name else {
-        words.extend_from_slice(b"A name")?;
-        words.extend_from_slice(text.as_bytes())?;
+        put_parts(words, &[Part::Text(b"A name"), Part::Text(text.as_bytes())])?;
         return Ok(None);
     };
-    put_quoted(words, name)?;
-    words.extend_from_slice(text.as_bytes())?;
+    put_parts(words, &[Part::Quoted(name), Part::Text(text.as_bytes())])?;
     Ok(quoted_place(bytes, name, others))
 }
 
@@ -202,12 +219,9 @@ fn put_name(
 fn put_name_fault(
     words: &mut Vec<u8>,
     bytes: &[u8],
-    table: &Option<Table>,
+    table: &Table,
     error: LatticeError,
 ) -> Result<Option<Span>, AllocError> {
-    let Some(table) = table else {
-        return Ok(None);
-    };
     match error {
         LatticeError::BadName(place) => put_name(
             words,
@@ -236,84 +250,99 @@ fn put_name_fault(
     }
 }
 
-/// Adds what is told of two classes, and answers where the fault is.
+/// Adds what is told of two classes in an order, and answers where the fault is, if that is known.
+fn put_order_fault(
+    alloc: Global,
+    words: &mut Vec<u8>,
+    bytes: &[u8],
+    order: &Order,
+    error: LatticeError,
+) -> Result<Option<Span>, AllocError> {
+    match error {
+        LatticeError::Cycle(a, _) => put_ring(alloc, words, bytes, order, a.index()),
+        LatticeError::NoJoin(a, b) => {
+            put_missing(alloc, words, order, a.index(), b.index(), true)?;
+            Ok(None)
+        }
+        LatticeError::NoMeet(a, b) => {
+            put_missing(alloc, words, order, a.index(), b.index(), false)?;
+            Ok(None)
+        }
+        _ => Ok(None),
+    }
+}
+
+/// Adds what is told of two classes of a table, and answers where the fault is, if that is known.
 fn put_pair_fault(
     alloc: Global,
     words: &mut Vec<u8>,
     bytes: &[u8],
-    table: &Option<Table>,
+    table: &Table,
     error: LatticeError,
 ) -> Result<Option<Span>, AllocError> {
-    let Some(table) = table else {
-        return Ok(None);
-    };
     let order = order_in(alloc, table)?;
-    let mut place = None;
-    match error {
-        LatticeError::Cycle(a, _) => {
-            place = put_ring(alloc, words, bytes, &order, a.index())?;
-        }
-        LatticeError::NoJoin(a, b) => {
-            put_missing(alloc, words, &order, a.index(), b.index(), true)?;
-        }
-        LatticeError::NoMeet(a, b) => {
-            put_missing(alloc, words, &order, a.index(), b.index(), false)?;
-        }
-        _ => {}
-    }
-    if place.is_none() {
-        place = key_place(bytes, b"below");
-    }
-    Ok(place)
+    put_order_fault(alloc, words, bytes, &order, error)
 }
 
-/// What is told of a refused lattice file.
-pub(crate) fn of_lattice(
+/// Adds what is told of a fault in a table, and answers where it is.
+fn put_fault(
     alloc: Global,
-    path: &[u8],
+    words: &mut Vec<u8>,
+    bytes: &[u8],
+    table: &Table,
+    error: LatticeError,
+) -> Result<Option<Span>, AllocError> {
+    match error {
+        LatticeError::BadShape => put_bad_keys(words, bytes, table),
+        LatticeError::Cycle(_, _) | LatticeError::NoJoin(_, _) | LatticeError::NoMeet(_, _) => {
+            let place = put_pair_fault(alloc, words, bytes, table, error)?;
+            Ok(place.or(key_place(bytes, b"below")))
+        }
+        other => put_name_fault(words, bytes, table, other),
+    }
+}
+
+/// Adds what is told of a fault in the table that a file is, and answers where it is.
+fn put_table_fault(
+    alloc: Global,
+    words: &mut Vec<u8>,
     bytes: &[u8],
     error: LatticeError,
-) -> Result<Telling, AllocError> {
-    let mut words = Vec::new(alloc);
-    let place = put_lattice(alloc, &mut words, path, bytes, error)?;
-    Ok(Telling { place, words })
+) -> Result<Option<Span>, AllocError> {
+    match table_in(alloc, bytes)? {
+        Some(table) => put_fault(alloc, words, bytes, &table, error),
+        None => Ok(None),
+    }
 }
 
 /// Adds what is told of a refused lattice file, and answers where it is wrong.
-fn put_lattice(
+pub(crate) fn put_lattice(
     alloc: Global,
     words: &mut Vec<u8>,
     path: &[u8],
     bytes: &[u8],
     error: LatticeError,
 ) -> Result<Option<Span>, AllocError> {
-    let table = table_in(alloc, bytes)?;
     match error {
         LatticeError::Memory => Err(AllocError),
         LatticeError::NotToml => put_not_toml(words, path, bytes),
-        LatticeError::BadShape => put_bad_shape(words, bytes, &table),
-        LatticeError::NoClass | LatticeError::TooManyClasses => put_count_fault(
-            words, bytes, error,
-        ),
-        LatticeError::BadName(_) | LatticeError::DuplicateName(_) | LatticeError::UnknownName(_) =>
-            { put_name_fault(words, bytes, &table, error) }
-        LatticeError::Cycle(_, _) | LatticeError::NoJoin(_, _) | LatticeError::NoMeet(_, _) => {
-            put_pair_fault(alloc, words, bytes, &table, error)
+        LatticeError::NoClass => {
+            let parts = [
+                Part::Text(b"The list of classes is empty. Hint: name one at least.\n"),
+                Part::Text(SHAPE),
+            ];
+            put_parts(words, &parts)?;
+            Ok(key_place(bytes, b"classes"))
         }
+        LatticeError::TooManyClasses => {
+            words.extend_from_slice(b"There are more than 64 classes. Hint: leave some out.\n")?;
+            Ok(key_place(bytes, b"classes"))
+        }
+        LatticeError::BadShape => {
+            let place = put_table_fault(alloc, words, bytes, error)?;
+            words.extend_from_slice(SHAPE)?;
+            Ok(place)
+        }
+        other => put_table_fault(alloc, words, bytes, other),
     }
-}
-
-/// Adds what is told where there are no classes or too many, and answers where they stand.
-fn put_count_fault(
-    words: &mut Vec<u8>,
-    bytes: &[u8],
-    error: LatticeError,
-) -> Result<Option<Span>, AllocError> {
-    if let LatticeError::NoClass = error {
-        words.extend_from_slice(b"The list of classes is empty. Hint: name one at least.\n")?;
-        words.extend_from_slice(SHAPE)?;
-    } else {
-        words.extend_from_slice(b"There are more than 64 classes. Hint: leave some out.\n")?;
-    }
-    Ok(key_place(bytes, b"classes"))
 }

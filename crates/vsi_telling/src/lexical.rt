@@ -1,10 +1,10 @@
 //! What is told of bytes and words that are none of the language.
 
 use crate::hints::file_hint;
-use crate::names::{part_of, put_quoted};
+use crate::names::{Part, part_of, put_parts};
 use crate::operands::{put_division, put_operator};
-use std::alloc::{AllocError, Global};
-use vsi_syntax::{LexError, put_number};
+use std::alloc::AllocError;
+use vsi_syntax::LexError;
 
 /// The largest number of bytes of a name.
 const LONGEST_NAME: usize = 32;
@@ -28,8 +28,8 @@ fn strange_hint(byte: u8, next: Option<u8>) -> &'static str {
             symbols that aren't on every keyboard.\n"
         }
         _ => {
-            "Hint: the symbols of the language are `:=` `:` `;` `+` `-` `*` `=` `<` `(` `)` `{` `}` \
-            and no others.\n"
+            "Hint: the symbols of the language are `:=` `:` `;` `+` `-` `*` `=` `<` `(` `)` `{` \
+            `}` and no others.\n"
         }
     }
 }
@@ -70,8 +70,11 @@ fn put_byte(words: &mut Vec<u8>, source: &[u8], at: usize) -> Result<(), AllocEr
         return Ok(());
     };
     let next = source.get(at.saturating_add(1)).copied();
-    put_quoted(words, &[byte])?;
-    words.extend_from_slice(b" is no sign of this language.\n")?;
+    let parts = [
+        Part::Quoted(&[byte]),
+        Part::Text(b" is no sign of this language.\n"),
+    ];
+    put_parts(words, &parts)?;
     if let Some(hint) = file_hint(source) {
         return words.extend_from_slice(hint.as_bytes());
     }
@@ -88,42 +91,46 @@ fn put_byte(words: &mut Vec<u8>, source: &[u8], at: usize) -> Result<(), AllocEr
 
 /// Adds what is told of a word that is none.
 fn put_word(words: &mut Vec<u8>, word: &[u8]) -> Result<(), AllocError> {
-    put_quoted(words, word)?;
-    words.extend_from_slice(b" is no name, keyword or number.\n")?;
+    let parts = [
+        Part::Quoted(word),
+        Part::Text(b" is no name, keyword or number.\n"),
+    ];
+    put_parts(words, &parts)?;
     match word.first() {
         Some(b'0'..=b'9') => words.extend_from_slice(
             b"Hint: a number is digits alone, without `_` and letters, and a name begins with a \
             letter.\n",
         ),
         Some(b'_') => words.extend_from_slice(b"Hint: a name begins with a letter.\n"),
-        _ => {
-            words.extend_from_slice(b"Hint: this name has ")?;
-            put_number(words, word.len())?;
-            words.extend_from_slice(b" letters, digits and `_`. A name has at most ")?;
-            put_number(words, LONGEST_NAME)?;
-            words.extend_from_slice(b" of them: shorten it.\n")
-        }
+        _ => put_parts(
+            words,
+            &[
+                Part::Text(b"Hint: this name has "),
+                Part::Number(word.len()),
+                Part::Text(b" letters, digits and `_`. A name has at most "),
+                Part::Number(LONGEST_NAME),
+                Part::Text(b" of them: shorten it.\n"),
+            ],
+        ),
     }
 }
 
-/// What is told of a text without tokens.
-pub(crate) fn of_words(
-    alloc: Global,
+/// Adds what is told of a text without tokens.
+pub(crate) fn put_words(
+    words: &mut Vec<u8>,
     source: &[u8],
     error: LexError,
-) -> Result<Vec<u8>, AllocError> {
-    let mut words = Vec::new(alloc);
+) -> Result<(), AllocError> {
     match error {
-        LexError::Memory => return Err(AllocError),
+        LexError::Memory => Err(AllocError),
         LexError::TooLong => words.extend_from_slice(
             b"The text has more than 1048576 bytes. Hint: check that this is the file that you \
             meant.\n",
-        )?,
-        LexError::BadByte(at) => put_byte(&mut words, source, at)?,
-        LexError::BadWord(span) => put_word(&mut words, part_of(source, span))?,
+        ),
+        LexError::BadByte(at) => put_byte(words, source, at),
+        LexError::BadWord(span) => put_word(words, part_of(source, span)),
         LexError::BadNumber(_) => words.extend_from_slice(
             b"The largest number is 9223372036854775807. Hint: use a smaller one.\n",
-        )?,
+        ),
     }
-    Ok(words)
 }

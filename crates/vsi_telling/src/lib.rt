@@ -25,6 +25,7 @@ mod syntactic;
 pub mod tables;
 mod wrapping;
 
+use names::{class_names, put_names_between};
 use std::alloc::{AllocError, Global};
 use vsi_caret::{Manner, put_place_in, put_safe, put_text};
 use vsi_compiler::CompileError;
@@ -163,6 +164,23 @@ fn place_of(error: &CompileError) -> Option<Span>
     }
 }
 
+/// Adds what is told of a refused source text.
+fn put_source(
+    alloc: Global,
+    words: &mut Vec<u8>,
+    lattice: &Lattice,
+    source: &[u8],
+    error: &CompileError,
+) -> Result<(), AllocError> {
+    match error {
+        CompileError::Lex(inner) => lexical::put_words(words, source, *inner),
+        CompileError::Parse(inner) => syntactic::put_tree(alloc, words, source, inner),
+        CompileError::Scope(inner) => scoping::put_scopes(alloc, words, lattice, source, *inner),
+        CompileError::Flow(_) => words.extend_from_slice(b"A flow breaks the policy.\n"),
+        CompileError::Memory => Err(AllocError),
+    }
+}
+
 /// What is told of a refused source text.
 fn of_source(
     alloc: Global,
@@ -170,13 +188,9 @@ fn of_source(
     source: &[u8],
     error: &CompileError,
 ) -> Result<Vec<u8>, AllocError> {
-    match error {
-        CompileError::Lex(inner) => lexical::of_words(alloc, source, *inner),
-        CompileError::Parse(inner) => syntactic::of_tree(alloc, source, inner),
-        CompileError::Scope(inner) => scoping::of_scopes(alloc, lattice, source, *inner),
-        CompileError::Flow(_) => Vec::from_slice(alloc, b"A flow breaks the policy.\n"),
-        CompileError::Memory => Err(AllocError),
-    }
+    let mut words = Vec::new(alloc);
+    put_source(alloc, &mut words, lattice, source, error)?;
+    Ok(words)
 }
 
 /// What stands behind the refusal of a source text, as `explanation` tells it.
@@ -198,15 +212,40 @@ pub fn source_explanation(
     shown(alloc, manner, path, source, place_of(error), &words)
 }
 
+/// Adds what is told of a refused lattice file, image or other file, and answers where it is wrong.
+fn put_file(
+    alloc: Global,
+    words: &mut Vec<u8>,
+    path: &[u8],
+    bytes: &[u8],
+    fault: &Fault,
+) -> Result<Option<Span>, AllocError> {
+    match fault {
+        Fault::Lattice(error) => lattices::put_lattice(alloc, words, path, bytes, *error),
+        Fault::Decode(error) => images::put_bytes(words, path, bytes, *error),
+        Fault::Verify(error) => images::put_image(words, error),
+        Fault::Store(error) => stores::put_store(alloc, words, bytes, &[], error),
+        Fault::View(error) => images::put_view(words, error),
+    }
+}
+
 /// What is told of a refused lattice file, image or other file.
 fn of_file(alloc: Global, path: &[u8], bytes: &[u8], fault: &Fault) -> Result<Telling, AllocError> {
-    match fault {
-        Fault::Lattice(error) => lattices::of_lattice(alloc, path, bytes, *error),
-        Fault::Decode(error) => images::of_bytes(alloc, path, bytes, *error),
-        Fault::Verify(error) => images::of_image(alloc, error),
-        Fault::Store(error) => stores::of_store(alloc, bytes, &[], error),
-        Fault::View(error) => images::of_view(alloc, error),
-    }
+    let mut words = Vec::new(alloc);
+    let place = put_file(alloc, &mut words, path, bytes, fault)?;
+    Ok(Telling { place, words })
+}
+
+/// What is told of a refused store file for an image.
+fn of_store(
+    alloc: Global,
+    bytes: &[u8],
+    image: &Image,
+    error: &StoreError,
+) -> Result<Telling, AllocError> {
+    let mut words = Vec::new(alloc);
+    let place = stores::put_store(alloc, &mut words, bytes, &image.globals, error)?;
+    Ok(Telling { place, words })
 }
 
 /// What stands behind a refusal: the place in the file, its line and carets where a place is
@@ -232,7 +271,7 @@ pub fn explanation<'a>(
             image,
             error,
         } => {
-            let telling = stores::of_store(alloc, bytes, &image.globals, error)?;
+            let telling = of_store(alloc, bytes, image, error)?;
             shown(alloc, manner, path, bytes, telling.place, &telling.words)
         }
         Refused::File { path, bytes, fault } => {
@@ -242,17 +281,38 @@ pub fn explanation<'a>(
     }
 }
 
+/// The names of classes in a sentence.
+fn classes_told(alloc: Global, classes: &[&[u8]]) -> Result<Vec<u8>, AllocError> {
+    let mut words = Vec::new(alloc);
+    put_names_between(
+        &mut words,
+        b"The classes of the lattice file: ",
+        classes,
+        b".\n",
+    )?;
+    Ok(words)
+}
+
+/// The names of the classes of a lattice in a sentence.
+fn class_words(alloc: Global, lattice: &Lattice) -> Result<Vec<u8>, AllocError> {
+    let classes = class_names(alloc, lattice)?;
+    classes_told(alloc, &classes)
+}
+
+/// Words in lines, as text.
+fn lines_of(alloc: Global, words: &[u8]) -> Result<Vec<u8>, AllocError>
+    ensures { IfOk result (λ text. all_plain text.items ≡ true) }
+{
+    let sentence = wrapping::wrapped(alloc, words)?;
+    let mut text = Vec::new(alloc);
+    put_text(&mut text, &sentence)?;
+    Ok(text)
+}
+
 /// The classes of a lattice in a sentence, for who named one that it lacks.
 pub fn class_list(alloc: Global, lattice: &Lattice) -> Result<Vec<u8>, AllocError>
     ensures plain { IfOk result (λ text. all_plain text.items ≡ true) }
 {
-    let classes = names::class_names(alloc, lattice)?;
-    let mut words = Vec::new(alloc);
-    words.extend_from_slice(b"The classes of the lattice file: ")?;
-    names::put_names(&mut words, &classes)?;
-    words.extend_from_slice(b".\n")?;
-    let sentence = wrapping::wrapped(alloc, &words)?;
-    let mut text = Vec::new(alloc);
-    put_text(&mut text, &sentence)?;
-    Ok(text)
+    let words = class_words(alloc, lattice)?;
+    lines_of(alloc, &words)
 }

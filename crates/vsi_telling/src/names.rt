@@ -2,7 +2,7 @@
 
 use std::alloc::{AllocError, Global};
 use vsi_lattice::{Class, Classes, Lattice};
-use vsi_syntax::{Kind, Span, Token};
+use vsi_syntax::{Kind, Span, Token, lex, put_number, put_place};
 
 /// How many bytes of a word are told at most.
 const LONGEST: usize = 40;
@@ -35,12 +35,72 @@ pub fn put_names(words: &mut Vec<u8>, names: &[&[u8]]) -> Result<(), AllocError>
     Ok(())
 }
 
+/// Adds a word between back quotes, with what stands before it and behind it.
+pub fn put_word_between(
+    words: &mut Vec<u8>,
+    before: &[u8],
+    word: &[u8],
+    behind: &[u8],
+) -> Result<(), AllocError> {
+    words.extend_from_slice(before)?;
+    put_quoted(words, word)?;
+    words.extend_from_slice(behind)
+}
+
+/// Adds names between back quotes, with what stands before them and behind them.
+pub fn put_names_between(
+    words: &mut Vec<u8>,
+    before: &[u8],
+    names: &[&[u8]],
+    behind: &[u8],
+) -> Result<(), AllocError> {
+    words.extend_from_slice(before)?;
+    put_names(words, names)?;
+    words.extend_from_slice(behind)
+}
+
 /// A part of a sentence.
 #[derive(Clone, Copy)]
 pub enum Part<'a> {
     Text(&'a [u8]),
     /// A word between back quotes.
     Quoted(&'a [u8]),
+    /// A number in decimal.
+    Number(usize),
+    /// The line and the column of a place in a text.
+    Place(&'a [u8], usize),
+    /// A pair of names as a lattice file writes it, the lower one first.
+    Pair(&'a [u8], &'a [u8]),
+    /// A pattern with operands in the places of P and Q.
+    Pattern(&'a str, &'a [u8], &'a [u8]),
+}
+
+/// Adds a pair of names as a lattice file writes it.
+fn put_pair(words: &mut Vec<u8>, low: &[u8], high: &[u8]) -> Result<(), AllocError> {
+    words.extend_from_slice(b"[\"")?;
+    words.extend_from_slice(low)?;
+    words.extend_from_slice(b"\", \"")?;
+    words.extend_from_slice(high)?;
+    words.extend_from_slice(b"\"]")
+}
+
+/// Adds a pattern with words in the places of P, Q and N.
+pub(crate) fn put_pattern(
+    words: &mut Vec<u8>,
+    pattern: &str,
+    left: &[u8],
+    right: &[u8],
+    name: &[u8],
+) -> Result<(), AllocError> {
+    for byte in pattern.as_bytes() {
+        match *byte {
+            b'P' => words.extend_from_slice(left)?,
+            b'Q' => words.extend_from_slice(right)?,
+            b'N' => words.extend_from_slice(name)?,
+            other => words.extend_from_slice(&[other])?,
+        }
+    }
+    Ok(())
 }
 
 /// Adds a part of a sentence.
@@ -48,6 +108,10 @@ fn put_part(words: &mut Vec<u8>, part: Part<'_>) -> Result<(), AllocError> {
     match part {
         Part::Text(text) => words.extend_from_slice(text),
         Part::Quoted(word) => put_quoted(words, word),
+        Part::Number(number) => put_number(words, number),
+        Part::Place(source, at) => put_place(words, source, at),
+        Part::Pair(low, high) => put_pair(words, low, high),
+        Part::Pattern(pattern, left, right) => put_pattern(words, pattern, left, right, b"N"),
     }
 }
 
@@ -66,6 +130,14 @@ pub fn part_of(text: &[u8], span: Span) -> &[u8] {
     &text[start..stop]
 }
 
+/// The tokens of a text that has some.
+pub(crate) fn tokens_in<'a>(alloc: Global, source: &'a [u8]) -> Result<Vec<Token<'a>>, AllocError> {
+    match lex(alloc, source) {
+        Ok(tokens) => Ok(tokens),
+        Err(_) => Err(AllocError),
+    }
+}
+
 /// A token that declares a name: the one behind a word of the kind.
 fn declared_by<'a>(tokens: &[Token<'a>], at: usize, kind: Kind) -> Option<Token<'a>> {
     let word = tokens.get(at)?;
@@ -75,19 +147,31 @@ fn declared_by<'a>(tokens: &[Token<'a>], at: usize, kind: Kind) -> Option<Token<
     tokens.get(at.saturating_add(1)).copied()
 }
 
-/// The tokens behind `var`, or those behind `letvar`, in their order.
+/// The names behind `var`, or those behind `letvar`, in their order.
 pub(crate) fn declared<'a>(
     alloc: Global,
     tokens: &[Token<'a>],
     kind: Kind,
-) -> Result<Vec<Token<'a>>, AllocError> {
+) -> Result<Vec<&'a [u8]>, AllocError> {
     let mut names = Vec::new(alloc);
     for at in 0..tokens.len() {
-        if let Some(name) = declared_by(tokens, at, kind) {
-            names.push(name)?;
+        if let Some(token) = declared_by(tokens, at, kind) {
+            names.push(token.text)?;
         }
     }
     Ok(names)
+}
+
+/// The first token behind `var`, or behind `letvar`, that is this name.
+pub(crate) fn declaration<'a>(tokens: &[Token<'a>], kind: Kind, name: &[u8]) -> Option<Token<'a>> {
+    for at in 0..tokens.len() {
+        if let Some(token) = declared_by(tokens, at, kind) {
+            if token.text == name {
+                return Some(token);
+            }
+        }
+    }
+    None
 }
 
 /// Whether a name is declared anywhere in a text.
@@ -103,18 +187,6 @@ pub(crate) fn is_declared(tokens: &[Token], name: &[u8]) -> bool {
         };
     }
     false
-}
-
-/// The texts of tokens, in their order.
-pub(crate) fn texts_of<'a>(
-    alloc: Global,
-    tokens: &[Token<'a>],
-) -> Result<Vec<&'a [u8]>, AllocError> {
-    let mut texts = Vec::new(alloc);
-    for token in tokens {
-        texts.push(token.text)?;
-    }
-    Ok(texts)
 }
 
 /// The names of the classes of a lattice, in their order.

@@ -1,6 +1,6 @@
 //! What a word may have been meant for.
 
-use crate::names::put_quoted;
+use crate::names::put_word_between;
 use std::alloc::{AllocError, Global};
 use std::str::from_utf8;
 use strsim::osa_distance;
@@ -76,10 +76,21 @@ pub fn put_nearest(
     let Some(meant) = nearest(alloc, written, choices)? else {
         return Ok(false);
     };
-    words.extend_from_slice(b"Hint: perhaps ")?;
-    put_quoted(words, meant)?;
-    words.extend_from_slice(b" was meant in place of ")?;
-    put_quoted(words, written)?;
-    words.extend_from_slice(b".\n")?;
+    put_word_between(words, b"Hint: perhaps ", meant, b" was meant in place of ")?;
+    put_word_between(words, b"", written, b".\n")?;
     Ok(true)
+}
+
+/// Adds which of the words was perhaps meant, or else another hint.
+pub fn put_nearest_or(
+    alloc: Global,
+    words: &mut Vec<u8>,
+    written: &[u8],
+    choices: &[&[u8]],
+    otherwise: &[u8],
+) -> Result<(), AllocError> {
+    if put_nearest(alloc, words, written, choices)? {
+        return Ok(());
+    }
+    words.extend_from_slice(otherwise)
 }

@@ -1,6 +1,6 @@
 //! Signs and words of other languages between operands, and how they are written here.
 
-use crate::names::{part_of, put_quoted};
+use crate::names::{Part, part_of, put_parts, put_pattern, put_word_between};
 use std::alloc::AllocError;
 use vsi_syntax::Span;
 
@@ -12,33 +12,63 @@ const OPPOSITE: &str = ": the brackets stay. A comparison is 1 where it holds, a
 
 /// What is said where besides the sides change places.
 const SWAPPED: &str =
-    ": the sides change places, and the brackets stay. A comparison is 1 where it holds, and else 0";
+    ": the sides change places, and the brackets stay. A comparison is 1 where it holds, and else \
+    0";
 
 /// What is said of signs that join two guards.
 const JOINED: &str = ", where each is 0 or 1: the brackets stay";
 
+/// The loop that divides, and what it does.
+const DIVISION: &str = "Hint: there is no division. `letvar r := P in while Q - 1 < r do \
+    { r := r - Q; N := N + 1 }` adds to N how often Q is in P.\n";
+
+/// The loop that leaves a remainder, and what it does.
+const REMAINDER: &str = "Hint: there is no remainder. `letvar r := P in { while Q - 1 < r do \
+    r := r - Q; N := r }` puts into N what is left of P when Q is taken away as often as it can \
+    be.\n";
+
 /// What is said of a sign that negates a guard.
 const NEGATED: &str = ", where P is 0 or 1: the brackets stay";
 
-/// How a sign stands between P and Q, how that is written here, and what is said of it.
-fn form_of(sign: &[u8]) -> Option<(&'static str, &'static str, &'static str)> {
-    match sign {
-        b"==" => Some(("P == Q", "P = Q", "")),
-        b">" => Some(("P > Q", "Q < P", ": the sides change places")),
-        b"<=" => Some(("P <= Q", "1 - (Q < P)", SWAPPED)),
-        b">=" => Some(("P >= Q", "1 - (P < Q)", OPPOSITE)),
-        b"!=" => Some(("P != Q", "1 - (P = Q)", OPPOSITE)),
-        b"and" | b"AND" => Some(("P and Q", "(P) * (Q)", JOINED)),
-        b"&&" => Some(("P && Q", "(P) * (Q)", JOINED)),
-        b"&" => Some(("P & Q", "(P) * (Q)", JOINED)),
-        b"or" | b"OR" => Some(("P or Q", "0 < (P) + (Q)", JOINED)),
-        b"||" => Some(("P || Q", "0 < (P) + (Q)", JOINED)),
-        b"|" => Some(("P | Q", "0 < (P) + (Q)", JOINED)),
-        b"not" | b"NOT" => Some(("not P", "(1 - (P))", NEGATED)),
-        b"!" => Some(("!P", "(1 - (P))", NEGATED)),
-        _ => None,
+/// A sign or a word of other languages, how it stands between P and Q, how that is written here,
+/// and what is said of it.
+type Form = (&'static [u8], &'static str, &'static str, &'static str);
+
+/// The signs and words of other languages.
+const FORMS: [Form; 16] = [
+    (b"==", "P == Q", "P = Q", ""),
+    (b">", "P > Q", "Q < P", ": the sides change places"),
+    (b"<=", "P <= Q", "1 - (Q < P)", SWAPPED),
+    (b">=", "P >= Q", "1 - (P < Q)", OPPOSITE),
+    (b"!=", "P != Q", "1 - (P = Q)", OPPOSITE),
+    (b"and", "P and Q", "(P) * (Q)", JOINED),
+    (b"AND", "P and Q", "(P) * (Q)", JOINED),
+    (b"&&", "P && Q", "(P) * (Q)", JOINED),
+    (b"&", "P & Q", "(P) * (Q)", JOINED),
+    (b"or", "P or Q", "0 < (P) + (Q)", JOINED),
+    (b"OR", "P or Q", "0 < (P) + (Q)", JOINED),
+    (b"||", "P || Q", "0 < (P) + (Q)", JOINED),
+    (b"|", "P | Q", "0 < (P) + (Q)", JOINED),
+    (b"not", "not P", "(1 - (P))", NEGATED),
+    (b"NOT", "not P", "(1 - (P))", NEGATED),
+    (b"!", "!P", "(1 - (P))", NEGATED),
+];
+
+/// The first of the forms that is of a sign.
+fn form_in(forms: &[Form], sign: &[u8]) -> Option<Form> {
+    for form in forms {
+        if form.0 == sign {
+            return Some(*form);
+        }
     }
+    None
 }
+
+/// The words in front of an operand.
+const STARTS: [&[u8]; 5] = [b"if", b"while", b"and", b"or", b"not"];
+
+/// The words behind an operand.
+const STOPS: [&[u8]; 6] = [b"then", b"do", b"in", b"else", b"and", b"or"];
 
 /// Whether a byte belongs to a name, a keyword or a number.
 fn is_part(byte: u8) -> bool {
@@ -86,13 +116,8 @@ fn operand_start(source: &[u8], at: usize) -> Option<usize> {
             b';' | b'{' | b'}' | b'#' | b'\n' => return None,
             _ => {
                 let word = word_at(source, place);
-                match word {
-                    b"if" | b"while" | b"and" | b"or" | b"not" => {
-                        if closed == 0 {
-                            return Some(place.saturating_add(word.len()));
-                        }
-                    }
-                    _ => {}
+                if closed == 0 && STARTS.contains(&word) {
+                    return Some(place.saturating_add(word.len()));
                 }
             }
         }
@@ -132,10 +157,7 @@ fn operand_stop(source: &[u8], at: usize) -> Option<usize> {
                 true
             }
             b';' | b'{' | b'}' | b'&' | b'|' => true,
-            _ => match word_at(source, place) {
-                b"then" | b"do" | b"in" | b"else" | b"and" | b"or" => true,
-                _ => false,
-            },
+            _ => STOPS.contains(&word_at(source, place)),
         };
         if is_end {
             return if open == 0 { Some(place) } else { None };
@@ -193,30 +215,6 @@ fn negated(source: &[u8], at: usize, behind: usize) -> Option<&[u8]> {
     Some(inner)
 }
 
-/// Adds a pattern with its operands in the places of P and Q.
-pub(crate) fn put_pattern(
-    words: &mut Vec<u8>,
-    pattern: &str,
-    left: &[u8],
-    right: &[u8],
-) -> Result<(), AllocError> {
-    for byte in pattern.as_bytes() {
-        match *byte {
-            b'P' => words.extend_from_slice(left)?,
-            b'Q' => words.extend_from_slice(right)?,
-            other => words.extend_from_slice(&[other])?,
-        }
-    }
-    Ok(())
-}
-
-/// Adds a form with its operands in it, between back quotes.
-fn put_form(words: &mut Vec<u8>, form: &str, left: &[u8], right: &[u8]) -> Result<(), AllocError> {
-    words.extend_from_slice(b"`")?;
-    put_pattern(words, form, left, right)?;
-    words.extend_from_slice(b"`")
-}
-
 /// A sign or a word of other languages with its operands, and how it is written here.
 #[derive(Clone, Copy)]
 struct Foreign<'a> {
@@ -229,7 +227,7 @@ struct Foreign<'a> {
 
 /// What a sign or a word of other languages at a place means, where it is one.
 fn foreign_at<'a>(source: &'a [u8], sign: &[u8], at: usize) -> Option<Foreign<'a>> {
-    let (meant, written, rest) = form_of(sign)?;
+    let (_sign, meant, written, rest) = form_in(&FORMS, sign)?;
     let behind = at.saturating_add(sign.len());
     if rest == NEGATED {
         if let Some(inner) = negated(source, at, behind) {
@@ -277,14 +275,18 @@ fn put_foreign_form(
     sign: &[u8],
     foreign: &Foreign<'_>,
 ) -> Result<(), AllocError> {
-    words.extend_from_slice(b"Hint: there is no ")?;
-    put_quoted(words, sign)?;
-    words.extend_from_slice(b". ")?;
-    put_form(words, foreign.meant, foreign.left, foreign.right)?;
-    words.extend_from_slice(b" is written ")?;
-    put_form(words, foreign.written, foreign.left, foreign.right)?;
-    words.extend_from_slice(foreign.rest.as_bytes())?;
-    words.extend_from_slice(b".\n")
+    put_word_between(words, b"Hint: there is no ", sign, b". `")?;
+    put_parts(
+        words,
+        &[
+            Part::Pattern(foreign.meant, foreign.left, foreign.right),
+            Part::Text(b"` is written `"),
+            Part::Pattern(foreign.written, foreign.left, foreign.right),
+            Part::Text(b"`"),
+            Part::Text(foreign.rest.as_bytes()),
+            Part::Text(b".\n"),
+        ],
+    )
 }
 
 /// Whether an operand is one name or number.
@@ -327,29 +329,6 @@ pub(crate) fn put_division(
     is_remainder: bool,
 ) -> Result<(), AllocError> {
     let (left, right, name) = division_parts(source, at);
-    words.extend_from_slice(if is_remainder {
-        b"Hint: there is no remainder. `"
-    } else {
-        b"Hint: there is no division. `"
-    })?;
-    if is_remainder {
-        let form = "letvar r := P in { while Q - 1 < r do r := r - Q; ";
-        put_pattern(words, form, left, right)?;
-        words.extend_from_slice(name)?;
-        words.extend_from_slice(b" := r }` puts into ")?;
-    } else {
-        let form = "letvar r := P in while Q - 1 < r do { r := r - Q; ";
-        put_pattern(words, form, left, right)?;
-        words.extend_from_slice(name)?;
-        words.extend_from_slice(b" := ")?;
-        words.extend_from_slice(name)?;
-        words.extend_from_slice(b" + 1 }` adds to ")?;
-    }
-    words.extend_from_slice(name)?;
-    let told = if is_remainder {
-        " what is left of P when Q is taken away as often as it can be.\n"
-    } else {
-        " how often Q is in P.\n"
-    };
-    put_pattern(words, told, left, right)
+    let pattern = if is_remainder { REMAINDER } else { DIVISION };
+    put_pattern(words, pattern, left, right, name)
 }

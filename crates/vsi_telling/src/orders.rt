@@ -2,8 +2,7 @@
 //! below both.
 
 use crate::finding::key_place;
-use crate::names::{Part, put_names, put_parts, put_quoted};
-use crate::operands::put_pattern;
+use crate::names::{Part, put_names, put_parts, put_word_between};
 use std::alloc::{AllocError, Global};
 use vsi_syntax::Span;
 
@@ -66,14 +65,16 @@ impl<'t> Order<'t> {
         }
     }
 
-    /// Adds a pair as the file writes it.
-    fn put_pair(&self, words: &mut Vec<u8>, pair: (usize, usize)) -> Result<(), AllocError> {
-        put_written(words, self.name(pair.0), self.name(pair.1))
+    /// The places of the classes of the pair with a number.
+    fn pair(&self, number: usize) -> (usize, usize) {
+        match self.pairs.get(number) {
+            Some(pair) => *pair,
+            None => (0, 0),
+        }
     }
 
-    /// The numbers of pairs that lead from a class back to it, the last one first.
-    fn ring(&self, alloc: Global, class: usize) -> Result<Vec<usize>, AllocError> {
-        let mut ring = Vec::new(alloc);
+    /// For each class that a class reaches, the number of a pair that leads into it.
+    fn pairs_into(&self, alloc: Global, class: usize) -> Result<Vec<Option<usize>>, AllocError> {
         let mut into: Vec<Option<usize>> = Vec::new(alloc);
         for _ in 0..self.names.len() {
             into.push(None)?;
@@ -81,21 +82,36 @@ impl<'t> Order<'t> {
         for _ in 0..self.names.len() {
             self.reach(class, &mut into);
         }
+        Ok(into)
+    }
+
+    /// The numbers of pairs that lead from a class back to it, the last one first, where these
+    /// pairs lead into the classes.
+    fn ring_by(
+        &self,
+        alloc: Global,
+        class: usize,
+        into: &[Option<usize>],
+    ) -> Result<Vec<usize>, AllocError> {
+        let mut ring = Vec::new(alloc);
         let mut at = class;
         for _ in 0..self.names.len() {
-            let Some(Some(number)) = into.get(at).copied() else {
-                return Ok(ring);
+            let Some(number) = into.get(at).copied().flatten() else {
+                break;
             };
             ring.push(number)?;
-            let Some(pair) = self.pairs.get(number) else {
-                return Ok(ring);
-            };
-            at = pair.0;
+            at = self.pair(number).0;
             if at == class {
-                return Ok(ring);
+                break;
             }
         }
         Ok(ring)
+    }
+
+    /// The numbers of pairs that lead from a class back to it, the last one first.
+    fn ring(&self, alloc: Global, class: usize) -> Result<Vec<usize>, AllocError> {
+        let into = self.pairs_into(alloc, class)?;
+        self.ring_by(alloc, class, &into)
     }
 
     /// Notes for each class that is reached by one pair more with which pair it is.
@@ -109,19 +125,36 @@ impl<'t> Order<'t> {
         }
     }
 
+    /// Adds the classes that are reached by one pair more: upwards where `is_up`, else downwards.
+    fn reach_more(&self, reached: &mut Vec<usize>, is_up: bool) -> Result<(), AllocError> {
+        for (low, high) in &self.pairs {
+            let (from, to) = if is_up { (low, high) } else { (high, low) };
+            if reached.contains(from) && !reached.contains(to) {
+                reached.push(*to)?;
+            }
+        }
+        Ok(())
+    }
+
     /// The classes at or above a class where `is_up`, else those at or below it.
     fn reached(&self, alloc: Global, class: usize, is_up: bool) -> Result<Vec<usize>, AllocError> {
         let mut reached = Vec::new(alloc);
         reached.push(class)?;
         for _ in 0..self.names.len() {
-            for (low, high) in &self.pairs {
-                let (from, to) = if is_up { (low, high) } else { (high, low) };
-                if reached.contains(from) && !reached.contains(to) {
-                    reached.push(*to)?;
-                }
-            }
+            self.reach_more(&mut reached, is_up)?;
         }
         Ok(reached)
+    }
+
+    /// Whether another class has none above it yet where `is_up`, else none below it.
+    fn is_end(&self, other: usize, is_up: bool) -> bool {
+        for (low, high) in &self.pairs {
+            let near = if is_up { *low } else { *high };
+            if near == other {
+                return false;
+            }
+        }
+        true
     }
 
     /// Whether a class stands in a pair.
@@ -135,13 +168,85 @@ impl<'t> Order<'t> {
     }
 }
 
-/// Adds a pair of names as a lattice file writes it.
-fn put_written(words: &mut Vec<u8>, low: &[u8], high: &[u8]) -> Result<(), AllocError> {
-    words.extend_from_slice(b"[\"")?;
-    words.extend_from_slice(low)?;
-    words.extend_from_slice(b"\", \"")?;
-    words.extend_from_slice(high)?;
-    words.extend_from_slice(b"\"]")
+/// Adds a pair of those that lead round.
+fn put_link(
+    words: &mut Vec<u8>,
+    order: &Order,
+    pair: (usize, usize),
+    is_first: bool,
+) -> Result<(), AllocError> {
+    put_parts(
+        words,
+        &[
+            Part::Text(if is_first { b"" } else { b", " }),
+            Part::Quoted(order.name(pair.0)),
+            Part::Text(if is_first { b" is below " } else { b" below " }),
+            Part::Quoted(order.name(pair.1)),
+        ],
+    )
+}
+
+/// The pair of a ring that goes against the order of the classes, where one alone does.
+fn wrong_in(order: &Order, ring: &[usize]) -> Option<usize> {
+    let mut wrong = None;
+    for number in ring {
+        let (low, high) = order.pair(*number);
+        if high <= low {
+            if let Some(_) = wrong {
+                return None;
+            }
+            wrong = Some(*number);
+        }
+    }
+    wrong
+}
+
+/// Adds which pair of a ring to take out, and answers where it stands.
+fn put_wrong(
+    words: &mut Vec<u8>,
+    bytes: &[u8],
+    order: &Order,
+    wrong: Option<usize>,
+) -> Result<Option<Span>, AllocError> {
+    let Some(number) = wrong else {
+        words.extend_from_slice(b"take out the pair that is the wrong way round.")?;
+        return Ok(None);
+    };
+    let (low, high) = order.pair(number);
+    put_parts(
+        words,
+        &[
+            Part::Text(b"`"),
+            Part::Pair(order.name(low), order.name(high)),
+            Part::Text(
+                b"` goes against the order of `classes`: perhaps it is the wrong way round, or one \
+                too many.",
+            ),
+        ],
+    )?;
+    Ok(pair_place(bytes, number))
+}
+
+/// Adds what is told of these pairs that lead round, the last one first, and answers where the one
+/// that is wrong stands.
+fn put_links(
+    words: &mut Vec<u8>,
+    bytes: &[u8],
+    order: &Order,
+    ring: &[usize],
+) -> Result<Option<Span>, AllocError> {
+    for done in 0..ring.len() {
+        put_link(
+            words,
+            order,
+            order.pair(ring[ring.len() - 1 - done]),
+            done == 0,
+        )?;
+    }
+    words.extend_from_slice(b": that goes round in a ring.\nHint: ")?;
+    let place = put_wrong(words, bytes, order, wrong_in(order, ring))?;
+    words.extend_from_slice(b" Taking out another one changes who may see what.\n")?;
+    Ok(place)
 }
 
 /// Adds what is told of pairs that lead round, and answers where the one that is wrong stands.
@@ -153,36 +258,7 @@ pub(crate) fn put_ring(
     class: usize,
 ) -> Result<Option<Span>, AllocError> {
     let ring = order.ring(alloc, class)?;
-    let mut wrong = None;
-    let mut wrongs: usize = 0;
-    for done in 0..ring.len() {
-        let number = ring[ring.len() - 1 - done];
-        let (low, high) = order.pairs.get(number).copied().unwrap_or((0, 0));
-        words.extend_from_slice(if done == 0 { b"" } else { b", " })?;
-        put_quoted(words, order.name(low))?;
-        words.extend_from_slice(if done == 0 { b" is below " } else { b" below " })?;
-        put_quoted(words, order.name(high))?;
-        if high <= low {
-            wrong = Some(number);
-            wrongs = wrongs.saturating_add(1);
-        }
-    }
-    words.extend_from_slice(b": that goes round in a ring.\nHint: ")?;
-    let mut place = None;
-    match wrong {
-        Some(number) if wrongs == 1 => {
-            words.extend_from_slice(b"`")?;
-            order.put_pair(words, order.pairs.get(number).copied().unwrap_or((0, 0)))?;
-            words.extend_from_slice(
-                b"` goes against the order of `classes`: perhaps it is the wrong way round, or one \
-                too many.",
-            )?;
-            place = pair_place(bytes, number);
-        }
-        _ => words.extend_from_slice(b"take out the pair that is the wrong way round.")?,
-    }
-    words.extend_from_slice(b" Taking out another one changes who may see what.\n")?;
-    Ok(place)
+    put_links(words, bytes, order, &ring)
 }
 
 /// Adds the pairs that put a class above, or below, those that have none there yet.
@@ -192,29 +268,21 @@ fn put_placing(
     class: usize,
     is_up: bool,
 ) -> Result<(), AllocError> {
-    words.extend_from_slice(b"`")?;
-    let mut count: usize = 0;
+    let mut joint: &[u8] = b"";
     for other in 0..order.names.len() {
-        let mut is_end = other != class;
-        for (low, high) in &order.pairs {
-            if (is_up && *low == other) || (!is_up && *high == other) {
-                is_end = false;
-            }
+        if other == class || !order.is_end(other, is_up) {
+            continue;
         }
-        if is_end {
-            words.extend_from_slice(if count == 0 { b"" } else { b", " })?;
-            order.put_pair(
-                words,
-                if is_up {
-                    (other, class)
-                } else {
-                    (class, other)
-                },
-            )?;
-            count = count.saturating_add(1);
-        }
+        let (low, high) = if is_up {
+            (other, class)
+        } else {
+            (class, other)
+        };
+        let pair = Part::Pair(order.name(low), order.name(high));
+        put_parts(words, &[Part::Text(joint), pair])?;
+        joint = b", ";
     }
-    words.extend_from_slice(b"`")
+    Ok(())
 }
 
 /// Adds what is told where a class stands in no pair, and answers whether one of the two does.
@@ -228,15 +296,34 @@ fn put_unplaced(
     if order.is_placed(class) {
         return Ok(false);
     }
-    put_quoted(words, order.name(class))?;
-    words.extend_from_slice(
-        b" stands in no pair of `below`. Hint: where it is above all others add ",
+    put_parts(
+        words,
+        &[
+            Part::Quoted(order.name(class)),
+            Part::Text(b" stands in no pair of `below`. Hint: where it is above all others add `"),
+        ],
     )?;
     put_placing(words, order, class, true)?;
-    words.extend_from_slice(b" to `below`; where it is below all others ")?;
+    words.extend_from_slice(b"` to `below`; where it is below all others `")?;
     put_placing(words, order, class, false)?;
-    words.extend_from_slice(b".\n")?;
+    words.extend_from_slice(b"`.\n")?;
     Ok(true)
+}
+
+/// The names of the classes that are among both.
+fn names_in_both<'t>(
+    alloc: Global,
+    order: &Order<'t>,
+    reached: &[usize],
+    others: &[usize],
+) -> Result<Vec<&'t [u8]>, AllocError> {
+    let mut names = Vec::new(alloc);
+    for class in reached {
+        if others.contains(class) {
+            names.push(order.name(*class))?;
+        }
+    }
+    Ok(names)
 }
 
 /// The classes that two classes both reach, by their names.
@@ -249,42 +336,27 @@ fn reached_by_both<'t>(
 ) -> Result<Vec<&'t [u8]>, AllocError> {
     let others = order.reached(alloc, b, is_up)?;
     let reached = order.reached(alloc, a, is_up)?;
-    let mut names = Vec::new(alloc);
-    for class in &reached {
-        if others.contains(class) {
-            names.push(order.name(*class))?;
-        }
-    }
-    Ok(names)
+    names_in_both(alloc, order, &reached, &others)
 }
 
-/// Adds what is told where several classes are above, or below, both, and answers whether some are.
-fn put_several(
-    alloc: Global,
+/// Adds that several classes, some at least, are above both, or below both, and answers whether
+/// some are.
+fn put_common(
     words: &mut Vec<u8>,
-    order: &Order,
-    a: usize,
-    b: usize,
+    one: &[u8],
+    other: &[u8],
+    names: &[&[u8]],
     is_up: bool,
 ) -> Result<bool, AllocError> {
-    let names = reached_by_both(alloc, order, a, b, is_up)?;
     if names.is_empty() {
         return Ok(false);
     }
     let side: &[u8] = if is_up { b"above" } else { b"below" };
     let other_side: &[u8] = if is_up { b"below" } else { b"above" };
     let begin: &[u8] = if is_up { b"Above " } else { b"Below " };
-    put_parts(
-        words,
-        &[
-            Part::Text(begin),
-            Part::Quoted(order.name(a)),
-            Part::Text(b" and "),
-            Part::Quoted(order.name(b)),
-            Part::Text(b" stand "),
-        ],
-    )?;
-    put_names(words, &names)?;
+    put_word_between(words, begin, one, b" and ")?;
+    put_word_between(words, b"", other, b" stand ")?;
+    put_names(words, names)?;
     put_parts(
         words,
         &[
@@ -300,6 +372,58 @@ fn put_several(
     Ok(true)
 }
 
+/// Adds what is told where several classes are above, or below, both, and answers whether some are.
+fn put_several(
+    alloc: Global,
+    words: &mut Vec<u8>,
+    order: &Order,
+    a: usize,
+    b: usize,
+    is_up: bool,
+) -> Result<bool, AllocError> {
+    let names = reached_by_both(alloc, order, a, b, is_up)?;
+    put_common(words, order.name(a), order.name(b), &names, is_up)
+}
+
+/// Adds that two classes need one above both, or below both, and how to add it.
+fn put_need<'a>(
+    words: &mut Vec<u8>,
+    one: &'a [u8],
+    other: &'a [u8],
+    fresh: &'a [u8],
+    is_up: bool,
+) -> Result<(), AllocError> {
+    let need = if is_up {
+        "What is made from both `P`'s and `Q`'s data needs a class above both, and there is none."
+    } else {
+        "What both `P` and `Q` may see needs a class below both, and there is none."
+    };
+    put_parts(
+        words,
+        &[
+            Part::Pattern(need, one, other),
+            Part::Text(b" Hint: add one, say `"),
+            Part::Text(fresh),
+            Part::Text(b"`, to `classes`, and `"),
+            if is_up {
+                Part::Pair(one, fresh)
+            } else {
+                Part::Pair(fresh, one)
+            },
+            Part::Text(b", "),
+            if is_up {
+                Part::Pair(other, fresh)
+            } else {
+                Part::Pair(fresh, other)
+            },
+            Part::Text(
+                b"` to `below`. Placing one of the two below the other instead lets its data go \
+                there.\n",
+            ),
+        ],
+    )
+}
+
 /// Adds which class above, or below, two others is missing.
 pub(crate) fn put_missing(
     alloc: Global,
@@ -309,29 +433,12 @@ pub(crate) fn put_missing(
     b: usize,
     is_up: bool,
 ) -> Result<(), AllocError> {
-    if put_unplaced(words, order, a, b)? || put_several(alloc, words, order, a, b, is_up)? {
+    if put_unplaced(words, order, a, b)? {
         return Ok(());
     }
-    let (one, other) = (order.name(a), order.name(b));
-    let need = if is_up {
-        "What is made from both `P`'s and `Q`'s data needs a class above both, and there is none."
-    } else {
-        "What both `P` and `Q` may see needs a class below both, and there is none."
-    };
-    put_pattern(words, need, one, other)?;
-    words.extend_from_slice(b" Hint: add one, say `")?;
+    if put_several(alloc, words, order, a, b, is_up)? {
+        return Ok(());
+    }
     let fresh = fresh_name(order, is_up).as_bytes();
-    words.extend_from_slice(fresh)?;
-    words.extend_from_slice(b"`, to `classes`, and `")?;
-    let (first, second) = if is_up {
-        ((one, fresh), (other, fresh))
-    } else {
-        ((fresh, one), (fresh, other))
-    };
-    put_written(words, first.0, first.1)?;
-    words.extend_from_slice(b", ")?;
-    put_written(words, second.0, second.1)?;
-    words.extend_from_slice(
-        b"` to `below`. Placing one of the two below the other instead lets its data go there.\n",
-    )
+    put_need(words, order.name(a), order.name(b), fresh, is_up)
 }

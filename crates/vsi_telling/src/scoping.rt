@@ -4,42 +4,55 @@ ghost use Rattle.std.specs.Prelude.{◌≡◌, option_map};
 ghost use Rattle.vsi_telling.specs.Places.{scoping_start};
 
 use crate::hints::word_hint;
-use crate::names::{class_names, declared, part_of, put_names, put_quoted, texts_of};
-use crate::nearest::put_nearest;
+use crate::names::{
+    Part, class_names, declaration, declared, part_of, put_names_between, put_parts, put_quoted,
+    put_word_between, tokens_in,
+};
+use crate::nearest::{put_nearest, put_nearest_or};
 use std::alloc::{AllocError, Global};
 use vsi_lattice::Lattice;
 use vsi_scope::ScopeError;
-use vsi_syntax::{Kind, Span, Token, lex, put_place};
-
-/// The token of this name among the tokens.
-fn named<'a>(tokens: &[Token<'a>], name: &[u8]) -> Option<Token<'a>> {
-    for token in tokens {
-        if token.text == name {
-            return Some(*token);
-        }
-    }
-    None
-}
+use vsi_syntax::{Kind, Span, Token};
 
 /// Adds what is told of a name that a global above has.
 fn put_duplicate(
-    alloc: Global,
     words: &mut Vec<u8>,
     source: &[u8],
+    tokens: &[Token],
     name: &[u8],
 ) -> Result<(), AllocError> {
-    let Ok(tokens) = lex(alloc, source) else {
-        return Err(AllocError);
-    };
     put_quoted(words, name)?;
     words.extend_from_slice(b" is declared a second time here")?;
-    let globals = declared(alloc, &tokens, Kind::Var)?;
-    if let Some(first) = named(&globals, name) {
-        words.extend_from_slice(b"; it is declared at ")?;
-        put_place(words, source, first.span.start)?;
-        words.extend_from_slice(b" already")?;
+    if let Some(first) = declaration(tokens, Kind::Var, name) {
+        let place = Part::Place(source, first.span.start);
+        put_parts(
+            words,
+            &[
+                Part::Text(b"; it is declared at "),
+                place,
+                Part::Text(b" already"),
+            ],
+        )?;
     }
     words.extend_from_slice(b".\nHint: leave one out, or give it another name.\n")
+}
+
+/// Adds that these classes are all, and not this one.
+fn put_no_class(
+    alloc: Global,
+    words: &mut Vec<u8>,
+    name: &[u8],
+    classes: &[&[u8]],
+) -> Result<(), AllocError> {
+    put_word_between(words, b"The lattice has no class ", name, b". ")?;
+    put_names_between(words, b"Its classes are ", classes, b".\n")?;
+    put_nearest_or(
+        alloc,
+        words,
+        name,
+        classes,
+        b"Hint: use one of them, or add this one to the lattice file.\n",
+    )
 }
 
 /// Adds what is told of a class that the lattice lacks.
@@ -50,15 +63,42 @@ fn put_class(
     name: &[u8],
 ) -> Result<(), AllocError> {
     let classes = class_names(alloc, lattice)?;
-    words.extend_from_slice(b"The lattice has no class ")?;
-    put_quoted(words, name)?;
-    words.extend_from_slice(b". Its classes are ")?;
-    put_names(words, &classes)?;
-    words.extend_from_slice(b".\n")?;
-    if put_nearest(alloc, words, name, &classes)? {
-        return Ok(());
+    put_no_class(alloc, words, name, &classes)
+}
+
+/// Adds the names of the whole text, and answers whether one of them may have been meant.
+fn put_these(
+    alloc: Global,
+    words: &mut Vec<u8>,
+    names: &[&[u8]],
+    name: &[u8],
+) -> Result<bool, AllocError> {
+    if !names.is_empty() {
+        put_names_between(words, b"Declared for the whole text: ", names, b".\n")?;
     }
-    words.extend_from_slice(b"Hint: use one of them, or add this one to the lattice file.\n")
+    put_nearest(alloc, words, name, names)
+}
+
+/// Adds the globals of a text, and answers whether one of them may have been meant.
+fn put_globals(
+    alloc: Global,
+    words: &mut Vec<u8>,
+    tokens: &[Token],
+    name: &[u8],
+) -> Result<bool, AllocError> {
+    let names = declared(alloc, tokens, Kind::Var)?;
+    put_these(alloc, words, &names, name)
+}
+
+/// Adds which local variable may have been meant, and answers whether one may.
+fn put_near_local(
+    alloc: Global,
+    words: &mut Vec<u8>,
+    tokens: &[Token],
+    name: &[u8],
+) -> Result<bool, AllocError> {
+    let names = declared(alloc, tokens, Kind::Letvar)?;
+    put_nearest(alloc, words, name, &names)
 }
 
 /// Adds the names that may have been meant, or how to declare this one.
@@ -71,24 +111,20 @@ fn put_choices(
     if let Some(hint) = word_hint(name) {
         return words.extend_from_slice(hint.as_bytes());
     }
-    let globals = declared(alloc, tokens, Kind::Var)?;
-    let names = texts_of(alloc, &globals)?;
-    if !names.is_empty() {
-        words.extend_from_slice(b"Declared for the whole text: ")?;
-        put_names(words, &names)?;
-        words.extend_from_slice(b".\n")?;
-    }
-    if put_nearest(alloc, words, name, &names)? {
+    if put_globals(alloc, words, tokens, name)? {
         return Ok(());
     }
-    let locals = declared(alloc, tokens, Kind::Letvar)?;
-    let local_names = texts_of(alloc, &locals)?;
-    if put_nearest(alloc, words, name, &local_names)? {
+    if put_near_local(alloc, words, tokens, name)? {
         return Ok(());
     }
-    words.extend_from_slice(b"Hint: declare it at the beginning of the text, by `var ")?;
-    words.extend_from_slice(name)?;
-    words.extend_from_slice(b" : L;`, where L is a class of the lattice file.\n")
+    put_parts(
+        words,
+        &[
+            Part::Text(b"Hint: declare it at the beginning of the text, by `var "),
+            Part::Text(name),
+            Part::Text(b" : L;`, where L is a class of the lattice file.\n"),
+        ],
+    )
 }
 
 /// Adds what is told of a name that isn't declared.
@@ -96,22 +132,23 @@ fn put_unbound(
     alloc: Global,
     words: &mut Vec<u8>,
     source: &[u8],
+    tokens: &[Token],
     name: &[u8],
 ) -> Result<(), AllocError> {
-    let Ok(tokens) = lex(alloc, source) else {
-        return Err(AllocError);
+    put_word_between(words, b"", name, b" isn't declared here.\n")?;
+    let Some(local) = declaration(tokens, Kind::Letvar, name) else {
+        return put_choices(alloc, words, tokens, name);
     };
-    put_quoted(words, name)?;
-    words.extend_from_slice(b" isn't declared here.\n")?;
-    let locals = declared(alloc, &tokens, Kind::Letvar)?;
-    let Some(local) = named(&locals, name) else {
-        return put_choices(alloc, words, &tokens, name);
-    };
-    words.extend_from_slice(b"Hint: the `letvar` at ")?;
-    put_place(words, source, local.span.start)?;
-    words.extend_from_slice(
-        b" declares it for the one command behind its `in` alone: put { } round all the commands \
-        in which it is to hold.\n",
+    put_parts(
+        words,
+        &[
+            Part::Text(b"Hint: the `letvar` at "),
+            Part::Place(source, local.span.start),
+            Part::Text(
+                b" declares it for the one command behind its `in` alone: put { } round all the \
+                commands in which it is to hold.\n",
+            ),
+        ],
     )
 }
 
@@ -148,26 +185,35 @@ fn size_words(error: ScopeError) -> &'static str {
     }
 }
 
-/// What is told of a program whose names, number of declarations or size is refused.
-pub(crate) fn of_scopes(
+/// Adds what is told of a name that is declared twice, or not at all.
+fn put_name(
     alloc: Global,
+    words: &mut Vec<u8>,
+    source: &[u8],
+    span: Span,
+    is_declared: bool,
+) -> Result<(), AllocError> {
+    let tokens = tokens_in(alloc, source)?;
+    let name = part_of(source, span);
+    if is_declared {
+        return put_duplicate(words, source, &tokens, name);
+    }
+    put_unbound(alloc, words, source, &tokens, name)
+}
+
+/// Adds what is told of a program whose names, number of declarations or size is refused.
+pub(crate) fn put_scopes(
+    alloc: Global,
+    words: &mut Vec<u8>,
     lattice: &Lattice,
     source: &[u8],
     error: ScopeError,
-) -> Result<Vec<u8>, AllocError> {
-    let mut words = Vec::new(alloc);
+) -> Result<(), AllocError> {
     match error {
-        ScopeError::Memory => return Err(AllocError),
-        ScopeError::Duplicate(span) => {
-            put_duplicate(alloc, &mut words, source, part_of(source, span))?;
-        }
-        ScopeError::UnknownClass(span) => {
-            put_class(alloc, &mut words, lattice, part_of(source, span))?;
-        }
-        ScopeError::Unbound(span) => {
-            put_unbound(alloc, &mut words, source, part_of(source, span))?;
-        }
-        other => words.extend_from_slice(size_words(other).as_bytes())?,
+        ScopeError::Memory => Err(AllocError),
+        ScopeError::Duplicate(span) => put_name(alloc, words, source, span, true),
+        ScopeError::UnknownClass(span) => put_class(alloc, words, lattice, part_of(source, span)),
+        ScopeError::Unbound(span) => put_name(alloc, words, source, span, false),
+        other => words.extend_from_slice(size_words(other).as_bytes()),
     }
-    Ok(words)
 }

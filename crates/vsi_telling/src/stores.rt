@@ -1,11 +1,11 @@
 //! What is told of a refused store file.
 
-use crate::Telling;
 use crate::finding::key_place;
-use crate::names::{put_names, put_quoted};
-use crate::nearest::put_nearest;
+use crate::names::{Part, put_names_between, put_parts, put_word_between};
+use crate::nearest::put_nearest_or;
 use std::alloc::{AllocError, Global};
 use vsi_store::StoreError;
+use vsi_syntax::Span;
 
 /// What a store file looks like.
 const SHAPE: &[u8] =
@@ -25,15 +25,22 @@ pub fn names_of<'g>(
 
 /// Adds that an image with these globals has no such one.
 pub fn put_no_global(words: &mut Vec<u8>, name: &[u8], names: &[&[u8]]) -> Result<(), AllocError> {
-    words.extend_from_slice(b"The image has no global ")?;
-    put_quoted(words, name)?;
-    words.extend_from_slice(b".")?;
-    if !names.is_empty() {
-        words.extend_from_slice(b" Its globals are ")?;
-        put_names(words, names)?;
-        words.extend_from_slice(b".")?;
+    put_word_between(words, b"The image has no global ", name, b".")?;
+    if names.is_empty() {
+        return words.extend_from_slice(b"\n");
     }
-    words.extend_from_slice(b"\n")
+    put_names_between(words, b" Its globals are ", names, b".\n")
+}
+
+/// Adds what is told of a key that is none of the names.
+fn put_other_key(
+    alloc: Global,
+    words: &mut Vec<u8>,
+    names: &[&[u8]],
+    key: &[u8],
+) -> Result<(), AllocError> {
+    put_no_global(words, key, names)?;
+    put_nearest_or(alloc, words, key, names, b"Hint: take the line away.\n")
 }
 
 /// Adds what is told of a key that is no global.
@@ -44,56 +51,73 @@ fn put_unknown(
     key: &[u8],
 ) -> Result<(), AllocError> {
     let names = names_of(alloc, globals)?;
-    put_no_global(words, key, &names)?;
-    if put_nearest(alloc, words, key, &names)? {
-        return Ok(());
+    put_other_key(alloc, words, &names, key)
+}
+
+/// The hint for another sort of file in the place of a store file.
+fn file_hint(bytes: &[u8]) -> &'static [u8] {
+    if bytes.starts_with(b"VSI") {
+        b"Hint: this is an image. The store file is named behind --store.\n"
+    } else if bytes.trim_ascii_start().starts_with(b"var") {
+        b"Hint: this looks like a source text and no store file.\n"
+    } else {
+        b""
     }
-    words.extend_from_slice(b"Hint: take the line away.\n")
 }
 
 /// Adds what is told where the file is no TOML.
 fn put_not_toml(words: &mut Vec<u8>, bytes: &[u8]) -> Result<(), AllocError> {
-    words.extend_from_slice(
-        b"The file is no TOML document, a key stands twice in it, or a number is beyond 64 bits.\n",
-    )?;
-    if bytes.starts_with(b"VSI") {
-        words.extend_from_slice(
-            b"Hint: this is an image. The store file is named behind --store.\n",
-        )?;
-    } else if bytes.trim_ascii_start().starts_with(b"var") {
-        words.extend_from_slice(b"Hint: this looks like a source text and no store file.\n")?;
-    }
-    words.extend_from_slice(SHAPE)
+    put_parts(
+        words,
+        &[
+            Part::Text(
+                b"The file is no TOML document, a key stands twice in it, or a number is beyond 64 \
+                bits.\n",
+            ),
+            Part::Text(file_hint(bytes)),
+            Part::Text(SHAPE),
+        ],
+    )
 }
 
-/// What is told of a refused store file for an image with these globals.
-pub(crate) fn of_store(
+/// Adds what is told of a value that is no number.
+fn put_no_number(words: &mut Vec<u8>, key: &[u8]) -> Result<(), AllocError> {
+    put_parts(
+        words,
+        &[
+            Part::Text(b"The value of "),
+            Part::Quoted(key),
+            Part::Text(
+                b" is no whole number. Hint: write it without quotes and without a point, as 4 \
+                or -4.\n",
+            ),
+            Part::Text(SHAPE),
+        ],
+    )
+}
+
+/// Adds what is told of a refused store file for an image with these globals, and answers where it
+/// is wrong.
+pub(crate) fn put_store(
     alloc: Global,
+    words: &mut Vec<u8>,
     bytes: &[u8],
     globals: &[(Vec<u8>, Vec<u8>)],
     error: &StoreError,
-) -> Result<Telling, AllocError> {
-    let mut words = Vec::new(alloc);
-    let place = match error {
-        StoreError::Memory => return Err(AllocError),
+) -> Result<Option<Span>, AllocError> {
+    match error {
+        StoreError::Memory => Err(AllocError),
         StoreError::NotToml => {
-            put_not_toml(&mut words, bytes)?;
-            None
+            put_not_toml(words, bytes)?;
+            Ok(None)
         }
         StoreError::NotANumber(key) => {
-            words.extend_from_slice(b"The value of ")?;
-            put_quoted(&mut words, key)?;
-            words.extend_from_slice(
-                b" is no whole number. Hint: write it without quotes and without a point, as 4 \
-                or -4.\n",
-            )?;
-            words.extend_from_slice(SHAPE)?;
-            key_place(bytes, key)
+            put_no_number(words, key)?;
+            Ok(key_place(bytes, key))
         }
         StoreError::UnknownGlobal(key) => {
-            put_unknown(alloc, &mut words, globals, key)?;
-            key_place(bytes, key)
+            put_unknown(alloc, words, globals, key)?;
+            Ok(key_place(bytes, key))
         }
-    };
-    Ok(Telling { place, words })
+    }
 }

@@ -1,13 +1,15 @@
 //! What is told of tokens that are no program.
 
 use crate::hints::{file_hint, is_idle, is_type, place_hint, word_hint};
-use crate::names::{is_declared, part_of, put_quoted};
+use crate::names::{
+    Part, is_declared, part_of, put_parts, put_pattern, put_quoted, put_word_between, tokens_in,
+};
 use crate::nearest::{KEYWORDS, put_nearest};
 use crate::operands::put_operator;
 use crate::spot::{Spot, spot_at};
 use std::alloc::{AllocError, Global};
 use vsi_expected::expected_after;
-use vsi_syntax::{Kind, ParseError, Span, Token, lex, put_place};
+use vsi_syntax::{Kind, ParseError, Span, Token};
 
 /// Whether an `if` among the tokens, in the block that they end in, still wants its `else`.
 fn lacks_else(alloc: Global, tokens: &[Token]) -> Result<bool, AllocError> {
@@ -28,16 +30,31 @@ fn lacks_else(alloc: Global, tokens: &[Token]) -> Result<bool, AllocError> {
     Ok(wanted > 0)
 }
 
-/// Adds what could stand behind the tokens in front of a place.
-fn put_expected(alloc: Global, words: &mut Vec<u8>, tokens: &[Token]) -> Result<(), AllocError> {
+/// What could stand behind tokens, as a sentence lists it.
+fn expected_list(alloc: Global, tokens: &[Token]) -> Result<Vec<u8>, AllocError> {
     let expected = expected_after(alloc, tokens)?;
-    let list = expected.words(alloc)?;
+    expected.words(alloc)
+}
+
+/// Adds a list of what could stand somewhere, if anything could.
+fn put_list(words: &mut Vec<u8>, list: &[u8]) -> Result<(), AllocError> {
     if list.is_empty() {
         return Ok(());
     }
-    words.extend_from_slice(b"Here could stand: ")?;
-    words.extend_from_slice(&list)?;
-    words.extend_from_slice(b".\n")
+    put_parts(
+        words,
+        &[
+            Part::Text(b"Here could stand: "),
+            Part::Text(list),
+            Part::Text(b".\n"),
+        ],
+    )
+}
+
+/// Adds what could stand behind the tokens in front of a place.
+fn put_expected(alloc: Global, words: &mut Vec<u8>, tokens: &[Token]) -> Result<(), AllocError> {
+    let list = expected_list(alloc, tokens)?;
+    put_list(words, &list)
 }
 
 /// Adds what stands at a place.
@@ -62,12 +79,16 @@ fn strange<'a>(spot: &Spot<'a, '_>, token: Option<Token<'a>>) -> Option<Token<'a
 
 /// Adds how a variable is declared, in place of a word of other languages.
 fn put_declaration(words: &mut Vec<u8>, word: &[u8], name: &[u8]) -> Result<(), AllocError> {
-    words.extend_from_slice(b"Hint: there is no ")?;
-    put_quoted(words, word)?;
-    words.extend_from_slice(b". Each variable holds a whole number, and is declared by `var ")?;
-    words.extend_from_slice(name)?;
-    words.extend_from_slice(
-        b" : L;` at the beginning of the text, where L is a class of the lattice file.\n",
+    let declared = b". Each variable holds a whole number, and is declared by `var ";
+    put_word_between(words, b"Hint: there is no ", word, declared)?;
+    put_parts(
+        words,
+        &[
+            Part::Text(name),
+            Part::Text(
+                b" : L;` at the beginning of the text, where L is a class of the lattice file.\n",
+            ),
+        ],
     )
 }
 
@@ -76,10 +97,27 @@ fn put_idle(words: &mut Vec<u8>, spot: &Spot, before: &[u8]) -> Result<(), Alloc
     let name = spot.last_target().unwrap_or(b"x");
     words.extend_from_slice(b" To do nothing there write `")?;
     words.extend_from_slice(before)?;
-    words.extend_from_slice(name)?;
-    words.extend_from_slice(b" := ")?;
-    words.extend_from_slice(name)?;
-    words.extend_from_slice(b"`.\n")
+    put_pattern(words, "P := P`.\n", name, b"", b"")
+}
+
+/// Adds how a variable is declared or nothing is done, in place of a word of other languages, and
+/// answers whether the word is of these.
+fn put_foreign_word(words: &mut Vec<u8>, spot: &Spot, token: Token) -> Result<bool, AllocError> {
+    if is_type(token.text) {
+        let name = spot.name_behind(token).unwrap_or(b"x");
+        put_declaration(words, token.text, name)?;
+        return Ok(true);
+    }
+    if is_idle(token.text) {
+        put_word_between(words, b"Hint: there is no ", token.text, b".")?;
+        put_idle(words, spot, b"")?;
+        return Ok(true);
+    }
+    let Some(hint) = word_hint(token.text) else {
+        return Ok(false);
+    };
+    words.extend_from_slice(hint.as_bytes())?;
+    Ok(true)
 }
 
 /// Adds a hint by a word of other languages, and answers whether the token is one.
@@ -95,25 +133,7 @@ fn put_foreign(
     if put_operator(words, source, token.text, token.span.start)? {
         return Ok(true);
     }
-    if is_type(token.text) {
-        let name = spot.name_behind(token).unwrap_or(b"x");
-        put_declaration(words, token.text, name)?;
-        return Ok(true);
-    }
-    if is_idle(token.text) {
-        words.extend_from_slice(b"Hint: there is no ")?;
-        put_quoted(words, token.text)?;
-        words.extend_from_slice(b".")?;
-        put_idle(words, spot, b"")?;
-        return Ok(true);
-    }
-    match word_hint(token.text) {
-        Some(hint) => {
-            words.extend_from_slice(hint.as_bytes())?;
-            Ok(true)
-        }
-        None => Ok(false),
-    }
+    put_foreign_word(words, spot, token)
 }
 
 /// Adds a hint where the tokens in front of a place are misread, and answers whether they are: what
@@ -155,10 +175,15 @@ fn put_superfluous(words: &mut Vec<u8>, source: &[u8], spot: &Spot) -> Result<bo
         Some(Kind::CloseBrace | Kind::Else) | None => {}
         _ => return Ok(false),
     }
-    words.extend_from_slice(b"Hint: the `;` before it, at ")?;
-    put_place(words, source, last.span.start)?;
-    words.extend_from_slice(
-        b", is one too many: a `;` stands between two commands, not behind the last one.\n",
+    put_parts(
+        words,
+        &[
+            Part::Text(b"Hint: the `;` before it, at "),
+            Part::Place(source, last.span.start),
+            Part::Text(
+                b", is one too many: a `;` stands between two commands, not behind the last one.\n",
+            ),
+        ],
     )?;
     Ok(true)
 }
@@ -239,39 +264,53 @@ fn put_advice(
     put_place_hint(alloc, words, source, spot)
 }
 
-/// What is told where a token stands that can't.
-fn of_unexpected(alloc: Global, source: &[u8], span: Span) -> Result<Vec<u8>, AllocError> {
-    let Ok(tokens) = lex(alloc, source) else {
-        return Err(AllocError);
-    };
-    let spot = spot_at(&tokens, span);
-    let mut words = Vec::new(alloc);
-    put_standing(&mut words, &spot)?;
-    put_advice(alloc, &mut words, source, &spot)?;
-    Ok(words)
-}
-
-/// What is told where a program is nested too deep.
-fn of_too_deep(alloc: Global, source: &[u8], span: Span) -> Result<Vec<u8>, AllocError> {
-    let mut words = Vec::new(alloc);
-    put_quoted(&mut words, part_of(source, span))?;
-    words.extend_from_slice(
-        b" stands here more than 200 levels deep: in brackets, blocks, `if`, `while` and `letvar`, \
-        and in operators one behind the other.\nHint: compute a part of it before, into a variable \
-        of its own.\n",
-    )?;
-    Ok(words)
-}
-
-/// What is told of tokens that are no program.
-pub(crate) fn of_tree(
+/// Adds what stands at a place, what could stand there, and a hint.
+fn put_at_spot(
     alloc: Global,
+    words: &mut Vec<u8>,
+    source: &[u8],
+    spot: &Spot,
+) -> Result<(), AllocError> {
+    put_standing(words, spot)?;
+    put_advice(alloc, words, source, spot)
+}
+
+/// Adds what is told where a token stands that can't.
+fn put_unexpected(
+    alloc: Global,
+    words: &mut Vec<u8>,
+    source: &[u8],
+    span: Span,
+) -> Result<(), AllocError> {
+    let tokens = tokens_in(alloc, source)?;
+    put_at_spot(alloc, words, source, &spot_at(&tokens, span))
+}
+
+/// Adds what is told of a program that is nested too deep.
+fn put_too_deep(words: &mut Vec<u8>, source: &[u8], span: Span) -> Result<(), AllocError> {
+    put_parts(
+        words,
+        &[
+            Part::Quoted(part_of(source, span)),
+            Part::Text(
+                b" stands here more than 200 levels deep: in brackets, blocks, `if`, `while` and \
+                `letvar`, and in operators one behind the other.\nHint: compute a part of it \
+                before, into a variable of its own.\n",
+            ),
+        ],
+    )
+}
+
+/// Adds what is told of tokens that are no program.
+pub(crate) fn put_tree(
+    alloc: Global,
+    words: &mut Vec<u8>,
     source: &[u8],
     error: &ParseError,
-) -> Result<Vec<u8>, AllocError> {
+) -> Result<(), AllocError> {
     match error {
         ParseError::Memory => Err(AllocError),
-        ParseError::Unexpected(span) => of_unexpected(alloc, source, *span),
-        ParseError::TooDeep(span) => of_too_deep(alloc, source, *span),
+        ParseError::Unexpected(span) => put_unexpected(alloc, words, source, *span),
+        ParseError::TooDeep(span) => put_too_deep(words, source, *span),
     }
 }

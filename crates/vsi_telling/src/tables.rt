@@ -1,5 +1,6 @@
 //! TOML files as tables.
 
+use crate::names::{Part, put_parts};
 use std::alloc::{AllocError, Global};
 use toml::{Table, Value};
 use vsi_syntax::Span;
@@ -27,9 +28,14 @@ pub fn put_syntax(
     let Err(error) = toml::table_from_slice(alloc, bytes) else {
         return Ok(None);
     };
-    words.extend_from_slice(b"The file is no TOML document: ")?;
-    words.extend_from_slice(error.message().as_bytes())?;
-    words.extend_from_slice(b".\n")?;
+    put_parts(
+        words,
+        &[
+            Part::Text(b"The file is no TOML document: "),
+            Part::Text(error.message().as_bytes()),
+            Part::Text(b".\n"),
+        ],
+    )?;
     match error.span() {
         Some(range) => Ok(Some(Span {
             start: range.start,
@@ -39,9 +45,13 @@ pub fn put_syntax(
     }
 }
 
+/// The array at a key.
+pub fn array_in<'t>(table: &'t Table, key: &str) -> Option<&'t [Value]> {
+    let value = table.get(key)?;
+    Some(value.as_array()?.as_slice())
+}
+
 /// The value with this place in the array at a key.
 pub fn value_in<'t>(table: &'t Table, key: &str, place: usize) -> Option<&'t Value> {
-    let value = table.get(key)?;
-    let array = value.as_array()?;
-    array.as_slice().get(place)
+    array_in(table, key)?.get(place)
 }
