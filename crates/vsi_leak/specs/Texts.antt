@@ -1,20 +1,16 @@
 -- The text of a leak: both runs side by side, a row for each word.
-use Rattle.std.specs.Prelude.{◌≡◌, ℕ, ◌-◌, ℤ, List, [], ◌∷◌, ◌++◌, length, replicate, Bool, true, if◌then◌else◌, max, Option, Some, None, codes, decimal, bytes_eq, slice_get}
-use Rattle.std.specs.Fmt.{signed_decimal}
+use Rattle.std.specs.Prelude.{◌≡◌, ℕ, ◌-◌, ℤ, List, [], ◌∷◌, ◌++◌, length, replicate, Bool, true, if◌then◌else◌, max, Option, Some, None, codes, bytes_eq, slice_get}
 use Rattle.vsi_image.specs.Fields.{Global}
 use Rattle.vsi_lattice.specs.Order.{Lattice}
 use Rattle.vsi_lattice.specs.LatticeView.{names, order, class_named}
 use Rattle.vsi_lattice.specs.declared.lattice.Lattice as named
 use Rattle.vsi_scope.specs.Meaning.{Store}
 use Rattle.vsi_compiler.specs.Observation.{Known}
+use Rattle.vsi_machine.specs.Cells.{word_cell, halted_cell}
 use Rattle.vsi_leak.specs.Agreement.{is_seen}
 use Rattle.vsi_leak.specs.declared.found.Ending.{Ending}
 use Rattle.vsi_leak.specs.declared.found.Ending.TheVariants.{Halted, OutOfBudget}
 use Rattle.vsi_leak.specs.declared.found.Leak.{Leak}
-
--- The name of a global and its word.
-abbrev pub word_cell : List ℕ → ℤ → List ℕ
-word_cell name word = name ++ codes " = " ++ signed_decimal word
 
 -- A cell with as many spaces behind it as bring it to the width.
 abbrev pub padded : ℕ → List ℕ → List ℕ
@@ -64,7 +60,7 @@ longest (cell ∷ cells) = max (length cell) (longest cells)
 
 -- After how many instructions a run halts, or that it is out of budget.
 abbrev pub end_cell : Ending → List ℕ
-end_cell (Halted n words) = codes "after " ++ decimal n ++ codes " instructions"
+end_cell (Halted n words) = halted_cell n
 end_cell OutOfBudget = codes "out of budget"
 
 -- What the class sees at the ends of both runs, where both halt.

@@ -11,7 +11,7 @@ use crate::observer::sees;
 use std::alloc::{AllocError, Global};
 use vsi_image::Image;
 use vsi_lattice::{Class, Lattice};
-use vsi_syntax::{put_number, put_word};
+use vsi_machine::{halted_cell, word_cell};
 
 /// A cell with as many spaces behind it as bring it to the width.
 fn padded(alloc: Global, width: usize, cell: &[u8]) -> Result<Vec<u8>, AllocError>
@@ -49,30 +49,14 @@ fn put_row(
     text.extend_from_slice(b"\n")
 }
 
-/// The name of a global and its word.
-fn word_cell(alloc: Global, name: &[u8], word: i64) -> Result<Vec<u8>, AllocError>
-    ensures { IfOk result (λ cell. cell.items ≡ spec.word_cell name.now word) }
-{
-    let mut cell = name.to_vec(alloc)?;
-    cell.extend_from_slice(b" = ")?;
-    put_word(&mut cell, word)?;
-    Ok(cell)
-}
-
 /// After how many instructions a run halts, or that it is out of budget.
 fn end_cell(alloc: Global, ending: &Ending) -> Result<Vec<u8>, AllocError>
     ensures { IfOk result (λ cell. cell.items ≡ spec.end_cell ending.now) }
 {
-    let mut cell = Vec::new(alloc);
     match ending {
-        Ending::Halted { instructions, .. } => {
-            cell.extend_from_slice(b"after ")?;
-            put_number(&mut cell, *instructions as usize)?;
-            cell.extend_from_slice(b" instructions")?;
-        }
-        Ending::OutOfBudget => cell.extend_from_slice(b"out of budget")?,
+        Ending::Halted { instructions, .. } => halted_cell(alloc, *instructions),
+        Ending::OutOfBudget => Vec::from_slice(alloc, b"out of budget"),
     }
-    Ok(cell)
 }
 
 /// Whether a global of this class name is shown: to a class what it sees, else all.

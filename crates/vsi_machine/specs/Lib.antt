@@ -2,4 +2,5 @@ pub mod Sound
 pub mod Held
 pub mod Runs
 pub mod Trace
+pub mod Cells
 pub mod Laws

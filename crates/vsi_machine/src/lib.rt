@@ -7,17 +7,19 @@
 //! slot or the instruction is missing. The law `never_stuck` says of every run of a valid image
 //! that it has a state, and that its operands have room on the image's stack. So the loop has no
 //! test for any of these. What one instruction does is `act`, for those that run an image over
-//! arrays of their own.
+//! arrays of their own. `word_cell` and `halted_cell` are what texts of two runs side by side tell.
 //!
-//! To be believed: `specs/Laws`, `specs/Runs`, `specs/Sound`, `specs/Trace`; `specs/Held` is a
-//! stepping stone of proofs.
+//! To be believed: `specs/Cells`, `specs/Laws`, `specs/Runs`, `specs/Sound`, `specs/Trace`;
+//! `specs/Held` is a stepping stone of proofs.
 #![tactic(auto)]
 
 mod action;
+mod cells;
 mod interpreter;
 pub mod laws;
 mod tracing;
 mod turns;
 
 pub use action::{CAPACITY, INSTRUCTIONS, Position, Words, act};
+pub use cells::{halted_cell, word_cell};
 pub use interpreter::{Machine, Outcome, StartError};

@@ -1,13 +1,13 @@
 -- Two runs of an image side by side, as a class sees them.
-use Rattle.std.specs.Prelude.{◌≡◌, ℕ, ◌-◌, ◌≤◌, ℤ, List, [], ◌∷◌, ◌++◌, length, Bool, true, false, ◌&&◌, if◌then◌else◌, Option, Some, option_map, codes, decimal, bytes_eq, slice_get}
+use Rattle.std.specs.Prelude.{◌≡◌, ℕ, ◌-◌, ◌≤◌, ℤ, List, [], ◌∷◌, ◌++◌, length, Bool, true, false, ◌&&◌, if◌then◌else◌, Option, Some, option_map, codes, bytes_eq, slice_get}
 use Rattle.std.specs.Ordering.{int_eq}
-use Rattle.std.specs.Fmt.{signed_decimal}
 use Rattle.vsi_lattice.specs.Order.{Lattice}
 use Rattle.vsi_lattice.specs.LatticeView.{names, order, class_named}
 use Rattle.vsi_lattice.specs.declared.lattice.Lattice as named
 use Rattle.vsi_image.specs.declared.instr.Image.{Image}
 use Rattle.vsi_image.specs.Fields.{Global, globals}
 use Rattle.vsi_image.specs.Meaning.{State}
+use Rattle.vsi_machine.specs.Cells.{word_cell, halted_cell}
 use Rattle.vsi_machine.specs.Runs.{HaltsWith, run_of}
 use Rattle.vsi_store.specs.View.{Known, is_seen}
 use Rattle.vsi_store.specs.declared.comparison.RunEnding.{RunEnding}
@@ -54,10 +54,6 @@ row left right =
     if bytes_eq left right then codes "  " ++ left ++ codes "\n"
     else codes "* " ++ left ++ codes " | " ++ right ++ codes "\n"
 
--- The name of a global and its word.
-abbrev pub word_cell : List ℕ → ℤ → List ℕ
-word_cell name w = name ++ codes " = " ++ signed_decimal w
-
 -- The row of a global that the class sees, and nothing of another.
 abbrev pub global_row : Known → Lattice → ℕ → Global → ℤ → ℤ → List ℕ
 global_row known L a g w v = if is_seen known L a g.1 then row (word_cell g.0 w) (word_cell g.0 v) else []
@@ -77,7 +73,7 @@ rows_behind known L a gs OutOfBudget e = []
 
 -- After how many instructions a run halts, or that it is out of budget.
 abbrev pub end_cell : RunEnding → List ℕ
-end_cell (Halted n words) = codes "after " ++ decimal n ++ codes " instructions"
+end_cell (Halted n words) = halted_cell n
 end_cell OutOfBudget = codes "out of budget"
 
 -- What the class of this name sees before the runs and behind them, and how they end.

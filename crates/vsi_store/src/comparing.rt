@@ -15,7 +15,7 @@ use crate::views::ViewError;
 use std::alloc::{AllocError, Global};
 use vsi_image::Verified;
 use vsi_lattice::{Class, Lattice};
-use vsi_syntax::{put_number, put_word};
+use vsi_machine::{halted_cell, word_cell};
 
 /// Compares the image's runs from two stores, for at most `budget` instructions each, as the class
 /// sees them.
@@ -146,16 +146,6 @@ fn push_row(text: &mut Vec<u8>, left: &[u8], right: &[u8]) -> Result<(), AllocEr
     text.extend_from_slice(b"\n")
 }
 
-/// The name of a global and its word.
-fn word_cell(alloc: Global, name: &[u8], word: i64) -> Result<Vec<u8>, AllocError>
-    ensures { IfOk result (λ cell. cell.items ≡ spec.word_cell name.now word) }
-{
-    let mut cell = name.to_vec(alloc)?;
-    cell.extend_from_slice(b" = ")?;
-    put_word(&mut cell, word)?;
-    Ok(cell)
-}
-
 /// The row of a global, where the class sees it.
 fn push_global(
     alloc: Global,
@@ -241,12 +231,7 @@ fn end_cell(alloc: Global, ending: &RunEnding) -> Result<Vec<u8>, AllocError>
     ensures { IfOk result (λ cell. cell.items ≡ spec.end_cell ending.now) }
 {
     match ending {
-        RunEnding::Halted { instructions, .. } => {
-            let mut cell = Vec::from_slice(alloc, b"after ")?;
-            put_number(&mut cell, *instructions as usize)?;
-            cell.extend_from_slice(b" instructions")?;
-            Ok(cell)
-        }
+        RunEnding::Halted { instructions, .. } => halted_cell(alloc, *instructions),
         RunEnding::OutOfBudget => Vec::from_slice(alloc, b"out of budget"),
     }
 }
