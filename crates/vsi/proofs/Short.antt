@@ -10,7 +10,7 @@ use Rattle.vsi_image.specs.declared.instr.Instr.TheVariants.{Push, Load, Store, 
 use Rattle.vsi_image.specs.Fields.{AreGlobals, Fields, Global, IsAllowed, bytes_of, fields, global_bytes, head_bytes, instr_bytes, string}
 use Rattle.vsi_image.proofs.Globals.{name_short}
 use Rattle.vsi_lattice.specs.Order.{Lattice}
-use Rattle.vsi_scope.specs.Faults.{Known}
+use Rattle.vsi_lattice.specs.Known.{Known}
 use Rattle.vsi_types.specs.declared.rules.Profile.{Profile}
 use Rattle.vsi_devices.specs.Building.{IsBuilt}
 use Rattle.vsi.specs.Holding.{Holding, HoldsAt, IsReadAt}

@@ -8,7 +8,8 @@ use Rattle.vsi_image.specs.declared.instr.Image.{Image}
 use Rattle.vsi_image.specs.declared.decoder.DecodeError.{DecodeError}
 use Rattle.vsi_image.specs.Fields.{Fields, fields, global, globals}
 use Rattle.vsi_image.specs.Meaning.{State, after, going}
-use Rattle.vsi_store.specs.View.{Known, Views, view_text_of}
+use Rattle.vsi_lattice.specs.Known.{Known}
+use Rattle.vsi_store.specs.View.{Views, view_text_of}
 use Rattle.vsi_store.specs.declared.views.View.TheVariants.{Text}
 
 -- What a class sees of the run of an image with these fields.

@@ -16,7 +16,7 @@ use Rattle.vsi_scope.specs.declared.resolved.Global.{Global}
 use Rattle.vsi_scope.specs.Program.{Resolved}
 use Rattle.vsi_code.specs.Behaves.{Halts, Behaves}
 use Rattle.vsi_code.specs.Names.{named_global, all_named}
-use Rattle.vsi_compiler.specs.Observation.{Known}
+use Rattle.vsi_lattice.specs.Known.{Known}
 use Rattle.vsi_audit.specs.Refusal.{IsUnknownAt}
 use Rattle.vsi_audit.specs.Standing.{HaveClasses, HasKnownClasses, StandsFor}
 

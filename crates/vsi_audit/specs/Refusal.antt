@@ -8,7 +8,7 @@ use Rattle.vsi_types.specs.declared.rules.Profile.{Profile}
 use Rattle.vsi_types.specs.declared.rules.Step.{Step}
 use Rattle.vsi_types.specs.Security.{program}
 use Rattle.vsi_infer.specs.Inference.{IsShortest}
-use Rattle.vsi_compiler.specs.Observation.{Known}
+use Rattle.vsi_lattice.specs.Known.{Known}
 use Rattle.vsi_audit.specs.Standing.{HaveClasses, StandsFor}
 use Rattle.vsi_audit.specs.declared.error.AuditError.{AuditError}
 use Rattle.vsi_audit.specs.declared.error.AuditError.TheVariants.{UnknownClass, Unstructured, WrongFields, NoText, Flow, Memory}

@@ -7,7 +7,7 @@ use Rattle.vsi_scope.specs.Program.{Resolved}
 use Rattle.vsi_scope.specs.View.{sequence}
 use Rattle.vsi_code.specs.Generated.{image_of}
 use Rattle.vsi_code.specs.Names.{all_named}
-use Rattle.vsi_compiler.specs.Observation.{Known}
+use Rattle.vsi_lattice.specs.Known.{Known}
 
 -- Each global's class is what its class name stands for.
 abbrev pub HaveClasses : Known → List Global → Type 0

@@ -10,7 +10,8 @@ use Rattle.vsi_scope.specs.declared.resolved.Global.{Global}
 use Rattle.vsi_scope.specs.Meaning.{Store}
 use Rattle.vsi_types.specs.Security.{Agree}
 use Rattle.vsi_code.specs.Names.{named_global, all_named}
-use Rattle.vsi_compiler.specs.Observation.{Known, AgreeAt}
+use Rattle.vsi_lattice.specs.Known.{Known}
+use Rattle.vsi_compiler.specs.Observation.{AgreeAt}
 
 -- Each global's class is what its class name stands for.
 abbrev pub HaveClasses : Known → List Global → Type 0

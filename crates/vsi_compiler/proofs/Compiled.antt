@@ -7,7 +7,7 @@ use Rattle.vsi_lattice.specs.declared.lattice.Lattice.{Lattice}
 use Rattle.vsi_lattice.specs.LatticeView.{class_named, order, names}
 use Rattle.vsi_lattice.specs.Laws.{lawful_is_lattice}
 use Rattle.vsi_lattice.proofs.NameLemmas.{found}
-use Rattle.vsi_scope.specs.Faults.{Known}
+use Rattle.vsi_lattice.specs.Known.{Known}
 use Rattle.vsi_scope.specs.Language.{Command, size}
 use Rattle.vsi_scope.specs.Program.{Resolved}
 use Rattle.vsi_scope.specs.Resolving.{IsResolution, AreBelow, HasClassesBelow}

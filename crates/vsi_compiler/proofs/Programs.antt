@@ -10,7 +10,7 @@ use Rattle.vsi_syntax.specs.Tree.{Whole, Declared}
 use Rattle.vsi_lattice.specs.Order.{Lattice, IsClass}
 use Rattle.vsi_scope.specs.declared.resolved.Global.{Global}
 use Rattle.vsi_scope.specs.declared.resolved.Entry.{Entry}
-use Rattle.vsi_scope.specs.Faults.{Known}
+use Rattle.vsi_lattice.specs.Known.{Known}
 use Rattle.vsi_scope.specs.Language.{Command, HasPlaces, letvars}
 use Rattle.vsi_scope.specs.Program.{Resolved}
 use Rattle.vsi_scope.specs.Program as scope

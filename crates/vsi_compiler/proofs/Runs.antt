@@ -2,7 +2,7 @@
 use Rattle.std.proofs.Common.{◌≡◌, ◌≢◌, ℕ, ℤ, List, length, ap, Result, Ok, Err, inl, inr}
 use Rattle.std.proofs.lemmas.Bool.{cases_eq}
 use Rattle.vsi_lattice.specs.Order.{Lattice}
-use Rattle.vsi_scope.specs.Faults.{Known}
+use Rattle.vsi_lattice.specs.Known.{Known}
 use Rattle.vsi_types.specs.declared.rules.Profile.{Profile}
 use Rattle.vsi_types.specs.declared.rules.Profile.TheVariants.{Base, Strict}
 use Rattle.vsi_image.specs.declared.instr.Image.{Image}

@@ -17,7 +17,8 @@ use Rattle.vsi_types.proofs.Endings.{same_ending}
 use Rattle.vsi_opt.specs.Optimised.{RunsAlike}
 use Rattle.vsi_code.specs.Names.{all_named}
 use Rattle.vsi_code.specs.Behaves.{Halts, Behaves}
-use Rattle.vsi_compiler.specs.Observation.{Known, IsNoninterfering, EndsAlike}
+use Rattle.vsi_lattice.specs.Known.{Known}
+use Rattle.vsi_compiler.specs.Observation.{IsNoninterfering, EndsAlike}
 use Rattle.vsi_compiler.proofs.Agreement.{HaveClasses, classes, agree_typed, agree_named}
 
 -- Code of the optimised body does what the source body does.

@@ -3,7 +3,7 @@ use Rattle.std.specs.Prelude.{ℕ, ◌-◌, List, length, map, unwrap_or, slice_
 use Rattle.vsi_lattice.specs.Order.{Lattice}
 use Rattle.vsi_syntax.specs.declared.token.Span.{Span}
 use Rattle.vsi_syntax.specs.Tree.{Whole}
-use Rattle.vsi_scope.specs.Faults.{Known}
+use Rattle.vsi_lattice.specs.Known.{Known}
 use Rattle.vsi_scope.specs.Language.{Command}
 use Rattle.vsi_scope.specs.Scopes.{in_sequence}
 use Rattle.vsi_scope.specs.Resolving.{Variable, all_variables, IsResolution}

@@ -4,7 +4,7 @@ use Rattle.vsi_syntax.specs.declared.token.Span.{Span}
 use Rattle.vsi_syntax.specs.Lines.{place_text}
 use Rattle.vsi_syntax.specs.Tree.{Whole, Declared}
 use Rattle.vsi_lattice.specs.Order.{Lattice}
-use Rattle.vsi_scope.specs.Faults.{Known}
+use Rattle.vsi_lattice.specs.Known.{Known}
 use Rattle.vsi_scope.specs.Language.{Command}
 use Rattle.vsi_scope.specs.Resolving.{Variable, all_variables, IsResolution}
 use Rattle.vsi_types.specs.declared.rules.Profile.{Profile}

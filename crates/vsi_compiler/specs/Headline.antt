@@ -2,7 +2,7 @@
 use Rattle.std.specs.Prelude.{◌≡◌, ℕ, ◌+◌, ◌≤◌, List, length, map}
 use Rattle.vsi_lattice.specs.Order.{Lattice}
 use Rattle.vsi_syntax.specs.Tree.{Whole, Declared}
-use Rattle.vsi_scope.specs.Faults.{Known}
+use Rattle.vsi_lattice.specs.Known.{Known}
 use Rattle.vsi_scope.specs.Language.{Command, size}
 use Rattle.vsi_scope.specs.Scopes.{in_sequence}
 use Rattle.vsi_scope.specs.Resolving as resolving

@@ -1,14 +1,11 @@
 -- What is seen of stores and runs at and below a class.
-use Rattle.std.specs.Prelude.{◌≡◌, ℕ, pos, List, length, slice_get, slice_index_or, Option, Some}
+use Rattle.std.specs.Prelude.{◌≡◌, ℕ, pos, length, slice_get, slice_index_or, Some}
 use Rattle.vsi_image.specs.declared.instr.Image.{Image}
 use Rattle.vsi_image.specs.Fields.{Global, globals}
+use Rattle.vsi_lattice.specs.Known.{Known}
 use Rattle.vsi_lattice.specs.Order.{Lattice, IsClass, Below}
 use Rattle.vsi_scope.specs.Meaning.{Store}
 use Rattle.vsi_code.specs.Behaves.{Halts}
-
--- The class that a name stands for, if any.
-abbrev pub Known : Type 0
-Known = List ℕ → Option ℕ
 
 -- Two stores have equal words in every global whose class name stands for a class at or below a.
 abbrev pub AgreeAt : Known → Lattice → Image → ℕ → Store → Store → Type 0

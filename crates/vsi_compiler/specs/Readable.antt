@@ -1,7 +1,7 @@
 -- Which texts have a program, whatever flows in it.
 use Rattle.std.specs.Prelude.{ℕ, List}
 use Rattle.vsi_syntax.specs.Tree.{Whole}
-use Rattle.vsi_scope.specs.Faults.{Known}
+use Rattle.vsi_lattice.specs.Known.{Known}
 use Rattle.vsi_scope.specs.Language.{Command}
 use Rattle.vsi_scope.specs.Resolving.{IsResolution}
 use Rattle.vsi_compiler.specs.Source.{Reads}

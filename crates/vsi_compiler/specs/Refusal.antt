@@ -12,7 +12,7 @@ use Rattle.vsi_compiler.specs.declared.error.CompileError.TheVariants.{Lex, Pars
 use Rattle.vsi_syntax.specs.declared.lexer.LexError.TheVariants as lexer
 use Rattle.vsi_syntax.specs.declared.parser.ParseError.TheVariants as parser
 use Rattle.vsi_scope.specs.declared.resolution.ScopeError.TheVariants as scope
-use Rattle.vsi_scope.specs.Faults.{Known}
+use Rattle.vsi_lattice.specs.Known.{Known}
 use Rattle.vsi_scope.specs.Resolving.{ExplainsScope, IsResolution}
 use Rattle.vsi_compiler.specs.Source.{Reads}
 use Rattle.vsi_compiler.specs.Acceptance.{IsAccepted, program_of}

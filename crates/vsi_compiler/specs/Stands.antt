@@ -1,7 +1,7 @@
 -- What a text stands for, as the compiler holds it.
 use Rattle.std.specs.Prelude.{◌≡◌, ℕ, List}
 use Rattle.vsi_syntax.specs.Tree.{Whole}
-use Rattle.vsi_scope.specs.Faults.{Known}
+use Rattle.vsi_lattice.specs.Known.{Known}
 use Rattle.vsi_scope.specs.Program.{Resolved}
 use Rattle.vsi_scope.specs.Resolving.{Resolves}
 use Rattle.vsi_compiler.specs.Source.{Reads}

@@ -6,7 +6,8 @@ use Rattle.vsi_lattice.specs.Order.{Lattice, Below}
 use Rattle.vsi_image.specs.Fields.{Global, globals}
 use Rattle.vsi_machine.specs.Runs.{globals_of}
 use Rattle.vsi_store.specs.Text.{line_of}
-use Rattle.vsi_store.specs.View.{Known, line_seen, view_text_of}
+use Rattle.vsi_lattice.specs.Known.{Known}
+use Rattle.vsi_store.specs.View.{line_seen, view_text_of}
 use Rattle.vsi_compiler.specs.Observation.{Ends}
 use Rattle.vsi_compiler.proofs.Coded.{coded_valid}
 use Rattle.vsi_devices.specs.Laws.{SameView}

@@ -7,7 +7,8 @@ use Rattle.vsi_image.specs.declared.instr.Image.{Image}
 use Rattle.vsi_store.specs.View.{Views}
 use Rattle.vsi_store.specs.declared.views.View.TheVariants.{Text}
 use Rattle.vsi_compiler.specs.Headline.{IsCompiled}
-use Rattle.vsi_compiler.specs.Observation.{Known, AgreeAt, IsStoreOf}
+use Rattle.vsi_lattice.specs.Known.{Known}
+use Rattle.vsi_compiler.specs.Observation.{AgreeAt, IsStoreOf}
 
 -- Two stores that agree at and below a class give it the same view of a compiled image, whenever both runs halt.
 abbrev pub SameView : Type 0

@@ -1,7 +1,7 @@
 -- What a refusal of an image, of a store file or of a text says of the bytes that were read.
 use Rattle.std.specs.Prelude.{◌≡◌, ◌≢◌, ℕ, List, Option, Some, Ok, Err}
 use Rattle.vsi_lattice.specs.Order.{Lattice}
-use Rattle.vsi_scope.specs.Faults.{Known}
+use Rattle.vsi_lattice.specs.Known.{Known}
 use Rattle.vsi_types.specs.declared.rules.Profile.{Profile}
 use Rattle.vsi_image.specs.declared.instr.Image.{Image}
 use Rattle.vsi_image.specs.declared.decoder.DecodeError.TheVariants as decoder

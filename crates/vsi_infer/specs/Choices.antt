@@ -1,7 +1,7 @@
 -- Choices of classes, walks of flows, and the least choice. Numbers stand for variables and classes.
 use Rattle.std.specs.Prelude.{◌≡◌, ℕ, suc, zero, ◌<◌, Bool, true, false, List, length, slice_index, slice_get, slice_set, Option, Some, None, Contains, ◌⊎◌, ◌≤◌}
 use Rattle.vsi_lattice.specs.Order.{IsJoin}
-use Rattle.vsi_infer.specs.Orders.{Says}
+use Rattle.vsi_lattice.specs.Pairs.{Says}
 
 -- What is known of a program: how many variables, which flow where, and which classes are declared.
 module _ (flows : ℕ → ℕ → Bool) where

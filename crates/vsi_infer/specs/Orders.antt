@@ -1,10 +1,6 @@
 -- What the search for classes needs of a lattice.
 use Rattle.std.specs.Prelude.{◌≡◌, ℕ, ◌<◌, Bool, true}
 
--- The test as a relation.
-abbrev pub Says : (ℕ → ℕ → Bool) → ℕ → ℕ → Type 0
-Says leq a b = leq a b ≡ true
-
 -- A partial order with a least and a greatest class.
 pub record OrderLaws (size : ℕ) (leq : ℕ → ℕ → Bool) (bottom top : ℕ) : Type 0 where
   pub reflexive : (a : ℕ) → a < size → leq a a ≡ true

@@ -2,6 +2,7 @@
 use Rattle.std.specs.Prelude.{◌≡◌, ℕ, zero, suc, ◌<◌, nat_lt, Bool, true, false, ◌⊎◌, IsTrue}
 use Rattle.std.proofs.Common.{refl, sym, subst, inl, inr, add-one, below_none, below_more, lt-suc_self, lt_trans, true≢false, ltb-true, lt-ltb}
 use Rattle.vsi_lattice.specs.Order.{Lattice, IsLattice, IsClass, Below, IsJoin, HasJoin, HasMeet}
+use Rattle.vsi_lattice.specs.Pairs.{Says}
 
 -- The laws, with joins and meets that are not missing.
 pub record IsLawful (L : Lattice) : Type 0 where
@@ -84,20 +85,16 @@ module _ (n : ℕ) (leq : ℕ → ℕ → Bool) (a b : ℕ) where
       (λ d. implied_decided (test_decided (leq a d)) (implied_decided (test_decided (leq b d))
       (test_decided (leq c d)))) n)))
 
-  -- The test as a relation.
-  abbrev Says : ℕ → ℕ → Type 0
-  Says x y = IsTrue (leq x y)
-
   -- The parts of a join.
-  parts_of : (c : ℕ) → IsJoin n Says a b c → Parts c
+  parts_of : (c : ℕ) → IsJoin n (Says leq) a b c → Parts c
   parts_of c j = (lt-ltb c n j.within, (j.left, (j.right, j.least)))
 
   -- A join of its parts.
-  of_parts : (c : ℕ) → Parts c → IsJoin n Says a b c
+  of_parts : (c : ℕ) → Parts c → IsJoin n (Says leq) a b c
   of_parts c p = record { within = ltb-true c n p.0; left = p.1.0; right = p.1.1.0; least = p.1.1.1 }
 
   -- A join that is not missing is there.
-  pub join_found : ¬ (HasJoin n Says a b → ⊥) → HasJoin n Says a b
+  pub join_found : ¬ (HasJoin n (Says leq) a b → ⊥) → HasJoin n (Says leq) a b
   join_found h = elim (find Parts parts_decided n) [
     | inl f ↦ (f.0, of_parts f.0 f.1)
     | inr none ↦ absurd (h (λ j. none j.0 j.1.within (parts_of j.0 j.1)))

@@ -7,5 +7,6 @@ pub mod Tables
 pub mod Shape
 pub mod NamePlaces
 pub mod NameRules
+pub mod Known
 pub mod LatticeView
 pub mod FileFaults

@@ -7,7 +7,7 @@ use Rattle.std.proofs.lemmas.Option.{same_Some, slice_get-map, slice_get_read, s
 use Rattle.vsi_image.specs.Fields.{Global, global, globals}
 use Rattle.vsi_lattice.specs.Order.{Lattice, Below}
 use Rattle.vsi_scope.specs.Meaning.{Store}
-use Rattle.vsi_compiler.specs.Observation.{Known}
+use Rattle.vsi_lattice.specs.Known.{Known}
 use Rattle.vsi_leak.specs.Agreement.{is_seen, AgreeIn}
 
 -- The global at a place, as the code reads it.

@@ -3,7 +3,8 @@ use Rattle.std.proofs.Common.{◌≡◌, ◌≢◌, ◌∙◌, ℕ, length, sym,
 use Rattle.vsi_image.specs.declared.instr.Image.{Image}
 use Rattle.vsi_lattice.specs.Order.{Lattice}
 use Rattle.vsi_scope.specs.Meaning.{Store}
-use Rattle.vsi_compiler.specs.Observation.{Known, AgreeAt}
+use Rattle.vsi_lattice.specs.Known.{Known}
+use Rattle.vsi_compiler.specs.Observation.{AgreeAt}
 use Rattle.vsi_leak.specs.declared.found.Ending.{Ending}
 use Rattle.vsi_leak.specs.declared.found.Ending.TheVariants.{Halted, OutOfBudget}
 use Rattle.vsi_leak.specs.declared.found.Sign.{Sign}

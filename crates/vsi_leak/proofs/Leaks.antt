@@ -3,7 +3,8 @@ use Rattle.std.proofs.Common.{ℕ, subst}
 use Rattle.vsi_image.specs.declared.instr.Image.{Image}
 use Rattle.vsi_lattice.specs.Order.{Lattice, IsClass}
 use Rattle.vsi_scope.specs.Meaning.{Store}
-use Rattle.vsi_compiler.specs.Observation.{Known, IsNoninterfering, AgreeAt, IsStoreOf}
+use Rattle.vsi_lattice.specs.Known.{Known}
+use Rattle.vsi_compiler.specs.Observation.{IsNoninterfering, AgreeAt, IsStoreOf}
 use Rattle.vsi_leak.specs.declared.found.Ending.{Ending}
 use Rattle.vsi_leak.specs.declared.found.Ending.TheVariants.{Halted, OutOfBudget}
 use Rattle.vsi_leak.specs.declared.found.Finding.{Finding}

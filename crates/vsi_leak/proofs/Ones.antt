@@ -4,7 +4,7 @@ use Rattle.std.proofs.Math.Nat.{eq-or-lt_of_le}
 use Rattle.vsi_image.specs.declared.instr.Image.{Image}
 use Rattle.vsi_lattice.specs.Order.{Lattice}
 use Rattle.vsi_scope.specs.Meaning.{Store}
-use Rattle.vsi_compiler.specs.Observation.{Known}
+use Rattle.vsi_lattice.specs.Known.{Known}
 use Rattle.vsi_leak.specs.declared.found.Sign.{Sign}
 use Rattle.vsi_leak.specs.Leaks.{NoOneShows, ShowNoneEither, zeros}
 

@@ -4,7 +4,7 @@ use Rattle.std.specs.Global.{Vec}
 use Rattle.std.proofs.lemmas.Option.{same_Some}
 use Rattle.vsi_image.specs.Fields.{globals}
 use Rattle.vsi_lattice.specs.Order.{Lattice}
-use Rattle.vsi_compiler.specs.Observation.{Known}
+use Rattle.vsi_lattice.specs.Known.{Known}
 use Rattle.vsi_leak.specs.Texts.{is_shown, shown_row, word_rows, shown_cell, left_cells, longest}
 
 -- What is at a place stands first behind what is before it.

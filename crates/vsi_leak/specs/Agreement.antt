@@ -4,7 +4,7 @@ use Rattle.std.specs.Option.{option_map_or}
 use Rattle.vsi_image.specs.Fields.{Global}
 use Rattle.vsi_lattice.specs.Order.{Lattice, Below}
 use Rattle.vsi_scope.specs.Meaning.{Store}
-use Rattle.vsi_compiler.specs.Observation.{Known}
+use Rattle.vsi_lattice.specs.Known.{Known}
 
 -- A class sees what has a class name that stands for a class at or below it.
 abbrev pub is_seen : Known → Lattice → ℕ → List ℕ → Bool

@@ -2,7 +2,8 @@
 use Rattle.std.specs.Prelude.{◌≡◌, ℕ}
 use Rattle.vsi_image.specs.declared.instr.Image.{Image}
 use Rattle.vsi_lattice.specs.Order.{Lattice}
-use Rattle.vsi_compiler.specs.Observation.{Known, IsNoninterfering}
+use Rattle.vsi_lattice.specs.Known.{Known}
+use Rattle.vsi_compiler.specs.Observation.{IsNoninterfering}
 use Rattle.vsi_leak.specs.declared.found.Leak.{Leak}
 use Rattle.vsi_leak.specs.declared.found.Sign.TheVariants.{Words}
 use Rattle.vsi_leak.specs.Leaks.{IsLeak}

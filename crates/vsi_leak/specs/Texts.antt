@@ -5,7 +5,7 @@ use Rattle.vsi_lattice.specs.Order.{Lattice}
 use Rattle.vsi_lattice.specs.LatticeView.{names, order, class_named}
 use Rattle.vsi_lattice.specs.declared.lattice.Lattice as named
 use Rattle.vsi_scope.specs.Meaning.{Store}
-use Rattle.vsi_compiler.specs.Observation.{Known}
+use Rattle.vsi_lattice.specs.Known.{Known}
 use Rattle.vsi_machine.specs.Cells.{word_cell, halted_cell}
 use Rattle.vsi_leak.specs.Agreement.{is_seen}
 use Rattle.vsi_leak.specs.declared.found.Ending.{Ending}

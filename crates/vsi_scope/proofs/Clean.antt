@@ -1,5 +1,6 @@
 -- What a program keeps that has no fault, and that a program which keeps it has none.
 use Rattle.std.proofs.Common.{◌≡◌, ◌≢◌, ℕ, suc, ◌+◌, ◌<◌, ◌≤◌, nat_lt, List, [], ◌∷◌, ◌++◌, length, refl, sym, ap, ◌∙◌, arith, Option, Some, None, IsSome, Bool, true, false, bytes_eq, if◌then◌else◌, length-append}
+use Rattle.std.specs.Option.{option_or}
 use Rattle.std.specs.List.{IsDistinct, AllByRecursion}
 use Rattle.std.proofs.lemmas.Map.Keys.{IsDistinct-head, IsDistinct-tail, IsDistinct-cons}
 use Rattle.std.proofs.lemmas.Slice.Eq.{bytes_eq-Decides}
@@ -10,7 +11,8 @@ use Rattle.vsi_scope.specs.declared.resolution.ScopeError.TheVariants as errors
 use Rattle.vsi_scope.specs.Language.{Command}
 use Rattle.vsi_scope.specs.Scopes.{Text, Scope, IsAbsent, Does, DoesAll}
 use Rattle.vsi_scope.specs.Places.{place_of}
-use Rattle.vsi_scope.specs.Faults.{Known, Mark, Local, Class, Use, class_marks, uses, marks, all_marks, locals, all_locals, global_marks, global_names, first_fault, fault_at, or_else, if_absent, if_there}
+use Rattle.vsi_lattice.specs.Known.{Known}
+use Rattle.vsi_scope.specs.Faults.{Mark, Local, Class, Use, class_marks, uses, marks, all_marks, locals, all_locals, global_marks, global_names, first_fault, fault_at, if_absent, if_there}
 use Rattle.vsi_scope.specs.Faults as marked
 use Rattle.vsi_scope.specs.Resolving.{HasClass, HasClasses, HasAllClasses, HasGlobalClasses}
 use Rattle.vsi_scope.proofs.Faulty.{none_in_both}
@@ -21,8 +23,8 @@ use Rattle.vsi_scope.proofs.Complete.{gone, place_is, means_clean}
 -- ---- one mark.
 
 -- Two parts without a fault have none together.
-both : {a b : Option ScopeError} → a ≡ None → b ≡ None → or_else a b ≡ None
-both {a} {b} p q = ap (λ o. or_else o b) p ∙ q
+both : {a b : Option ScopeError} → a ≡ None → b ≡ None → option_or a b ≡ None
+both {a} {b} p q = ap (λ o. option_or o b) p ∙ q
 
 -- A number that passes its test is below the limit, by cases on the test.
 below_if : (n k : ℕ) (b : Bool) → nat_lt n k ≡ b → (e : ScopeError) → (if b then None else Some e) ≡ None → n < k

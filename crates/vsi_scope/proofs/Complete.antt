@@ -1,12 +1,14 @@
 -- Where the relation holds, names are there and the function gives what it says.
 use Rattle.std.proofs.Common.{◌≡◌, ℕ, List, [], ◌∷◌, ◌++◌, length, refl, sym, ap, ◌∙◌, Option, Some, None, Bool, true, false, bytes_eq, if◌then◌else◌}
+use Rattle.std.specs.Option.{option_or}
 use Rattle.std.proofs.lemmas.Slice.Eq.{bytes_eq-Decides}
 use Rattle.vsi_syntax.specs.Tree as tree
 use Rattle.vsi_scope.specs.declared.resolution.ScopeError.TheVariants as errors
 use Rattle.vsi_scope.specs.Language.{Expression, Location, Operator, Command, Assign, If, While, Letvar}
 use Rattle.vsi_scope.specs.Scopes.{Text, Scope, IsAbsent, StandsFor, Means, Does, DoesAll, in_sequence}
 use Rattle.vsi_scope.specs.Places.{place_of, next_place, or_zero, place, expression_of, commands_of, all_commands}
-use Rattle.vsi_scope.specs.Faults.{Known, uses, first_fault, or_else, if_absent}
+use Rattle.vsi_lattice.specs.Known.{Known}
+use Rattle.vsi_scope.specs.Faults.{uses, first_fault, if_absent}
 use Rattle.vsi_scope.proofs.Faulty.{none_in_both}
 
 -- The first place where a test succeeds.
@@ -55,7 +57,7 @@ pub means_clean : (k : Known) (s : Scope) (e : tree.Tree) (p : Expression) → M
     ≡ None
 means_clean k s (tree.Number n) p m = refl
 means_clean k s (tree.Name x) p m =
-    ap (λ o. or_else (if_absent o (errors.Unbound x.span)) None) (place_is s x.text m.0 m.1)
+    ap (λ o. option_or (if_absent o (errors.Unbound x.span)) None) (place_is s x.text m.0 m.1)
 means_clean k s (tree.Bracket e) p m = means_clean k s e p m
 means_clean k s (tree.Binary op a b) p m =
     none_in_both k (uses s a) (uses s b) (means_clean k s a m.0 m.2) (means_clean k s b m.1 m.3)

@@ -12,7 +12,8 @@ use Rattle.vsi_scope.specs.declared.resolution.ScopeError.{ScopeError}
 use Rattle.vsi_scope.specs.declared.resolution.scope.Names.{Names}
 use Rattle.vsi_scope.specs.declared.resolution.declare.Globals.{Globals}
 use Rattle.vsi_scope.specs.Places.{place_of}
-use Rattle.vsi_scope.specs.Faults.{Known, global_marks, global_names, first_fault, Refuses}
+use Rattle.vsi_lattice.specs.Known.{Known}
+use Rattle.vsi_scope.specs.Faults.{global_marks, global_names, first_fault, Refuses}
 use Rattle.vsi_scope.specs.Resolver.{names_of, HasNone, HasRead}
 use Rattle.vsi_scope.specs.Resolving.{Shown, shown, global_of}
 use Rattle.vsi_scope.proofs.Faulty.{fault_behind, refuses_first, refuses_as}

@@ -1,31 +1,33 @@
 -- The first fault of marks that stand one behind another.
 use Rattle.std.proofs.Common.{◌≡◌, List, [], ◌∷◌, ◌++◌, refl, sym, ap, subst, ◌∙◌, Option, Some, None, Result, Ok, Err, IsErrAnd}
+use Rattle.std.specs.Option.{option_or}
 use Rattle.vsi_scope.specs.declared.resolution.ScopeError.{ScopeError}
 use Rattle.vsi_scope.specs.declared.resolution.ScopeError.TheVariants as errors
-use Rattle.vsi_scope.specs.Faults.{Known, Mark, first_fault, fault_at, or_else, Refuses, Judged}
+use Rattle.vsi_lattice.specs.Known.{Known}
+use Rattle.vsi_scope.specs.Faults.{Mark, first_fault, fault_at, Refuses, Judged}
 
 -- The first of three faults doesn't depend on how they are grouped.
-or_else_more : (a b c : Option ScopeError) → or_else a (or_else b c) ≡ or_else (or_else a b) c
-or_else_more (Some e) b c = refl
-or_else_more None b c = refl
+option_or_more : (a b c : Option ScopeError) → option_or a (option_or b c) ≡ option_or (option_or a b) c
+option_or_more (Some e) b c = refl
+option_or_more None b c = refl
 
 -- The first fault of two parts is that of the first part, else that of the second.
 pub first_of_both : (k : Known) (xs ys : List Mark) →
-    first_fault k (xs ++ ys) ≡ or_else (first_fault k xs) (first_fault k ys)
+    first_fault k (xs ++ ys) ≡ option_or (first_fault k xs) (first_fault k ys)
 first_of_both k [] ys = refl
 first_of_both k (x ∷ xs) ys =
-    ap (or_else (fault_at k x)) (first_of_both k xs ys) ∙ or_else_more (fault_at k x) (first_fault k xs)
+    ap (option_or (fault_at k x)) (first_of_both k xs ys) ∙ option_or_more (fault_at k x) (first_fault k xs)
     (first_fault k ys)
 
 -- A fault in the first part.
 pub fault_first : (k : Known) (xs ys : List Mark) (e : ScopeError) → first_fault k xs ≡ Some e →
     first_fault k (xs ++ ys) ≡ Some e
-fault_first k xs ys e p = first_of_both k xs ys ∙ ap (λ o. or_else o (first_fault k ys)) p
+fault_first k xs ys e p = first_of_both k xs ys ∙ ap (λ o. option_or o (first_fault k ys)) p
 
 -- What the second part has where the first has none.
 pub fault_behind : (k : Known) (xs ys : List Mark) → first_fault k xs ≡ None →
     first_fault k (xs ++ ys) ≡ first_fault k ys
-fault_behind k xs ys p = first_of_both k xs ys ∙ ap (λ o. or_else o (first_fault k ys)) p
+fault_behind k xs ys p = first_of_both k xs ys ∙ ap (λ o. option_or o (first_fault k ys)) p
 
 -- An error that is one fault is another one that equals it.
 pub refuses_as : (e : ScopeError) (o q : Option ScopeError) → ((x : ScopeError) → o ≡ Some x → q ≡ Some x) →

@@ -1,10 +1,12 @@
 -- The first fault of each form of command.
 use Rattle.std.proofs.Common.{rules, ◌≡◌, ℕ, suc, ◌+◌, ◌<◌, nat_lt, List, [], ◌∷◌, ◌++◌, ap, ◌∙◌, Option, Some, None, true, if◌then◌else◌}
+use Rattle.std.specs.Option.{option_or}
 use Rattle.vsi_syntax.specs.Tree as tree
 use Rattle.vsi_scope.specs.declared.resolution.ScopeError.{ScopeError}
 use Rattle.vsi_scope.specs.declared.resolution.ScopeError.TheVariants as errors
 use Rattle.vsi_scope.specs.Scopes.{Scope}
-use Rattle.vsi_scope.specs.Faults.{Known, Mark, Local, uses, marks, locals, class_marks, first_fault, fault_at, or_else, Refuses}
+use Rattle.vsi_lattice.specs.Known.{Known}
+use Rattle.vsi_scope.specs.Faults.{Mark, Local, uses, marks, locals, class_marks, first_fault, fault_at, Refuses}
 use Rattle.vsi_scope.proofs.Faulty.{refuses_first, refuses_behind, refuses_as, none_in_both}
 
 -- A number below the limit passes its test.
@@ -68,7 +70,7 @@ module _ (known : Known) (s : Scope) (n : ℕ) (e : tree.Tree) where
       local_behind : n < 1024 → first_fault known (marks s n (tree.Letvar y class e c)) ≡ first_fault known
           (class_marks class ++ (uses s e ++ marks (s ++ y.text ∷ []) (suc n) c))
       local_behind lt =
-          ap (λ o. or_else o (first_fault known (class_marks class ++ (uses s e ++ marks (s ++ y.text ∷ [])
+          ap (λ o. option_or o (first_fault known (class_marks class ++ (uses s e ++ marks (s ++ y.text ∷ [])
           (suc n) c)))) (few lt)
 
       -- A fault of the initial value is that of the letvar where nothing before it has one.

@@ -1,21 +1,23 @@
 -- Without a fault, the function is the relation; and where the relation holds there is no fault.
 use Rattle.std.proofs.Common.{◌≡◌, ℕ, suc, ◌+◌, ◌<◌, List, [], ◌∷◌, ◌++◌, length, refl, sym, ap, subst, ◌∙◌, arith, Option, Some, None, Bool, true, false, bytes_eq, if◌then◌else◌, length-append}
+use Rattle.std.specs.Option.{option_or}
 use Rattle.std.proofs.lemmas.Slice.Eq.{bytes_eq-Decides}
 use Rattle.vsi_syntax.specs.Tree as tree
 use Rattle.vsi_scope.specs.declared.resolution.ScopeError.{ScopeError}
 use Rattle.vsi_scope.specs.Language.{Command, letvars, HasLocations, HasPlaces}
 use Rattle.vsi_scope.specs.Scopes.{Text, Scope, IsAbsent, StandsFor, Means, Does, DoesAll, in_sequence}
 use Rattle.vsi_scope.specs.Places.{place_of, next_place, or_zero, place, expression_of, commands_of, all_commands}
-use Rattle.vsi_scope.specs.Faults.{Known, Mark, Use, uses, marks, all_marks, locals, all_locals, class_marks, first_fault, or_else, if_absent}
+use Rattle.vsi_lattice.specs.Known.{Known}
+use Rattle.vsi_scope.specs.Faults.{Mark, Use, uses, marks, all_marks, locals, all_locals, class_marks, first_fault, if_absent}
 use Rattle.vsi_scope.proofs.Faulty.{first_of_both}
 
 -- Both parts without a fault.
-pub none_left : (a b : Option ScopeError) → or_else a b ≡ None → a ≡ None
+pub none_left : (a b : Option ScopeError) → option_or a b ≡ None → a ≡ None
 none_left None b e = refl
 none_left (Some x) b e = absurd (subst (λ o. elim o as (λ _. Type 0) [ None ↦ ⊥ | Some y ↦ Unit {0} ]) e tt)
 
 -- The second of two parts without a fault has none.
-pub none_right : (a b : Option ScopeError) → or_else a b ≡ None → b ≡ None
+pub none_right : (a b : Option ScopeError) → option_or a b ≡ None → b ≡ None
 none_right None b e = e
 none_right (Some x) b e = absurd (subst (λ o. elim o as (λ _. Type 0) [ None ↦ ⊥ | Some y ↦ Unit {0} ]) e tt)
 

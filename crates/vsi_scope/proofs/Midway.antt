@@ -11,7 +11,8 @@ use Rattle.vsi_scope.specs.declared.program.Cmd.{Cmd}
 use Rattle.vsi_scope.specs.declared.resolution.command.Resolver.{Resolver}
 use Rattle.vsi_scope.specs.View.{command}
 use Rattle.vsi_scope.specs.Places.{commands_of, all_commands}
-use Rattle.vsi_scope.specs.Faults.{Known, marks, all_marks, locals, first_fault, Refuses}
+use Rattle.vsi_lattice.specs.Known.{Known}
+use Rattle.vsi_scope.specs.Faults.{marks, all_marks, locals, first_fault, Refuses}
 use Rattle.vsi_scope.specs.Resolving.{variable, variables, all_variables}
 use Rattle.vsi_scope.specs.Resolver.{Walked, IsWithin, scope_of, declared}
 

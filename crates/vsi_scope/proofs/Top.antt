@@ -1,5 +1,6 @@
 -- A whole program.
 use Rattle.std.proofs.Common.{Bor, length-append, ◌≡◌, ℕ, ◌+◌, ◌<◌, ◌≤◌, nat_lt, List, [], ◌∷◌, ◌++◌, length, map, refl, sym, ap, subst, ◌∙◌, arith, Option, Some, None, Result, Ok, Err, IfErr, Bool, true, false, bytes_eq, if◌then◌else◌}
+use Rattle.std.specs.Option.{option_or}
 use Rattle.std.specs.List.{All, IsDistinct}
 use Rattle.std.proofs.lemmas.List.{length-map}
 use Rattle.std.proofs.lemmas.List.Elements.{All-nil, All-cons}
@@ -16,7 +17,8 @@ use Rattle.vsi_scope.specs.View.{command, sequence}
 use Rattle.vsi_scope.specs.Program.{resolved_of, IsNamed, IsResolved}
 use Rattle.vsi_scope.specs.Scopes.{DoesAll, in_sequence}
 use Rattle.vsi_scope.specs.Places.{place_of, all_commands}
-use Rattle.vsi_scope.specs.Faults.{Known, Mark, Local, Class, Use, marks, all_marks, all_locals, global_marks, global_names, program_marks, fault_at, first_fault, or_else, if_absent, if_there, Refuses}
+use Rattle.vsi_lattice.specs.Known.{Known}
+use Rattle.vsi_scope.specs.Faults.{Mark, Local, Class, Use, marks, all_marks, all_locals, global_marks, global_names, program_marks, fault_at, first_fault, if_absent, if_there, Refuses}
 use Rattle.vsi_scope.specs.Faults as marked
 use Rattle.vsi_scope.specs.Resolving.{Shown, shown, global_of, variable, all_variables, IsResolution, Resolves, IsTooLarge, ExplainsScope}
 use Rattle.vsi_scope.specs.Resolver.{WalkedAll, IsWithin, scope_of, declared, fault_in_all}
@@ -51,7 +53,7 @@ small_if true e s = tt
 small_if false e s = s
 
 -- The first of two faults isn't that the program is too large.
-small_both : (a b : Option ScopeError) → Small a → Small b → Small (or_else a b)
+small_both : (a b : Option ScopeError) → Small a → Small b → Small (option_or a b)
 small_both None b s r = r
 small_both (Some e) b s r = s
 

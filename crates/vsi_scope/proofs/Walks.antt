@@ -13,7 +13,8 @@ use Rattle.vsi_scope.specs.Language.{Command, If, While, Letvar}
 use Rattle.vsi_scope.specs.View.{expression, command, sequence}
 use Rattle.vsi_scope.specs.Scopes.{in_sequence}
 use Rattle.vsi_scope.specs.Places.{expression_of, commands_of}
-use Rattle.vsi_scope.specs.Faults.{Known, marks, locals, all_locals, first_fault}
+use Rattle.vsi_lattice.specs.Known.{Known}
+use Rattle.vsi_scope.specs.Faults.{marks, locals, all_locals, first_fault}
 use Rattle.vsi_scope.specs.Resolving.{Variable, variable, variables, all_variables, class_of, letvar}
 use Rattle.vsi_scope.specs.Resolver.{Walked, IsWithin, names_of, scope_of, declared, fault_in}
 use Rattle.vsi_scope.proofs.Views.{command_If, command_While, command_Letvar, sequence_in}

@@ -1,9 +1,11 @@
 -- The declarations and uses of a program in text order, each with what it is judged against, and the first fault.
 use Rattle.std.specs.Prelude.{◌≡◌, ℕ, suc, ◌+◌, nat_lt, List, [], ◌∷◌, ◌++◌, length, map, if◌then◌else◌, Option, Some, None, Result, Ok, Err}
+use Rattle.std.specs.Option.{option_or}
 use Rattle.vsi_syntax.specs.Tree as tree
+use Rattle.vsi_lattice.specs.Known.{Known}
 use Rattle.vsi_scope.specs.declared.resolution.ScopeError.{ScopeError}
 use Rattle.vsi_scope.specs.declared.resolution.ScopeError.TheVariants as errors
-use Rattle.vsi_scope.specs.Scopes.{Text, Scope}
+use Rattle.vsi_scope.specs.Scopes.{Scope}
 use Rattle.vsi_scope.specs.Places.{place_of}
 use Rattle.vsi_scope.specs.Limits.{max_globals, max_declarations}
 
@@ -83,10 +85,6 @@ abbrev pub if_there : Option ℕ → ScopeError → Option ScopeError → Option
 if_there None e otherwise = otherwise
 if_there (Some l) e otherwise = Some e
 
--- The class that a name stands for, if the lattice has it.
-abbrev pub Known : Type 0
-Known = Text → Option ℕ
-
 -- What is wrong at a mark; of two faults the one of smaller number.
 abbrev pub fault_at : Known → Mark → Option ScopeError
 fault_at classes (Global above x) =
@@ -96,15 +94,10 @@ fault_at classes (Local n x) = if nat_lt n max_declarations then None else Some 
 fault_at classes (Class x) = if_absent (classes x.text) (errors.UnknownClass x.span)
 fault_at classes (Use scope x) = if_absent (place_of scope x.text) (errors.Unbound x.span)
 
--- The first of two faults.
-abbrev pub or_else : Option ScopeError → Option ScopeError → Option ScopeError
-or_else (Some e) o = Some e
-or_else None o = o
-
 -- The first fault of marks.
 abbrev pub first_fault : Known → List Mark → Option ScopeError
 first_fault classes [] = None
-first_fault classes (m ∷ ms) = or_else (fault_at classes m) (first_fault classes ms)
+first_fault classes (m ∷ ms) = option_or (fault_at classes m) (first_fault classes ms)
 
 -- An error is the first fault, unless memory ran out.
 abbrev pub Refuses : ScopeError → Option ScopeError → Type 0

@@ -3,7 +3,8 @@ use Rattle.std.specs.Prelude.{◌≡◌, ◌≤◌, List, [], ◌∷◌, map, No
 use Rattle.vsi_syntax.specs.Tree as tree
 use Rattle.vsi_scope.specs.Language.{Command, size}
 use Rattle.vsi_scope.specs.Scopes.{DoesAll, in_sequence}
-use Rattle.vsi_scope.specs.Faults.{Known, Mark, Global, Local, Class, Use, global_names, program_marks, first_fault}
+use Rattle.vsi_lattice.specs.Known.{Known}
+use Rattle.vsi_scope.specs.Faults.{Mark, Global, Local, Class, Use, global_names, program_marks, first_fault}
 use Rattle.vsi_scope.specs.Resolving.{IsResolution}
 use Rattle.vsi_scope.specs.Limits.{max_size}
 

@@ -10,7 +10,8 @@ use Rattle.vsi_scope.specs.Language.{Command}
 use Rattle.vsi_scope.specs.View.{command}
 use Rattle.vsi_scope.specs.Scopes.{Scope}
 use Rattle.vsi_scope.specs.Places.{commands_of, all_commands}
-use Rattle.vsi_scope.specs.Faults.{Known, marks, all_marks, global_names, first_fault}
+use Rattle.vsi_lattice.specs.Known.{Known}
+use Rattle.vsi_scope.specs.Faults.{marks, all_marks, global_names, first_fault}
 use Rattle.vsi_scope.specs.Resolving.{Variable, variable, variables, all_variables, shown, global_of}
 use Rattle.vsi_scope.specs.Limits.{max_declarations}
 

@@ -11,7 +11,8 @@ use Rattle.vsi_scope.specs.Language.{Command, size}
 use Rattle.vsi_scope.specs.View.{command}
 use Rattle.vsi_scope.specs.Program.{Resolved}
 use Rattle.vsi_scope.specs.Scopes.{Text, DoesAll, in_sequence}
-use Rattle.vsi_scope.specs.Faults.{Known, all_locals, program_marks, first_fault, global_names}
+use Rattle.vsi_lattice.specs.Known.{Known}
+use Rattle.vsi_scope.specs.Faults.{all_locals, program_marks, first_fault, global_names}
 use Rattle.vsi_scope.specs.Limits.{max_globals, max_declarations, max_size}
 
 -- ---- the globals and the letvars of a tree.

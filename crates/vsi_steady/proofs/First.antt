@@ -12,7 +12,8 @@ use Rattle.std.proofs.lemmas.Option.{none-some, slice_get-map, slice_get-get_or,
 use Rattle.vsi_image.specs.declared.instr.Image.{Image}
 use Rattle.vsi_image.specs.Fields.{Global, global, globals}
 use Rattle.vsi_lattice.specs.Order.{Lattice, IsLattice, IsClass, Below}
-use Rattle.vsi_store.specs.View.{Known, first_unknown}
+use Rattle.vsi_lattice.specs.Known.{Known}
+use Rattle.vsi_store.specs.View.{first_unknown}
 use Rattle.vsi_steady.specs.Least.{AllBelow, AreLeast}
 use Rattle.vsi_steady.specs.Refusal.{Refuses}
 use Rattle.vsi_steady.specs.Steady.{HaveClasses, IsSteady}

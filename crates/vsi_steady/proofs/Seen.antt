@@ -13,7 +13,8 @@ use Rattle.vsi_image.specs.Meaning.{State}
 use Rattle.vsi_machine.specs.Runs.{globals_of, run_of}
 use Rattle.vsi_machine.proofs.Progress.{never_stuck}
 use Rattle.vsi_store.specs.Text.{line_of}
-use Rattle.vsi_store.specs.View.{Known, ViewsState, line_seen, view_text_of}
+use Rattle.vsi_lattice.specs.Known.{Known}
+use Rattle.vsi_store.specs.View.{ViewsState, line_seen, view_text_of}
 use Rattle.vsi_store.specs.declared.views.View.{View}
 use Rattle.vsi_store.specs.declared.views.View.TheVariants.{Text, OutOfBudget}
 use Rattle.vsi_steady.specs.Laws.{AgreeAt, seen, SteadyViewsAlike}

@@ -5,7 +5,7 @@ use Rattle.std.specs.List.{All}
 use Rattle.vsi_lattice.specs.Order.{Lattice, IsLattice, IsClass}
 use Rattle.vsi_scope.specs.declared.resolved.Global.{Global}
 use Rattle.vsi_scope.specs.declared.resolved.Entry.{Entry}
-use Rattle.vsi_scope.specs.Faults.{Known}
+use Rattle.vsi_lattice.specs.Known.{Known}
 use Rattle.vsi_scope.specs.Language.{Command}
 use Rattle.vsi_scope.specs.Program.{Resolved, IsResolved}
 use Rattle.vsi_scope.specs.Resolving.{HasClassesBelow, IsResolution}

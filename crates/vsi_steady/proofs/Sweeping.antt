@@ -11,7 +11,7 @@ use Rattle.vsi_image.specs.declared.instr.Image.{Image}
 use Rattle.vsi_image.specs.Effects.{left, slot_of}
 use Rattle.vsi_image.specs.Valid.{IsFine, IsValid}
 use Rattle.vsi_infer.specs.Ranks.{distance}
-use Rattle.vsi_store.specs.View.{Known}
+use Rattle.vsi_lattice.specs.Known.{Known}
 use Rattle.vsi_steady.specs.Steady.{HaveClasses, IsSteady, Passes, GoesThrough}
 use Rattle.vsi_steady.specs.Least.{AllBelow, AreLeast, Leads, Finds, FindsRaised, RisesBy}
 use Rattle.vsi_steady.proofs.First.{same_global}

@@ -6,7 +6,7 @@ use Rattle.std.proofs.lemmas.List.{append_assoc}
 use Rattle.vsi_lattice.specs.Order.{Lattice}
 use Rattle.vsi_image.specs.declared.instr.Image.{Image}
 use Rattle.vsi_image.specs.Fields.{Global, globals}
-use Rattle.vsi_store.specs.View.{Known}
+use Rattle.vsi_lattice.specs.Known.{Known}
 use Rattle.vsi_steady.specs.Telling.{LeadTo, MayNotFlow, IsChain, step_line, ends_line, chain_lines, end_of}
 use Rattle.vsi_steady.specs.declared.step.Step.{Step}
 

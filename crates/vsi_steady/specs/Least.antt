@@ -4,7 +4,7 @@ use Rattle.vsi_lattice.specs.Order.{Lattice, IsClass, Below, IsJoin}
 use Rattle.vsi_image.specs.declared.instr.Instr.{Instr}
 use Rattle.vsi_image.specs.declared.instr.Instr.TheVariants.{Push, Load, Store, Add, Sub, Mul, Eq, Lt, Jz, Jmp, Halt}
 use Rattle.vsi_image.specs.declared.instr.Image.{Image}
-use Rattle.vsi_store.specs.View.{Known}
+use Rattle.vsi_lattice.specs.Known.{Known}
 use Rattle.vsi_steady.specs.Steady.{IsSteady}
 
 -- Each of these classes is at or below the one at its place.

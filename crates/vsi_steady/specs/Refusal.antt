@@ -3,7 +3,8 @@ use Rattle.std.specs.Prelude.{◌≡◌, Some}
 use Rattle.vsi_lattice.specs.Order.{Lattice}
 use Rattle.vsi_image.specs.declared.instr.Image.{Image}
 use Rattle.vsi_image.specs.Fields.{globals}
-use Rattle.vsi_store.specs.View.{Known, first_unknown}
+use Rattle.vsi_lattice.specs.Known.{Known}
+use Rattle.vsi_store.specs.View.{first_unknown}
 use Rattle.vsi_steady.specs.Steady.{IsSteady}
 use Rattle.vsi_steady.specs.declared.error.SteadyError.{SteadyError}
 use Rattle.vsi_steady.specs.declared.error.SteadyError.TheVariants.{UnknownClass, Flow, Memory}

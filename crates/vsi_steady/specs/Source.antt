@@ -4,7 +4,7 @@ use Rattle.vsi_lattice.specs.Order.{Lattice}
 use Rattle.vsi_lattice.specs.declared.lattice.Lattice as declared
 use Rattle.vsi_lattice.specs.LatticeView.{class_named, order}
 use Rattle.vsi_syntax.specs.Tree.{Whole}
-use Rattle.vsi_scope.specs.Faults.{Known}
+use Rattle.vsi_lattice.specs.Known.{Known}
 use Rattle.vsi_scope.specs.Language.{Command}
 use Rattle.vsi_scope.specs.Program.{Resolved}
 use Rattle.vsi_scope.specs.Resolving.{IsResolution}

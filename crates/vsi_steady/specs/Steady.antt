@@ -6,7 +6,7 @@ use Rattle.vsi_image.specs.declared.instr.Instr.{Instr}
 use Rattle.vsi_image.specs.declared.instr.Instr.TheVariants.{Push, Load, Store, Add, Sub, Mul, Eq, Lt, Jz, Jmp, Halt}
 use Rattle.vsi_image.specs.declared.instr.Image.{Image}
 use Rattle.vsi_image.specs.Fields.{Global, globals}
-use Rattle.vsi_store.specs.View.{Known}
+use Rattle.vsi_lattice.specs.Known.{Known}
 
 -- An operator gives, for its two operands, one of a class at or above the classes of both.
 abbrev pub Operates : Lattice → List ℕ → List ℕ → Type 0

@@ -9,7 +9,7 @@ use Rattle.vsi_image.specs.declared.instr.Instr.{Instr}
 use Rattle.vsi_image.specs.declared.instr.Instr.TheVariants.{Push, Load, Store, Add, Sub, Mul, Eq, Lt, Jz, Jmp, Halt}
 use Rattle.vsi_image.specs.declared.instr.Image.{Image}
 use Rattle.vsi_image.specs.Fields.{Global, globals}
-use Rattle.vsi_store.specs.View.{Known}
+use Rattle.vsi_lattice.specs.Known.{Known}
 use Rattle.vsi_steady.specs.declared.step.Step.{Step}
 use Rattle.vsi_steady.specs.declared.error.SteadyError.{SteadyError}
 use Rattle.vsi_steady.specs.declared.error.SteadyError.TheVariants.{UnknownClass, Flow, Memory}

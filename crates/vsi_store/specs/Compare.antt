@@ -9,7 +9,8 @@ use Rattle.vsi_image.specs.Fields.{Global, globals}
 use Rattle.vsi_image.specs.Meaning.{State}
 use Rattle.vsi_machine.specs.Cells.{word_cell, halted_cell}
 use Rattle.vsi_machine.specs.Runs.{HaltsWith, run_of}
-use Rattle.vsi_store.specs.View.{Known, is_seen}
+use Rattle.vsi_lattice.specs.Known.{Known}
+use Rattle.vsi_store.specs.View.{is_seen}
 use Rattle.vsi_store.specs.declared.comparison.RunEnding.{RunEnding}
 use Rattle.vsi_store.specs.declared.comparison.RunEnding.TheVariants.{Halted, OutOfBudget}
 use Rattle.vsi_store.specs.declared.comparison.Comparison.{Comparison}

@@ -1,6 +1,7 @@
 -- What a class sees of a run of an image.
 use Rattle.std.specs.Prelude.{◌≡◌, ℕ, ◌+◌, ℤ, List, [], ◌∷◌, ◌++◌, Bool, true, false, Option, Some, None, is_some, if◌then◌else◌}
 use Rattle.std.specs.Option.{option_map_or}
+use Rattle.vsi_lattice.specs.Known.{Known}
 use Rattle.vsi_lattice.specs.Order.{Lattice}
 use Rattle.vsi_image.specs.declared.instr.Image.{Image}
 use Rattle.vsi_image.specs.Fields.{Global, globals}
@@ -9,10 +10,6 @@ use Rattle.vsi_machine.specs.Runs.{globals_of, run_of}
 use Rattle.vsi_store.specs.Text.{line_of}
 use Rattle.vsi_store.specs.declared.views.View.{View}
 use Rattle.vsi_store.specs.declared.views.View.TheVariants.{Text, OutOfBudget}
-
--- The class that a name stands for, if any.
-abbrev pub Known : Type 0
-Known = List ℕ → Option ℕ
 
 -- The number of the first of these globals whose class name stands for no class, where they have numbers from n on.
 abbrev pub first_unknown : Known → ℕ → List Global → Option ℕ

@@ -4,7 +4,8 @@ ghost use Rattle.std.specs.Prelude.{◌≡◌, ◌+◌, ◌≤◌, length, IfOk}
 ghost use Rattle.vsi_syntax.specs.View.{tree};
 ghost use Rattle.vsi_scope.specs.View.{expression};
 ghost use Rattle.vsi_scope.specs.Places.{expression_of};
-ghost use Rattle.vsi_scope.specs.Faults.{Known, uses, first_fault, Judged};
+ghost use Rattle.vsi_lattice.specs.Known.{Known};
+ghost use Rattle.vsi_scope.specs.Faults.{uses, first_fault, Judged};
 ghost use Rattle.vsi_scope.specs.Resolver.{names_of};
 ghost use Rattle.vsi_scope.specs.Limits.{max_declarations};
 
