@@ -3,10 +3,11 @@ use Rattle.std.specs.Prelude.{◌≡◌, ℕ, ℤ, ◌++◌, ◌==◌, ◌∷◌
 use Rattle.std.specs.Io.KnownBytes.{Appends}
 use Rattle.vsi_drive.specs.Control.{Control}
 use Rattle.vsi_drive.specs.Cycles.{store_behind, text_of}
+use Rattle.vsi_drive.specs.Settings.{max_line_length}
 
 -- A line with its next byte. Of a line that is too long no more is kept than what shows it.
 abbrev pub grown : List ℕ → ℕ → List ℕ
-grown line byte = if nat_lt 65536 (length line) then line else line ++ byte ∷ []
+grown line byte = if nat_lt max_line_length (length line) then line else line ++ byte ∷ []
 
 -- The lines that end in these bytes, where this stands of the first.
 abbrev pub whole_lines : List ℕ → List ℕ → List (List ℕ)

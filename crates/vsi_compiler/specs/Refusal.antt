@@ -1,5 +1,6 @@
 -- What a refusal says of the text.
 use Rattle.std.specs.Prelude.{◌≢◌, ℕ, ◌≤◌, List, length}
+use Rattle.vsi_syntax.specs.Limits.{max_text_length}
 use Rattle.vsi_lattice.specs.Order.{Lattice}
 use Rattle.vsi_scope.specs.Language.{Command}
 use Rattle.vsi_types.specs.declared.rules.Profile.{Profile}
@@ -19,7 +20,7 @@ use Rattle.vsi_compiler.specs.Acceptance.{IsAccepted, program_of}
 
 -- The text is within its limit and has a cut, and no tree reads it.
 pub record HasNoTree (text : List ℕ) : Type 0 where
-  pub short : length text ≤ 1048576
+  pub short : length text ≤ max_text_length
   pub tokens : List cut.Piece
   pub cut : cut.IsCut text tokens
   pub treeless : (tree : Whole) → ¬ (Reads text tree)

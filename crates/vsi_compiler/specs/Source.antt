@@ -1,6 +1,7 @@
 -- What a source text is: its tokens, the tree that writes them, and the commands over locations that the tree stands
 -- for.
 use Rattle.std.specs.Prelude.{◌≡◌, ℕ, ◌≤◌, List, length, map}
+use Rattle.vsi_syntax.specs.Limits.{max_text_length}
 use Rattle.vsi_syntax.specs.Cut.{Piece, IsCut}
 use Rattle.vsi_syntax.specs.Tree.{Whole, IsProgram, write_program}
 use Rattle.vsi_syntax.specs.Spelling.{word_at}
@@ -8,7 +9,7 @@ use Rattle.vsi_syntax.specs.Canon.{canon}
 
 -- The text is within its limit, and a levelled tree of depth at most 200 writes the tokens of its cut.
 pub record Reads (text : List ℕ) (tree : Whole) : Type 0 where
-  pub short : length text ≤ 1048576
+  pub short : length text ≤ max_text_length
   pub tokens : List Piece
   pub cut : IsCut text tokens
   pub program : IsProgram tree.body

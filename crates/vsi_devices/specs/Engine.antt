@@ -4,13 +4,17 @@ use Rattle.std.specs.Io.KnownBytes.{Consumes}
 use Rattle.vsi_devices.specs.declared.error.EngineError.{EngineError}
 use Rattle.vsi_devices.specs.declared.error.EngineError.TheVariants.{ReadFault, WriteFault, Compile, Decode, Verify, Store, Memory}
 
+-- The most bytes that are read of a reader, one more than the longest text has.
+abbrev pub max_read : ℕ
+max_read = 1048577
+
 -- What is read of a reader that tells its bytes: all of them, or as many as the limit.
 abbrev pub IsReadFrom : Option (List ℕ) → List ℕ → Type 0
-IsReadFrom remaining bytes = IfSome remaining (λ xs. bytes ≡ take 1048577 xs)
+IsReadFrom remaining bytes = IfSome remaining (λ xs. bytes ≡ take max_read xs)
 
 -- A reader that tells its bytes has lost no more of them than the limit, from the front.
 abbrev pub TakesFew : Option (List ℕ) → Option (List ℕ) → Type 0
-TakesFew old new = (taken : List ℕ) × Consumes old new taken × (length taken ≤ 1048577)
+TakesFew old new = (taken : List ℕ) × Consumes old new taken × (length taken ≤ max_read)
 
 -- A fault of the reader, or want of memory.
 abbrev pub IsOfReading : EngineError → Type 0

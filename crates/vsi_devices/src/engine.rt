@@ -3,7 +3,7 @@
 ghost use Rattle.std.specs.Prelude.{◌≡◌, ◌+◌, ◌<◌, ◌≤◌, ◌↔◌, ℕ, List, length, take, IfOk, IfErr, OnOk, IsErrOf, vec_len};
 ghost use Rattle.std.specs.Io.KnownBytes.{Appends, Consumes, Keeps};
 ghost use Rattle.vsi_devices.specs.Counted.{device_of, faults_of};
-ghost use Rattle.vsi_devices.specs.Engine.{IsOfReading, IsReadFrom, TakesFew};
+ghost use Rattle.vsi_devices.specs.Engine.{IsOfReading, IsReadFrom, TakesFew, max_read};
 
 use crate::counted::Counted;
 use crate::error::EngineError;
@@ -34,7 +34,7 @@ pub fn read_all<R: Read>(alloc: Global, reader: &mut Counted<R>) -> Result<Vec<u
     ensures read { IfOk result (λ bytes.
         Consumes (R.remaining (device_of reader.old)) (R.remaining (device_of reader.new))
         bytes.items) }
-    ensures limit { IfOk result (λ bytes. length bytes.items ≤ 1048577) }
+    ensures limit { IfOk result (λ bytes. length bytes.items ≤ max_read) }
     ensures bound { TakesFew (R.remaining (device_of reader.old))
         (R.remaining (device_of reader.new)) }
 {

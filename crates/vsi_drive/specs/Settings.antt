@@ -57,10 +57,14 @@ settings_from s n (x ∷ []) = Err (BadSetting n)
 settings_from s n (x ∷ y ∷ []) = Err (BadSetting n)
 settings_from s n (x ∷ y ∷ z ∷ fields) = in_front (setting s n x y z) (settings_from s (n + 1) fields)
 
--- The settings of a line of at most 65,536 bytes.
+-- The most bytes of a line.
+abbrev pub max_line_length : ℕ
+max_line_length = 65536
+
+-- The settings of a line that isn't too long.
 abbrev pub settings_of : Control → List ℕ → Result (List Setting) LineFault
 settings_of c line =
-    if nat_lt 65536 (length line) then Err TooLong else settings_from (at_or_below c) 0 (fields_of line)
+    if nat_lt max_line_length (length line) then Err TooLong else settings_from (at_or_below c) 0 (fields_of line)
 
 -- A store in which globals have been set, one after another.
 abbrev pub applied : List Setting → List ℤ → List ℤ
