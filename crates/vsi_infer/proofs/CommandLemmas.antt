@@ -1,5 +1,5 @@
 -- What a walk over a command knows of the command's parts.
-use Rattle.std.proofs.Common.{◌≡◌, ℕ, ◌+◌, ◌-◌, ◌<◌, List, [], ◌∷◌, ◌++◌, take, length, get_or, Vec, Global, sym, ap, ◌∙◌, subst, arith}
+use Rattle.std.proofs.Common.{◌≡◌, ℕ, ◌+◌, ◌-◌, ◌<◌, List, take, length, get_or, Vec, Global, sym, ap, ◌∙◌, subst, arith}
 use Rattle.std.proofs.lemmas.List.{get_or-map}
 use Rattle.vsi_scope.specs.declared.program.Ex.{Ex}
 use Rattle.vsi_scope.specs.declared.program.Cmd.{Cmd}
@@ -8,14 +8,10 @@ use Rattle.vsi_scope.specs.declared.resolved.Entry.{Entry}
 use Rattle.vsi_scope.specs.Language.{Expression, Command, If, While, Letvar, letvars, HasPlaces}
 use Rattle.vsi_scope.specs.View.{expression, command, sequence}
 use Rattle.vsi_scope.proofs.Views.{command_If, command_While, command_Letvar}
-use Rattle.vsi_types.specs.declared.rules.Rule.{Rule}
-use Rattle.vsi_types.specs.declared.rules.Guard.{Guard}
-use Rattle.vsi_types.specs.Steps.{reads, guarded}
 use Rattle.vsi_types.specs.Security.{name_place}
 use Rattle.vsi_types.specs.Walker.{Place}
 use Rattle.vsi_types.proofs.Judging.{places_at, letvars_at}
-use Rattle.vsi_types.proofs.Places.{place, inside, within_letvar}
-use Rattle.vsi_infer.specs.StepSearch.{HasRoom}
+use Rattle.vsi_infer.specs.FirstSteps.{HasRoom}
 
 module _ (k : Cmd) (e : Ex) where
   -- A choice is made of the lists that were read from its branches.
@@ -36,17 +32,6 @@ module _ (k : Cmd) (e : Ex) where
       → command k ≡ Letvar (expression e) (sequence body)
   letvar_read v body is a =
       ap command is ∙ command_Letvar e v ∙ ap (λ l. Letvar (expression e) (sequence l)) (sym a)
-
--- The place where what a guard reads was added to the guards is the place under that guard.
-pub entered : (rule : Rule) (a : Place) (e : Expression) (t : List ℕ) (g : List Guard) → t ≡ a.scope
-    → g ≡ a.guards ++ guarded rule (reads t e) → place a.scope g a.next ≡ inside rule e a
-entered rule a e t g at pushed =
-    ap (λ l. place a.scope l a.next) (pushed ∙ ap (λ l. a.guards ++ guarded rule (reads l e)) at)
-
--- The place where the next variable was added to the scope is the place within the `letvar`.
-pub allocated : (a : Place) (t : List ℕ) → t ≡ a.scope ++ a.next ∷ [] → place t a.guards (a.next + 1)
-    ≡ within_letvar a
-allocated a t push = ap (λ l. place l a.guards (a.next + 1)) push
 
 -- The entry that was read for a `letvar` tells where its name stands.
 pub name_at : (xs : List Entry) (first : ℕ) (a : Place) (e : Expression) (c : Command) (x : Entry)

@@ -11,10 +11,8 @@ pub mod ReachLemmas
 pub mod Bridge
 pub mod DistanceLemmas
 pub mod CommandLemmas
-pub mod StepSearchLemmas
 pub mod KeptLemmas
 pub mod MemberLemmas
-pub mod PassingLemmas
 pub mod PathLemmas
 pub mod StartLemmas
 pub mod LevelLemmas

@@ -1,7 +1,7 @@
 -- Paths and bad walks, and when a step is one of a list.
-use Rattle.std.proofs.Common.{◌≡◌, ℕ, zero, suc, ◌+◌, ◌<◌, ◌==◌, ◌&&◌, ◌||◌, cond, Bool, true, false, not, List, [], ◌∷◌, ◌++◌, take, length, get_or, slice_get, Some, None, refl, sym, ap, ◌∙◌, subst, arith, inl, inr, eq-eqb}
+use Rattle.std.proofs.Common.{◌≡◌, ℕ, zero, suc, ◌+◌, ◌<◌, ◌==◌, ◌&&◌, ◌||◌, Bool, true, false, not, List, [], ◌∷◌, ◌++◌, take, length, get_or, slice_get, Some, None, refl, sym, ap, ◌∙◌, subst, arith, inl, inr, eq-eqb}
 use Rattle.std.specs.Prelude.{slice_index}
-use Rattle.std.specs.List.{All, Contains, list_any, find, insert}
+use Rattle.std.specs.List.{All, Contains, list_any, insert}
 use Rattle.std.proofs.lemmas.List.{take_more}
 use Rattle.std.proofs.lemmas.List.Folds.{list_any_at, list_any-append}
 use Rattle.std.proofs.lemmas.List.Elements.{All-nil, All-cons, All-head, All-tail}
@@ -146,30 +146,6 @@ bad_parts L P p (x ∷ xs) s e bad =
       target = bad.target;
       down = bad.down;
     })
-
--- What is found is there and is wanted.
-pub found_there : (p : Step → Bool) (xs : List Step) (s : Step) → find p xs ≡ Some s → Contains xs s × (p s ≡ true)
-found_there p [] s e = absurd (subst (λ o. elim o as (λ _. Type 0) [ None ↦ Unit {0} | Some z ↦ ⊥ ]) e tt)
-found_there p (x ∷ xs) s e = by (p x) refl (λ f. found_there p xs s f) e
-  where
-    some_is : (a b : Step) → Some a ≡ Some b → a ≡ b
-    some_is a b e = ap (λ o. elim o as (λ _. Step) [ None ↦ a | Some y ↦ y ]) e
-
-    by : (b : Bool) → p x ≡ b → (find p xs ≡ Some s → Contains xs s × (p s ≡ true))
-        → cond b (Some x) (find p xs) ≡ Some s → Contains (x ∷ xs) s × (p s ≡ true)
-    by true t rest e = let q = some_is x s e in ((0, omega arith, q), ap p (sym q) ∙ t)
-    by false t rest e = let r = rest e in ((suc r.0.0, omega (arith, r.0.1), r.0.2), r.1)
-
--- Where nothing is found nothing is wanted.
-pub found_none : (p : Step → Bool) (xs : List Step) → find p xs ≡ None → (s : Step) → Contains xs s → p s ≡ true → ⊥
-found_none p [] e s c t = omega (arith, c.1)
-found_none p (x ∷ xs) e s c t = by (p x) refl (λ f d. found_none p xs f s d t) e c
-  where
-    by : (b : Bool) → p x ≡ b → (find p xs ≡ None → Contains xs s → ⊥) → cond b (Some x) (find p xs) ≡ None
-        → Contains (x ∷ xs) s → ⊥
-    by true u rest e c = subst (λ o. elim o as (λ _. Type 0) [ None ↦ ⊥ | Some z ↦ Unit {0} ]) e tt
-    by false u rest e (zero, lt, is) = false≢true (sym u ∙ ap p is ∙ t)
-    by false u rest e (suc k, lt, is) = rest e (k, omega (arith, lt), is)
 
 -- Steps that are the same are equal.
 rule_is : (r q : Rule) → same_rule r q ≡ true → r ≡ q

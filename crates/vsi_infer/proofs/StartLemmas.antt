@@ -6,16 +6,15 @@ use Rattle.vsi_scope.specs.declared.resolved.Entry.{Entry}
 use Rattle.vsi_scope.specs.Language.{HasPlaces}
 use Rattle.vsi_scope.specs.View.{sequence}
 use Rattle.vsi_scope.specs.Program.{Resolved, IsResolved}
-use Rattle.std.specs.Prelude.{Bool, false, Option, Some, None, Result, Ok, Err, IfOk}
-use Rattle.std.specs.List.{find, list_any}
+use Rattle.std.specs.Prelude.{false}
+use Rattle.std.specs.List.{list_any}
 use Rattle.vsi_types.specs.declared.rules.Profile.{Profile}
 use Rattle.vsi_types.specs.declared.rules.Step.{Step}
 use Rattle.vsi_types.specs.Steps.{steps}
 use Rattle.vsi_types.specs.Security.{count_from, program, name_place, steps_of}
-use Rattle.vsi_types.specs.Walker.{Place}
 use Rattle.vsi_types.proofs.Places.{place}
 use Rattle.vsi_types.proofs.Programs.{length_count}
-use Rattle.vsi_infer.specs.StepSearch.{HasRoom, Sought}
+use Rattle.vsi_infer.specs.FirstSteps.{HasRoom}
 use Rattle.vsi_infer.specs.Membership.{IsFor, same_step, passes}
 use Rattle.vsi_infer.proofs.PathLemmas.{steps_pass}
 
@@ -85,11 +84,3 @@ module _ (r : Resolved) (res : IsResolved r) where
         (sequence body) ≡ list_any (same_step x) (steps_of P (program r))
     start_passes x P = sym (steps_pass x P (name_place entries n) [] scope n (sequence body))
         ∙ ap (list_any (same_step x)) (start_steps P)
-
-    -- What is sought there is what is sought among the program's steps.
-    pub start_sought : {E : Type 0} (P : Profile) (p : Step → Bool) (z : Place) (o : Result (Option Step) E)
-        → Sought P (name_place entries n) p (place scope [] n) (sequence body) z o
-        → IfOk o (λ t. t ≡ find p (steps_of P (program r)))
-    start_sought P p z (Ok (Some x)) h = sym h ∙ ap (find p) (start_steps P)
-    start_sought P p z (Ok None) h = sym h.nothing ∙ ap (find p) (start_steps P)
-    start_sought P p z (Err e) h = tt

@@ -1,30 +1,58 @@
 -- What is kept of the steps of a program.
-use Rattle.std.specs.Prelude.{◌≡◌, ◌⊎◌, ℕ, ◌+◌, ◌==◌, ◌&&◌, Bool, List, nat_lt, length, Result, Ok, Err, slice_index}
+use Rattle.std.specs.Prelude.{◌≡◌, ◌⊎◌, ℕ, ◌+◌, ◌≤◌, ◌==◌, ◌&&◌, Bool, true, List, [], ◌∷◌, ◌++◌, nat_lt, length, Result, Ok, Err, slice_index}
 use Rattle.std.specs.List.{Contains}
 use Rattle.vsi_syntax.specs.declared.token.Span.{Span}
-use Rattle.vsi_scope.specs.Language.{Command, letvars, has_loop}
+use Rattle.vsi_scope.specs.Language.{Command, letvars, has_loop, HasPlaces}
 use Rattle.vsi_types.specs.declared.rules.Profile.{Profile}
 use Rattle.vsi_types.specs.declared.rules.Step.{Step}
 use Rattle.vsi_types.specs.Steps.{steps}
 use Rattle.vsi_types.specs.Walker.{Place}
+use Rattle.vsi_infer.specs.declared.looking.Gathering.{Gathering}
 
--- What is kept now was kept before, or is one of the steps.
-abbrev pub IsFrom : List Step → List Step → List Step → Type 0
-IsFrom ss old new = (x : Step) → Contains new x → Contains old x ⊎ Contains ss x
+-- The locations are there, and the names of the letvars too.
+pub record HasRoom (first count : ℕ) (a : Place) (c : Command) : Type 0 where
+  pub places : HasPlaces (length a.scope) c
+  pub after : first ≤ a.next
+  pub limit : a.next + letvars c ≤ first + count
+  pub small : first + count ≤ 1024
+
+-- The steps that are kept, and whether every step is looked at.
+pub record Kept : Type 0 where
+  pub steps : List Step
+  pub every : Bool
+
+-- What a walk keeps.
+abbrev pub kept_of : Gathering → Kept
+kept_of g = record { steps = g.kept.steps.items; every = g.every }
+
+-- At most the step came to those that were kept.
+abbrev pub MayKeep : Step → List Step → List Step → Type 0
+MayKeep s old new = (new ≡ old) ⊎ (new ≡ old ++ s ∷ [])
+
+-- What is kept now was kept before, or is one of the steps and wanted.
+pub record IsAmong (wants : Step → Bool) (ss : List Step) (old new : Kept) : Type 0 where
+  pub each : (x : Step) → Contains new.steps x → Contains old.steps x ⊎ (Contains ss x × (wants x ≡ true))
+  pub more : length old.steps ≤ length new.steps
+  pub every : new.every ≡ old.every
+
+-- The same, and where every step is looked at one is kept if one of the steps is wanted.
+pub record IsFrom (wants : Step → Bool) (ss : List Step) (old new : Kept) : Type 0 where
+  pub among : IsAmong wants ss old new
+  pub some : old.every ≡ true → (x : Step) → Contains ss x → wants x ≡ true → 1 ≤ length new.steps
 
 -- The steps of a command were looked at, and the place after it.
-pub record IsGathered (P : Profile) (names : ℕ → Span) (a : Place) (old : List Step) (c : Command) (b : Place)
-    (new : List Step) : Type 0 where
-  pub kept : IsFrom (steps P names a.guards a.scope a.next c) old new
+pub record IsGathered (wants : Step → Bool) (P : Profile) (names : ℕ → Span) (a : Place) (old : Kept) (c : Command)
+    (b : Place) (new : Kept) : Type 0 where
+  pub kept : IsFrom wants (steps P names a.guards a.scope a.next c) old new
   pub scope : b.scope ≡ a.scope
   pub guards : b.guards ≡ a.guards
   pub next : b.next ≡ a.next + letvars c
 
 -- What is answered of a command: whether it loops.
-abbrev pub Gathers : {E : Type 0} → Profile → (ℕ → Span) → Place → List Step → Command → Place → List Step
+abbrev pub Gathers : {E : Type 0} → (Step → Bool) → Profile → (ℕ → Span) → Place → Kept → Command → Place → Kept
     → Result Bool E → Type 0
-Gathers P names a old c b new (Ok looping) = (looping ≡ has_loop c) × IsGathered P names a old c b new
-Gathers P names a old c b new (Err e) = Unit {0}
+Gathers wants P names a old c b new (Ok looping) = (looping ≡ has_loop c) × IsGathered wants P names a old c b new
+Gathers wants P names a old c b new (Err e) = Unit {0}
 
 -- The step leads where the target of its source is.
 abbrev pub goes_along : List ℕ → Step → Bool

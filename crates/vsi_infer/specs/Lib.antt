@@ -8,7 +8,6 @@ pub mod Ranks
 pub mod Inference
 pub mod Distances
 pub mod Reach
-pub mod StepSearch
 pub mod FirstSteps
 pub mod Membership
 pub mod Paths

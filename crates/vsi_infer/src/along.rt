@@ -6,7 +6,7 @@ ghost use Rattle.vsi_types.specs.Security.{program as program_of, steps_of};
 ghost use Rattle.vsi_infer.specs.FirstSteps.{goes_along};
 
 use crate::gathering::first_steps;
-use crate::step_search::Wanted;
+use crate::wanted::Wanted;
 use std::alloc::{AllocError, Global as Heap};
 use vsi_scope::Resolved;
 use vsi_types::{Profile, Step};

@@ -243,8 +243,8 @@ pub(crate) fn note_commands(
     body: &[Cmd],
 ) -> Result<bool, AllocError>
     requires { IsReady sink (position_of walk.old) (sequence body.now) }
-    ensures { Noted filter profile sink (row_reads around.now) (position_of walk.old) (sequence body.now)
-        (position_of walk.new) result }
+    ensures { Noted filter profile sink (row_reads around.now) (position_of walk.old)
+        (sequence body.now) (position_of walk.new) result }
 {
     let mut looping = false;
     for c in body {
@@ -265,8 +265,8 @@ fn note_command(
     c: &Cmd,
 ) -> Result<bool, AllocError>
     requires { IsReady sink (position_of walk.old) (command c.now) }
-    ensures { Noted filter profile sink (row_reads around.now) (position_of walk.old) (command c.now)
-        (position_of walk.new) result }
+    ensures { Noted filter profile sink (row_reads around.now) (position_of walk.old)
+        (command c.now) (position_of walk.new) result }
 {
     match c {
         Cmd::Assign { loc, span, value } => {

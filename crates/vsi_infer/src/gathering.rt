@@ -1,6 +1,6 @@
-//! The first wanted step from each variable, in one walk over a program.
+//! The wanted steps of a program, in one walk over it: the first from each variable, or one.
 
-ghost use Rattle.std.specs.Prelude.{ℕ, length, IfOk};
+ghost use Rattle.std.specs.Prelude.{ℕ, length, IfOk, IsTrue, [], true, false};
 ghost use Rattle.std.specs.List.{All, Contains};
 ghost use Rattle.vsi_scope.specs.Language.{HasPlaces, Assign, If, While, Letvar};
 ghost use Rattle.vsi_scope.specs.View.{expression, command, sequence};
@@ -8,13 +8,13 @@ ghost use Rattle.vsi_types.specs.Security.{name_place, program as program_of, st
 ghost use Rattle.vsi_types.specs.Walker.{walker_place};
 ghost use Rattle.vsi_types.specs.declared.rules.Profile.{Profile};
 ghost use Rattle.vsi_syntax.specs.declared.token.Span.{Span};
-ghost use Rattle.vsi_infer.specs.StepSearch.{HasRoom};
-ghost use Rattle.vsi_infer.specs.FirstSteps.{Gathers};
+ghost use Rattle.vsi_types.specs.declared.rules.Step.{Step};
+ghost use Rattle.vsi_infer.specs.FirstSteps.{HasRoom, Gathers, IsFrom, kept_of};
 
 use crate::looking::{
     FirstSteps, Gathering, STRIDE, enter, look_ending, look_guards, look_reads, start,
 };
-use crate::step_search::Wanted;
+use crate::wanted::Wanted;
 use std::alloc::{AllocError, Global as Heap};
 use vsi_scope::{Cmd, Entry, Ex, Resolved, Var};
 use vsi_syntax::Span;
@@ -32,9 +32,9 @@ fn gather_assign<W: Wanted>(
     requires { HasPlaces (length walk.now.scope.items)
         (Assign location written (expression value.now)) }
     ensures { (P : Profile) (names : ℕ → Span) →
-        Gathers P names (walker_place walk.now) log.old.kept.steps.items
-        (Assign location written (expression value.now)) (walker_place walk.now)
-        log.new.kept.steps.items result }
+        Gathers (W.wants wanted.now) P names (walker_place walk.now) (kept_of log.old)
+        (Assign location written (expression value.now)) (walker_place walk.now) (kept_of log.new)
+        result }
 {
     log.turn = log.turn.wrapping_add(STRIDE);
     let target = walk.scope[location as usize];
@@ -66,11 +66,11 @@ fn gather_if<W: Wanted>(
 ) -> Result<bool, AllocError>
     requires { HasRoom first (length entries.now) (walker_place walk.old)
         (If (expression guard.now) (sequence then_branch.now) (sequence else_branch.now)) }
-    ensures { Gathers profile (name_place entries.now first) (walker_place walk.old)
-        log.old.kept.steps.items
+    ensures { Gathers (W.wants wanted.now) profile (name_place entries.now first)
+        (walker_place walk.old) (kept_of log.old)
         (If (expression guard.now) (sequence then_branch.now) (sequence else_branch.now))
         (walker_place walk.new)
-        log.new.kept.steps.items result }
+        (kept_of log.new) result }
 {
     let turn = log.turn.wrapping_add(STRIDE);
     log.turn = turn;
@@ -100,10 +100,10 @@ fn gather_while<W: Wanted>(
 ) -> Result<bool, AllocError>
     requires { HasRoom first (length entries.now) (walker_place walk.old)
         (While (expression guard.now) (sequence body.now)) }
-    ensures { Gathers profile (name_place entries.now first) (walker_place walk.old)
-        log.old.kept.steps.items
+    ensures { Gathers (W.wants wanted.now) profile (name_place entries.now first)
+        (walker_place walk.old) (kept_of log.old)
         (While (expression guard.now) (sequence body.now)) (walker_place walk.new)
-        log.new.kept.steps.items result }
+        (kept_of log.new) result }
 {
     let turn = log.turn.wrapping_add(STRIDE);
     log.turn = turn;
@@ -132,10 +132,10 @@ fn gather_letvar<W: Wanted>(
 ) -> Result<bool, AllocError>
     requires { HasRoom first (length entries.now) (walker_place walk.old)
         (Letvar (expression value.now) (sequence body.now)) }
-    ensures { Gathers profile (name_place entries.now first) (walker_place walk.old)
-        log.old.kept.steps.items
+    ensures { Gathers (W.wants wanted.now) profile (name_place entries.now first)
+        (walker_place walk.old) (kept_of log.old)
         (Letvar (expression value.now) (sequence body.now)) (walker_place walk.new)
-        log.new.kept.steps.items result }
+        (kept_of log.new) result }
 {
     log.turn = log.turn.wrapping_add(STRIDE);
     let variable = Var(walk.next);
@@ -169,9 +169,9 @@ fn gather_commands<W: Wanted>(
     body: &[Cmd],
 ) -> Result<bool, AllocError>
     requires { HasRoom first (length entries.now) (walker_place walk.old) (sequence body.now) }
-    ensures { Gathers profile (name_place entries.now first) (walker_place walk.old)
-        log.old.kept.steps.items
-        (sequence body.now) (walker_place walk.new) log.new.kept.steps.items result }
+    ensures { Gathers (W.wants wanted.now) profile (name_place entries.now first)
+        (walker_place walk.old) (kept_of log.old)
+        (sequence body.now) (walker_place walk.new) (kept_of log.new) result }
 {
     let mut looping = false;
     for c in body {
@@ -193,9 +193,9 @@ fn gather_command<W: Wanted>(
     c: &Cmd,
 ) -> Result<bool, AllocError>
     requires { HasRoom first (length entries.now) (walker_place walk.old) (command c.now) }
-    ensures { Gathers profile (name_place entries.now first) (walker_place walk.old)
-        log.old.kept.steps.items
-        (command c.now) (walker_place walk.new) log.new.kept.steps.items result }
+    ensures { Gathers (W.wants wanted.now) profile (name_place entries.now first)
+        (walker_place walk.old) (kept_of log.old)
+        (command c.now) (walker_place walk.new) (kept_of log.new) result }
 {
     match c {
         Cmd::Assign { loc, span, value } => gather_assign(wanted, walk, log, *loc, *span, value),
@@ -211,15 +211,17 @@ fn gather_command<W: Wanted>(
     }
 }
 
-/// The first wanted step from each variable of a program.
-pub(crate) fn first_steps<W: Wanted>(
+/// Gathers from a program: the first wanted step from each variable, or one of all wanted steps.
+fn gather<W: Wanted>(
     alloc: Heap,
     profile: Profile,
     program: &Resolved<'_>,
     wanted: &W,
+    every: bool,
 ) -> Result<FirstSteps, AllocError>
-    ensures { IfOk result
-        (λ f. All (Contains (steps_of profile (program_of program.now))) f.steps.items) }
+    ensures { IfOk result (λ f. IsFrom (W.wants wanted.now)
+        (steps_of profile (program_of program.now)) (record { steps = []; every = every })
+        (record { steps = f.steps.items; every = every })) }
 {
     let body = program.body();
     let first = program.globals().len() as u16;
@@ -229,7 +231,7 @@ pub(crate) fn first_steps<W: Wanted>(
         guards: Vec::new(alloc),
         next: first,
     };
-    let mut log = start(alloc, count)?;
+    let mut log = start(alloc, count, every)?;
     gather_commands(
         wanted,
         profile,
@@ -241,4 +243,35 @@ pub(crate) fn first_steps<W: Wanted>(
     )?;
     let Gathering { kept, .. } = log;
     Ok(kept)
+}
+
+/// The first wanted step from each variable of a program.
+pub(crate) fn first_steps<W: Wanted>(
+    alloc: Heap,
+    profile: Profile,
+    program: &Resolved<'_>,
+    wanted: &W,
+) -> Result<FirstSteps, AllocError>
+    ensures { IfOk result
+        (λ f. All (Contains (steps_of profile (program_of program.now))) f.steps.items) }
+{
+    let kept = gather(alloc, profile, program, wanted, false)?;
+    Ok(kept)
+}
+
+/// A wanted step of a program that has one, where every step is looked at.
+pub(crate) fn wanted_step<W: Wanted>(
+    alloc: Heap,
+    profile: Profile,
+    program: &Resolved<'_>,
+    wanted: &W,
+) -> Result<Step, AllocError>
+    requires { (s : Step) × Contains (steps_of profile (program_of program.now)) s
+        × IsTrue (W.wants wanted.now s) }
+    ensures there { IfOk result (λ s. Contains (steps_of profile (program_of program.now)) s) }
+    ensures wanted { IfOk result (λ s. IsTrue (W.wants wanted.now s)) }
+{
+    let kept = gather(alloc, profile, program, wanted, true)?;
+    let steps = kept.steps.as_slice();
+    Ok(steps[0])
 }

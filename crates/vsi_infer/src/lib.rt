@@ -29,8 +29,8 @@ mod reach;
 mod rows;
 mod rule_filter;
 mod shortest;
-mod step_search;
 mod walk;
+mod wanted;
 mod worklist;
 
 pub use error::InferError;

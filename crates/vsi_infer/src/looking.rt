@@ -3,21 +3,21 @@
 //! A search for one step goes over all flow steps of a program, of which there are as many as
 //! guards times assignments. Here each pair of variables is looked at once: of the guards in force
 //! that read a variable only the first can give its first step to a target, and a row of bits says
-//! which variables they read. What is promised of a kept step is that it is one of the program's.
-//! That it is wanted and the first is left to those who use it: they test what they need, and
-//! search where a test fails.
+//! which variables they read. What is promised of a kept step is that it is one of the program's
+//! and wanted. That it is the first from its variable is left to those who use it: they test what
+//! they need, and where a test fails they go over the program once more, looking at every step.
 
-ghost use Rattle.std.specs.Prelude.{◌≡◌, ◌∷◌, [], true, length, OnOk, IfOk, IfSome};
+ghost use Rattle.std.specs.Prelude.{◌≡◌, ◌≤◌, ◌∷◌, [], true, false, length, OnOk, IfOk, IfSome};
 ghost use Rattle.std.specs.List.{Contains};
 ghost use Rattle.vsi_scope.specs.Language.{HasLocations};
 ghost use Rattle.vsi_scope.specs.View.{expression};
-ghost use Rattle.vsi_types.specs.Steps.{reads, guarded, flows, endings};
+ghost use Rattle.vsi_types.specs.Steps.{reads, guarded, flow, flows, endings};
 ghost use Rattle.vsi_types.specs.declared.rules.Profile.TheVariants.{Strict};
-ghost use Rattle.vsi_infer.specs.FirstSteps.{IsFrom};
+ghost use Rattle.vsi_infer.specs.FirstSteps.{kept_of, IsAmong, IsFrom, MayKeep};
 
 use crate::flow_matrix::observes_ending;
 use crate::rows::{has_bit, note};
-use crate::step_search::Wanted;
+use crate::wanted::Wanted;
 use std::alloc::{AllocError, Global as Heap};
 use vsi_scope::{Ex, Var};
 use vsi_syntax::Span;
@@ -49,6 +49,8 @@ pub(crate) struct Gathering {
     guarding: Vec<usize>,
     /// The turn of the command.
     pub(crate) turn: u64,
+    /// Whether every step is looked at, and one wanted step kept.
+    every: bool,
 }
 
 impl FirstSteps {
@@ -89,8 +91,9 @@ impl FirstSteps {
 }
 
 /// Nothing is kept, for as many variables.
-pub(crate) fn start(alloc: Heap, count: u16) -> Result<Gathering, AllocError>
-    ensures { IfOk result (λ g. g.kept.steps.items ≡ []) }
+pub(crate) fn start(alloc: Heap, count: u16, every: bool) -> Result<Gathering, AllocError>
+    ensures kept { IfOk result (λ g. g.kept.steps.items ≡ []) }
+    ensures every { IfOk result (λ g. g.every ≡ every) }
 {
     let kept = FirstSteps {
         steps: Vec::new(alloc),
@@ -103,12 +106,13 @@ pub(crate) fn start(alloc: Heap, count: u16) -> Result<Gathering, AllocError>
         around: [0; 16],
         guarding: vec![in alloc; 0; count as usize]?,
         turn: 0,
+        every,
     })
 }
 
 /// Keeps a step where none is kept from its source, or one of a later turn.
 fn keep(kept: &mut FirstSteps, step: Step, turn: u64) -> Result<(), AllocError>
-    ensures { OnOk result (IsFrom (step ∷ []) kept.old.steps.items kept.new.steps.items) }
+    ensures { OnOk result (MayKeep step kept.old.steps.items kept.new.steps.items) }
 {
     let source = step.source.0 as usize;
     if source >= kept.places.len() {
@@ -127,31 +131,87 @@ fn keep(kept: &mut FirstSteps, step: Step, turn: u64) -> Result<(), AllocError>
     Ok(())
 }
 
-/// Whether a flow wasn't looked at before; now it was.
-fn is_new(seen: &mut [u64], source: Var, target: Var) -> bool {
+/// Keeps a step where none is kept.
+fn keep_one(kept: &mut FirstSteps, step: Step) -> Result<(), AllocError>
+    ensures kept { OnOk result (MayKeep step kept.old.steps.items kept.new.steps.items) }
+    ensures one { OnOk result (1 ≤ length kept.new.steps.items) }
+{
+    if !kept.steps.is_empty() {
+        return Ok(());
+    }
+    kept.steps.push(step)?;
+    Ok(())
+}
+
+/// Keeps a step if it is wanted.
+fn keep_wanted<W: Wanted>(
+    wanted: &W,
+    log: &mut Gathering,
+    step: Step,
+    turn: u64,
+) -> Result<(), AllocError>
+    ensures { OnOk result
+        (IsFrom (W.wants wanted.now) (step ∷ []) (kept_of log.old) (kept_of log.new)) }
+{
+    if !wanted.is_wanted(&step) {
+        return Ok(());
+    }
+    if log.every {
+        keep_one(&mut log.kept, step)?;
+        return Ok(());
+    }
+    keep(&mut log.kept, step, turn)?;
+    Ok(())
+}
+
+/// Whether a flow was looked at before; now it was.
+fn is_seen(seen: &mut [u64], source: Var, target: Var) -> bool {
     let row = target.0 as usize;
     let bit = source.0 as usize;
     if bit >= 1024 || row * 16 + 16 > seen.len() {
-        return true;
-    }
-    if has_bit(seen, row, bit) {
         return false;
     }
+    if has_bit(seen, row, bit) {
+        return true;
+    }
     note(seen, row, bit);
-    true
+    false
+}
+
+/// Whether a flow is left out, since it was looked at before.
+fn is_left_out(log: &mut Gathering, source: Var, target: Var) -> bool
+    ensures kept { kept_of log.new ≡ kept_of log.old }
+    ensures every { log.old.every ≡ true → result ≡ false }
+{
+    if log.every {
+        return false;
+    }
+    is_seen(&mut log.seen, source, target)
 }
 
 /// Looks at a step.
 fn look<W: Wanted>(wanted: &W, log: &mut Gathering, step: Step, turn: u64) -> Result<(), AllocError>
-    ensures { OnOk result (IsFrom (step ∷ []) log.old.kept.steps.items log.new.kept.steps.items) }
+    ensures { OnOk result
+        (IsFrom (W.wants wanted.now) (step ∷ []) (kept_of log.old) (kept_of log.new)) }
 {
-    if !is_new(&mut log.seen, step.source, step.target) {
+    if is_left_out(log, step.source, step.target) {
         return Ok(());
     }
-    if !wanted.is_wanted(&step) {
-        return Ok(());
+    keep_wanted(wanted, log, step, turn)?;
+    Ok(())
+}
+
+/// The flow of a guard to a target.
+fn flow_of(g: &Guard, target: Var, written: Span) -> Step
+    ensures { result ≡ flow target written g.now }
+{
+    Step {
+        rule: g.rule,
+        source: g.read.variable,
+        target,
+        read: g.read.place,
+        written,
     }
-    keep(&mut log.kept, step, turn)
 }
 
 /// Looks at the flow of the first guard in force that reads a variable.
@@ -163,8 +223,8 @@ fn look_guard<W: Wanted>(
     written: Span,
     variable: usize,
 ) -> Result<(), AllocError>
-    ensures { OnOk result (IsFrom (flows target written guards.now)
-        log.old.kept.steps.items log.new.kept.steps.items) }
+    ensures { OnOk result (IsAmong (W.wants wanted.now) (flows target written guards.now)
+        (kept_of log.old) (kept_of log.new)) }
 {
     let place = match log.guarding.get(variable) {
         Some(place) => *place,
@@ -173,15 +233,8 @@ fn look_guard<W: Wanted>(
     let Some(g) = guards.get(place) else {
         return Ok(());
     };
-    let step = Step {
-        rule: g.rule,
-        source: g.read.variable,
-        target,
-        read: g.read.place,
-        written,
-    };
     let turn = log.turn.wrapping_add(place as u64).wrapping_add(1);
-    look(wanted, log, step, turn)?;
+    look(wanted, log, flow_of(g, target, written), turn)?;
     Ok(())
 }
 
@@ -206,8 +259,8 @@ fn look_word<W: Wanted>(
     written: Span,
     word: usize,
 ) -> Result<(), AllocError>
-    ensures { OnOk result (IsFrom (flows target written guards.now)
-        log.old.kept.steps.items log.new.kept.steps.items) }
+    ensures { OnOk result (IsAmong (W.wants wanted.now) (flows target written guards.now)
+        (kept_of log.old) (kept_of log.new)) }
 {
     let bits = unseen(log, target, word);
     if bits == 0 {
@@ -223,6 +276,24 @@ fn look_word<W: Wanted>(
     Ok(())
 }
 
+/// Looks at the flow of each guard in force.
+fn look_each<W: Wanted>(
+    wanted: &W,
+    log: &mut Gathering,
+    guards: &[Guard],
+    target: Var,
+    written: Span,
+) -> Result<(), AllocError>
+    ensures { OnOk result (IsFrom (W.wants wanted.now) (flows target written guards.now)
+        (kept_of log.old) (kept_of log.new)) }
+{
+    let turn = log.turn;
+    for g in guards {
+        look(wanted, log, flow_of(g, target, written), turn)?;
+    }
+    Ok(())
+}
+
 /// Looks at the flows of the guards in force.
 pub(crate) fn look_guards<W: Wanted>(
     wanted: &W,
@@ -231,9 +302,13 @@ pub(crate) fn look_guards<W: Wanted>(
     target: Var,
     written: Span,
 ) -> Result<(), AllocError>
-    ensures { OnOk result (IsFrom (flows target written guards.now)
-        log.old.kept.steps.items log.new.kept.steps.items) }
+    ensures { OnOk result (IsFrom (W.wants wanted.now) (flows target written guards.now)
+        (kept_of log.old) (kept_of log.new)) }
 {
+    if log.every {
+        look_each(wanted, log, guards, target, written)?;
+        return Ok(());
+    }
     for word in 0..16 {
         look_word(wanted, log, guards, target, written, word)?;
     }
@@ -251,9 +326,9 @@ pub(crate) fn look_reads<W: Wanted>(
     e: &Ex,
 ) -> Result<(), AllocError>
     requires { HasLocations (length scope.now) (expression e.now) }
-    ensures { OnOk result
-        (IsFrom (flows target written (guarded rule (reads scope.now (expression e.now))))
-        log.old.kept.steps.items log.new.kept.steps.items) }
+    ensures { OnOk result (IsFrom (W.wants wanted.now)
+        (flows target written (guarded rule (reads scope.now (expression e.now))))
+        (kept_of log.old) (kept_of log.new)) }
 {
     match e {
         Ex::Num(_) => Ok(()),
@@ -286,8 +361,9 @@ fn look_endings<W: Wanted>(
     e: &Ex,
 ) -> Result<(), AllocError>
     requires { HasLocations (length scope.now) (expression e.now) }
-    ensures { OnOk result (IsFrom (endings Strict true (reads scope.now (expression e.now)))
-        log.old.kept.steps.items log.new.kept.steps.items) }
+    ensures { OnOk result (IsFrom (W.wants wanted.now)
+        (endings Strict true (reads scope.now (expression e.now)))
+        (kept_of log.old) (kept_of log.new)) }
 {
     match e {
         Ex::Num(_) => Ok(()),
@@ -299,9 +375,7 @@ fn look_endings<W: Wanted>(
                 read: *place,
                 written: *place,
             };
-            if wanted.is_wanted(&step) {
-                keep(&mut log.kept, step, turn)?;
-            }
+            keep_wanted(wanted, log, step, turn)?;
             Ok(())
         }
         Ex::Op(_, a, b) => {
@@ -324,18 +398,20 @@ pub(crate) fn look_ending<W: Wanted>(
     guard: &Ex,
 ) -> Result<(), AllocError>
     requires { HasLocations (length scope.now) (expression guard.now) }
-    ensures { OnOk result (IsFrom (endings profile looping (reads scope.now (expression guard.now)))
-        log.old.kept.steps.items log.new.kept.steps.items) }
+    ensures { OnOk result (IsFrom (W.wants wanted.now)
+        (endings profile looping (reads scope.now (expression guard.now)))
+        (kept_of log.old) (kept_of log.new)) }
 {
-    if observes_ending(profile, looping) {
-        look_endings(wanted, log, scope, turn, guard)?;
+    if !observes_ending(profile, looping) {
+        return Ok(());
     }
+    look_endings(wanted, log, scope, turn, guard)?;
     Ok(())
 }
 
 /// Puts the guards from a place on in force.
 pub(crate) fn enter(log: &mut Gathering, guards: &[Guard], from: usize)
-    ensures { log.new.kept.steps.items ≡ log.old.kept.steps.items }
+    ensures { kept_of log.new ≡ kept_of log.old }
 {
     for i in from..guards.len() {
         let g = guards[i];

@@ -1,7 +1,7 @@
 //! A shortest bad walk of a program that has one.
 
 ghost use Rattle.std.specs.Prelude.{◌≡◌, ◌+◌, ◌<◌, ℕ, Bool, List, map, slice_index, slice_index_or, None, [], IsTrue, IfOk, IfSome, ◌∷◌};
-ghost use Rattle.std.specs.List.{All, Contains, find};
+ghost use Rattle.std.specs.List.{All, Contains};
 ghost use Rattle.vsi_lattice.specs.Order.{IsClass};
 ghost use Rattle.vsi_types.specs.Security.{program as program_of, steps_of};
 ghost use Rattle.vsi_types.specs.declared.rules.Step.{Step};
@@ -11,16 +11,16 @@ ghost use Rattle.vsi_infer.specs.Inference.{table, AreClasses, IsShortest};
 ghost use Rattle.vsi_infer.specs.Paths.{IsPath};
 ghost use Rattle.vsi_infer.specs.Shortest.{begins as begins_of, goes_on as goes_on_of, nearer as nearer_of, row_of as row_of_variable, LeadsDown, IsArrived, FindsWalks};
 
-use crate::gathering::first_steps;
+use crate::gathering::{first_steps, wanted_step};
 use crate::levels::{far_at, fewest, level, levels};
 use crate::looking::FirstSteps;
-use crate::step_search::{Wanted, find_commands};
 use crate::walk::Walk;
+use crate::wanted::Wanted;
 use crate::worklist::Flow;
 use std::alloc::{AllocError, Global as Heap};
 use vsi_lattice::{Class, Classes};
 use vsi_scope::{Resolved, Var};
-use vsi_types::{LOOP, Profile, Step, Walker, first_variables};
+use vsi_types::{LOOP, Profile, Step};
 
 /// The place of a variable in a row: the ending of loops has the last.
 pub fn row_of(last: u16, variable: Var) -> u16
@@ -89,32 +89,12 @@ impl<'a> Wanted for Nearer<'a> {
     }
 }
 
-/// The first step of the program that is wanted.
-fn find_step<W: Wanted>(
-    alloc: Heap,
-    profile: Profile,
-    program: &Resolved<'_>,
-    wanted: &W,
-) -> Result<Option<Step>, AllocError>
-    ensures { IfOk result
-        (λ o. o ≡ find (W.wants wanted.now) (steps_of profile (program_of program.now))) }
-{
-    let body = program.body();
-    let first = program.globals().len() as u16;
-    let mut walk = Walker {
-        scope: first_variables(alloc, first)?,
-        guards: Vec::new(alloc),
-        next: first,
-    };
-    find_commands(wanted, profile, program.letvars(), first, &mut walk, body)
-}
-
-/// A wanted step of a program that has one: the one that is proposed where it is wanted, else the
-/// first one.
+/// A wanted step of a program that has one: the one that is proposed where it is wanted, else one
+/// that a walk finds which looks at every step.
 ///
 /// Whether a step is wanted depends on its source and its target alone, so that the first wanted
-/// step is among those that one walk over the program kept, and the search isn't needed. It stands
-/// in for a proof of that.
+/// step is among those that one walk over the program kept, and the second walk isn't needed. It
+/// stands in for a proof of that.
 fn first_wanted<W: Wanted>(
     alloc: Heap,
     profile: Profile,
@@ -133,10 +113,7 @@ fn first_wanted<W: Wanted>(
             return Ok(step);
         }
     }
-    match find_step(alloc, profile, program, wanted)? {
-        Some(step) => Ok(step),
-        None => unreachable!(),
-    }
+    wanted_step(alloc, profile, program, wanted)
 }
 
 /// The first wanted step of a program that has one.

@@ -1,24 +1,21 @@
 use Rattle.std.proofs.Common.{rules, refl, ◌≡◌, ◌∙◌, sym, ap, subst, arith, ◌||◌, length, take}
 use Rattle.std.proofs.lemmas.Grind.{common_steps}
 use Rattle.vsi_scope.specs.declared.program.Cmd.{the_lemmas}
-use Rattle.vsi_scope.specs.Language.{If, While, Letvar, has_loop}
+use Rattle.vsi_scope.specs.Language.{has_loop}
 use Rattle.vsi_scope.specs.View.{expression, command, sequence}
-use Rattle.vsi_scope.proofs.Views.{command_If, command_While, command_Letvar, letvars_more}
+use Rattle.vsi_scope.proofs.Views.{letvars_more}
 use Rattle.vsi_types.proofs.Judging.{places_at, letvars_at}
 use Rattle.vsi_types.proofs.Looping.{loop_more}
 use Rattle.vsi_types.specs.declared.rules.Rule.TheVariants as typing
 use Rattle.vsi_infer.specs.Leading.{row_reads, reads_by, IsReady, Noted, position_of}
+use Rattle.vsi_infer.proofs.CommandLemmas.{choice_read, loop_read, letvar_read}
 use Rattle.vsi_infer.proofs.FlowMatrixLemmas.{noted_more, noted_then, noted_if, noted_while, ready_after}
 use Rattle.vsi_infer.proofs.flow_matrix.+walk.Goals as goal
 
 pub note_command-note_if-requires : goal.note_command-note_if-requires
 note_command-note_if-requires t c =
-    let e : command c.args.c.now ≡ If (expression c.in-If.guard) (sequence c.deref.result.now)
-    (sequence c.deref-in-If.result.now) =
-    ap command c.in-If.is ∙ command_If c.in-If.guard c.in-If.yes c.in-If.no
-    ∙ ap (λ l. If (expression c.in-If.guard) (sequence l) (sequence c.in-If.no.items))
-    (sym c.deref.ensures.value) ∙ ap (λ l. If (expression c.in-If.guard) (sequence c.deref.result.now)
-    (sequence l)) (sym c.deref-in-If.ensures.value) in
+    let e = choice_read c.args.c.now c.in-If.guard c.in-If.yes c.in-If.no c.deref.result.now c.deref-in-If.result.now
+    c.in-If.is c.deref.ensures.value c.deref-in-If.ensures.value in
     let r = subst (IsReady c.args.sink (position_of c.args.walk.now)) e c.requires in (
       first_of (search (rules, the_lemmas), grind (arith, the_lemmas, common_steps), omega (arith, c.decreases)),
       search (rules, r),
@@ -26,9 +23,8 @@ note_command-note_if-requires t c =
 
 pub note_command-note_while-requires : goal.note_command-note_while-requires
 note_command-note_while-requires t c =
-    let e : command c.args.c.now ≡ While (expression c.in-While.guard) (sequence c.deref-in-While.result.now) =
-    ap command c.in-While.is ∙ command_While c.in-While.guard c.in-While.body
-    ∙ ap (λ l. While (expression c.in-While.guard) (sequence l)) (sym c.deref-in-While.ensures.value) in
+    let e = loop_read c.args.c.now c.in-While.guard c.in-While.body c.deref-in-While.result.now c.in-While.is
+    c.deref-in-While.ensures.value in
     let r = subst (IsReady c.args.sink (position_of c.args.walk.now)) e c.requires in (
       first_of (search (rules, the_lemmas), grind (arith, the_lemmas, common_steps), omega (arith, c.decreases)),
       search (rules, r),
@@ -36,9 +32,8 @@ note_command-note_while-requires t c =
 
 pub note_command-note_letvar-requires : goal.note_command-note_letvar-requires
 note_command-note_letvar-requires t c =
-    let e : command c.args.c.now ≡ Letvar (expression c.in-Letvar.value) (sequence c.deref-in-Letvar.result.now) =
-    ap command c.in-Letvar.is ∙ command_Letvar c.in-Letvar.value c.in-Letvar.body
-    ∙ ap (λ l. Letvar (expression c.in-Letvar.value) (sequence l)) (sym c.deref-in-Letvar.ensures.value) in
+    let e = letvar_read c.args.c.now c.in-Letvar.value c.in-Letvar.body c.deref-in-Letvar.result.now c.in-Letvar.is
+    c.deref-in-Letvar.ensures.value in
     let r = subst (IsReady c.args.sink (position_of c.args.walk.now)) e c.requires in (
       first_of (search (rules, the_lemmas), grind (arith, the_lemmas, common_steps), omega (arith, c.decreases)),
       search (rules, r),
@@ -46,30 +41,24 @@ note_command-note_letvar-requires t c =
 
 pub note_command-returns-in-If : goal.note_command-returns-in-If
 note_command-returns-in-If t c =
-    let e : command c.args.c.now ≡ If (expression c.in-If.guard) (sequence c.deref.result.now)
-    (sequence c.deref-in-If.result.now) =
-    ap command c.in-If.is ∙ command_If c.in-If.guard c.in-If.yes c.in-If.no
-    ∙ ap (λ l. If (expression c.in-If.guard) (sequence l) (sequence c.in-If.no.items))
-    (sym c.deref.ensures.value) ∙ ap (λ l. If (expression c.in-If.guard) (sequence c.deref.result.now)
-    (sequence l)) (sym c.deref-in-If.ensures.value) in
+    let e = choice_read c.args.c.now c.in-If.guard c.in-If.yes c.in-If.no c.deref.result.now c.deref-in-If.result.now
+    c.in-If.is c.deref.ensures.value c.deref-in-If.ensures.value in
     subst (λ k. Noted c.args.filter c.args.profile c.args.sink (row_reads c.args.around.now)
     (position_of c.args.walk.now) k
     (position_of c.note_if.new.walk) c.note_if.result) (sym e) c.note_if.ensures
 
 pub note_command-returns-in-While : goal.note_command-returns-in-While
 note_command-returns-in-While t c =
-    let e : command c.args.c.now ≡ While (expression c.in-While.guard) (sequence c.deref-in-While.result.now) =
-    ap command c.in-While.is ∙ command_While c.in-While.guard c.in-While.body
-    ∙ ap (λ l. While (expression c.in-While.guard) (sequence l)) (sym c.deref-in-While.ensures.value) in
+    let e = loop_read c.args.c.now c.in-While.guard c.in-While.body c.deref-in-While.result.now c.in-While.is
+    c.deref-in-While.ensures.value in
     subst (λ k. Noted c.args.filter c.args.profile c.args.sink (row_reads c.args.around.now)
     (position_of c.args.walk.now) k
     (position_of c.note_while.new.walk) c.note_while.result) (sym e) c.note_while.ensures
 
 pub note_command-returns-in-Letvar : goal.note_command-returns-in-Letvar
 note_command-returns-in-Letvar t c =
-    let e : command c.args.c.now ≡ Letvar (expression c.in-Letvar.value) (sequence c.deref-in-Letvar.result.now) =
-    ap command c.in-Letvar.is ∙ command_Letvar c.in-Letvar.value c.in-Letvar.body
-    ∙ ap (λ l. Letvar (expression c.in-Letvar.value) (sequence l)) (sym c.deref-in-Letvar.ensures.value) in
+    let e = letvar_read c.args.c.now c.in-Letvar.value c.in-Letvar.body c.deref-in-Letvar.result.now c.in-Letvar.is
+    c.deref-in-Letvar.ensures.value in
     subst (λ k. Noted c.args.filter c.args.profile c.args.sink (row_reads c.args.around.now)
     (position_of c.args.walk.now) k
     (position_of c.note_letvar.new.walk) c.note_letvar.result) (sym e) c.note_letvar.ensures

@@ -5,14 +5,15 @@ use Rattle.vsi_scope.specs.Language.{has_loop}
 use Rattle.vsi_scope.specs.View.{sequence}
 use Rattle.vsi_types.specs.Security.{name_place}
 use Rattle.vsi_types.specs.Walker.{walker_place}
-use Rattle.vsi_infer.specs.FirstSteps.{IsGathered}
+use Rattle.vsi_infer.specs.FirstSteps.{IsGathered, kept_of}
 use Rattle.vsi_infer.proofs.gathering.+walk.Given as goal
 
 abbrev pub invariant-gather_commands-loop-c : goal.invariant-gather_commands-loop-c
 invariant-gather_commands-loop-c g l = record {
   loops : l.looping ≡ has_loop (sequence (take l.c-index l.body));
-  gathered : IsGathered l.profile (name_place l.entries l.first) (walker_place l.initial.walk)
-      l.initial.log.kept.steps.items (sequence (take l.c-index l.body)) (walker_place l.walk) l.log.kept.steps.items;
+  gathered : IsGathered (g.W.Wanted.wants l.wanted) l.profile (name_place l.entries l.first)
+      (walker_place l.initial.walk) (kept_of l.initial.log) (sequence (take l.c-index l.body)) (walker_place l.walk)
+      (kept_of l.log);
 }
 
 abbrev pub decreases-gather_if : goal.decreases-gather_if

@@ -1,66 +1,52 @@
-use Rattle.std.proofs.Common.{rules, ◌≡◌, ◌∙◌, sym, ap, subst, arith, length}
+use Rattle.std.proofs.Common.{rules, sym, subst, arith, length}
 use Rattle.std.proofs.lemmas.Grind.{common_steps}
 use Rattle.vsi_scope.specs.declared.program.Cmd.{the_lemmas}
-use Rattle.vsi_scope.specs.Language.{If, While, Letvar}
-use Rattle.vsi_scope.specs.View.{expression, command, sequence}
-use Rattle.vsi_scope.proofs.Views.{command_If, command_While, command_Letvar}
 use Rattle.vsi_types.specs.Security.{name_place}
 use Rattle.vsi_infer.specs.Membership.{IsFor, IsPast, stand_of}
+use Rattle.vsi_infer.proofs.CommandLemmas.{choice_read, loop_read, letvar_read}
 use Rattle.vsi_infer.proofs.MemberLemmas.{for_next, past_none, past_more, past_all}
 use Rattle.vsi_infer.proofs.membership.+walk.Goals as goal
 
 pub pass_command-pass_if-requires : goal.pass_command-pass_if-requires
 pass_command-pass_if-requires t c =
-    let e : command c.args.c.now ≡ If (expression c.in-If.guard) (sequence c.deref.result.now)
-    (sequence c.deref-in-If.result.now) =
-    ap command c.in-If.is ∙ command_If c.in-If.guard c.in-If.yes c.in-If.no
-    ∙ ap (λ l. If (expression c.in-If.guard) (sequence l) (sequence c.in-If.no.items)) (sym c.deref.ensures.value)
-    ∙ ap (λ l. If (expression c.in-If.guard) (sequence c.deref.result.now) (sequence l))
-    (sym c.deref-in-If.ensures.value) in
+    let e = choice_read c.args.c.now c.in-If.guard c.in-If.yes c.in-If.no c.deref.result.now c.deref-in-If.result.now
+    c.in-If.is c.deref.ensures.value c.deref-in-If.ensures.value in
     let r = subst (IsFor c.args.first (length c.args.entries.now) (stand_of c.args.cursor.now)) e c.requires in
     (first_of (search (rules, the_lemmas), grind (arith, the_lemmas, common_steps), omega (arith, c.decreases)), r)
 
 pub pass_command-pass_while-requires : goal.pass_command-pass_while-requires
 pass_command-pass_while-requires t c =
-    let e : command c.args.c.now ≡ While (expression c.in-While.guard) (sequence c.deref-in-While.result.now) =
-    ap command c.in-While.is ∙ command_While c.in-While.guard c.in-While.body
-    ∙ ap (λ l. While (expression c.in-While.guard) (sequence l)) (sym c.deref-in-While.ensures.value) in
+    let e = loop_read c.args.c.now c.in-While.guard c.in-While.body c.deref-in-While.result.now c.in-While.is
+    c.deref-in-While.ensures.value in
     let r = subst (IsFor c.args.first (length c.args.entries.now) (stand_of c.args.cursor.now)) e c.requires in
     (first_of (search (rules, the_lemmas), grind (arith, the_lemmas, common_steps), omega (arith, c.decreases)), r)
 
 pub pass_command-pass_letvar-requires : goal.pass_command-pass_letvar-requires
 pass_command-pass_letvar-requires t c =
-    let e : command c.args.c.now ≡ Letvar (expression c.in-Letvar.value) (sequence c.deref-in-Letvar.result.now) =
-    ap command c.in-Letvar.is ∙ command_Letvar c.in-Letvar.value c.in-Letvar.body
-    ∙ ap (λ l. Letvar (expression c.in-Letvar.value) (sequence l)) (sym c.deref-in-Letvar.ensures.value) in
+    let e = letvar_read c.args.c.now c.in-Letvar.value c.in-Letvar.body c.deref-in-Letvar.result.now c.in-Letvar.is
+    c.deref-in-Letvar.ensures.value in
     let r = subst (IsFor c.args.first (length c.args.entries.now) (stand_of c.args.cursor.now)) e c.requires in
     (first_of (search (rules, the_lemmas), grind (arith, the_lemmas, common_steps), omega (arith, c.decreases)), r)
 
 pub pass_command-returns-in-If : goal.pass_command-returns-in-If
 pass_command-returns-in-If t c =
-    let e : command c.args.c.now ≡ If (expression c.in-If.guard) (sequence c.deref.result.now)
-    (sequence c.deref-in-If.result.now) =
-    ap command c.in-If.is ∙ command_If c.in-If.guard c.in-If.yes c.in-If.no
-    ∙ ap (λ l. If (expression c.in-If.guard) (sequence l) (sequence c.in-If.no.items)) (sym c.deref.ensures.value)
-    ∙ ap (λ l. If (expression c.in-If.guard) (sequence c.deref.result.now) (sequence l))
-    (sym c.deref-in-If.ensures.value) in
+    let e = choice_read c.args.c.now c.in-If.guard c.in-If.yes c.in-If.no c.deref.result.now c.deref-in-If.result.now
+    c.in-If.is c.deref.ensures.value c.deref-in-If.ensures.value in
     subst (λ k. IsPast c.args.step.now c.args.profile (name_place c.args.entries.now c.args.first) c.args.around
     (stand_of c.args.cursor.now) k (stand_of c.pass_if.new.cursor) c.pass_if.result) (sym e) c.pass_if.ensures
 
 pub pass_command-returns-in-While : goal.pass_command-returns-in-While
 pass_command-returns-in-While t c =
-    let e : command c.args.c.now ≡ While (expression c.in-While.guard) (sequence c.deref-in-While.result.now) =
-    ap command c.in-While.is ∙ command_While c.in-While.guard c.in-While.body
-    ∙ ap (λ l. While (expression c.in-While.guard) (sequence l)) (sym c.deref-in-While.ensures.value) in
+    let e = loop_read c.args.c.now c.in-While.guard c.in-While.body c.deref-in-While.result.now c.in-While.is
+    c.deref-in-While.ensures.value in
     subst (λ k. IsPast c.args.step.now c.args.profile (name_place c.args.entries.now c.args.first) c.args.around
     (stand_of c.args.cursor.now) k (stand_of c.pass_while.new.cursor) c.pass_while.result)
     (sym e) c.pass_while.ensures
 
 pub pass_command-returns-in-Letvar : goal.pass_command-returns-in-Letvar
 pass_command-returns-in-Letvar t c =
-    let e : command c.args.c.now ≡ Letvar (expression c.in-Letvar.value) (sequence c.deref-in-Letvar.result.now) =
-    ap command c.in-Letvar.is ∙ command_Letvar c.in-Letvar.value c.in-Letvar.body
-    ∙ ap (λ l. Letvar (expression c.in-Letvar.value) (sequence l)) (sym c.deref-in-Letvar.ensures.value) in
+    let e = letvar_read c.args.c.now c.in-Letvar.value c.in-Letvar.body c.deref-in-Letvar.result.now c.in-Letvar.is
+    c.deref-in-Letvar.ensures.value in
     subst (λ k. IsPast c.args.step.now c.args.profile (name_place c.args.entries.now c.args.first) c.args.around
     (stand_of c.args.cursor.now) k (stand_of c.pass_letvar.new.cursor) c.pass_letvar.result)
     (sym e) c.pass_letvar.ensures

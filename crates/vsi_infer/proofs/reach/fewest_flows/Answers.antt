@@ -1,9 +1,9 @@
-use Rattle.std.proofs.Common.{◌≡◌, ℕ, ◌+◌, ◌<◌, ◌≤◌, Bool, List, true, cond, get_or, length, sym, ap, ◌∙◌, subst, refl, arith}
+use Rattle.std.proofs.Common.{◌+◌, ◌≤◌, true, get_or, ap, ◌∙◌, subst, refl, arith}
 use Rattle.vsi_infer.specs.FlowRows.{flow_has}
 use Rattle.vsi_infer.specs.Distances.{unreached}
 use Rattle.vsi_infer.specs.Reach.{IsNumbered, IsCollected}
 use Rattle.vsi_infer.proofs.RowsOf.{all_zero}
-use Rattle.vsi_infer.proofs.ReachLemmas.{has_small, fresh_within, fresh_free, level_first, level_more, level_last, written}
+use Rattle.vsi_infer.proofs.ReachLemmas.{has_small, fresh_free, level_more, level_last, written}
 use Rattle.vsi_infer.proofs.reach.fewest_flows.Goals as goal
 
 pub spread-requires-clause-free : goal.spread-requires-clause-free

@@ -1,5 +1,4 @@
-use Rattle.std.proofs.Common.{◌≡◌, ℕ, ◌==◌, ◌&&◌, Bool, true, false, sym, ap, ◌∙◌, refl, arith}
-use Rattle.vsi_infer.specs.FlowRows.{flow_has}
+use Rattle.std.proofs.Common.{sym, ◌∙◌, refl}
 use Rattle.vsi_infer.proofs.RowsOf.{all_zero}
 use Rattle.vsi_infer.proofs.ReachLemmas.{only_one}
 use Rattle.std.proofs.lemmas.Bool.{false≢true}

@@ -1,4 +1,4 @@
-use Rattle.std.proofs.Common.{◌≡◌, ℕ, ◌||◌, ◌==◌, ◌&&◌, Bool, true, false, ap, ◌∙◌, refl}
+use Rattle.std.proofs.Common.{◌||◌, ap, ◌∙◌, refl}
 use Rattle.vsi_infer.specs.FlowRows.{flow_has}
 use Rattle.vsi_infer.proofs.RowsOf.{all_zero}
 use Rattle.vsi_infer.proofs.reach.sources.Goals as goal

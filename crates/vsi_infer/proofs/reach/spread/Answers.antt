@@ -1,6 +1,6 @@
-use Rattle.std.proofs.Common.{◌≡◌, ℕ, ◌+◌, ◌*◌, ◌/◌, ◌<◌, ◌≤◌, sym, ap, ◌∙◌, subst, arith}
+use Rattle.std.proofs.Common.{arith}
 use Rattle.vsi_infer.specs.FlowRows.{flow_has}
-use Rattle.vsi_infer.proofs.ReachLemmas.{no_bits, has_small, spread_start, spread_skip, spread_one, spread_numbered, spread_collected, spread_quiet}
+use Rattle.vsi_infer.proofs.ReachLemmas.{no_bits, has_small, spread_skip, spread_numbered, spread_collected, spread_quiet}
 use Rattle.vsi_infer.proofs.reach.spread.Goals as goal
 
 pub loop-v-preserved-then-front-v-eq0 : goal.loop-v-preserved-then-front-v-eq0
