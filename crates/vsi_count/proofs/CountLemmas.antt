@@ -1,6 +1,6 @@
 -- Counts of instructions.
-use Rattle.std.proofs.Common.{◌≡◌, ◌-◌, Bool, ℕ, suc, ◌+◌, ◌<◌, ◌≤◌, ◌⊎◌, ℤ, List, Option, Some, None, true, false, ap, ◌∙◌, refl, sym, subst, arith, option_and_then, inl, inr}
-use Rattle.std.specs.Prelude.{IsSomeAnd, IsTrue, not, if◌then◌else◌}
+use Rattle.std.proofs.Common.{◌≡◌, ◌-◌, Bool, ℕ, ◌+◌, ◌<◌, ◌≤◌, ◌⊎◌, ℤ, List, Option, Some, None, true, false, ap, ◌∙◌, refl, sym, subst, arith, option_and_then, inl, inr}
+use Rattle.std.specs.Prelude.{IsTrue, not, if◌then◌else◌}
 use Rattle.std.proofs.lemmas.Bool.{cases_lt}
 use Rattle.vsi_image.specs.declared.instr.Instr.{Instr}
 use Rattle.vsi_image.specs.declared.instr.Image.{Image}
@@ -52,6 +52,13 @@ halts_longer code b budget s h le = subst Halts (sym (longer_same code b budget 
 pub go_on : (code : List Instr) (a b : ℕ) (s s' : State) → after code a s ≡ Some s'
     → after code (a + b) s ≡ after code b s'
 go_on code a b s s' e = budgets_add code a b s ∙ ap (option_and_then (after code b)) e
+
+-- So it does where the rest is told of an image by another name.
+pub goes_from : (image held : Image) (a b : ℕ) (s s' s'' : State) → held ≡ image → after image.code.items a s ≡ Some s'
+    → after held.code.items b s' ≡ Some s'' → after image.code.items (a + b) s ≡ Some s''
+goes_from image held a b s s' s'' same e more =
+    go_on image.code.items a b s s' e
+    ∙ subst (λ (im : Image). after im.code.items b s' ≡ Some s'') same more
 
 -- What halts within a number of instructions, and within none of the smaller ones, has that count.
 pub count_is : (image : Image) (words : List ℤ) (n : ℕ) → Halts (run_of image words n)
@@ -119,7 +126,7 @@ going_of s e = by s.halted refl
     by true h = absurd (let bad : Halted ≡ OutOfBudget = sym (ap (λ b. if b then Halted else OutOfBudget) h) ∙ e in cc)
 
 -- What is so of a run of a machine at its start is so of the image's run.
-pub from_start : (P : Option State → Type 0) (im image : Image) (s : State) (words : List ℤ) (b : ℕ) → im ≡ image
+from_start : (P : Option State → Type 0) (im image : Image) (s : State) (words : List ℤ) (b : ℕ) → im ≡ image
     → s ≡ start image words → P (after im.code.items b s) → P (run_of image words b)
 from_start P im image s words b e f h =
     subst (λ (x : State). P (after image.code.items b x)) f (subst (λ (i : Image). P (after i.code.items b s)) e h)
@@ -139,7 +146,7 @@ module _ (image : Image) (words : List ℤ) (budget done more : ℕ) (le : done 
   some_halted o e h = let k : Halts (Some u) = subst Halts e h in k
 
   -- The state has halted.
-  pub has_halted : u.halted ≡ true
+  has_halted : u.halted ≡ true
   has_halted = elim ends [
     | inl h ↦ h
     | inr e ↦ let sum : budget ≡ done + more = omega (arith, le, e) in
@@ -161,14 +168,41 @@ module _ (image : Image) (words : List ℤ) (budget done more : ℕ) (le : done 
       by (Some s) e h l = went_on image.code.items done n (start image words) s l e h
 
   -- The run halts after just so many instructions.
-  pub counted_exact : HaltsIn image words (done + more)
+  counted_exact : HaltsIn image words (done + more)
   counted_exact = count_is image words (done + more) (halts (run_of image words (done + more)) u both has_halted) before
 
   -- The run within the budget reaches the state.
-  pub counted_state : run_of image words budget ≡ Some u
+  counted_state : run_of image words budget ≡ Some u
   counted_state =
       longer_same image.code.items (done + more) budget (start image words) counted_exact.halts
       (counted_exact.least budget enough) ∙ both
+
+-- What is known of a run within a budget that halts: the state, and after how many instructions.
+pub record IsCounted (image : Image) (words : List ℤ) (budget n : ℕ) (u : State) : Type 0 where
+  pub state : run_of image words budget ≡ Some u
+  pub halted : u.halted ≡ true
+  pub exact : HaltsIn image words n
+
+-- Of two machines from the start the first halts within the budget, and goes on within a part of it; the second does
+-- that part, and then the rest one by one.
+pub is_counted : (image : Image) (words : List ℤ) (budget done more : ℕ) → done ≤ budget
+    → (one two : Image) (first second t u : State) → one ≡ image → first ≡ start image words → two ≡ image
+    → second ≡ start image words → (rest : Image) → rest ≡ two → after two.code.items done second ≡ Some t
+    → GoesOn (after one.code.items done first) → Halts (after one.code.items budget first)
+    → after rest.code.items more t ≡ Some u → ((n : ℕ) → n < more → GoesOn (after rest.code.items n t))
+    → (u.halted ≡ true) ⊎ (more ≡ budget - done) → IsCounted image words budget (done + more) u
+is_counted image words budget done more le one two first second t u i f i' f' rest r part going enough last each ends =
+    let same = r ∙ i' in
+    let reached = from_start (λ o. o ≡ Some t) two image second words done i' f' part in
+    let goes = from_start GoesOn one image first words done i f going in
+    let halts_then = from_start Halts one image first words budget i f enough in
+    let state = subst (λ (im : Image). after im.code.items more t ≡ Some u) same last in
+    let all = subst (λ (im : Image). (n : ℕ) → n < more → GoesOn (after im.code.items n t)) same each in
+    record {
+      state = counted_state image words budget done more le t u reached goes halts_then state all ends;
+      halted = has_halted image words budget done more le t u reached goes halts_then state all ends;
+      exact = counted_exact image words budget done more le t u reached goes halts_then state all ends;
+    }
 
 -- One count at most.
 pub one_count : OneCount
