@@ -1,6 +1,6 @@
 //! The lines of a refused source text.
 
-ghost use Rattle.std.specs.Prelude.{◌≡◌, option_map};
+ghost use Rattle.std.specs.Prelude.{◌≡◌, Some, option_map};
 ghost use Rattle.vsi_faults.specs.View.{field_of, line_of};
 ghost use Rattle.vsi_faults.specs.Source as spec;
 
@@ -16,6 +16,17 @@ fn place_in(text: &[u8], at: usize) -> Field<'static>
     Field::Place(line, column)
 }
 
+/// The line of a fault at a place of the text.
+fn line_at(refusal: usize, name: &'static [u8], text: &[u8], at: usize) -> Line<'static>
+    ensures { Some (line_of result) ≡ spec.line refusal name.now (spec.place_in text.now at) }
+{
+    Line {
+        refusal,
+        name,
+        field: place_in(text, at),
+    }
+}
+
 /// The line of a fault of the words; none where memory was wanting.
 pub(crate) fn lexical_line(text: &[u8], error: LexError) -> Option<Line<'static>>
     ensures { option_map line_of result ≡ spec.lexical_line text.now error }
@@ -27,21 +38,9 @@ pub(crate) fn lexical_line(text: &[u8], error: LexError) -> Option<Line<'static>
             name: b"TooLong",
             field: Field::Nothing,
         }),
-        LexError::BadByte(at) => Some(Line {
-            refusal: 12,
-            name: b"BadByte",
-            field: place_in(text, at),
-        }),
-        LexError::BadWord(span) => Some(Line {
-            refusal: 13,
-            name: b"BadWord",
-            field: place_in(text, span.start),
-        }),
-        LexError::BadNumber(span) => Some(Line {
-            refusal: 14,
-            name: b"BadNumber",
-            field: place_in(text, span.start),
-        }),
+        LexError::BadByte(at) => Some(line_at(12, b"BadByte", text, at)),
+        LexError::BadWord(span) => Some(line_at(13, b"BadWord", text, span.start)),
+        LexError::BadNumber(span) => Some(line_at(14, b"BadNumber", text, span.start)),
     }
 }
 
@@ -51,16 +50,8 @@ pub(crate) fn syntactic_line(text: &[u8], error: &ParseError) -> Option<Line<'st
 {
     match error {
         ParseError::Memory => None,
-        ParseError::Unexpected(span) => Some(Line {
-            refusal: 15,
-            name: b"Unexpected",
-            field: place_in(text, span.start),
-        }),
-        ParseError::TooDeep(span) => Some(Line {
-            refusal: 16,
-            name: b"TooDeep",
-            field: place_in(text, span.start),
-        }),
+        ParseError::Unexpected(span) => Some(line_at(15, b"Unexpected", text, span.start)),
+        ParseError::TooDeep(span) => Some(line_at(16, b"TooDeep", text, span.start)),
     }
 }
 
@@ -70,31 +61,16 @@ pub(crate) fn scoping_line(text: &[u8], error: ScopeError) -> Option<Line<'stati
 {
     match error {
         ScopeError::Memory => None,
-        ScopeError::Duplicate(span) => Some(Line {
-            refusal: 17,
-            name: b"Duplicate",
-            field: place_in(text, span.start),
-        }),
-        ScopeError::UnknownClass(span) => Some(Line {
-            refusal: 18,
-            name: b"UnknownClass",
-            field: place_in(text, span.start),
-        }),
-        ScopeError::Unbound(span) => Some(Line {
-            refusal: 19,
-            name: b"Unbound",
-            field: place_in(text, span.start),
-        }),
-        ScopeError::TooManyGlobals(span) => Some(Line {
-            refusal: 20,
-            name: b"TooManyGlobals",
-            field: place_in(text, span.start),
-        }),
-        ScopeError::TooManyDeclarations(span) => Some(Line {
-            refusal: 21,
-            name: b"TooManyDeclarations",
-            field: place_in(text, span.start),
-        }),
+        ScopeError::Duplicate(span) => Some(line_at(17, b"Duplicate", text, span.start)),
+        ScopeError::UnknownClass(span) => Some(line_at(18, b"UnknownClass", text, span.start)),
+        ScopeError::Unbound(span) => Some(line_at(19, b"Unbound", text, span.start)),
+        ScopeError::TooManyGlobals(span) => Some(line_at(20, b"TooManyGlobals", text, span.start)),
+        ScopeError::TooManyDeclarations(span) => Some(line_at(
+            21,
+            b"TooManyDeclarations",
+            text,
+            span.start,
+        )),
         ScopeError::TooLarge => Some(Line {
             refusal: 22,
             name: b"TooLarge",
