@@ -182,36 +182,20 @@ module _ (L : Lattice) (laws : IsLattice L) (a : ℕ) (class : IsClass L a) (cla
         words = equal;
       }
 
-  -- A JMP goes to its target.
-  jmp_both : (t pc : ℕ) (s s' m m' : List ℤ) → SameOperands L a [] s s' → SameSlots L a classes m m'
-      → BothPass (Jmp t) pc [] s s' m m'
-  jmp_both t pc s s' m m' same equal =
+  -- An instruction that keeps the operands and the slots goes to the same place in both.
+  keeps_both : (i : Instr) (pc place : ℕ) (halted : Bool) (s s' m m' : List ℤ)
+      → ((o w : List ℤ) → acted i pc o w ≡ Some (ended place halted o w)) → SameOperands L a [] s s'
+      → SameSlots L a classes m m' → BothPass i pc [] s s' m m'
+  keeps_both i pc place halted s s' m m' does same equal =
       record {
-        place = t;
-        halted = false;
+        place = place;
+        halted = halted;
         rest = s;
         rest' = s';
         slots = m;
         slots' = m';
-        did = refl;
-        did' = refl;
-        operands = same;
-        words = equal;
-      }
-
-  -- A HALT stays where it is.
-  halt_both : (pc : ℕ) (s s' m m' : List ℤ) → SameOperands L a [] s s' → SameSlots L a classes m m'
-      → BothPass Halt pc [] s s' m m'
-  halt_both pc s s' m m' same equal =
-      record {
-        place = pc;
-        halted = true;
-        rest = s;
-        rest' = s';
-        slots = m;
-        slots' = m';
-        did = refl;
-        did' = refl;
+        did = does s m;
+        did' = does s' m';
         operands = same;
         words = equal;
       }
@@ -241,7 +225,7 @@ module _ (L : Lattice) (laws : IsLattice L) (a : ℕ) (class : IsClass L a) (cla
       (jz_both t pc s s' m m' (subst (λ h. SameOperands L a h s s') p.0 same) equal)
   both_pass (Jmp t) pc held left s s' m m' p lt full full' same equal =
       subst (λ l. BothPass (Jmp t) pc l s s' m m') (sym p.1)
-      (jmp_both t pc s s' m m' (subst (λ h. SameOperands L a h s s') p.0 same) equal)
+      (keeps_both (Jmp t) pc t false s s' m m' (λ o w. refl) (subst (λ h. SameOperands L a h s s') p.0 same) equal)
   both_pass Halt pc held left s s' m m' p lt full full' same equal =
       subst (λ l. BothPass Halt pc l s s' m m') (sym p.1)
-      (halt_both pc s s' m m' (subst (λ h. SameOperands L a h s s') p.0 same) equal)
+      (keeps_both Halt pc pc true s s' m m' (λ o w. refl) (subst (λ h. SameOperands L a h s s') p.0 same) equal)

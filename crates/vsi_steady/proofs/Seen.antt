@@ -5,7 +5,7 @@ use Rattle.std.specs.Option.{option_map_or}
 use Rattle.std.proofs.lemmas.Bool.{false≢true}
 use Rattle.std.proofs.lemmas.List.{length-take}
 use Rattle.std.proofs.lemmas.Option.{same_Some}
-use Rattle.vsi_lattice.specs.Order.{Lattice, Below}
+use Rattle.vsi_lattice.specs.Order.{Lattice, Below, IsLattice}
 use Rattle.vsi_image.specs.declared.instr.Image.{Image}
 use Rattle.vsi_image.specs.Fields.{Global, globals}
 use Rattle.vsi_image.specs.Valid.{IsValid}
@@ -17,8 +17,9 @@ use Rattle.vsi_lattice.specs.Known.{Known}
 use Rattle.vsi_store.specs.View.{ViewsState, line_seen, view_text_of}
 use Rattle.vsi_store.specs.declared.views.View.{View}
 use Rattle.vsi_store.specs.declared.views.View.TheVariants.{Text, OutOfBudget}
-use Rattle.vsi_steady.specs.Laws.{AgreeAt, seen, SteadyViewsAlike}
-use Rattle.vsi_steady.proofs.Together.{stand_alike}
+use Rattle.vsi_steady.specs.Laws.{AgreeAt, seen, RunsAlike, SteadyViewsAlike, ViewsAlike}
+use Rattle.vsi_steady.specs.Steady.{IsSteady}
+use Rattle.vsi_steady.proofs.Together.{stand_alike, steady_runs_alike}
 
 -- The line of a global whose words are equal where its class is seen.
 same_line : (L : Lattice) (a : ℕ) (g : Global) (w w' : ℤ) (o : Option ℕ)
@@ -83,3 +84,10 @@ steady_views_alike known L image laws valid steady a m m' n view view' h v v' =
     seen_same known L a image x.state x.state' view view' x.halted full x.agree
     (subst (λ s. ViewsState known L a image s view) (sym is) v.2)
     (subst (λ s. ViewsState known L a image s view') (sym is') v'.2)
+
+-- Runs of a steady image are alike, and so is what is seen of them, where it is known to be steady by another name.
+pub both_alike : (known : Known) (L : Lattice) (image held : Image) → held ≡ image → IsLattice L → IsValid image →
+    IsSteady known L held → RunsAlike known L image × ViewsAlike known L image
+both_alike known L image held same laws valid steady =
+    let is = subst (IsSteady known L) same steady in
+    (steady_runs_alike known L image laws valid is, steady_views_alike known L image laws valid is)

@@ -12,6 +12,7 @@ use Rattle.vsi_image.specs.declared.instr.Instr.TheVariants.{Push, Load, Store, 
 use Rattle.vsi_image.specs.declared.instr.Image.{Image}
 use Rattle.vsi_image.specs.Effects.{left, leaves_none, goes_off, depth_after, depth_at}
 use Rattle.vsi_image.specs.Valid.{IsFine, IsValid}
+use Rattle.vsi_machine.proofs.Steps.{read}
 use Rattle.vsi_steady.specs.Steady.{GoesThrough, Passes}
 
 -- A walk over the code stands at this place with this many operands, all with classes.
@@ -24,6 +25,13 @@ pub record Standing (L : Lattice) (image : Image) (pc depth : ℕ) (held : List 
 pub fine_at : (L : Lattice) (image : Image) (pc depth : ℕ) (held : List ℕ) (i : Instr) → IsValid image
     → Standing L image pc depth held → slice_get image.code.items pc ≡ Some i → IsFine image i depth
 fine_at L image pc depth held i valid s e = subst (λ n. IsFine image i n) (sym s.at_depth) (valid.each pc i e)
+
+-- The instruction that is read there of the same code is fine.
+pub fine_read : (L : Lattice) (image : Image) (list : List Instr) (pc depth : ℕ) (held : List ℕ) (d : Instr)
+    → IsValid image → Standing L image pc depth held → list ≡ image.code.items → pc < length image.code.items
+    → IsFine image (get_or list pc d) depth
+fine_read L image list pc depth held d valid s same lt =
+    fine_at L image pc depth held (get_or list pc d) valid s (read image.code.items list pc d same lt)
 
 -- What never goes on leaves no operand.
 off_none : (i : Instr) → goes_off i ≡ true → leaves_none i ≡ true

@@ -8,7 +8,7 @@ use Rattle.vsi_machine.proofs.Steps.{read}
 use Rattle.vsi_steady.specs.Least.{Leads}
 use Rattle.vsi_steady.specs.Steady.{Passes}
 use Rattle.vsi_steady.proofs.Sweeping.{Sweeping, sweep_on}
-use Rattle.vsi_steady.proofs.Walking.{fine_at}
+use Rattle.vsi_steady.proofs.Walking.{fine_read}
 use Rattle.vsi_steady.proofs.check.sweep.Goals as goal
 
 pub loop-pc-init : goal.loop-pc-init
@@ -26,23 +26,15 @@ loop-pc-init c =
 
 pub raise_by-is_raised-requires-clause-fine : goal.raise_by-is_raised-requires-clause-fine
 raise_by-is_raised-requires-clause-fine c =
-    let image = c.args.image.now in
-    let list = c.deref-instr-items.result.now in
-    let lt : c.loop-pc.pc < length image.code.items =
-    omega (arith, c.loop-pc-test.true, ap length c.deref-instr-items.ensures.value) in
-    fine_at (order c.args.lattice.now) image c.loop-pc.pc c.loop-pc.depth c.loop-pc.held _
-    c.requires.valid c.loop-pc.invariant.standing
-    (read image.code.items list c.loop-pc.pc (Push (pos 0)) c.deref-instr-items.ensures.value lt)
+    fine_read (order c.args.lattice.now) c.args.image.now c.deref-instr-items.result.now c.loop-pc.pc c.loop-pc.depth
+    c.loop-pc.held (Push (pos 0)) c.requires.valid c.loop-pc.invariant.standing c.deref-instr-items.ensures.value
+    (omega (arith, c.loop-pc-test.true, ap length c.deref-instr-items.ensures.value))
 
 pub pass-after-requires-clause-fine : goal.pass-after-requires-clause-fine
 pass-after-requires-clause-fine c =
-    let image = c.args.image.now in
-    let list = c.deref-instr-items.result.now in
-    let lt : c.loop-pc.pc < length image.code.items =
-    omega (arith, c.loop-pc-test.true, ap length c.deref-instr-items.ensures.value) in
-    fine_at (order c.args.lattice.now) image c.loop-pc.pc c.loop-pc.depth c.loop-pc.held _
-    c.requires.valid c.loop-pc.invariant.standing
-    (read image.code.items list c.loop-pc.pc (Push (pos 0)) c.deref-instr-items.ensures.value lt)
+    fine_read (order c.args.lattice.now) c.args.image.now c.deref-instr-items.result.now c.loop-pc.pc c.loop-pc.depth
+    c.loop-pc.held (Push (pos 0)) c.requires.valid c.loop-pc.invariant.standing c.deref-instr-items.ensures.value
+    (omega (arith, c.loop-pc-test.true, ap length c.deref-instr-items.ensures.value))
 
 pub loop-pc-preserved : goal.loop-pc-preserved
 loop-pc-preserved c =
