@@ -1,6 +1,8 @@
 //! Builds of texts that a reader gives.
 
-use crate::engine::fakes::{Failure, Faults, NO_FAULTS, drip_of, scant_of};
+use crate::engine::fakes::{
+    Failure, Faults, NO_FAULTS, drip_of, read_fault, scant_of, write_fault,
+};
 use crate::engine::tallies::{Given, Taken, given_by, taken_by};
 use std::alloc::Global;
 use std::test::Fail;
@@ -67,11 +69,7 @@ fn writes_the_image(rt: HostRuntime) -> Result<(), Fail> {
 
 /// Whether a build ends where the reader fails, and asks nothing of the writer.
 fn stops_at_the_read(alloc: Global, fails_at: u64) -> Result<bool, Fail> {
-    let faults = Faults {
-        read: fails_at,
-        ..NO_FAULTS
-    };
-    let (ending, given, taken) = build_of(alloc, THREE, faults)?;
+    let (ending, given, taken) = build_of(alloc, THREE, read_fault(fails_at))?;
     Ok(matches!(ending, Ending::ReadFault) && given.is(fails_at, 1) && taken.is_nothing())
 }
 
@@ -85,26 +83,22 @@ fn a_read_fault_writes_nothing(rt: HostRuntime) -> Result<(), Fail> {
 
 /// Whether a build ends where the writer fails so, which took a start of the image.
 fn stops_at_the_write(alloc: Global, fails_at: u64, failure: Failure) -> Result<bool, Fail> {
-    let faults = Faults {
-        read: 0,
-        write: fails_at,
-        failure,
-    };
-    let (ending, _, taken) = build_of(alloc, THREE, faults)?;
+    let (ending, _, taken) = build_of(alloc, THREE, write_fault(fails_at, failure))?;
     Ok(matches!(ending, Ending::WriteFault) && taken.is_cut(fails_at))
+}
+
+/// Whether a build ends where the writer refuses, and where it takes nothing.
+fn stops_at_each_write(alloc: Global, fails_at: u64) -> Result<bool, Fail> {
+    Ok(
+        stops_at_the_write(alloc, fails_at, Failure::Refuses)?
+            && stops_at_the_write(alloc, fails_at, Failure::TakesNothing)?,
+    )
 }
 
 #[test]
 fn a_write_fault_leaves_a_prefix(rt: HostRuntime) -> Result<(), Fail> {
     for fails_at in 1..32 {
-        assert!(rt;
-            stops_at_the_write(rt.alloc(), fails_at, Failure::Refuses)?,
-            "at {fails_at}"
-        );
-        assert!(rt;
-            stops_at_the_write(rt.alloc(), fails_at, Failure::TakesNothing)?,
-            "at {fails_at}"
-        );
+        assert!(rt; stops_at_each_write(rt.alloc(), fails_at)?, "at {fails_at}");
     }
     Ok(())
 }

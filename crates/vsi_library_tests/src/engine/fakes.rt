@@ -99,6 +99,23 @@ pub(crate) const NO_FAULTS: Faults = Faults {
     failure: Failure::Refuses,
 };
 
+/// The reader fails at this call.
+pub(crate) fn read_fault(fails_at: u64) -> Faults {
+    Faults {
+        read: fails_at,
+        ..NO_FAULTS
+    }
+}
+
+/// The writer fails so at this call.
+pub(crate) fn write_fault(fails_at: u64, failure: Failure) -> Faults {
+    Faults {
+        read: 0,
+        write: fails_at,
+        failure,
+    }
+}
+
 /// The room that a writer is given.
 const ROOM: usize = 64;
 

@@ -1,6 +1,8 @@
 //! Runs of images that a reader gives.
 
-use crate::engine::fakes::{Failure, Faults, NO_FAULTS, drip_of, scant_of};
+use crate::engine::fakes::{
+    Failure, Faults, NO_FAULTS, drip_of, read_fault, scant_of, write_fault,
+};
 use crate::engine::tallies::{Given, Taken, given_by, taken_by};
 use std::alloc::{AllocError, Global};
 use std::test::Fail;
@@ -89,11 +91,7 @@ fn run_of(
 
 /// Whether a run ends where the reader fails, and asks nothing of the writer.
 fn stops_at_the_read(alloc: Global, fails_at: u64) -> Result<bool, AllocError> {
-    let faults = Faults {
-        read: fails_at,
-        ..NO_FAULTS
-    };
-    let (ending, given, taken) = run_of(alloc, THREE, b"", faults)?;
+    let (ending, given, taken) = run_of(alloc, THREE, b"", read_fault(fails_at))?;
     Ok(matches!(ending, Ending::ReadFault) && given.is(fails_at, 1) && taken.is_nothing())
 }
 
@@ -107,26 +105,22 @@ fn a_read_fault_writes_nothing(rt: HostRuntime) -> Result<(), Fail> {
 
 /// Whether a run ends where the writer fails so, which took a start of what is shown.
 fn stops_at_the_write(alloc: Global, fails_at: u64, failure: Failure) -> Result<bool, AllocError> {
-    let faults = Faults {
-        read: 0,
-        write: fails_at,
-        failure,
-    };
-    let (ending, given, taken) = run_of(alloc, THREE, b"", faults)?;
+    let (ending, given, taken) = run_of(alloc, THREE, b"", write_fault(fails_at, failure))?;
     Ok(matches!(ending, Ending::WriteFault) && given.faults == 0 && taken.is_cut(fails_at))
+}
+
+/// Whether a run ends where the writer refuses, and where it takes nothing.
+fn stops_at_each_write(alloc: Global, fails_at: u64) -> Result<bool, AllocError> {
+    Ok(
+        stops_at_the_write(alloc, fails_at, Failure::Refuses)?
+            && stops_at_the_write(alloc, fails_at, Failure::TakesNothing)?,
+    )
 }
 
 #[test]
 fn a_write_fault_leaves_a_prefix(rt: HostRuntime) -> Result<(), Fail> {
     for fails_at in 1..44 {
-        assert!(rt;
-            stops_at_the_write(rt.alloc(), fails_at, Failure::Refuses)?,
-            "at {fails_at}"
-        );
-        assert!(rt;
-            stops_at_the_write(rt.alloc(), fails_at, Failure::TakesNothing)?,
-            "at {fails_at}"
-        );
+        assert!(rt; stops_at_each_write(rt.alloc(), fails_at)?, "at {fails_at}");
     }
     Ok(())
 }
