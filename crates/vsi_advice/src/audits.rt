@@ -1,14 +1,12 @@
 //! What is told of an image that is judged and refused.
 
-use crate::Telling;
 use std::alloc::{AllocError, Global};
 use vsi_audit::AuditError;
 use vsi_image::{Image, Instr, listing};
 use vsi_infer::Walk;
 use vsi_lattice::{Classes, Lattice};
 use vsi_steady::SteadyError;
-use vsi_syntax::put_number;
-use vsi_telling::names::{class_names, put_names, put_quoted};
+use vsi_telling::names::{Part, class_names, put_names_between, put_parts, put_word_between};
 
 /// An image that is refused, and the lattice by which it was judged.
 #[derive(Clone, Copy)]
@@ -48,24 +46,55 @@ fn rule_of(instruction: Option<&Instr>) -> &'static str {
             "A STORE ends an assignment. It takes the only operand that is there, which reads no \
             local that isn't set; locals are set first in the order of their slots.\n"
         }
-        _ =>
-            "An operand is taken within its command, and an expression is nested 200 deep at most.\n",
+        _ => {
+            "An operand is taken within its command, and an expression is nested 200 deep at \
+            most.\n"
+        }
     }
+}
+
+/// What the line of an instruction in a listing begins with.
+fn line_start(alloc: Global, number: usize) -> Result<Vec<u8>, AllocError> {
+    let mut start = Vec::new(alloc);
+    put_parts(&mut start, &[Part::Number(number), Part::Text(b": ")])?;
+    Ok(start)
+}
+
+/// Adds the line of a listing that has this beginning.
+fn put_line_of(words: &mut Vec<u8>, listing: &[u8], start: &[u8]) -> Result<(), AllocError> {
+    let Some(line) = line_of(listing, start) else {
+        return Ok(());
+    };
+    put_parts(
+        words,
+        &[Part::Text(b"  "), Part::Text(line), Part::Text(b"\n")],
+    )
+}
+
+/// Adds that a global of an image has a class that is none of these.
+fn put_other_class(
+    words: &mut Vec<u8>,
+    name: &[u8],
+    class: &[u8],
+    classes: &[&[u8]],
+) -> Result<(), AllocError> {
+    put_word_between(words, b"The global ", name, b" has the class ")?;
+    put_word_between(words, b"", class, b", which the lattice file lacks: ")?;
+    put_names_between(
+        words,
+        b"its classes are ",
+        classes,
+        b".\nHint: name the lattice file with which the image was built; `vsi list IMAGE` shows \
+        each global with its class.\n",
+    )
 }
 
 impl Judged<'_> {
     /// Adds the line of an instruction in the listing.
     fn put_line(&self, words: &mut Vec<u8>, number: usize) -> Result<(), AllocError> {
+        let start = line_start(self.alloc, number)?;
         let text = listing(self.alloc, self.image)?;
-        let mut start = Vec::new(self.alloc);
-        put_number(&mut start, number)?;
-        start.extend_from_slice(b": ")?;
-        if let Some(line) = line_of(&text, &start) {
-            words.extend_from_slice(b"  ")?;
-            words.extend_from_slice(line)?;
-            words.extend_from_slice(b"\n")?;
-        }
-        Ok(())
+        put_line_of(words, &text, &start)
     }
 
     /// Adds what is told of a global whose class the lattice lacks.
@@ -73,16 +102,8 @@ impl Judged<'_> {
         let Some((name, class)) = self.image.globals.get(number) else {
             return Ok(());
         };
-        words.extend_from_slice(b"The global ")?;
-        put_quoted(words, name)?;
-        words.extend_from_slice(b" has the class ")?;
-        put_quoted(words, class)?;
-        words.extend_from_slice(b", which the lattice file lacks: its classes are ")?;
-        put_names(words, &class_names(self.alloc, self.lattice)?)?;
-        words.extend_from_slice(
-            b".\nHint: name the lattice file with which the image was built; `vsi list IMAGE` \
-            shows each global with its class.\n",
-        )
+        let classes = class_names(self.alloc, self.lattice)?;
+        put_other_class(words, name, class, &classes)
     }
 
     /// Adds what is told of code that isn't that of commands.
@@ -100,13 +121,19 @@ impl Judged<'_> {
 
     /// Adds what is told of fields that the code doesn't need.
     fn put_fields(&self, words: &mut Vec<u8>) -> Result<(), AllocError> {
-        words.extend_from_slice(b"The fields of the image are slots ")?;
-        put_number(words, self.image.slots as usize)?;
-        words.extend_from_slice(b" and stack ")?;
-        put_number(words, self.image.stack as usize)?;
-        words.extend_from_slice(
-            b", and its commands need another number in one of them.\n\
-            Hint: `vsi source IMAGE` writes the commands as a text; build the image of that.\n",
+        put_parts(
+            words,
+            &[
+                Part::Text(b"The fields of the image are slots "),
+                Part::Number(self.image.slots as usize),
+                Part::Text(b" and stack "),
+                Part::Number(self.image.stack as usize),
+                Part::Text(
+                    b", and its commands need another number in one of them.\n\
+                    Hint: `vsi source IMAGE` writes the commands as a text; build the image of \
+                    that.\n",
+                ),
+            ],
         )
     }
 
@@ -138,24 +165,20 @@ impl Judged<'_> {
         source: &[u8],
     ) -> Result<(), AllocError> {
         if let Some(Instr::Store(_)) = self.image.code.get(number) {
-            words.extend_from_slice(b"This instruction writes what depends on ")?;
-            put_quoted(words, source)?;
-            words.extend_from_slice(b":\n")?;
+            let before = b"This instruction writes what depends on ";
+            put_word_between(words, before, source, b":\n")?;
             self.put_line(words, number)?;
             return words.extend_from_slice(
                 b"Hint: give the global that it writes a class at or above that one, or write \
                 there what doesn't depend on it.\n",
             );
         }
-        words.extend_from_slice(b"This jump depends on ")?;
-        put_quoted(words, source)?;
-        words.extend_from_slice(b":\n")?;
+        put_word_between(words, b"This jump depends on ", source, b":\n")?;
         self.put_line(words, number)?;
-        words.extend_from_slice(
+        put_word_between(
+            words,
             b"With --steady a jump depends on nothing above the least class, which is ",
-        )?;
-        put_quoted(words, self.lattice.name(self.lattice.bottom()))?;
-        words.extend_from_slice(
+            self.lattice.name(self.lattice.bottom()),
             b".\nHint: compute both results and select one by arithmetic, as in \
             `out := g * a + (1 - g) * b` for a guard g that is 0 or 1, and build the image \
             again.\n",
@@ -177,36 +200,35 @@ fn source_in(refusal: &[u8]) -> &[u8] {
     source
 }
 
-/// What is told of an image whose commands are judged.
-pub(crate) fn of_audit(judged: &Judged, error: &AuditError) -> Result<Telling, AllocError> {
-    let mut words = Vec::new(judged.alloc);
+/// Adds what is told of an image whose commands are judged.
+pub(crate) fn put_audit(
+    judged: &Judged,
+    words: &mut Vec<u8>,
+    error: &AuditError,
+) -> Result<(), AllocError> {
     match error {
-        AuditError::Memory => return Err(AllocError),
-        AuditError::UnknownClass(number) => judged.put_class(&mut words, *number)?,
-        AuditError::Unstructured(number) => judged.put_code(&mut words, *number)?,
-        AuditError::WrongFields => judged.put_fields(&mut words)?,
+        AuditError::Memory => Err(AllocError),
+        AuditError::UnknownClass(number) => judged.put_class(words, *number),
+        AuditError::Unstructured(number) => judged.put_code(words, *number),
+        AuditError::WrongFields => judged.put_fields(words),
         AuditError::NoText => words.extend_from_slice(
             b"The commands of the code are more, or are nested deeper, than a text may have them.\n\
             Hint: `vsi list IMAGE` shows the instructions.\n",
-        )?,
-        AuditError::Flow(walk) => judged.put_flow(&mut words, walk)?,
+        ),
+        AuditError::Flow(walk) => judged.put_flow(words, walk),
     }
-    Ok(Telling { place: None, words })
 }
 
-/// What is told of an image that isn't steady, of which this was told.
-pub(crate) fn of_steady(
+/// Adds what is told of an image that isn't steady, of which this was told.
+pub(crate) fn put_steady(
     judged: &Judged,
+    words: &mut Vec<u8>,
     refusal: &[u8],
     error: &SteadyError,
-) -> Result<Telling, AllocError> {
-    let mut words = Vec::new(judged.alloc);
+) -> Result<(), AllocError> {
     match error {
-        SteadyError::Memory => return Err(AllocError),
-        SteadyError::UnknownClass(number) => judged.put_class(&mut words, *number)?,
-        SteadyError::Flow(number) => {
-            judged.put_unsteady(&mut words, *number, source_in(refusal))?;
-        }
+        SteadyError::Memory => Err(AllocError),
+        SteadyError::UnknownClass(number) => judged.put_class(words, *number),
+        SteadyError::Flow(number) => judged.put_unsteady(words, *number, source_in(refusal)),
     }
-    Ok(Telling { place: None, words })
 }

@@ -1,10 +1,10 @@
 //! Where something stands in an interface file.
 
-use toml::Table;
+use toml::{Table, Value};
 use vsi_syntax::Span;
 use vsi_telling::finding::{key_place, quoted_place};
 use vsi_telling::names::part_of;
-use vsi_telling::tables::value_in;
+use vsi_telling::tables::{array_in, value_in};
 
 /// What stands before each run.
 const RUN: &[u8] = b"[[runs]]";
@@ -17,22 +17,23 @@ fn behind(from: usize, span: Span) -> Span {
     }
 }
 
+/// A pair of `globals`, or what stands in the place of one.
+pub(crate) fn pair_in(table: &Table, number: usize) -> Option<&[Value]> {
+    let pair = value_in(table, "globals", number)?;
+    Some(pair.as_array()?.as_slice())
+}
+
 /// The text at a place of a pair of `globals`.
 pub(crate) fn text_in(table: &Table, number: usize, side: usize) -> Option<&[u8]> {
-    let pair = value_in(table, "globals", number)?;
-    let array = pair.as_array()?;
-    let text = array.as_slice().get(side)?;
+    let text = pair_in(table, number)?.get(side)?;
     let text = text.as_str()?;
     Some(text.as_bytes())
 }
 
 /// How many pairs `globals` has.
 pub(crate) fn pairs_in(table: &Table) -> usize {
-    let Some(value) = table.get("globals") else {
-        return 0;
-    };
-    match value.as_array() {
-        Some(array) => array.len(),
+    match array_in(table, "globals") {
+        Some(pairs) => pairs.len(),
         None => 0,
     }
 }

@@ -7,7 +7,7 @@ use toml::{Table, Value};
 use vsi_conform::InterfaceError;
 use vsi_syntax::Span;
 use vsi_telling::finding::key_place;
-use vsi_telling::names::put_names;
+use vsi_telling::names::{put_names_between, put_word_between};
 use vsi_telling::tables::value_in;
 
 /// What a run looks like.
@@ -53,6 +53,11 @@ fn wordless<'t>(value: &'t Value) -> Option<&'t [u8]> {
     None
 }
 
+/// The first name of a table of a run whose value is no whole number.
+fn faulty_word<'t>(table: &'t Table, number: usize, key: &str) -> Option<&'t [u8]> {
+    wordless(run_value(table, number, key)?)
+}
+
 impl Page<'_> {
     /// Adds a part, the run's number and a part.
     fn run(&mut self, before: &str, number: usize, behind: &str) -> Result<(), AllocError> {
@@ -82,10 +87,13 @@ impl Page<'_> {
             return Ok(run_place(self.bytes, number));
         };
         self.run("Run ", number, " has a key ")?;
-        self.quote(key)?;
-        self.put(", which is none of a run: these are ")?;
-        put_names(self.words, &RUN_KEYS)?;
-        self.put(".\n")?;
+        put_word_between(
+            self.words,
+            b"",
+            key,
+            b", which is none of a run: these are ",
+        )?;
+        put_names_between(self.words, b"", &RUN_KEYS, b".\n")?;
         self.hint(
             key,
             &RUN_KEYS,
@@ -94,24 +102,26 @@ impl Page<'_> {
         Ok(run_key_place(self.bytes, number, key))
     }
 
+    /// Adds that a name has no word in a table of a run.
+    fn word(&mut self, number: usize, key: &[u8], name: &[u8]) -> Result<(), AllocError> {
+        put_word_between(self.words, b"The word of ", name, b" in ")?;
+        put_word_between(self.words, b"", key, b" of run ")?;
+        self.count(number)?;
+        self.put(
+            " is no whole number. Hint: write digits, behind a `-` where it is below 0, without \
+            quotes and without a point.\n",
+        )
+    }
+
     /// Tells of a table of words that is none.
     fn table(&mut self, number: usize, key: &str) -> Result<Option<Span>, AllocError> {
-        let faulty = run_value(self.table, number, key).and_then(|value| wordless(value));
-        if let Some(name) = faulty {
-            self.put("The word of ")?;
-            self.quote(name)?;
-            self.put(" in ")?;
-            self.quote(key.as_bytes())?;
-            self.run(" of run ", number, " is no whole number. ")?;
-            self.put(
-                "Hint: write digits, behind a `-` where it is below 0, without quotes and without \
-                a point.\n",
-            )?;
+        if let Some(name) = faulty_word(self.table, number, key) {
+            self.word(number, key.as_bytes(), name)?;
             return Ok(entry_place(self.bytes, number, name));
         }
-        self.put("The value of ")?;
-        self.quote(key.as_bytes())?;
-        self.run(" in run ", number, " is no table of whole numbers.\n")?;
+        put_word_between(self.words, b"The value of ", key.as_bytes(), b" in run ")?;
+        self.count(number)?;
+        self.put(" is no table of whole numbers.\n")?;
         self.put(SHAPE)?;
         Ok(run_key_place(self.bytes, number, key.as_bytes()))
     }
@@ -153,23 +163,37 @@ impl Page<'_> {
         self.table(number, "expect")
     }
 
-    /// Tells of a name that is no global.
-    fn global(&mut self, number: usize, name: &[u8]) -> Result<Option<Span>, AllocError> {
-        let names = global_names(self.alloc, self.table)?;
+    /// Adds that a name is none of those of the globals.
+    fn other_global(
+        &mut self,
+        number: usize,
+        name: &[u8],
+        names: &[&[u8]],
+    ) -> Result<(), AllocError> {
         self.run("Run ", number, " names ")?;
         self.quote(name)?;
         if names.is_empty() {
             self.put(", and the interface has no global.\n")?;
         } else {
-            self.put(", which is no global of the interface: these are ")?;
-            put_names(self.words, &names)?;
-            self.put(".\n")?;
+            let before = b", which is no global of the interface: these are ";
+            put_names_between(self.words, before, names, b".\n")?;
         }
         self.hint(
             name,
-            &names,
+            names,
             "Hint: add it to `globals` with its class, or leave it out of the run.\n",
-        )?;
+        )
+    }
+
+    /// Adds that a name is no global.
+    fn no_global(&mut self, number: usize, name: &[u8]) -> Result<(), AllocError> {
+        let names = global_names(self.alloc, self.table)?;
+        self.other_global(number, name, &names)
+    }
+
+    /// Tells of a name that is no global.
+    fn global(&mut self, number: usize, name: &[u8]) -> Result<Option<Span>, AllocError> {
+        self.no_global(number, name)?;
         Ok(entry_place(self.bytes, number, name))
     }
 }

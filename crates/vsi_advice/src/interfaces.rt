@@ -1,7 +1,6 @@
 //! What is told of a refused interface file.
 
-use crate::Telling;
-use crate::interface_places::{pair_named, pair_place, pairs_in, text_in};
+use crate::interface_places::{pair_in, pair_named, pair_place, pairs_in, text_in};
 use crate::interface_runs::of_run;
 use std::alloc::{AllocError, Global};
 use toml::Table;
@@ -9,8 +8,8 @@ use vsi_conform::InterfaceError;
 use vsi_lattice::Lattice;
 use vsi_syntax::{Span, put_number};
 use vsi_telling::finding::{key_place, quoted_place};
-use vsi_telling::names::{class_names, put_names, put_quoted};
-use vsi_telling::nearest::put_nearest;
+use vsi_telling::names::{class_names, put_names_between, put_quoted, put_word_between};
+use vsi_telling::nearest::put_nearest_or;
 use vsi_telling::tables::{put_syntax, table_in, value_in};
 
 /// What the head of an interface looks like.
@@ -93,25 +92,33 @@ impl Page<'_> {
         choices: &[&[u8]],
         otherwise: &str,
     ) -> Result<(), AllocError> {
-        if put_nearest(self.alloc, self.words, written, choices)? {
-            return Ok(());
-        }
-        self.put(otherwise)
+        put_nearest_or(
+            self.alloc,
+            self.words,
+            written,
+            choices,
+            otherwise.as_bytes(),
+        )
     }
 
     /// Tells of a key that no interface has.
     fn key(&mut self, key: &[u8]) -> Result<Option<Span>, AllocError> {
-        self.put("An interface has no key ")?;
-        self.quote(key)?;
         if is_run_key(key) {
-            self.put(
-                " of its own. Hint: it is a key of a run, and stands behind a line `[[runs]]`.\n",
+            put_word_between(
+                self.words,
+                b"An interface has no key ",
+                key,
+                b" of its own. Hint: it is a key of a run, and stands behind a line `[[runs]]`.\n",
             )?;
             return Ok(key_place(self.bytes, key));
         }
-        self.put(": its keys are ")?;
-        put_names(self.words, &KEYS)?;
-        self.put(".\n")?;
+        put_word_between(
+            self.words,
+            b"An interface has no key ",
+            key,
+            b": its keys are ",
+        )?;
+        put_names_between(self.words, b"", &KEYS, b".\n")?;
         self.hint(key, &KEYS, "Hint: leave the line out.\n")?;
         Ok(key_place(self.bytes, key))
     }
@@ -140,6 +147,32 @@ impl Page<'_> {
         Ok(key_place(self.bytes, b"lattice"))
     }
 
+    /// Tells of a key that has no text as its value, and has to have one of the words.
+    fn no_choice(&mut self, key: &str, choices: &[&[u8]]) -> Result<Option<Span>, AllocError> {
+        let fault: &[u8] = match self.table.get(key) {
+            Some(_) => b"` is to have one of the words ",
+            None => b"` is missing. It has one of the words ",
+        };
+        self.put("The key `")?;
+        self.put(key)?;
+        put_names_between(self.words, fault, choices, b", between quotes.\n")?;
+        self.words.extend_from_slice(SHAPE)?;
+        Ok(key_place(self.bytes, key.as_bytes()))
+    }
+
+    /// Tells of a text that is none of the words.
+    fn other_choice(
+        &mut self,
+        text: &[u8],
+        noun: &str,
+        choices: &[&[u8]],
+    ) -> Result<Option<Span>, AllocError> {
+        put_word_between(self.words, b"", text, noun.as_bytes())?;
+        put_names_between(self.words, b"", choices, b".\n")?;
+        self.hint(text, choices, "")?;
+        Ok(quoted_place(self.bytes, text, 0))
+    }
+
     /// Tells of a key whose value is none of the words.
     fn choice(
         &mut self,
@@ -147,26 +180,10 @@ impl Page<'_> {
         noun: &str,
         choices: &[&[u8]],
     ) -> Result<Option<Span>, AllocError> {
-        let value = self.table.get(key);
-        let Some(text) = value.and_then(|value| value.as_str()) else {
-            self.put("The key `")?;
-            self.put(key)?;
-            self.put(if value.is_some() {
-                "` is to have one of the words "
-            } else {
-                "` is missing. It has one of the words "
-            })?;
-            put_names(self.words, choices)?;
-            self.put(", between quotes.\n")?;
-            self.words.extend_from_slice(SHAPE)?;
-            return Ok(key_place(self.bytes, key.as_bytes()));
-        };
-        self.quote(text.as_bytes())?;
-        self.put(noun)?;
-        put_names(self.words, choices)?;
-        self.put(".\n")?;
-        put_nearest(self.alloc, self.words, text.as_bytes(), choices)?;
-        Ok(quoted_place(self.bytes, text.as_bytes(), 0))
+        match text_at(self.table, key) {
+            Some(text) => self.other_choice(text.as_bytes(), noun, choices),
+            None => self.no_choice(key, choices),
+        }
     }
 
     /// Tells of `globals` that aren't an array of pairs of texts.
@@ -202,6 +219,37 @@ impl Page<'_> {
         Ok(pair_place(self.bytes, self.table, number, 0))
     }
 
+    /// Adds that a class of a global is none of these.
+    fn other_class(
+        &mut self,
+        name: &[u8],
+        class: &[u8],
+        classes: &[&[u8]],
+    ) -> Result<(), AllocError> {
+        put_word_between(self.words, b"The class ", class, b" of the global ")?;
+        put_word_between(self.words, b"", name, b" is none of the lattice. ")?;
+        put_names_between(self.words, b"Its classes are ", classes, b".\n")?;
+        self.hint(
+            class,
+            classes,
+            "Hint: give the global one of these, or declare the class in the lattice.\n",
+        )
+    }
+
+    /// Adds that the class of a global is none of the lattice.
+    fn no_class(
+        &mut self,
+        name: &[u8],
+        class: &[u8],
+        lattice: Option<&Lattice>,
+    ) -> Result<(), AllocError> {
+        let classes = match lattice {
+            Some(lattice) => class_names(self.alloc, lattice)?,
+            None => own_classes(self.alloc, self.table)?,
+        };
+        self.other_class(name, class, &classes)
+    }
+
     /// Tells of the class of a global that is none.
     fn class(
         &mut self,
@@ -214,22 +262,7 @@ impl Page<'_> {
         let Some(class) = text_in(self.table, number, 1) else {
             return Ok(None);
         };
-        let classes = match lattice {
-            Some(lattice) => class_names(self.alloc, lattice)?,
-            None => own_classes(self.alloc, self.table)?,
-        };
-        self.put("The class ")?;
-        self.quote(class)?;
-        self.put(" of the global ")?;
-        self.quote(name)?;
-        self.put(" is none of the lattice. Its classes are ")?;
-        put_names(self.words, &classes)?;
-        self.put(".\n")?;
-        self.hint(
-            class,
-            &classes,
-            "Hint: give the global one of these, or declare the class in the lattice.\n",
-        )?;
+        self.no_class(name, class, lattice)?;
         Ok(pair_place(self.bytes, self.table, number, 1))
     }
 }
@@ -248,18 +281,30 @@ fn own_classes(alloc: Global, table: &Table) -> Result<Vec<&[u8]>, AllocError> {
     Ok(names)
 }
 
+/// Whether an entry of `globals` is a pair of texts.
+fn is_pair(table: &Table, number: usize) -> bool {
+    let Some(pair) = pair_in(table, number) else {
+        return false;
+    };
+    if pair.len() != 2 || text_in(table, number, 0).is_none() {
+        return false;
+    }
+    text_in(table, number, 1).is_some()
+}
+
 /// The first entry of `globals` that is no pair of texts.
 fn faulty_pair(table: &Table) -> usize {
     for number in 0..pairs_in(table) {
-        let length = value_in(table, "globals", number)
-            .and_then(|value| value.as_array())
-            .map(|array| array.len());
-        let is_pair = text_in(table, number, 0).is_some() && text_in(table, number, 1).is_some();
-        if length != Some(2) || !is_pair {
+        if !is_pair(table, number) {
             return number;
         }
     }
     0
+}
+
+/// The text at a key.
+fn text_at<'t>(table: &'t Table, key: &str) -> Option<&'t str> {
+    table.get(key)?.as_str()
 }
 
 /// Adds what is told of a fault, and answers where it stands.
@@ -294,28 +339,38 @@ fn put_fault(
     }
 }
 
-/// What is told of a refused interface file. The lattice is that of the file that it names.
-pub(crate) fn of_interface(
+/// Adds what is told of a fault in an interface that is a table, and answers where it stands.
+fn put_table_fault(
     alloc: Global,
+    words: &mut Vec<u8>,
+    bytes: &[u8],
+    table: &Table,
+    lattice: Option<&Lattice>,
+    error: &InterfaceError,
+) -> Result<Option<Span>, AllocError> {
+    let mut page = Page {
+        alloc,
+        bytes,
+        table,
+        words,
+    };
+    put_fault(&mut page, lattice, error)
+}
+
+/// Adds what is told of a refused interface file, and answers where it is wrong. The lattice is
+/// that of the file that it names.
+pub(crate) fn put_interface(
+    alloc: Global,
+    words: &mut Vec<u8>,
     bytes: &[u8],
     lattice: Option<&Lattice>,
     error: &InterfaceError,
-) -> Result<Telling, AllocError> {
+) -> Result<Option<Span>, AllocError> {
     if let InterfaceError::Memory = error {
         return Err(AllocError);
     }
-    let mut words = Vec::new(alloc);
-    let place = match table_in(alloc, bytes)? {
-        None => put_not_toml(alloc, &mut words, bytes)?,
-        Some(table) => {
-            let mut page = Page {
-                alloc,
-                bytes,
-                table: &table,
-                words: &mut words,
-            };
-            put_fault(&mut page, lattice, error)?
-        }
-    };
-    Ok(Telling { place, words })
+    match table_in(alloc, bytes)? {
+        None => put_not_toml(alloc, words, bytes),
+        Some(table) => put_table_fault(alloc, words, bytes, &table, lattice, error),
+    }
 }

@@ -15,7 +15,9 @@ mod interface_runs;
 mod interfaces;
 mod settings;
 
-use audits::{Judged, of_audit, of_steady};
+use audits::{Judged, put_audit, put_steady};
+use interfaces::put_interface;
+use settings::put_start;
 use std::alloc::{AllocError, Global};
 use vsi_audit::AuditError;
 use vsi_caret::Manner;
@@ -65,19 +67,31 @@ pub(crate) struct Telling {
     pub(crate) words: Vec<u8>,
 }
 
-/// What is told of a refusal.
-fn telling_of(alloc: Global, refused: Refused) -> Result<Telling, AllocError> {
+/// Adds what is told of an interface or of a run that doesn't begin, and answers where it is wrong;
+/// nothing is told here of an image that is judged.
+fn put_file(
+    alloc: Global,
+    words: &mut Vec<u8>,
+    refused: Refused,
+) -> Result<Option<Span>, AllocError> {
     match refused {
         Refused::Interface {
             bytes,
             lattice,
             error,
-        } => interfaces::of_interface(alloc, bytes, lattice, error),
+        } => put_interface(alloc, words, bytes, lattice, error),
         Refused::Start {
             bytes,
             image,
             fault,
-        } => settings::of_start(alloc, bytes, image, fault),
+        } => put_start(alloc, words, bytes, image, fault),
+        Refused::Audit { .. } | Refused::Steady { .. } => Ok(None),
+    }
+}
+
+/// Adds what is told of an image that is judged; nothing is told here of a file.
+fn put_judged(alloc: Global, words: &mut Vec<u8>, refused: Refused) -> Result<(), AllocError> {
+    match refused {
         Refused::Audit {
             lattice,
             image,
@@ -88,7 +102,7 @@ fn telling_of(alloc: Global, refused: Refused) -> Result<Telling, AllocError> {
                 lattice,
                 image,
             };
-            of_audit(&judged, error)
+            put_audit(&judged, words, error)
         }
         Refused::Steady {
             lattice,
@@ -101,9 +115,18 @@ fn telling_of(alloc: Global, refused: Refused) -> Result<Telling, AllocError> {
                 lattice,
                 image,
             };
-            of_steady(&judged, refusal, error)
+            put_steady(&judged, words, refusal, error)
         }
+        Refused::Interface { .. } | Refused::Start { .. } => Ok(()),
     }
+}
+
+/// What is told of a refusal.
+fn telling_of(alloc: Global, refused: Refused) -> Result<Telling, AllocError> {
+    let mut words = Vec::new(alloc);
+    let place = put_file(alloc, &mut words, refused)?;
+    put_judged(alloc, &mut words, refused)?;
+    Ok(Telling { place, words })
 }
 
 /// The bytes in which the places of a refusal are; of an image none is told.

@@ -1,12 +1,11 @@
 //! What is told of a setting, and of a store that isn't full.
 
-use crate::Telling;
 use std::alloc::{AllocError, Global};
 use vsi_drive::{LineFault, StartFault};
 use vsi_image::Image;
 use vsi_syntax::Span;
-use vsi_telling::names::{part_of, put_quoted};
-use vsi_telling::nearest::put_nearest;
+use vsi_telling::names::{part_of, put_quoted, put_word_between};
+use vsi_telling::nearest::put_nearest_or;
 use vsi_telling::stores::{names_of, put_no_global};
 
 /// The part of a setting that isn't blank at its ends.
@@ -92,6 +91,34 @@ fn put_form(words: &mut Vec<u8>, setting: &[u8]) -> Result<Option<Span>, AllocEr
     }))
 }
 
+/// Adds what is told of a name that is none of those of the globals.
+fn put_other_name(
+    alloc: Global,
+    words: &mut Vec<u8>,
+    name: &[u8],
+    names: &[&[u8]],
+) -> Result<(), AllocError> {
+    put_no_global(words, name, names)?;
+    put_nearest_or(
+        alloc,
+        words,
+        name,
+        names,
+        b"Hint: leave the setting out; a local variable has no word before the run.\n",
+    )
+}
+
+/// Adds what is told of a name that no global of an image has.
+fn put_unknown(
+    alloc: Global,
+    words: &mut Vec<u8>,
+    image: &Image,
+    name: &[u8],
+) -> Result<(), AllocError> {
+    let names = names_of(alloc, &image.globals)?;
+    put_other_name(alloc, words, name, &names)
+}
+
 /// Adds what is told of a setting whose name is no global.
 fn put_name(
     alloc: Global,
@@ -100,14 +127,7 @@ fn put_name(
     image: &Image,
 ) -> Result<Option<Span>, AllocError> {
     let (place, _value) = sides(setting);
-    let name = part_of(setting, place);
-    let names = names_of(alloc, &image.globals)?;
-    put_no_global(words, name, &names)?;
-    if !put_nearest(alloc, words, name, &names)? {
-        words.extend_from_slice(
-            b"Hint: leave the setting out; a local variable has no word before the run.\n",
-        )?;
-    }
+    put_unknown(alloc, words, image, part_of(setting, place))?;
     Ok(Some(place))
 }
 
@@ -123,15 +143,20 @@ fn put_number(words: &mut Vec<u8>, setting: &[u8]) -> Result<Option<Span>, Alloc
     Ok(Some(place))
 }
 
-/// Adds what is told of a global that has no word.
-fn put_unnamed(words: &mut Vec<u8>, image: &Image, number: usize) -> Result<(), AllocError> {
-    let name = match image.globals.get(number) {
+/// The name of the global with a number.
+fn global_name(image: &Image, number: usize) -> &[u8] {
+    match image.globals.get(number) {
         Some(global) => global.0.as_slice(),
         None => b"",
-    };
-    words.extend_from_slice(b"The global ")?;
-    put_quoted(words, name)?;
-    words.extend_from_slice(
+    }
+}
+
+/// Adds what is told of a global that has no word.
+fn put_unnamed(words: &mut Vec<u8>, name: &[u8]) -> Result<(), AllocError> {
+    put_word_between(
+        words,
+        b"The global ",
+        name,
         b" has no word. With --full-store each global has a line in the store file or a `--set`.\n\
         Hint: add `--set ",
     )?;
@@ -141,24 +166,22 @@ fn put_unnamed(words: &mut Vec<u8>, image: &Image, number: usize) -> Result<(), 
     words.extend_from_slice(b" = 0` to a store file, with the word that is meant.\n")
 }
 
-/// What is told of a run of an image that doesn't begin.
-pub(crate) fn of_start(
+/// Adds what is told of a run of an image that doesn't begin, and answers where its setting is
+/// wrong.
+pub(crate) fn put_start(
     alloc: Global,
+    words: &mut Vec<u8>,
     setting: &[u8],
     image: &Image,
     fault: StartFault,
-) -> Result<Telling, AllocError> {
-    let mut words = Vec::new(alloc);
-    let place = match fault {
+) -> Result<Option<Span>, AllocError> {
+    match fault {
         StartFault::Unnamed(number) => {
-            put_unnamed(&mut words, image, number)?;
-            None
+            put_unnamed(words, global_name(image, number))?;
+            Ok(None)
         }
-        StartFault::Setting(LineFault::UnknownGlobal(_)) => {
-            put_name(alloc, &mut words, setting, image)?
-        }
-        StartFault::Setting(LineFault::NotANumber(_)) => put_number(&mut words, setting)?,
-        StartFault::Setting(_) => put_form(&mut words, setting)?,
-    };
-    Ok(Telling { place, words })
+        StartFault::Setting(LineFault::UnknownGlobal(_)) => put_name(alloc, words, setting, image),
+        StartFault::Setting(LineFault::NotANumber(_)) => put_number(words, setting),
+        StartFault::Setting(_) => put_form(words, setting),
+    }
 }

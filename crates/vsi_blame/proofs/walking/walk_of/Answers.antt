@@ -4,32 +4,16 @@ use Rattle.vsi_flows.proofs.WalkLemmas.{arrived_walk}
 use Rattle.vsi_blame.proofs.WalkLemmas.{finds_row}
 use Rattle.vsi_blame.proofs.walking.walk_of.Goals as goal
 
-pub walk_from-requires-clause-down : goal.walk_from-requires-clause-down
-walk_from-requires-clause-down g c =
-    (finds_row (g.C.Classes.lattice c.args.lattice.now) (g.met.C.Classes.laws c.args.lattice.now) c.args.profile
+pub walk_from-requires : goal.walk_from-requires
+walk_from-requires g c =
+    let found =
+    finds_row (g.C.Classes.lattice c.args.lattice.now) (g.met.C.Classes.laws c.args.lattice.now) c.args.profile
     (program c.args.program.now) (resolved_program (g.C.Classes.lattice c.args.lattice.now) c.args.program.now
     c.requires.globals c.body-body.ensures.resolved) c.requires.declared _ c.requires.flows c.args.pair c.requires.told
     c.declarations-last.result c.declarations-last.ensures.count c.row_of-place.result c.row_of-place.ensures
     c.in_ok-row.row.items c.deref.result.now c.in_ok-row.ensures c.deref.ensures.value c.in_ok-walks.walks
-    c.in_ok-walks.ensures).down
-
-pub walk_from-requires-clause-at : goal.walk_from-requires-clause-at
-walk_from-requires-clause-at g c =
-    (finds_row (g.C.Classes.lattice c.args.lattice.now) (g.met.C.Classes.laws c.args.lattice.now) c.args.profile
-    (program c.args.program.now) (resolved_program (g.C.Classes.lattice c.args.lattice.now) c.args.program.now
-    c.requires.globals c.body-body.ensures.resolved) c.requires.declared _ c.requires.flows c.args.pair c.requires.told
-    c.declarations-last.result c.declarations-last.ensures.count c.row_of-place.result c.row_of-place.ensures
-    c.in_ok-row.row.items c.deref.result.now c.in_ok-row.ensures c.deref.ensures.value c.in_ok-walks.walks
-    c.in_ok-walks.ensures).away
-
-pub walk_from-requires-clause-small : goal.walk_from-requires-clause-small
-walk_from-requires-clause-small g c =
-    (finds_row (g.C.Classes.lattice c.args.lattice.now) (g.met.C.Classes.laws c.args.lattice.now) c.args.profile
-    (program c.args.program.now) (resolved_program (g.C.Classes.lattice c.args.lattice.now) c.args.program.now
-    c.requires.globals c.body-body.ensures.resolved) c.requires.declared _ c.requires.flows c.args.pair c.requires.told
-    c.declarations-last.result c.declarations-last.ensures.count c.row_of-place.result c.row_of-place.ensures
-    c.in_ok-row.row.items c.deref.result.now c.in_ok-row.ensures c.deref.ensures.value c.in_ok-walks.walks
-    c.in_ok-walks.ensures).small
+    c.in_ok-walks.ensures in
+    record { known = found.known; down = found.down; at = found.away; small = found.small }
 
 pub returns : goal.returns
 returns g c =
