@@ -71,6 +71,19 @@ pub handed : {T : Type 0} (P : Stop → Type 0) (stop : Stop) (result : Result T
 handed P stop (Ok x) is told = tt
 handed P stop (Err e) is told = subst P (sym is) told
 
+-- Why a step has stopped is why the whole has, where the step's stop is passed on.
+pub stopped_by : {T : Type 0} (why so : Unanswered → Type 0) (other : Stop → Type 0) →
+    ((reason : Unanswered) → why reason → so reason) → (result : Result T Stop) (stop : Stop) →
+    IsErrAnd result (λ s. s ≡ stop) → StopsBy why NoOther stop → IfErr result (StopsBy so other)
+stopped_by why so other f result stop is told =
+    handed (StopsBy so other) stop result is (stops_by why so other f stop told)
+
+-- A late stop that is passed on tells no reason.
+pub late_stopped : {T : Type 0} (why : Unanswered → Type 0) (other : Stop → Type 0) (result : Result T Stop)
+    (stop : Stop) → IsErrAnd result (λ s. s ≡ stop) → 3 < status_of stop → IfErr result (StopsBy why other)
+late_stopped why other result stop is late =
+    handed (StopsBy why other) stop result is (late_stops why other stop late)
+
 -- What holds of the reason for no answer is told where the stop for that reason is handed on.
 pub handed_reason : {T : Type 0} (why : Unanswered → Type 0) (other : Stop → Type 0) (reason : Unanswered)
     (result : Result T Stop) → IsErrAnd result (λ e. e ≡ stop_of reason) → why reason →

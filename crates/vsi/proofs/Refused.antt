@@ -1,5 +1,5 @@
 -- Why a step has stopped is why the whole has, and what is told of a refusal.
-use Rattle.std.proofs.Common.{◌≡◌, ◌⊎◌, ℕ, List, Result, Ok, Err, ◌∙◌, sym, subst, inl, inr}
+use Rattle.std.proofs.Common.{◌≡◌, ◌⊎◌, ℕ, List, Result, Ok, Err, subst, inl, inr}
 use Rattle.std.specs.Borrow.{Bor}
 use Rattle.std.specs.Prelude.{IfErr, IsErrAnd, IsSomeAnd, MatchResult, Option, Some, None}
 use Rattle.std.specs.Global.{Vec}
@@ -12,30 +12,19 @@ use Rattle.vsi_compiler.specs.Refusal.{RefusesProgram}
 use Rattle.vsi_compiler.specs.declared.error.CompileError.{CompileError}
 use Rattle.vsi_compiler.specs.declared.error.CompileError.TheVariants as compiler
 use Rattle.vsi_answers.specs.Answers.{Because}
-use Rattle.vsi_answers.specs.Judged.{Declares, IsProgramFault, TellsFault, TellsSource}
-use Rattle.vsi_faults.specs.declared.texts.Fault.{Fault}
+use Rattle.vsi_answers.specs.Judged.{Declares, IsProgramFault, TellsSource}
 use Rattle.vsi_answers.specs.Requests.{Answer, FormatsTo, ReadsLattice}
-use Rattle.vsi_answers.specs.declared.unanswered.Cause.TheVariants.{Source, File as InFile, Start, Steady}
 use Rattle.vsi_answers.specs.declared.unanswered.Unanswered.{Unanswered}
-use Rattle.vsi_answers.specs.declared.unanswered.Unanswered.TheVariants as unanswered
 use Rattle.vsi_arguments.specs.declared.request.Compilation.{Compilation}
 use Rattle.vsi_arguments.specs.declared.request.Search.{Search}
 use Rattle.vsi.specs.declared.stop.Stop.{Stop}
 use Rattle.vsi.specs.Holding.{Holding, IsLatticeAt, IsReadAt}
 use Rattle.vsi.specs.Input.{two_classes}
 use Rattle.vsi.specs.Performed.{AreFiles, profile_of}
-use Rattle.vsi.specs.Reasons.{AsksCanonical, IsNoMemory, LacksClass, LacksClassAt, NoOther, OtherLeak, RefusesFile, RefusesFiles, RefusesLattice, RefusesProgramAt, RefusesSource, StopsBy, WhyDraw}
+use Rattle.vsi.specs.Reasons.{AsksCanonical, LacksClass, LacksClassAt, NoOther, OtherLeak, RefusesFile, RefusesFiles, RefusesLattice, RefusesProgramAt, RefusesSource, StopsBy, WhyDraw}
 use Rattle.vsi.specs.Stops.{stop_of}
-use Rattle.vsi.proofs.Reasons.{StopsBy-weaker, answered_stops, handed, stops_by}
-
--- ---- what is passed on.
-
--- Why a step has stopped is why the whole has, where the step's stop is passed on.
-pub stopped_by : {T : Type 0} (why so : Unanswered → Type 0) (other : Stop → Type 0) →
-    ((reason : Unanswered) → why reason → so reason) → (result : Result T Stop) (stop : Stop) →
-    IsErrAnd result (λ s. s ≡ stop) → StopsBy why NoOther stop → IfErr result (StopsBy so other)
-stopped_by why so other f result stop is told =
-    handed (StopsBy so other) stop result is (stops_by why so other f stop told)
+use Rattle.vsi_answers.proofs.Told.{source_told}
+use Rattle.vsi.proofs.Reasons.{StopsBy-weaker, answered_stops, handed, stopped_by, stops_by}
 
 -- ---- which file is refused.
 
@@ -102,21 +91,12 @@ refuses_tree holds path bytes text l answer result read same declared is told =
 -- ---- texts without a program.
 
 -- A refusal that tells an error with which no program stands tells that there is none.
-pub tells_program : (l : Lattice) (text : List ℕ) (error : CompileError) →
-    RefusesProgram (class_named l) text error →
+tells_program : (l : Lattice) (text : List ℕ) (error : CompileError) → RefusesProgram (class_named l) text error →
     (HasProgram (class_named l) text → error ≡ compiler.Memory) → (reason : Unanswered) →
     Because (TellsSource (λ e. e ≡ error) l text) ⊥ reason →
     Because (TellsSource (IsProgramFault l text) l text) ⊥ reason
-tells_program l text error refused exact (unanswered.Refused told (Source e)) is = (
-  is.0,
-  (subst (RefusesProgram (class_named l) text) (sym is.1) refused, λ program. is.0 (is.1 ∙ exact program)),
-  is.2,
-)
-tells_program l text error refused exact (unanswered.Refused told (InFile f)) is = absurd is
-tells_program l text error refused exact (unanswered.Refused told (Start f)) is = absurd is
-tells_program l text error refused exact (unanswered.Refused told (Steady e)) is = absurd is
-tells_program l text error refused exact unanswered.OutOfBudget is = absurd is
-tells_program l text error refused exact unanswered.Memory is = tt
+tells_program l text error refused exact =
+    source_told (IsProgramFault l text) l text error (λ other. (refused, λ program. other (exact program)))
 
 -- The stop for a source text of a file that has no program tells so.
 pub refuses_program : (holds : Holding) (l : Lattice) (path text judged told : List ℕ) (error : CompileError)
@@ -195,14 +175,3 @@ leak_program holds s l text judged told error stop declared read of_judged of_to
     (λ reason why. inr (record { classes = l; declared = declared; refused = why }))
     stop
     (refuses_program holds l s.source.now text judged told error stop read of_judged of_told refused exact is)
-
--- What is told of a fault that isn't want of memory says so.
-pub fault_told : (fault : Fault) (reason : Unanswered) → IsNoMemory fault →
-    Because (TellsFault (λ f. f ≡ fault)) ⊥ reason → Because (TellsFault (λ f. (f ≡ fault) × IsNoMemory f)) ⊥ reason
-fault_told fault (unanswered.Refused text (Source e)) other told = told
-fault_told fault (unanswered.Refused text (InFile f)) other told =
-    ((told.0, subst IsNoMemory (sym told.0) other), told.1)
-fault_told fault (unanswered.Refused text (Start f)) other told = told
-fault_told fault (unanswered.Refused text (Steady e)) other told = told
-fault_told fault unanswered.OutOfBudget other told = told
-fault_told fault unanswered.Memory other told = tt

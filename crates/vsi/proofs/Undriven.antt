@@ -7,29 +7,16 @@ use Rattle.vsi_image.specs.Fields.{globals}
 use Rattle.vsi_store.specs.View.{first_unknown}
 use Rattle.vsi_store.specs.declared.views.ViewError.{ViewError}
 use Rattle.vsi_store.specs.declared.views.ViewError.TheVariants as views
-use Rattle.vsi_faults.specs.declared.texts.Fault.{Fault}
 use Rattle.vsi_faults.specs.declared.texts.Fault.TheVariants as fault
 use Rattle.vsi_answers.specs.Answers.{Because}
 use Rattle.vsi_answers.specs.Judged.{IsViewFault, TellsFault}
-use Rattle.vsi_answers.specs.declared.unanswered.Cause.TheVariants as cause
-use Rattle.vsi_answers.specs.declared.unanswered.Unanswered.{Unanswered}
-use Rattle.vsi_answers.specs.declared.unanswered.Unanswered.TheVariants as unanswered
 use Rattle.vsi_arguments.specs.declared.request.Driving.{Driving}
 use Rattle.vsi.specs.declared.stop.Stop.{Stop}
 use Rattle.vsi.specs.Holding.{Holding, IsImageAt}
 use Rattle.vsi.specs.Performed.{LooksAt}
 use Rattle.vsi.specs.Reasons.{IsNoMemory, LacksClassAt, NoOther, StopsBy, WhyDrive}
 use Rattle.vsi.proofs.Reasons.{stops_by}
-
--- What is told of one fault is told of a fault of its kind.
-kind_told : (Kind : Fault → Type 0) (fault : Fault) → Kind fault → (reason : Unanswered) →
-    Because (TellsFault (λ f. (f ≡ fault) × IsNoMemory f)) ⊥ reason → Because (TellsFault Kind) ⊥ reason
-kind_told Kind fault kind (unanswered.Refused text (cause.Source e)) told = absurd told
-kind_told Kind fault kind (unanswered.Refused text (cause.File f)) told = (subst Kind (sym told.0.0) kind, told.1)
-kind_told Kind fault kind (unanswered.Refused text (cause.Start f)) told = absurd told
-kind_told Kind fault kind (unanswered.Refused text (cause.Steady e)) told = absurd told
-kind_told Kind fault kind unanswered.OutOfBudget told = absurd told
-kind_told Kind fault kind unanswered.Memory told = tt
+use Rattle.vsi.proofs.Unrun.{kind_told}
 
 -- Why there is no controller: a global, the first such one, has a class that the lattice lacks.
 abbrev pub LacksController : Lattice → Image → ViewError → Type 0
@@ -57,6 +44,6 @@ controller_stops holds d l driver image error stop looks held lacks told =
       looks = looks;
       image = image;
       held = held;
-      is = kind_told (IsViewFault l image) (fault.View error) (lacking_fault l image error lacks) reason is;
+      is = kind_told (IsViewFault l image) (fault.View error) (λ other. lacking_fault l image error lacks) reason is;
     }))))
     stop told

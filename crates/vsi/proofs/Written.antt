@@ -1,6 +1,6 @@
 -- What is written of an answer, and what is left as it was.
 use Rattle.std.proofs.Common.{◌≡◌, ℕ, ◌<◌, List, Result, Ok, Err, ◌∙◌, sym, subst, inl, inr, arith}
-use Rattle.std.specs.Prelude.{Option, IfOk, IfErr, MatchResult, OnOk, IsOkAnd, codes}
+use Rattle.std.specs.Prelude.{Bool, true, false, Option, IfOk, IfErr, MatchResult, OnOk, IsOkAnd, codes}
 use Rattle.std.specs.Global.{Vec}
 use Rattle.std.specs.Io.KnownBytes.{Appends}
 use Rattle.std.proofs.KnownBytes.{Keeps-refl}
@@ -14,7 +14,8 @@ use Rattle.vsi_arguments.specs.declared.request.Audit.{Audit}
 use Rattle.vsi_arguments.specs.declared.request.Compilation.{Compilation}
 use Rattle.vsi.specs.declared.stop.Stop.{Stop}
 use Rattle.vsi.specs.Holding.{Holding}
-use Rattle.vsi.specs.Performed.{AreFiles, AuditsFiles, BuildsFile, OfFiles, PerformsAudit, PerformsBuild, Writes, profile_of}
+use Rattle.vsi.specs.Performed.{AreFiles, AuditsFiles, BuildsFile, OfFiles, PerformsAudit, PerformsBuild, ToldAccepted, ToldFlows, Writes, profile_of}
+use Rattle.vsi.specs.Reasons.{AsksCheck, AsksFlows}
 use Rattle.vsi.specs.Silent.{IsSilent}
 use Rattle.vsi.specs.Stops.{status_of, stop_of}
 use Rattle.vsi.proofs.Answered.{answered_told}
@@ -30,6 +31,14 @@ pub put_writes : {T : Type 0} (Kind : Vec ℕ → Type 0) (old new : Option (Lis
     (result : Result T Stop) → IfOk answer Kind →
     OnOk result (IsOkAnd answer (λ text. Appends old new text.items)) → OnOk result (Writes Kind old new)
 put_writes Kind old new answer result is done = on_ok_weaker result (writes_of Kind old new answer is) done
+
+-- The same, where no file has been filled.
+pub put_alone : {T : Type 0} (Kind : Vec ℕ → Type 0) (old new : Option (List ℕ)) (left holds : Holding)
+    (answer : Result (Vec ℕ) Stop) (result : Result T Stop) → left ≡ holds → IfOk answer Kind →
+    OnOk result (IsOkAnd answer (λ text. Appends old new text.items)) →
+    OnOk result ((left ≡ holds) × Writes Kind old new)
+put_alone Kind old new left holds answer result kept is done =
+    on_ok_weaker result (λ written. (kept, writes_of Kind old new answer is written)) done
 
 -- What holds where an answer is given holds where it is given and told.
 pub told_of : {T A W : Type 0} (answer : Result T Stop) → OnOk answer A → IsOkAnd answer (λ x. W) → A × W
@@ -79,13 +88,14 @@ accepted_told apart l j text out (inr told) is = absurd (apart told.rest (sym is
 
 -- What is answered of a lattice and a source text is told of the files that hold them.
 pub told_files : (holds : Holding) (c : Compilation)
-    (Ask : Lattice → List ℕ → Result (Vec ℕ) Unanswered → Type 0) (l : Lattice) (text source : List ℕ)
-    (answer : Result (Vec ℕ) Unanswered) (result : Result (Vec ℕ) Stop) → AreFiles holds c l text → source ≡ text →
-    MatchResult answer (λ t. result ≡ Ok t) (λ reason. result ≡ Err (stop_of reason)) → Ask l source answer →
-    IfOk result (OfFiles holds c (λ m s t. Ask m s (Ok t)))
-told_files holds c Ask l text source answer result files same is told =
-    IfOk-weaker result (λ t. Ask l text (Ok t)) (OfFiles holds c (λ m s t. Ask m s (Ok t)))
-    (λ t so. record { lattice = l; source = text; files = files; is = so })
+    (Ask : Lattice → List ℕ → Result (Vec ℕ) Unanswered → Type 0) (Told : Lattice → List ℕ → Vec ℕ → Type 0)
+    (l : Lattice) (text source : List ℕ) (answer : Result (Vec ℕ) Unanswered) (result : Result (Vec ℕ) Stop) →
+    ((m : Lattice) (s : List ℕ) (t : Vec ℕ) → Ask m s (Ok t) → Told m s t) → AreFiles holds c l text →
+    source ≡ text → MatchResult answer (λ t. result ≡ Ok t) (λ reason. result ≡ Err (stop_of reason)) →
+    Ask l source answer → IfOk result (OfFiles holds c Told)
+told_files holds c Ask Told l text source answer result f files same is told =
+    IfOk-weaker result (λ t. Ask l text (Ok t)) (OfFiles holds c Told)
+    (λ t so. record { lattice = l; source = text; files = files; is = f l text t so })
     (answered_told (Ask l text) answer result is (subst (λ s. Ask l s answer) same told))
 
 -- The same, under the profile of a compilation.
@@ -96,8 +106,21 @@ pub told_by : (holds : Holding) (c : Compilation)
     MatchResult answer (λ t. result ≡ Ok t) (λ reason. result ≡ Err (stop_of reason)) → Ask l P source answer →
     IfOk result (OfFiles holds c (λ m s t. Ask m (profile_of c.is_strict) s (Ok t)))
 told_by holds c Ask l text source P answer result files same by is told =
-    told_files holds c (λ m s a. Ask m (profile_of c.is_strict) s a) l text source answer result files same is
+    told_files holds c (λ m s a. Ask m (profile_of c.is_strict) s a) (λ m s t. Ask m (profile_of c.is_strict) s (Ok t))
+    l text source answer result (λ m s t so. so) files same is
     (subst (λ Q. Ask l Q source answer) by told)
+
+-- What `check` asks is what its answer tells.
+pub told_accepted : (is_steady is_strict : Bool) (l : Lattice) (source : List ℕ) (text : Vec ℕ) →
+    AsksCheck is_steady is_strict l source (Ok text) → ToldAccepted is_steady is_strict l source text
+told_accepted true is_strict l source text told = told
+told_accepted false is_strict l source text told = told
+
+-- What `flows` asks is what its answer tells.
+pub told_flows : (has_walks is_strict : Bool) (l : Lattice) (source : List ℕ) (text : Vec ℕ) →
+    AsksFlows has_walks is_strict l source (Ok text) → ToldFlows has_walks is_strict l source text
+told_flows true is_strict l source text told = told
+told_flows false is_strict l source text told = told
 
 -- What holds anyway holds where an answer is given.
 pub on_ok_of : {T A : Type 0} (result : Result T Stop) → A → OnOk result A

@@ -10,8 +10,8 @@ ghost use Rattle.vsi.specs.Reasons.{LacksClassAt, OtherCompare, StopsBy, WhyComp
 use crate::desk::Desk;
 use crate::driving::stored_words;
 use crate::files::Files;
-use crate::reading::{class_in, image_in, lattice_in};
-use crate::stop::{Stop, write};
+use crate::reading::policy_and_image;
+use crate::stop::{Stop, write_answer};
 use std::alloc::Global;
 use std::io::Write;
 use vsi_arguments::Comparison;
@@ -28,9 +28,13 @@ fn compared<'a, F: Files>(
     ensures stopped { IfErr result (StopsBy (WhyCompare (F.holds files.old) asked.entry)
         (LacksClassAt (F.holds files.old) asked.entry.lattice.now asked.entry.class.now)) }
 {
-    let classes = lattice_in(desk, asked.lattice, files)?;
-    let class = class_in(&classes, asked.class)?;
-    let verified = image_in(desk, asked.image, files)?;
+    let (classes, class, verified) = policy_and_image(
+        desk,
+        asked.lattice,
+        asked.class,
+        asked.image,
+        files,
+    )?;
     let first = stored_words(desk, &verified, Some(asked.stores.0), files)?;
     let second = stored_words(desk, &verified, Some(asked.stores.1), files)?;
     let found = vsi_answers::compare(
@@ -64,10 +68,5 @@ pub(crate) fn compare<'a, F: Files, W: Write>(
         (W.contents (device_of output.old)) (W.contents (device_of output.new)))) }
 {
     let found = compared(desk, asked, files)?;
-    write(&found.text, output)?;
-    if found.is_same {
-        Ok(())
-    } else {
-        Err(Stop::Differs)
-    }
+    write_answer(&found.text, found.is_same, output)
 }

@@ -13,8 +13,8 @@ ghost use Rattle.vsi.specs.Stops.{status_of};
 
 use crate::desk::{Desk, Kind};
 use crate::files::Files;
-use crate::reading::{bytes_in, declared_lattice, settings_in};
-use crate::stop::{Stop, write};
+use crate::reading::{bytes_in, declared_lattice};
+use crate::stop::{Stop, write_answer};
 use std::alloc::{AllocError, Global};
 use std::io::Write;
 use vsi_arguments::Conformance;
@@ -51,7 +51,7 @@ fn named_bytes<'a, F: Files>(
     ensures stopped { IfErr result (λ stop. 3 < status_of stop) }
 {
     let beside = path_beside(desk.alloc, interface, path)?;
-    match settings_in(desk, Kind::Lattice, beside.as_str(), files) {
+    match bytes_in(desk, Kind::Lattice, beside.as_str(), files) {
         Ok(bytes) => return Ok(bytes),
         Err(Stop::FileFault(_)) => {}
         Err(_) => return Err(Stop::Memory),
@@ -90,7 +90,7 @@ fn interface_in<'a, F: Files>(
     ensures asked { IfOk result (IsAskedAt (F.holds files.old) path.now) }
     ensures stopped { IfErr result (StopsBy (λ reason. ⊥) IsUnusable) }
 {
-    let bytes = settings_in(desk, Kind::Interface, path, files)?;
+    let bytes = bytes_in(desk, Kind::Interface, path, files)?;
     match read_interface(desk.alloc, &bytes) {
         Ok(asked) => Ok(asked),
         Err(error) => Err(unusable(desk.alloc, error)),
@@ -186,6 +186,5 @@ pub(crate) fn conform<'a, F: Files, W: Write>(
         (W.contents (device_of output.old)) (W.contents (device_of output.new)))) }
 {
     let (conforms, text) = judged(desk, asked, files)?;
-    write(&text, output)?;
-    if conforms { Ok(()) } else { Err(Stop::Differs) }
+    write_answer(&text, conforms, output)
 }

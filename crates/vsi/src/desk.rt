@@ -14,6 +14,13 @@ pub(crate) enum Kind {
     Setting,
 }
 
+impl Kind {
+    /// Whether no part of a file serves, however long the part is.
+    pub(crate) fn must_be_whole(self) -> bool {
+        matches!(self, Kind::Lattice | Kind::Store | Kind::Interface)
+    }
+}
+
 /// A file that was read.
 #[derive(Drop)]
 pub(crate) struct Kept {

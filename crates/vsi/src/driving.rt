@@ -20,7 +20,7 @@ ghost use Rattle.vsi_answers.specs.Judged as judged;
 use crate::desk::Desk;
 use crate::files::Files;
 use crate::filling::replace;
-use crate::reading::{class_in, faulty, image_in, lattice_in, store_in};
+use crate::reading::{faulty, policy_and_image, store_in};
 use crate::stop::{STREAM, Stop, write};
 use std::alloc::Global;
 use std::io::{Read, Write};
@@ -57,9 +57,13 @@ pub(crate) fn drive<'a, F: Files, R: Read, W: Write>(
     ensures stopped { IfErr result (StopsBy (WhyDrive (F.holds files.old) driving.entry)
         (LacksClassAt (F.holds files.old) driving.entry.lattice.now driving.entry.class.now)) }
 {
-    let classes = lattice_in(desk, driving.lattice, files)?;
-    let driver = class_in(&classes, driving.class)?;
-    let verified = image_in(desk, driving.execution.image, files)?;
+    let (classes, driver, verified) = policy_and_image(
+        desk,
+        driving.lattice,
+        driving.class,
+        driving.execution.image,
+        files,
+    )?;
     let mut words = stored_words(desk, &verified, driving.execution.store, files)?;
     match Controller::new(&classes, &verified, driver, driving.execution.budget) {
         Ok(controller) => drive_input(desk.alloc, &controller, &mut words, input, output)?,

@@ -88,32 +88,191 @@ pub(crate) fn explained<F: Files>(
 ) -> Result<Vec<u8>, AllocError>
     ensures { F.holds files.new ≡ F.holds files.old }
 {
-    let alloc = desk.alloc;
     match stop {
         Stop::Refused(text, cause) => {
             let mut lines = match cause {
-                Some(cause) => of_cause(alloc, explaining, desk, cause)?,
-                None => Vec::new(alloc),
+                Some(cause) => explaining.of_cause(desk, cause)?,
+                None => Vec::new(desk.alloc),
             };
             push_page(&mut lines, text)?;
             Ok(lines)
         }
-        Stop::Interface(_, error) => of_interface(alloc, explaining, desk, error),
+        Stop::Interface(_, error) => explaining.of_interface(desk, error),
         Stop::Audit(text, error) => {
-            let mut lines = of_audit(alloc, explaining, desk, error)?;
+            let mut lines = explaining.of_audit(desk, error)?;
             push_page(&mut lines, text)?;
             Ok(lines)
         }
         Stop::Unsteady(text, error) => {
-            let mut lines = of_unsteady(alloc, explaining, desk, text, error)?;
+            let mut lines = explaining.of_unsteady(desk, text, error)?;
             push_page(&mut lines, text)?;
             Ok(lines)
         }
-        Stop::FileFault(path) => of_fault(alloc, files, path),
-        Stop::LostFile(path) => of_fault(alloc, files, path.as_str()),
-        Stop::OutOfBudget => Vec::from_slice(alloc, SPENT),
-        Stop::NoClass(_) => of_class(alloc, desk),
-        Stop::Differs | Stop::Usage(_) | Stop::Memory => Ok(Vec::new(alloc)),
+        Stop::FileFault(path) => of_fault(desk.alloc, files, path),
+        Stop::LostFile(path) => of_fault(desk.alloc, files, path.as_str()),
+        Stop::OutOfBudget => Vec::from_slice(desk.alloc, SPENT),
+        Stop::NoClass(_) => of_class(desk),
+        Stop::Differs | Stop::Usage(_) | Stop::Memory => Ok(Vec::new(desk.alloc)),
+    }
+}
+
+impl Explaining {
+    /// What stands behind a refusal with this cause.
+    fn of_cause(self, desk: &Desk, cause: &Cause) -> Result<Vec<u8>, AllocError> {
+        match cause {
+            Cause::Source(error) => self.of_source(desk, error),
+            Cause::Steady(
+                UnsteadyError::Compile(CompileError::Flow(_)) | UnsteadyError::Image(_),
+            ) => { Vec::from_slice(desk.alloc, UNSTEADY) }
+            Cause::Steady(UnsteadyError::Compile(error)) => self.of_source(desk, error),
+            Cause::File(Fault::Store(error)) => self.of_store(desk, error),
+            Cause::File(fault) => self.of_file(desk, fault),
+            Cause::Start(fault) => self.of_start(desk, *fault),
+            Cause::Steady(UnsteadyError::Memory) => Ok(Vec::new(desk.alloc)),
+        }
+    }
+
+    /// What stands behind the refusal of a source text.
+    fn of_source(self, desk: &Desk, error: &CompileError) -> Result<Vec<u8>, AllocError> {
+        let Some(kept) = desk.last(Kind::Source) else {
+            return Ok(Vec::new(desk.alloc));
+        };
+        let Some(lattice) = policy(desk) else {
+            return Err(AllocError);
+        };
+        if let CompileError::Flow(_) = error {
+            let path = str::from_utf8(&kept.path).unwrap_or("");
+            let told = refused_flows(desk.alloc, self.profile, &lattice, path, &kept.bytes);
+            return told.map_err(|_| AllocError);
+        }
+        let refused = Refused::Source {
+            path: &kept.path,
+            bytes: &kept.bytes,
+            lattice: &lattice,
+            error,
+        };
+        explanation(desk.alloc, self.manner, &refused)
+    }
+
+    /// What stands behind the refusal of a store file.
+    fn of_store(self, desk: &Desk, error: &StoreError) -> Result<Vec<u8>, AllocError> {
+        let Some(kept) = desk.last(Kind::Store) else {
+            return Ok(Vec::new(desk.alloc));
+        };
+        let Some(image) = read_image(desk) else {
+            return Err(AllocError);
+        };
+        let refused = Refused::Store {
+            path: &kept.path,
+            bytes: &kept.bytes,
+            image: &image,
+            error,
+        };
+        explanation(desk.alloc, self.manner, &refused)
+    }
+
+    /// What stands behind the refusal of a lattice file or of an image.
+    fn of_file(self, desk: &Desk, fault: &Fault) -> Result<Vec<u8>, AllocError> {
+        let kind = match fault {
+            Fault::Lattice(_) => Kind::Lattice,
+            Fault::Store(_) => Kind::Store,
+            Fault::Decode(_) | Fault::Verify(_) | Fault::View(_) => Kind::Image,
+        };
+        let Some(kept) = of_kind(desk, kind) else {
+            return Ok(Vec::new(desk.alloc));
+        };
+        let refused = Refused::File {
+            path: &kept.path,
+            bytes: &kept.bytes,
+            fault,
+        };
+        explanation(desk.alloc, self.manner, &refused)
+    }
+
+    /// What stands behind the refusal of an interface.
+    fn of_interface(self, desk: &Desk, error: &InterfaceError) -> Result<Vec<u8>, AllocError> {
+        let Some(kept) = desk.last(Kind::Interface) else {
+            return Ok(Vec::new(desk.alloc));
+        };
+        if desk.last(Kind::Lattice).is_none() {
+            return self.interface_advice(desk.alloc, kept, None, error);
+        }
+        let Some(lattice) = read_policy(desk) else {
+            return Err(AllocError);
+        };
+        self.interface_advice(desk.alloc, kept, Some(&lattice), error)
+    }
+
+    /// What stands behind the refusal of this interface, whose lattice is there where it was read.
+    fn interface_advice<'d>(
+        self,
+        alloc: Global,
+        kept: &'d Kept,
+        lattice: Option<&'d Lattice>,
+        error: &'d InterfaceError,
+    ) -> Result<Vec<u8>, AllocError> {
+        let refused = vsi_advice::Refused::Interface {
+            bytes: &kept.bytes,
+            lattice,
+            error,
+        };
+        advice(alloc, self.manner, &kept.path, refused)
+    }
+
+    /// What stands behind the refusal of a run that doesn't begin.
+    fn of_start(self, desk: &Desk, fault: StartFault) -> Result<Vec<u8>, AllocError> {
+        let Some(kept) = faulty_start(desk, fault) else {
+            return Ok(Vec::new(desk.alloc));
+        };
+        let Some(image) = read_image(desk) else {
+            return Err(AllocError);
+        };
+        let refused = vsi_advice::Refused::Start {
+            bytes: &kept.bytes,
+            image: &image,
+            fault,
+        };
+        advice(desk.alloc, self.manner, &kept.path, refused)
+    }
+
+    /// What stands behind the refusal of an image's commands.
+    fn of_audit(self, desk: &Desk, error: &AuditError) -> Result<Vec<u8>, AllocError> {
+        let (Some(kept), Some(image), Some(lattice)) = (
+            desk.last(Kind::Image),
+            read_image(desk),
+            policy(desk),
+        ) else {
+            return Err(AllocError);
+        };
+        let refused = vsi_advice::Refused::Audit {
+            lattice: &lattice,
+            image: &image,
+            error,
+        };
+        advice(desk.alloc, self.manner, &kept.path, refused)
+    }
+
+    /// What stands behind the refusal of an image that isn't steady.
+    fn of_unsteady(
+        self,
+        desk: &Desk,
+        refusal: &[u8],
+        error: &SteadyError,
+    ) -> Result<Vec<u8>, AllocError> {
+        let (Some(kept), Some(image), Some(lattice)) = (
+            desk.last(Kind::Image),
+            read_image(desk),
+            policy(desk),
+        ) else {
+            return Err(AllocError);
+        };
+        let refused = vsi_advice::Refused::Steady {
+            lattice: &lattice,
+            image: &image,
+            refusal,
+            error,
+        };
+        advice(desk.alloc, self.manner, &kept.path, refused)
     }
 }
 
@@ -154,95 +313,26 @@ fn of_fault<F: Files>(alloc: Global, files: &mut F, path: &str) -> Result<Vec<u8
     Ok(lines)
 }
 
-/// What stands behind a refusal with this cause.
-fn of_cause(
-    alloc: Global,
-    explaining: Explaining,
-    desk: &Desk,
-    cause: &Cause,
-) -> Result<Vec<u8>, AllocError> {
-    match cause {
-        Cause::Source(error) => of_source(alloc, explaining, desk, error),
-        Cause::Steady(UnsteadyError::Compile(CompileError::Flow(_)) | UnsteadyError::Image(_)) => {
-            Vec::from_slice(alloc, UNSTEADY)
-        }
-        Cause::Steady(UnsteadyError::Compile(error)) => of_source(alloc, explaining, desk, error),
-        Cause::File(Fault::Store(error)) => of_store(alloc, explaining, desk, error),
-        Cause::File(fault) => of_file(alloc, explaining, desk, fault),
-        Cause::Start(fault) => of_start(alloc, explaining, desk, *fault),
-        Cause::Steady(UnsteadyError::Memory) => Ok(Vec::new(alloc)),
-    }
-}
-
 /// The lattice that was read, or `L` below `H` where none was.
-fn policy(alloc: Global, desk: &Desk) -> Option<Lattice> {
+fn policy(desk: &Desk) -> Option<Lattice> {
     let text = match desk.last(Kind::Lattice) {
         Some(kept) => kept.bytes.as_slice(),
         None => TWO_CLASSES,
     };
-    read_lattice(alloc, text).ok()
+    read_lattice(desk.alloc, text).ok()
 }
 
 /// What stands behind the name of a class that the lattice lacks.
-fn of_class(alloc: Global, desk: &Desk) -> Result<Vec<u8>, AllocError> {
-    match policy(alloc, desk) {
-        Some(lattice) => class_list(alloc, &lattice),
+fn of_class(desk: &Desk) -> Result<Vec<u8>, AllocError> {
+    match policy(desk) {
+        Some(lattice) => class_list(desk.alloc, &lattice),
         None => Err(AllocError),
     }
 }
 
-/// What stands behind the refusal of a source text.
-fn of_source(
-    alloc: Global,
-    explaining: Explaining,
-    desk: &Desk,
-    error: &CompileError,
-) -> Result<Vec<u8>, AllocError> {
-    let Some(kept) = desk.last(Kind::Source) else {
-        return Ok(Vec::new(alloc));
-    };
-    let Some(lattice) = policy(alloc, desk) else {
-        return Err(AllocError);
-    };
-    if let CompileError::Flow(_) = error {
-        let path = str::from_utf8(&kept.path).unwrap_or("");
-        let told = refused_flows(alloc, explaining.profile, &lattice, path, &kept.bytes);
-        return told.map_err(|_| AllocError);
-    }
-    let refused = Refused::Source {
-        path: &kept.path,
-        bytes: &kept.bytes,
-        lattice: &lattice,
-        error,
-    };
-    explanation(alloc, explaining.manner, &refused)
-}
-
 /// The image that was read.
-fn read_image(alloc: Global, desk: &Desk) -> Option<Image> {
-    decode(alloc, desk.last(Kind::Image)?.bytes.as_slice()).ok()
-}
-
-/// What stands behind the refusal of a store file.
-fn of_store(
-    alloc: Global,
-    explaining: Explaining,
-    desk: &Desk,
-    error: &StoreError,
-) -> Result<Vec<u8>, AllocError> {
-    let Some(kept) = desk.last(Kind::Store) else {
-        return Ok(Vec::new(alloc));
-    };
-    let Some(image) = read_image(alloc, desk) else {
-        return Err(AllocError);
-    };
-    let refused = Refused::Store {
-        path: &kept.path,
-        bytes: &kept.bytes,
-        image: &image,
-        error,
-    };
-    explanation(alloc, explaining.manner, &refused)
+fn read_image(desk: &Desk) -> Option<Image> {
+    decode(desk.alloc, desk.last(Kind::Image)?.bytes.as_slice()).ok()
 }
 
 /// The last file of a kind; an interface stands for a lattice file where it has classes itself.
@@ -254,67 +344,9 @@ fn of_kind<'d>(desk: &'d Desk, kind: Kind) -> Option<&'d Kept> {
     }
 }
 
-/// What stands behind the refusal of a lattice file or of an image.
-fn of_file(
-    alloc: Global,
-    explaining: Explaining,
-    desk: &Desk,
-    fault: &Fault,
-) -> Result<Vec<u8>, AllocError> {
-    let kind = match fault {
-        Fault::Lattice(_) => Kind::Lattice,
-        Fault::Store(_) => Kind::Store,
-        Fault::Decode(_) | Fault::Verify(_) | Fault::View(_) => Kind::Image,
-    };
-    let Some(kept) = of_kind(desk, kind) else {
-        return Ok(Vec::new(alloc));
-    };
-    let refused = Refused::File {
-        path: &kept.path,
-        bytes: &kept.bytes,
-        fault,
-    };
-    explanation(alloc, explaining.manner, &refused)
-}
-
 /// The lattice of a file that was read.
-fn read_policy(alloc: Global, desk: &Desk) -> Option<Lattice> {
-    read_lattice(alloc, desk.last(Kind::Lattice)?.bytes.as_slice()).ok()
-}
-
-/// What stands behind the refusal of an interface.
-fn of_interface(
-    alloc: Global,
-    explaining: Explaining,
-    desk: &Desk,
-    error: &InterfaceError,
-) -> Result<Vec<u8>, AllocError> {
-    let Some(kept) = desk.last(Kind::Interface) else {
-        return Ok(Vec::new(alloc));
-    };
-    if desk.last(Kind::Lattice).is_none() {
-        return interface_advice(alloc, explaining, kept, None, error);
-    }
-    let Some(lattice) = read_policy(alloc, desk) else {
-        return Err(AllocError);
-    };
-    interface_advice(alloc, explaining, kept, Some(&lattice), error)
-}
-
-/// What stands behind the refusal of this interface, whose lattice is there where it was read.
-fn interface_advice<'d>(
-    alloc: Global,
-    explaining: Explaining,
-    kept: &'d Kept,
-    lattice: Option<&'d Lattice>,
-    error: &'d InterfaceError,
-) -> Result<Vec<u8>, AllocError> {
-    let refused = vsi_advice::Refused::Interface {
-        bytes: &kept.bytes,
-        lattice,
-        error,
-    };
-    advice(alloc, explaining.manner, &kept.path, refused)
+fn read_policy(desk: &Desk) -> Option<Lattice> {
+    read_lattice(desk.alloc, desk.last(Kind::Lattice)?.bytes.as_slice()).ok()
 }
 
 /// What was read that a run can't begin with: a setting, the store file, or else the image.
@@ -332,71 +364,4 @@ fn faulty_start<'d>(desk: &'d Desk, fault: StartFault) -> Option<&'d Kept> {
             None => desk.last(Kind::Image),
         },
     }
-}
-
-/// What stands behind the refusal of a run that doesn't begin.
-fn of_start(
-    alloc: Global,
-    explaining: Explaining,
-    desk: &Desk,
-    fault: StartFault,
-) -> Result<Vec<u8>, AllocError> {
-    let Some(kept) = faulty_start(desk, fault) else {
-        return Ok(Vec::new(alloc));
-    };
-    let Some(image) = read_image(alloc, desk) else {
-        return Err(AllocError);
-    };
-    let refused = vsi_advice::Refused::Start {
-        bytes: &kept.bytes,
-        image: &image,
-        fault,
-    };
-    advice(alloc, explaining.manner, &kept.path, refused)
-}
-
-/// What stands behind the refusal of an image's commands.
-fn of_audit(
-    alloc: Global,
-    explaining: Explaining,
-    desk: &Desk,
-    error: &AuditError,
-) -> Result<Vec<u8>, AllocError> {
-    let (Some(kept), Some(image), Some(lattice)) = (
-        desk.last(Kind::Image),
-        read_image(alloc, desk),
-        policy(alloc, desk),
-    ) else {
-        return Err(AllocError);
-    };
-    let refused = vsi_advice::Refused::Audit {
-        lattice: &lattice,
-        image: &image,
-        error,
-    };
-    advice(alloc, explaining.manner, &kept.path, refused)
-}
-
-/// What stands behind the refusal of an image that isn't steady.
-fn of_unsteady(
-    alloc: Global,
-    explaining: Explaining,
-    desk: &Desk,
-    refusal: &[u8],
-    error: &SteadyError,
-) -> Result<Vec<u8>, AllocError> {
-    let (Some(kept), Some(image), Some(lattice)) = (
-        desk.last(Kind::Image),
-        read_image(alloc, desk),
-        policy(alloc, desk),
-    ) else {
-        return Err(AllocError);
-    };
-    let refused = vsi_advice::Refused::Steady {
-        lattice: &lattice,
-        image: &image,
-        refusal,
-        error,
-    };
-    advice(alloc, explaining.manner, &kept.path, refused)
 }

@@ -5,6 +5,7 @@ ghost use Rattle.std.specs.Io.KnownBytes.{Keeps};
 ghost use Rattle.vsi.specs.Done.{Done, IsMistake, IsStopOf, Stopped};
 ghost use Rattle.vsi.specs.Performed.{Performs};
 ghost use Rattle.vsi.specs.Stops.{TellsFault, status_of};
+ghost use Rattle.vsi.specs.declared.stop.Stop.TheVariants.{Memory};
 ghost use Rattle.vsi_asked.specs.Help.{AsksHelp};
 ghost use Rattle.vsi_devices.specs.Counted.{device_of, faults_of};
 
@@ -16,7 +17,7 @@ use crate::stop::{Stop, write};
 use crate::telling::Told;
 use std::alloc::Global;
 use std::io::{Read, Write};
-use vsi_arguments::{ArgumentsError, Asked, Manner, Request, request_of};
+use vsi_arguments::{ArgumentsError, Asked, Manner, request_of};
 use vsi_asked::{asks_for, asks_help};
 use vsi_devices::Counted;
 
@@ -76,15 +77,42 @@ fn obey_asked<'a, F: Files, R: Read, W: Write>(
     ensures stopped { IfErr result (IsStopOf (F.holds files.old) asked.entry.request
         (W.contents (device_of output.old)) (W.contents (device_of output.new))) }
 {
+    let explaining = explaining_of(&asked, files);
+    let mut desk = Desk::new(alloc, explaining.is_some());
+    match perform(&mut desk, asked.request, files, input, output, told) {
+        Ok(()) => Ok(()),
+        Err(stop) => Err(explain_stop(&desk, explaining, files, stop, told)),
+    }
+}
+
+/// How a refusal is explained, where that is asked for.
+fn explaining_of<F: Files>(asked: &Asked<'_>, files: &mut F) -> Option<Explaining>
+    ensures { F.holds files.new ≡ F.holds files.old }
+{
     match asked.manner {
-        Manner::Fixed => {
-            let mut desk = Desk::new(alloc, false);
-            perform(&mut desk, asked.request, files, input, output, told)
+        Manner::Fixed => None,
+        Manner::Explained(colour) => Some(Explaining::new(&asked.request, colour, files)),
+    }
+}
+
+/// The stop of a request, once its explanation stands behind what is told, where one is asked for.
+fn explain_stop<'a, F: Files>(
+    desk: &Desk,
+    explaining: Option<Explaining>,
+    files: &mut F,
+    stop: Stop<'a>,
+    told: &mut Told,
+) -> Stop<'a>
+    ensures kept { F.holds files.new ≡ F.holds files.old }
+    ensures fault { status_of stop.entry ≡ 4 → status_of result ≡ 4 }
+    ensures same { (result ≡ stop.entry) ⊎ (result ≡ Memory) }
+{
+    match explaining {
+        Some(explaining) => {
+            let lines = explained(desk, explaining, files, &stop);
+            stop.after(told.put(lines))
         }
-        Manner::Explained(colour) => {
-            let explaining = Explaining::new(&asked.request, colour, files);
-            obey_explaining(alloc, asked.request, explaining, files, input, output, told)
-        }
+        None => stop,
     }
 }
 
@@ -95,38 +123,6 @@ fn misunderstood<'a>(alloc: Global) -> Stop<'a>
     match String::from_str(alloc, MISUNDERSTOOD) {
         Ok(text) => Stop::Usage(text),
         Err(_) => Stop::Memory,
-    }
-}
-
-/// Does what is asked for, and puts an explanation behind what is told where it isn't done.
-fn obey_explaining<'a, F: Files, R: Read, W: Write>(
-    alloc: Global,
-    request: Request<'a>,
-    explaining: Explaining,
-    files: &mut F,
-    input: &mut Counted<R>,
-    output: &mut Counted<W>,
-    told: &mut Told,
-) -> Result<(), Stop<'a>>
-    requires input { faults_of input.old < u64.MAX }
-    requires output { faults_of output.old < u64.MAX }
-    ensures input_fault { TellsFault (faults_of input.old) (faults_of input.new) result }
-    ensures output_fault { TellsFault (faults_of output.old) (faults_of output.new) result }
-    ensures unfilled { IfErr result (λ stop. status_of stop < 4
-        → F.holds files.new ≡ F.holds files.old) }
-    ensures performed { OnOk result (Performs (F.holds files.old)
-        (R.remaining (device_of input.old)) request.entry (F.holds files.new)
-        (W.contents (device_of output.old)) (W.contents (device_of output.new))) }
-    ensures stopped { IfErr result (IsStopOf (F.holds files.old) request.entry
-        (W.contents (device_of output.old)) (W.contents (device_of output.new))) }
-{
-    let mut desk = Desk::new(alloc, true);
-    match perform(&mut desk, request, files, input, output, told) {
-        Ok(()) => Ok(()),
-        Err(stop) => {
-            let lines = explained(&desk, explaining, files, &stop);
-            Err(stop.after(told.put(lines)))
-        }
     }
 }
 

@@ -1,9 +1,10 @@
 //! Files, read and judged.
 
-ghost use Rattle.std.specs.Prelude.{◌≡◌, ◌<◌, false, Some, IfOk, IfErr, Ok, Err, MatchResult};
+ghost use Rattle.std.specs.Prelude.{◌≡◌, ◌<◌, ◌⊎◌, false, Some, IfOk, IfErr, Ok, Err, MatchResult};
 ghost use Rattle.vsi.specs.Holding.{IsImageAt, IsLatticeAt, IsReadAt, IsStoreAt};
 ghost use Rattle.vsi.specs.Input.{two_classes};
-ghost use Rattle.vsi.specs.Reasons.{IsNoMemory, LacksClass, NoOther, RefusesImage, RefusesLattice, StopsBy};
+ghost use Rattle.vsi.specs.Performed.{LooksAt};
+ghost use Rattle.vsi.specs.Reasons.{IsNoMemory, LacksClass, LacksClassAt, NoOther, RefusesImage, RefusesLattice, StopsBy};
 ghost use Rattle.vsi.specs.Stops.{status_of, stop_of};
 ghost use Rattle.vsi.specs.declared.stop.Stop.TheVariants as stops;
 ghost use Rattle.vsi_answers.specs.Answers.{Because};
@@ -107,7 +108,8 @@ fn whole_in<'a, F: Files>(alloc: Global, path: &'a str, files: &mut F) -> Result
     read_all(alloc, &mut reader).map_err(|error| device_stop(alloc, error, path))
 }
 
-/// The bytes of a file of this kind, of which the files are told.
+/// The bytes of a file of this kind. One that is as long as `READ_LIMIT` is a file fault where only
+/// a whole file serves.
 pub(crate) fn bytes_in<'a, F: Files>(
     desk: &mut Desk,
     kind: Kind,
@@ -121,23 +123,7 @@ pub(crate) fn bytes_in<'a, F: Files>(
 {
     let bytes = whole_in(desk.alloc, path, files)?;
     desk.keep(kind, path, bytes.as_slice())?;
-    Ok(bytes)
-}
-
-/// A whole file that is shorter than `READ_LIMIT`; a longer one is a file fault.
-pub(crate) fn settings_in<'a, F: Files>(
-    desk: &mut Desk,
-    kind: Kind,
-    path: &'a str,
-    files: &mut F,
-) -> Result<Vec<u8>, Stop<'a>>
-    ensures kept { F.holds files.new ≡ F.holds files.old }
-    ensures read { IfOk result
-        (λ bytes. IsReadAt (F.holds files.old) path.now bytes.items) }
-    ensures stopped { IfErr result (λ stop. 3 < status_of stop) }
-{
-    let bytes = bytes_in(desk, kind, path, files)?;
-    if bytes.len() >= READ_LIMIT {
+    if kind.must_be_whole() && bytes.len() >= READ_LIMIT {
         return Err(Stop::FileFault(path));
     }
     Ok(bytes)
@@ -155,7 +141,7 @@ pub(crate) fn store_in<'a, F: Files>(
     ensures stopped { IfErr result (λ stop. 3 < status_of stop) }
 {
     match path {
-        Some(path) => settings_in(desk, Kind::Store, path, files),
+        Some(path) => bytes_in(desk, Kind::Store, path, files),
         None => Ok(Vec::new(desk.alloc)),
     }
 }
@@ -191,7 +177,7 @@ pub(crate) fn lattice_in<'a, F: Files>(
     ensures stopped { IfErr result
         (StopsBy (RefusesLattice (F.holds files.old) path.now) NoOther) }
 {
-    let bytes = settings_in(desk, Kind::Lattice, path, files)?;
+    let bytes = bytes_in(desk, Kind::Lattice, path, files)?;
     declared_lattice(desk.alloc, bytes.as_slice())
 }
 
@@ -221,4 +207,28 @@ pub(crate) fn image_in<'a, F: Files>(
     let bytes = bytes_in(desk, Kind::Image, path, files)?;
     let verified = judged_image(desk.alloc, bytes.as_slice())?;
     Ok(verified)
+}
+
+/// The class that looks, with the lattice of a file, and the image that it looks at. The image is
+/// read once the lattice has the class.
+pub(crate) fn policy_and_image<'a, F: Files>(
+    desk: &mut Desk,
+    lattice: &'a str,
+    class: &'a str,
+    image: &'a str,
+    files: &mut F,
+) -> Result<(Lattice, Class, Verified), Stop<'a>>
+    ensures kept { F.holds files.new ≡ F.holds files.old }
+    ensures looks { IfOk result
+        (λ seen. LooksAt (F.holds files.old) lattice.now class.now seen.0 seen.1) }
+    ensures held { IfOk result (λ seen. IsImageAt (F.holds files.old) image.now seen.2) }
+    ensures stopped { IfErr result (StopsBy (λ reason.
+        RefusesLattice (F.holds files.old) lattice.now reason
+        ⊎ RefusesImage (F.holds files.old) image.now reason)
+        (LacksClassAt (F.holds files.old) lattice.now class.now)) }
+{
+    let classes = lattice_in(desk, lattice, files)?;
+    let viewer = class_in(&classes, class)?;
+    let verified = image_in(desk, image, files)?;
+    Ok((classes, viewer, verified))
 }

@@ -13,7 +13,7 @@ ghost use Rattle.vsi.specs.Reasons.{LacksClassAt, NoOther, RefusesImage, Refuses
 use crate::desk::{Desk, Kind};
 use crate::files::Files;
 use crate::filling::deliver;
-use crate::reading::{class_in, device_stop, image_in, lattice_in, store_in};
+use crate::reading::{device_stop, image_in, policy_and_image, store_in};
 use crate::stop::Stop;
 use std::alloc::Global;
 use std::io::Write;
@@ -37,9 +37,10 @@ fn keep_settings<'a>(desk: &mut Desk, outset: &Outset<'a>) -> Result<(), Stop<'a
     Ok(())
 }
 
-/// The words that a run begins with, of a store file's bytes and the settings behind it.
-pub(crate) fn words_in<'a>(
-    alloc: Global,
+/// The words that a run begins with, of a store file's bytes and the settings behind it, which are
+/// kept for an explanation.
+fn words_in<'a>(
+    desk: &mut Desk,
     verified: &Verified,
     file: &[u8],
     outset: &Outset<'a>,
@@ -50,8 +51,9 @@ pub(crate) fn words_in<'a>(
     ensures stopped { IfErr result (StopsBy (λ reason. BeginsWith verified.now file.now
         (texts outset.now.settings.items) outset.now.is_full (Err reason)) NoOther) }
 {
+    keep_settings(desk, outset)?;
     let settings = outset.settings.as_slice();
-    Ok(start_words(alloc, verified, file, settings, outset.is_full)?)
+    Ok(start_words(desk.alloc, verified, file, settings, outset.is_full)?)
 }
 
 /// The image that is run and the words that it begins with. The store file is read before the image
@@ -72,8 +74,7 @@ fn image_and_words<'a, F: Files>(
 {
     let file = store_in(desk, execution.store, files)?;
     let verified = image_in(desk, execution.image, files)?;
-    keep_settings(desk, outset)?;
-    let words = words_in(desk.alloc, &verified, &file, outset)?;
+    let words = words_in(desk, &verified, &file, outset)?;
     Ok((verified, words))
 }
 
@@ -187,12 +188,15 @@ fn seen<'a, F: Files>(
     ensures stopped { IfErr result (StopsBy (WhyView (F.holds files.old) lattice.now class.now
         execution.entry outset.now) (LacksClassAt (F.holds files.old) lattice.now class.now)) }
 {
-    let classes = lattice_in(desk, lattice, files)?;
-    let viewer = class_in(&classes, class)?;
-    let verified = image_in(desk, execution.image, files)?;
+    let (classes, viewer, verified) = policy_and_image(
+        desk,
+        lattice,
+        class,
+        execution.image,
+        files,
+    )?;
     let file = store_in(desk, execution.store, files)?;
-    keep_settings(desk, outset)?;
-    let words = words_in(desk.alloc, &verified, &file, outset)?;
+    let words = words_in(desk, &verified, &file, outset)?;
     let budget = execution.budget;
     Ok(vsi_answers::view(desk.alloc, &classes, &verified, viewer, &words, budget)?)
 }

@@ -1,9 +1,10 @@
 //! Why a command line ends early, with the status and the text that tell so.
 
-ghost use Rattle.std.specs.Prelude.{◌≡◌, ◌<◌, ◌≤◌, ◌⊎◌, ◌==◌, IfErr, OnOk, OnErr, IsTrue};
+ghost use Rattle.std.specs.Prelude.{◌≡◌, ◌<◌, ◌≤◌, ◌⊎◌, ◌==◌, true, false, IfErr, OnOk, OnErr, IsTrue};
 ghost use Rattle.std.specs.Io.KnownBytes.{Appends};
 ghost use Rattle.vsi.specs.Stops.{line_of, status_of, text_of_stop, IsStreamFault, StopsFor, TellsFault};
-ghost use Rattle.vsi.specs.declared.stop.Stop.TheVariants.{Memory};
+ghost use Rattle.vsi.specs.Silent.{IsSilent};
+ghost use Rattle.vsi.specs.declared.stop.Stop.TheVariants.{Differs, Memory};
 ghost use Rattle.vsi_devices.specs.Counted.{device_of, faults_of};
 
 use std::alloc::{AllocError, AllocFailed};
@@ -157,6 +158,26 @@ pub(crate) fn write<'a, W: Write>(text: &[u8], output: &mut Counted<W>) -> Resul
         (Appends (W.contents (device_of output.old)) (W.contents (device_of output.new)) text.now) }
 {
     write_out(text, output).map_err(|_| Stop::FileFault(STREAM))
+}
+
+/// Writes an answer, and stops behind it where it is a difference.
+pub(crate) fn write_answer<'a, W: Write>(
+    text: &[u8],
+    agrees: bool,
+    output: &mut Counted<W>,
+) -> Result<(), Stop<'a>>
+    requires { faults_of output.old < u64.MAX }
+    ensures fault { TellsFault (faults_of output.old) (faults_of output.new) result }
+    ensures silent { IsSilent result (W.contents (device_of output.old))
+        (W.contents (device_of output.new)) }
+    ensures whole { OnOk result ((agrees ≡ true)
+        × Appends (W.contents (device_of output.old)) (W.contents (device_of output.new)) text.now) }
+    ensures stopped { IfErr result (λ stop. ((stop ≡ Differs) × ((agrees ≡ false)
+        × Appends (W.contents (device_of output.old)) (W.contents (device_of output.new)) text.now))
+        ⊎ (status_of stop ≡ 4)) }
+{
+    write(text, output)?;
+    if agrees { Ok(()) } else { Err(Stop::Differs) }
 }
 
 /// Writes the start and the word on a line.

@@ -13,9 +13,10 @@ use crate::desk::{Desk, Kind};
 use crate::files::Files;
 use crate::filling::fill;
 use crate::reading::{answered, bytes_in, lattice_in, two_classes};
-use crate::stop::{Stop, write};
+use crate::stop::{Stop, write_answer};
 use std::alloc::Global;
 use std::io::Write;
+use vsi_answers::Unanswered;
 use vsi_arguments::{Compilation, Judging};
 use vsi_conform::Judgement;
 use vsi_devices::Counted;
@@ -51,6 +52,23 @@ fn policy_and_text<'a, F: Files>(
     Ok((classes, text))
 }
 
+/// `accepted`, where a text is accepted as it is asked under a lattice.
+fn checked(
+    alloc: Global,
+    asked: Judging<'_>,
+    classes: &Lattice,
+    text: &[u8],
+) -> Result<Vec<u8>, Unanswered>
+    ensures { AsksCheck asked.entry.is_steady asked.entry.compilation.is_strict
+        classes.now text.now result }
+{
+    if asked.is_steady {
+        return vsi_answers::check_steady(alloc, classes, text);
+    }
+    let profile = profile(asked.compilation.is_strict);
+    vsi_answers::check(alloc, profile, classes, text)
+}
+
 /// `accepted`, where the source text is accepted as it is asked.
 pub(crate) fn check<'a, F: Files>(
     desk: &mut Desk,
@@ -65,13 +83,7 @@ pub(crate) fn check<'a, F: Files>(
         (AsksCheck asked.entry.is_steady asked.entry.compilation.is_strict)) NoOther) }
 {
     let (classes, text) = policy_and_text(desk, asked.compilation, files)?;
-    let answer = if asked.is_steady {
-        vsi_answers::check_steady(desk.alloc, &classes, text.as_slice())
-    } else {
-        let profile = profile(asked.compilation.is_strict);
-        vsi_answers::check(desk.alloc, profile, &classes, text.as_slice())
-    };
-    answered(answer)
+    answered(checked(desk.alloc, asked, &classes, text.as_slice()))
 }
 
 /// What the source text is judged by.
@@ -126,12 +138,7 @@ pub(crate) fn check_as_json<'a, F: Files, W: Write>(
         (W.contents (device_of output.old)) (W.contents (device_of output.new))) }
 {
     let (is_accepted, line) = checked_line(desk, asked, files)?;
-    write(&line, output)?;
-    if is_accepted {
-        Ok(())
-    } else {
-        Err(Stop::Differs)
-    }
+    write_answer(&line, is_accepted, output)
 }
 
 /// The class of each declaration of the source text.
@@ -151,6 +158,23 @@ pub(crate) fn classes<'a, F: Files>(
     answered(vsi_answers::classes(desk.alloc, profile, &classes, text.as_slice()))
 }
 
+/// The flows between the declared variables of a text, each with a walk where that is asked for.
+fn listed_flows(
+    alloc: Global,
+    has_walks: bool,
+    is_strict: bool,
+    classes: &Lattice,
+    text: &[u8],
+) -> Result<Vec<u8>, Unanswered>
+    ensures { AsksFlows has_walks is_strict classes.now text.now result }
+{
+    let profile = profile(is_strict);
+    if has_walks {
+        return vsi_answers::walks(alloc, profile, classes, text);
+    }
+    vsi_answers::flows(alloc, profile, classes, text)
+}
+
 /// The flows between the declared variables of the source text, each with a walk where that is
 /// asked for.
 pub(crate) fn flows<'a, F: Files>(
@@ -166,13 +190,14 @@ pub(crate) fn flows<'a, F: Files>(
         (AsksFlows has_walks compilation.entry.is_strict)) NoOther) }
 {
     let (classes, text) = policy_and_text(desk, compilation, files)?;
-    let profile = profile(compilation.is_strict);
-    let answer = if has_walks {
-        vsi_answers::walks(desk.alloc, profile, &classes, text.as_slice())
-    } else {
-        vsi_answers::flows(desk.alloc, profile, &classes, text.as_slice())
-    };
-    answered(answer)
+    let source = text.as_slice();
+    answered(listed_flows(
+        desk.alloc,
+        has_walks,
+        compilation.is_strict,
+        &classes,
+        source,
+    ))
 }
 
 /// The bytes of the image of the source text.

@@ -2,8 +2,8 @@ use Rattle.std.proofs.Common.{inl, inr, subst}
 use Rattle.std.proofs.lemmas.Result.{IfErr-weaker, on_ok_weaker}
 use Rattle.vsi.specs.Holding.{IsImageAt}
 use Rattle.vsi.specs.Reasons.{IsRefusedImage, RefusesAudit, RefusesImage, RefusesLattice, StopsBy}
-use Rattle.vsi.proofs.Reasons.{StopsBy-weaker, handed, stops_by}
-use Rattle.vsi.proofs.Unrun.{Unaudited, held_stops}
+use Rattle.vsi.proofs.Reasons.{StopsBy-weaker, stopped_by}
+use Rattle.vsi.proofs.Unrun.{Unseen, held_stopped}
 use Rattle.vsi.proofs.auditing.audit.Goals as goal
 
 pub returns-clause-told : goal.returns-clause-told
@@ -22,28 +22,23 @@ returns-clause-told g c =
 pub returns-in_err-classes-clause-stopped : goal.returns-in_err-classes-clause-stopped
 returns-in_err-classes-clause-stopped g c =
     let holds = g.F.Files.holds c.args.files.now in
-    let why = Unaudited holds c.args.asked in
-    let other = RefusesAudit holds c.args.asked in
-    handed (StopsBy why other) c.in_err-classes.field-0.0 c.from_residual.result c.from_residual.ensures.1
-    (stops_by (RefusesLattice holds c.args.asked.lattice.now) why other (λ reason is. inl is)
-    c.in_err-classes.field-0.0 c.in_err-classes.ensures.stopped)
+    stopped_by (RefusesLattice holds c.args.asked.lattice.now)
+    (Unseen holds c.args.asked.lattice.now c.args.asked.image.now) (RefusesAudit holds c.args.asked)
+    (λ reason is. inl is) c.from_residual.result c.in_err-classes.field-0.0 c.from_residual.ensures.1
+    c.in_err-classes.ensures.stopped
 
 pub returns-in_err-verified-clause-stopped : goal.returns-in_err-verified-clause-stopped
 returns-in_err-verified-clause-stopped g c =
     let holds = g.F.Files.holds c.args.files.now in
-    let why = Unaudited holds c.args.asked in
-    let other = RefusesAudit holds c.args.asked in
-    handed (StopsBy why other) c.in_err-verified.field-0.0 c.from_residual-in_err-verified.result
-    c.from_residual-in_err-verified.ensures.1
-    (stops_by why why other (λ reason is. is) c.in_err-verified.field-0.0
-    (held_stops (λ h. RefusesImage h c.args.asked.image.now) holds (g.F.Files.holds c.lattice_in.new.files) why
-    c.in_err-verified.field-0.0 c.in_ok-classes.ensures.kept (λ reason is. inr is)
-    c.in_err-verified.ensures.stopped))
+    held_stopped (λ h. RefusesImage h c.args.asked.image.now) holds (g.F.Files.holds c.lattice_in.new.files)
+    (Unseen holds c.args.asked.lattice.now c.args.asked.image.now) (RefusesAudit holds c.args.asked)
+    c.from_residual-in_err-verified.result c.in_err-verified.field-0.0 c.in_ok-classes.ensures.kept
+    (λ reason is. inr is) c.from_residual-in_err-verified.ensures.1 c.in_err-verified.ensures.stopped
 
 pub returns-clause-stopped : goal.returns-clause-stopped
 returns-clause-stopped g c =
     let holds = g.F.Files.holds c.args.files.now in
-    let why = Unaudited holds c.args.asked in
+    let why = Unseen holds c.args.asked.lattice.now c.args.asked.image.now in
     let other = RefusesAudit holds c.args.asked in
     let refused = IsRefusedImage c.args.asked.is_strict c.in_ok-classes.classes c.in_ok-verified.verified in
     IfErr-weaker c.judge.result (StopsBy (λ reason. ⊥) refused) (StopsBy why other)

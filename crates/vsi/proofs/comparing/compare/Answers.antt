@@ -1,22 +1,24 @@
-use Rattle.std.proofs.Common.{inl, inr, refl, subst}
+use Rattle.std.proofs.Common.{◌≡◌, false, inl, inr, refl, subst}
+use Rattle.std.proofs.lemmas.Result.{on_ok_weaker}
 use Rattle.std.specs.Io.KnownBytes.{Appends}
 use Rattle.vsi_devices.specs.Counted.{device_of}
 use Rattle.vsi.specs.Reasons.{LacksClassAt, OtherCompare, StopsBy, WhyCompare}
 use Rattle.vsi.proofs.Reasons.{StopsBy-weaker, handed}
-use Rattle.vsi.proofs.Unrun.{fault_stops}
+use Rattle.vsi.proofs.Unrun.{answer_stopped}
 use Rattle.vsi.proofs.comparing.compare.Goals as goal
 
-pub returns-then-found-clause-performed : goal.returns-then-found-clause-performed
-returns-then-found-clause-performed g c =
-    record {
+pub returns-clause-performed : goal.returns-clause-performed
+returns-clause-performed g c =
+    let old = g.W.Write.contents (device_of c.args.output.now) in
+    let new = g.W.Write.contents (device_of c.write_answer.new.output) in
+    on_ok_weaker c.write_answer.result
+    (λ told. record {
       told = c.in_ok-found.found;
       compares = c.in_ok-found.ensures.told;
-      same = c.if-found.true;
-      written = subst
-          (Appends (g.W.Write.contents (device_of c.args.output.now)) (g.W.Write.contents (device_of
-          c.write.new.output)))
-          c.deref.ensures.value c.in_ok-write.ensures.whole;
-    }
+      same = told.0;
+      written = subst (Appends old new) c.deref.ensures.value told.1;
+    })
+    c.write_answer.ensures.whole
 
 pub returns-in_err-found-clause-stopped : goal.returns-in_err-found-clause-stopped
 returns-in_err-found-clause-stopped g c =
@@ -29,25 +31,20 @@ returns-in_err-found-clause-stopped g c =
     (StopsBy-weaker why why (LacksClassAt holds c.args.asked.lattice.now c.args.asked.class.now) other (λ reason is. is)
     (λ stop lacks. inl lacks) c.in_err-found.field-0.0 c.in_err-found.ensures.stopped)
 
-pub returns-in_err-write-clause-stopped : goal.returns-in_err-write-clause-stopped
-returns-in_err-write-clause-stopped g c =
-    let holds = g.F.Files.holds c.args.files.now in
-    let why = WhyCompare holds c.args.asked in
-    let other = OtherCompare holds c.args.asked (g.W.Write.contents (device_of c.args.output.now))
-    (g.W.Write.contents (device_of c.write.new.output)) in
-    handed (StopsBy why other) c.in_err-write.field-0.0 c.from_residual-in_err-write.result
-    c.from_residual-in_err-write.ensures.1
-    (fault_stops why other c.in_err-write.field-0.0 c.in_err-write.ensures.stop)
-
 pub returns-clause-stopped : goal.returns-clause-stopped
-returns-clause-stopped g c = inr (
-  refl,
-  record {
-    told = c.in_ok-found.found;
-    compares = c.in_ok-found.ensures.told;
-    differs = c.if-found.false;
-    written = subst
-        (Appends (g.W.Write.contents (device_of c.args.output.now)) (g.W.Write.contents (device_of c.write.new.output)))
-        c.deref.ensures.value c.in_ok-write.ensures.whole;
-  },
-)
+returns-clause-stopped g c =
+    let holds = g.F.Files.holds c.args.files.now in
+    let old = g.W.Write.contents (device_of c.args.output.now) in
+    let new = g.W.Write.contents (device_of c.write_answer.new.output) in
+    answer_stopped (WhyCompare holds c.args.asked) (OtherCompare holds c.args.asked old new)
+    ((c.in_ok-found.found.is_same ≡ false) × Appends old new c.deref.result.now) c.write_answer.result
+    c.write_answer.ensures.stopped
+    (λ told. inr (
+      refl,
+      record {
+        told = c.in_ok-found.found;
+        compares = c.in_ok-found.ensures.told;
+        differs = told.0;
+        written = subst (Appends old new) c.deref.ensures.value told.1;
+      },
+    ))

@@ -1,80 +1,77 @@
-use Rattle.std.proofs.Common.{refl, subst}
+use Rattle.std.proofs.Common.{◌⊎◌, refl, subst}
 use Rattle.std.specs.Prelude.{OnOk}
 use Rattle.std.specs.Io.KnownBytes.{Appends}
 use Rattle.vsi_devices.specs.Counted.{device_of}
-use Rattle.vsi_arguments.specs.declared.request.Request.TheVariants as request
-use Rattle.vsi.specs.Reasons.{Why}
-use Rattle.vsi.proofs.Written.{accept_performs, build_performs, put_writes, silent_fault, silent_kept}
+use Rattle.vsi_answers.specs.Requests.{ListsTo}
+use Rattle.vsi.specs.Reasons.{AsksCanonical, AsksClasses, AsksFlows, HasNoText, NoOther, OtherLeak, RefusesAudit, RefusesFile, RefusesFiles, RefusesImage, RefusesLattice, RefusesSource, WhyDraw}
 use Rattle.vsi.proofs.Filled.{alone}
-use Rattle.vsi.proofs.Obeyed.{faults_so, late_why, put_stops}
+use Rattle.vsi.proofs.Obeyed.{put_stops}
+use Rattle.vsi.proofs.Unrun.{Unseen, fault_stopped}
+use Rattle.vsi.proofs.Written.{accept_performs, build_performs, put_alone, silent_fault, silent_kept}
 use Rattle.vsi.proofs.performing.perform.Goals as goal
 
+-- ---- what has been done.
+
 pub returns-in-Classes-clause-performed : goal.returns-in-Classes-clause-performed
-returns-in-Classes-clause-performed g c =
-    rw c.in-Classes.is
-    (alone _ c.put.result _ _ c.classes.ensures.kept
-    (put_writes _ _ _ c.classes.result c.put.result c.classes.ensures.told c.put.ensures.done))
+returns-in-Classes-clause-performed g c = rw c.in-Classes.is
+    (put_alone _ _ _ _ _ c.classes.result c.put.result c.classes.ensures.kept c.classes.ensures.told
+    c.put.ensures.done)
 
 pub returns-in-Flows-clause-performed : goal.returns-in-Flows-clause-performed
-returns-in-Flows-clause-performed g c =
-    rw c.in-Flows.is
-    (alone _ c.put-in-Flows.result _ _ c.flows.ensures.kept
-    (put_writes _ _ _ c.flows.result c.put-in-Flows.result c.flows.ensures.told c.put-in-Flows.ensures.done))
+returns-in-Flows-clause-performed g c = rw c.in-Flows.is
+    (put_alone _ _ _ _ _ c.flows.result c.put-in-Flows.result c.flows.ensures.kept c.flows.ensures.told
+    c.put-in-Flows.ensures.done)
 
 pub returns-in-List-clause-performed : goal.returns-in-List-clause-performed
-returns-in-List-clause-performed g c =
-    rw c.in-List.is
-    (alone _ c.put-in-List.result _ _ c.list.ensures.kept
-    (put_writes _ _ _ c.list.result c.put-in-List.result c.list.ensures.told c.put-in-List.ensures.done))
+returns-in-List-clause-performed g c = rw c.in-List.is
+    (put_alone _ _ _ _ _ c.list.result c.put-in-List.result c.list.ensures.kept c.list.ensures.told
+    c.put-in-List.ensures.done)
 
 pub returns-in-Source-clause-performed : goal.returns-in-Source-clause-performed
-returns-in-Source-clause-performed g c =
-    rw c.in-Source.is
-    (alone _ c.put-in-Source.result _ _ c.source.ensures.kept
-    (put_writes _ _ _ c.source.result c.put-in-Source.result c.source.ensures.told c.put-in-Source.ensures.done))
+returns-in-Source-clause-performed g c = rw c.in-Source.is
+    (put_alone _ _ _ _ _ c.source.result c.put-in-Source.result c.source.ensures.kept c.source.ensures.told
+    c.put-in-Source.ensures.done)
 
 pub returns-in-Leak-clause-performed : goal.returns-in-Leak-clause-performed
-returns-in-Leak-clause-performed g c =
-    rw c.in-Leak.is
-    (alone _ c.put-in-Leak.result _ _ c.leak.ensures.kept
-    (put_writes _ _ _ c.leak.result c.put-in-Leak.result c.leak.ensures.told c.put-in-Leak.ensures.done))
+returns-in-Leak-clause-performed g c = rw c.in-Leak.is
+    (put_alone _ _ _ _ _ c.leak.result c.put-in-Leak.result c.leak.ensures.kept c.leak.ensures.told
+    c.put-in-Leak.ensures.done)
 
 pub returns-in-Report-clause-performed : goal.returns-in-Report-clause-performed
-returns-in-Report-clause-performed g c =
-    rw c.in-Report.is
-    (alone _ c.put-in-Report.result _ _ c.report.ensures.kept
-    (put_writes _ _ _ c.report.result c.put-in-Report.result c.report.ensures.told c.put-in-Report.ensures.done))
+returns-in-Report-clause-performed g c = rw c.in-Report.is
+    (put_alone _ _ _ _ _ c.report.result c.put-in-Report.result c.report.ensures.kept c.report.ensures.told
+    c.put-in-Report.ensures.done)
 
 pub returns-in-Draw-clause-performed : goal.returns-in-Draw-clause-performed
-returns-in-Draw-clause-performed g c =
-    rw c.in-Draw.is
-    (alone _ c.put-in-Draw.result _ _ c.draw.ensures.kept
-    (put_writes _ _ _ c.draw.result c.put-in-Draw.result c.draw.ensures.told c.put-in-Draw.ensures.done))
+returns-in-Draw-clause-performed g c = rw c.in-Draw.is
+    (put_alone _ _ _ _ _ c.draw.result c.put-in-Draw.result c.draw.ensures.kept c.draw.ensures.told
+    c.put-in-Draw.ensures.done)
 
 pub returns-in-Format-clause-performed : goal.returns-in-Format-clause-performed
-returns-in-Format-clause-performed g c =
-    rw c.in-Format.is
-    (alone _ c.put-in-Format.result _ _ c.format.ensures.kept
-    (put_writes _ _ _ c.format.result c.put-in-Format.result c.format.ensures.told c.put-in-Format.ensures.done))
+returns-in-Format-clause-performed g c = rw c.in-Format.is
+    (put_alone _ _ _ _ _ c.format.result c.put-in-Format.result c.format.ensures.kept c.format.ensures.told
+    c.put-in-Format.ensures.done)
 
 pub returns-in-Audit-clause-performed : goal.returns-in-Audit-clause-performed
-returns-in-Audit-clause-performed g c =
-    rw c.in-Audit.is
+returns-in-Audit-clause-performed g c = rw c.in-Audit.is
     (alone _ c.accept.result _ _ c.audit.ensures.kept
     (accept_performs _ _ _ _ c.audit.result c.accept.result c.audit.ensures.told c.accept.ensures.done))
 
 pub returns-in-Build-clause-performed : goal.returns-in-Build-clause-performed
-returns-in-Build-clause-performed g c =
-    rw c.in-Build.is
+returns-in-Build-clause-performed g c = rw c.in-Build.is
     (build_performs _ _ _ _ _ c.build.result c.build.ensures.filled)
 
 pub returns-in-Check-clause-performed : goal.returns-in-Check-clause-performed
-returns-in-Check-clause-performed g c =
-    rw c.in-Check.is (alone _ c.put_check.result _ _ c.put_check.ensures.kept c.put_check.ensures.performed)
+returns-in-Check-clause-performed g c = rw c.in-Check.is
+    (alone _ c.put_check.result _ _ c.put_check.ensures.kept c.put_check.ensures.performed)
 
 pub returns-in-Conform-clause-performed : goal.returns-in-Conform-clause-performed
-returns-in-Conform-clause-performed g c =
-    rw c.in-Conform.is (alone _ c.conform.result _ _ c.conform.ensures.kept c.conform.ensures.performed)
+returns-in-Conform-clause-performed g c = rw c.in-Conform.is
+    (alone _ c.conform.result _ _ c.conform.ensures.kept c.conform.ensures.performed)
+
+pub returns-in-Compare-clause-performed : goal.returns-in-Compare-clause-performed
+returns-in-Compare-clause-performed g c = rw c.in-Compare.is
+    (alone _ c.compare.result _ _ c.compare.ensures.kept c.compare.ensures.performed)
 
 pub returns-in-Run-clause-performed : goal.returns-in-Run-clause-performed
 returns-in-Run-clause-performed g c = rw c.in-Run.is c.run.ensures.performed
@@ -85,13 +82,8 @@ returns-in-Drive-clause-performed g c = rw c.in-Drive.is c.drive.ensures.perform
 pub returns-in-View-clause-performed : goal.returns-in-View-clause-performed
 returns-in-View-clause-performed g c = rw c.in-View.is c.view.ensures.performed
 
-pub returns-in-Compare-clause-performed : goal.returns-in-Compare-clause-performed
-returns-in-Compare-clause-performed g c =
-    rw c.in-Compare.is (alone _ c.compare.result _ _ c.compare.ensures.kept c.compare.ensures.performed)
-
 pub returns-in-Explain-clause-performed : goal.returns-in-Explain-clause-performed
-returns-in-Explain-clause-performed g c =
-    rw c.in-Explain.is
+returns-in-Explain-clause-performed g c = rw c.in-Explain.is
     (alone _ c.write.result _ _ refl
     (subst
     (λ text. OnOk c.write.result
@@ -99,11 +91,67 @@ returns-in-Explain-clause-performed g c =
     text))
     c.as_bytes.ensures.value c.write.ensures.whole))
 
+-- ---- what is left of the output.
+
 pub returns-in-Build-clause-silent : goal.returns-in-Build-clause-silent
 returns-in-Build-clause-silent g c = silent_kept c.build.result _
 
 pub returns-in-Explain-clause-silent : goal.returns-in-Explain-clause-silent
 returns-in-Explain-clause-silent g c = silent_fault c.write.result _ _ c.write.ensures.stop
+
+-- ---- why it has stopped.
+
+pub returns-in-Classes-clause-stopped : goal.returns-in-Classes-clause-stopped
+returns-in-Classes-clause-stopped g c = rw c.in-Classes.is
+    (put_stops (RefusesFiles (g.F.Files.holds c.args.files.now) c.in-Classes.compilation (AsksClasses c.in-Classes.compilation.is_strict))
+    NoOther
+    c.classes.result c.put.result c.classes.ensures.stopped c.put.ensures.stopped)
+
+pub returns-in-Flows-clause-stopped : goal.returns-in-Flows-clause-stopped
+returns-in-Flows-clause-stopped g c = rw c.in-Flows.is
+    (put_stops (RefusesFiles (g.F.Files.holds c.args.files.now) c.in-Flows.compilation
+    (AsksFlows c.in-Flows.has_walks c.in-Flows.compilation.is_strict))
+    NoOther
+    c.flows.result c.put-in-Flows.result c.flows.ensures.stopped c.put-in-Flows.ensures.stopped)
+
+pub returns-in-List-clause-stopped : goal.returns-in-List-clause-stopped
+returns-in-List-clause-stopped g c = rw c.in-List.is
+    (put_stops (RefusesFile (g.F.Files.holds c.args.files.now) c.in-List.image.now ListsTo) NoOther
+    c.list.result c.put-in-List.result c.list.ensures.stopped c.put-in-List.ensures.stopped)
+
+pub returns-in-Source-clause-stopped : goal.returns-in-Source-clause-stopped
+returns-in-Source-clause-stopped g c = rw c.in-Source.is
+    (put_stops (RefusesImage (g.F.Files.holds c.args.files.now) c.in-Source.image.now)
+    (HasNoText (g.F.Files.holds c.args.files.now) c.in-Source.image.now)
+    c.source.result c.put-in-Source.result c.source.ensures.stopped c.put-in-Source.ensures.stopped)
+
+pub returns-in-Leak-clause-stopped : goal.returns-in-Leak-clause-stopped
+returns-in-Leak-clause-stopped g c = rw c.in-Leak.is
+    (put_stops (λ reason. RefusesLattice (g.F.Files.holds c.args.files.now) c.in-Leak.search.lattice.now reason
+    ⊎ RefusesSource (g.F.Files.holds c.args.files.now) c.in-Leak.search.lattice.now c.in-Leak.search.source.now reason)
+    (OtherLeak (g.F.Files.holds c.args.files.now) c.in-Leak.search)
+    c.leak.result c.put-in-Leak.result c.leak.ensures.stopped c.put-in-Leak.ensures.stopped)
+
+pub returns-in-Report-clause-stopped : goal.returns-in-Report-clause-stopped
+returns-in-Report-clause-stopped g c = rw c.in-Report.is
+    (put_stops (RefusesLattice (g.F.Files.holds c.args.files.now) c.in-Report.compilation.lattice.now) NoOther
+    c.report.result c.put-in-Report.result c.report.ensures.stopped c.put-in-Report.ensures.stopped)
+
+pub returns-in-Draw-clause-stopped : goal.returns-in-Draw-clause-stopped
+returns-in-Draw-clause-stopped g c = rw c.in-Draw.is
+    (put_stops (WhyDraw (g.F.Files.holds c.args.files.now) c.in-Draw.drawing.lattice.now c.in-Draw.drawing.source) NoOther
+    c.draw.result c.put-in-Draw.result c.draw.ensures.stopped c.put-in-Draw.ensures.stopped)
+
+pub returns-in-Format-clause-stopped : goal.returns-in-Format-clause-stopped
+returns-in-Format-clause-stopped g c = rw c.in-Format.is
+    (put_stops (RefusesFile (g.F.Files.holds c.args.files.now) c.in-Format.source.now AsksCanonical) NoOther
+    c.format.result c.put-in-Format.result c.format.ensures.stopped c.put-in-Format.ensures.stopped)
+
+pub returns-in-Audit-clause-stopped : goal.returns-in-Audit-clause-stopped
+returns-in-Audit-clause-stopped g c = rw c.in-Audit.is
+    (put_stops (Unseen (g.F.Files.holds c.args.files.now) c.in-Audit.asked.lattice.now c.in-Audit.asked.image.now)
+    (RefusesAudit (g.F.Files.holds c.args.files.now) c.in-Audit.asked)
+    c.audit.result c.accept.result c.audit.ensures.stopped c.accept.ensures.stopped)
 
 pub returns-in-Check-clause-stopped : goal.returns-in-Check-clause-stopped
 returns-in-Check-clause-stopped g c = rw c.in-Check.is c.put_check.ensures.stopped
@@ -111,58 +159,8 @@ returns-in-Check-clause-stopped g c = rw c.in-Check.is c.put_check.ensures.stopp
 pub returns-in-Conform-clause-stopped : goal.returns-in-Conform-clause-stopped
 returns-in-Conform-clause-stopped g c = rw c.in-Conform.is c.conform.ensures.stopped
 
-pub returns-in-Classes-clause-stopped : goal.returns-in-Classes-clause-stopped
-returns-in-Classes-clause-stopped g c =
-    let holds = g.F.Files.holds c.args.files.now in
-    let old = g.W.Write.contents (device_of c.args.output.now) in
-    let new = g.W.Write.contents (device_of c.put.new.output) in
-    let asked = request.Classes c.in-Classes.compilation in
-    rw c.in-Classes.is
-    (put_stops (Why holds asked old new) (late_why holds asked old new) c.classes.result c.put.result
-    c.classes.ensures.stopped c.put.ensures.stopped)
-
-pub returns-in-Flows-clause-stopped : goal.returns-in-Flows-clause-stopped
-returns-in-Flows-clause-stopped g c =
-    let holds = g.F.Files.holds c.args.files.now in
-    let old = g.W.Write.contents (device_of c.args.output.now) in
-    let new = g.W.Write.contents (device_of c.put-in-Flows.new.output) in
-    let asked = request.Flows c.in-Flows.compilation c.in-Flows.has_walks in
-    rw c.in-Flows.is
-    (put_stops (Why holds asked old new) (late_why holds asked old new) c.flows.result c.put-in-Flows.result
-    c.flows.ensures.stopped c.put-in-Flows.ensures.stopped)
-
-pub returns-in-List-clause-stopped : goal.returns-in-List-clause-stopped
-returns-in-List-clause-stopped g c =
-    let holds = g.F.Files.holds c.args.files.now in
-    let old = g.W.Write.contents (device_of c.args.output.now) in
-    let new = g.W.Write.contents (device_of c.put-in-List.new.output) in
-    let asked = request.List c.in-List.image in
-    rw c.in-List.is
-    (put_stops (Why holds asked old new) (late_why holds asked old new) c.list.result c.put-in-List.result
-    c.list.ensures.stopped c.put-in-List.ensures.stopped)
-
 pub returns-in-Build-clause-stopped : goal.returns-in-Build-clause-stopped
 returns-in-Build-clause-stopped g c = rw c.in-Build.is c.build.ensures.stopped
-
-pub returns-in-Audit-clause-stopped : goal.returns-in-Audit-clause-stopped
-returns-in-Audit-clause-stopped g c =
-    let holds = g.F.Files.holds c.args.files.now in
-    let old = g.W.Write.contents (device_of c.args.output.now) in
-    let new = g.W.Write.contents (device_of c.accept.new.output) in
-    let asked = request.Audit c.in-Audit.asked in
-    rw c.in-Audit.is
-    (put_stops (Why holds asked old new) (late_why holds asked old new) c.audit.result c.accept.result
-    c.audit.ensures.stopped c.accept.ensures.stopped)
-
-pub returns-in-Source-clause-stopped : goal.returns-in-Source-clause-stopped
-returns-in-Source-clause-stopped g c =
-    let holds = g.F.Files.holds c.args.files.now in
-    let old = g.W.Write.contents (device_of c.args.output.now) in
-    let new = g.W.Write.contents (device_of c.put-in-Source.new.output) in
-    let asked = request.Source c.in-Source.image in
-    rw c.in-Source.is
-    (put_stops (Why holds asked old new) (late_why holds asked old new) c.source.result c.put-in-Source.result
-    c.source.ensures.stopped c.put-in-Source.ensures.stopped)
 
 pub returns-in-Run-clause-stopped : goal.returns-in-Run-clause-stopped
 returns-in-Run-clause-stopped g c = rw c.in-Run.is c.run.ensures.stopped
@@ -176,50 +174,6 @@ returns-in-Drive-clause-stopped g c = rw c.in-Drive.is c.drive.ensures.stopped
 pub returns-in-Compare-clause-stopped : goal.returns-in-Compare-clause-stopped
 returns-in-Compare-clause-stopped g c = rw c.in-Compare.is c.compare.ensures.stopped
 
-pub returns-in-Leak-clause-stopped : goal.returns-in-Leak-clause-stopped
-returns-in-Leak-clause-stopped g c =
-    let holds = g.F.Files.holds c.args.files.now in
-    let old = g.W.Write.contents (device_of c.args.output.now) in
-    let new = g.W.Write.contents (device_of c.put-in-Leak.new.output) in
-    let asked = request.Leak c.in-Leak.search in
-    rw c.in-Leak.is
-    (put_stops (Why holds asked old new) (late_why holds asked old new) c.leak.result c.put-in-Leak.result
-    c.leak.ensures.stopped c.put-in-Leak.ensures.stopped)
-
-pub returns-in-Report-clause-stopped : goal.returns-in-Report-clause-stopped
-returns-in-Report-clause-stopped g c =
-    let holds = g.F.Files.holds c.args.files.now in
-    let old = g.W.Write.contents (device_of c.args.output.now) in
-    let new = g.W.Write.contents (device_of c.put-in-Report.new.output) in
-    let asked = request.Report c.in-Report.compilation in
-    rw c.in-Report.is
-    (put_stops (Why holds asked old new) (late_why holds asked old new) c.report.result c.put-in-Report.result
-    c.report.ensures.stopped c.put-in-Report.ensures.stopped)
-
-pub returns-in-Draw-clause-stopped : goal.returns-in-Draw-clause-stopped
-returns-in-Draw-clause-stopped g c =
-    let holds = g.F.Files.holds c.args.files.now in
-    let old = g.W.Write.contents (device_of c.args.output.now) in
-    let new = g.W.Write.contents (device_of c.put-in-Draw.new.output) in
-    let asked = request.Draw c.in-Draw.drawing in
-    rw c.in-Draw.is
-    (put_stops (Why holds asked old new) (late_why holds asked old new) c.draw.result c.put-in-Draw.result
-    c.draw.ensures.stopped c.put-in-Draw.ensures.stopped)
-
-pub returns-in-Format-clause-stopped : goal.returns-in-Format-clause-stopped
-returns-in-Format-clause-stopped g c =
-    let holds = g.F.Files.holds c.args.files.now in
-    let old = g.W.Write.contents (device_of c.args.output.now) in
-    let new = g.W.Write.contents (device_of c.put-in-Format.new.output) in
-    let asked = request.Format c.in-Format.source in
-    rw c.in-Format.is
-    (put_stops (Why holds asked old new) (late_why holds asked old new) c.format.result c.put-in-Format.result
-    c.format.ensures.stopped c.put-in-Format.ensures.stopped)
-
 pub returns-in-Explain-clause-stopped : goal.returns-in-Explain-clause-stopped
-returns-in-Explain-clause-stopped g c =
-    let holds = g.F.Files.holds c.args.files.now in
-    let old = g.W.Write.contents (device_of c.args.output.now) in
-    let new = g.W.Write.contents (device_of c.write.new.output) in
-    faults_so (Why holds c.args.request old new) (late_why holds c.args.request old new) c.write.result
-    c.write.ensures.stop
+returns-in-Explain-clause-stopped g c = rw c.in-Explain.is
+    (fault_stopped (λ reason. ⊥) NoOther c.write.result c.write.ensures.stop)

@@ -1,8 +1,6 @@
-use Rattle.std.proofs.Common.{false}
-use Rattle.vsi_devices.specs.Counted.{device_of}
-use Rattle.vsi.specs.Reasons.{WhyCheck}
+use Rattle.vsi.specs.Reasons.{AsksCheck, NoOther, RefusesFiles}
 use Rattle.vsi.proofs.Written.{put_writes}
-use Rattle.vsi.proofs.Obeyed.{late_check, put_stops}
+use Rattle.vsi.proofs.Obeyed.{put_stops}
 use Rattle.vsi.proofs.performing.put_check.Goals as goal
 
 pub returns-then-asked-clause-performed : goal.returns-then-asked-clause-performed
@@ -18,9 +16,8 @@ returns-then-asked-clause-stopped g c = rw c.if-asked.true c.check_as_json.ensur
 
 pub returns-else-asked-clause-stopped : goal.returns-else-asked-clause-stopped
 returns-else-asked-clause-stopped g c =
-    let holds = g.F.Files.holds c.args.files.now in
-    let old = g.W.Write.contents (device_of c.args.output.now) in
-    let new = g.W.Write.contents (device_of c.put.new.output) in
     rw c.if-asked.false
-    (put_stops (WhyCheck false holds c.args.asked old new) (late_check false holds c.args.asked old new)
-    c.check.result c.put.result c.check.ensures.stopped c.put.ensures.stopped)
+    (put_stops
+    (RefusesFiles (g.F.Files.holds c.args.files.now) c.args.asked.compilation
+    (AsksCheck c.args.asked.is_steady c.args.asked.compilation.is_strict))
+    NoOther c.check.result c.put.result c.check.ensures.stopped c.put.ensures.stopped)

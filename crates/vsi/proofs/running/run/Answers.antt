@@ -4,10 +4,10 @@ use Rattle.std.proofs.lemmas.Result.{on_ok_weaker}
 use Rattle.std.specs.Io.KnownBytes.{Appends}
 use Rattle.vsi_devices.specs.Counted.{device_of}
 use Rattle.vsi.specs.Performed.{BeginsAt, shown}
-use Rattle.vsi.specs.Reasons.{NoOther, StopsBy, WhyRun}
+use Rattle.vsi.specs.Reasons.{NoOther, WhyRun}
 use Rattle.vsi.proofs.Filled.{both_done, delivered_of}
-use Rattle.vsi.proofs.Reasons.{handed, stops_by}
-use Rattle.vsi.proofs.Unrun.{Unstarted, ended_stops, handed_late, memory_stops}
+use Rattle.vsi.proofs.Reasons.{stopped_by}
+use Rattle.vsi.proofs.Unrun.{Unstarted, ended_stops, handed_late, memory_stopped}
 use Rattle.vsi.proofs.running.run.Goals as goal
 
 pub returns-in-Ok-Some-clause-performed : goal.returns-in-Ok-Some-clause-performed
@@ -42,15 +42,14 @@ returns-in-Ok-Some-clause-performed g c =
 pub returns-in_err-verified-clause-stopped : goal.returns-in_err-verified-clause-stopped
 returns-in_err-verified-clause-stopped g c =
     let holds = g.F.Files.holds c.args.files.now in
-    let why = WhyRun holds c.args.asked.now.execution c.args.asked.now.outset c.args.asked.now.has_trace
-    (g.W.Write.contents (device_of c.args.output.now)) (g.W.Write.contents (device_of c.args.output.now)) in
-    handed (StopsBy why NoOther) c.in_err-verified.field-0.0 c.from_residual.result c.from_residual.ensures.1
-    (stops_by (Unstarted holds c.args.asked.now.execution c.args.asked.now.outset) why NoOther
+    let old = g.W.Write.contents (device_of c.args.output.now) in
+    stopped_by (Unstarted holds c.args.asked.now.execution c.args.asked.now.outset)
+    (WhyRun holds c.args.asked.now.execution c.args.asked.now.outset c.args.asked.now.has_trace old old) NoOther
     (λ reason is. elim is [
       | inl refused ↦ inl refused
       | inr refused ↦ inr (inl refused)
     ])
-    c.in_err-verified.field-0.0 c.in_err-verified.ensures.stopped)
+    c.from_residual.result c.in_err-verified.field-0.0 c.from_residual.ensures.1 c.in_err-verified.ensures.stopped
 
 pub returns-in-Ok-Some-clause-stopped : goal.returns-in-Ok-Some-clause-stopped
 returns-in-Ok-Some-clause-stopped g c =
@@ -64,20 +63,16 @@ returns-in_err-put_count-in-Ok-Some-clause-stopped g c =
     let holds = g.F.Files.holds c.args.files.now in
     let why = WhyRun holds c.args.asked.now.execution c.args.asked.now.outset c.args.asked.now.has_trace
     (g.W.Write.contents (device_of c.args.output.now)) (g.W.Write.contents (device_of c.run_words.new.writer)) in
-    handed (StopsBy why NoOther) c.in_err-put_count-in-Ok-Some.field-0.0
-    c.from_residual-in_err-put_count-in-Ok-Some.result
-    c.from_residual-in_err-put_count-in-Ok-Some.ensures.1
-    (memory_stops why NoOther c.in_err-put_count-in-Ok-Some.field-0.0 c.in_err-put_count-in-Ok-Some.ensures)
+    memory_stopped why NoOther c.from_residual-in_err-put_count-in-Ok-Some.result c.in_err-put_count-in-Ok-Some.field-0.0
+    c.from_residual-in_err-put_count-in-Ok-Some.ensures.1 c.in_err-put_count-in-Ok-Some.ensures
 
 pub returns-in_err-put_count-in-Ok-None-clause-stopped : goal.returns-in_err-put_count-in-Ok-None-clause-stopped
 returns-in_err-put_count-in-Ok-None-clause-stopped g c =
     let holds = g.F.Files.holds c.args.files.now in
     let why = WhyRun holds c.args.asked.now.execution c.args.asked.now.outset c.args.asked.now.has_trace
     (g.W.Write.contents (device_of c.args.output.now)) (g.W.Write.contents (device_of c.run_words.new.writer)) in
-    handed (StopsBy why NoOther) c.in_err-put_count-in-Ok-None.field-0.0
-    c.from_residual-in_err-put_count-in-Ok-None.result
-    c.from_residual-in_err-put_count-in-Ok-None.ensures.1
-    (memory_stops why NoOther c.in_err-put_count-in-Ok-None.field-0.0 c.in_err-put_count-in-Ok-None.ensures)
+    memory_stopped why NoOther c.from_residual-in_err-put_count-in-Ok-None.result c.in_err-put_count-in-Ok-None.field-0.0
+    c.from_residual-in_err-put_count-in-Ok-None.ensures.1 c.in_err-put_count-in-Ok-None.ensures
 
 pub returns-in-Ok-None-clause-stopped : goal.returns-in-Ok-None-clause-stopped
 returns-in-Ok-None-clause-stopped g c =

@@ -1,28 +1,38 @@
-use Rattle.std.proofs.Common.{refl, subst}
+use Rattle.std.proofs.Common.{◌≡◌, false, refl, subst}
+use Rattle.std.proofs.lemmas.Result.{on_ok_weaker}
 use Rattle.std.specs.Io.KnownBytes.{Appends}
 use Rattle.vsi_devices.specs.Counted.{device_of}
+use Rattle.vsi.specs.Performed.{OfFiles, Writes, judgement_of}
+use Rattle.vsi.specs.Reasons.{IsDifference, RefusesLattice, ToldRefusal}
+use Rattle.vsi.proofs.Unrun.{answer_stopped}
 use Rattle.vsi.proofs.subcommands.check_as_json.Goals as goal
 
-pub returns-then-is_accepted-clause-performed : goal.returns-then-is_accepted-clause-performed
-returns-then-is_accepted-clause-performed g c =
-    record {
+pub returns-clause-performed : goal.returns-clause-performed
+returns-clause-performed g c =
+    let old = g.W.Write.contents (device_of c.args.output.now) in
+    let new = g.W.Write.contents (device_of c.write_answer.new.output) in
+    on_ok_weaker c.write_answer.result
+    (λ told. record {
       text = c.in_ok-is_accepted.line;
-      is = c.in_ok-is_accepted.ensures.told c.if-is_accepted.true;
-      written = subst
-          (Appends (g.W.Write.contents (device_of c.args.output.now)) (g.W.Write.contents (device_of
-          c.write.new.output)))
-          c.deref.ensures.value c.in_ok-write.ensures.whole;
-    }
+      is = c.in_ok-is_accepted.ensures.told told.0;
+      written = subst (Appends old new) c.deref.ensures.value told.1;
+    })
+    c.write_answer.ensures.whole
 
 pub returns-clause-stopped : goal.returns-clause-stopped
-returns-clause-stopped g c = (
-  refl,
-  record {
-    text = c.in_ok-is_accepted.line;
-    is = c.in_ok-is_accepted.ensures.refused c.if-is_accepted.false;
-    written = subst
-        (Appends (g.W.Write.contents (device_of c.args.output.now))
-        (g.W.Write.contents (device_of c.write.new.output)))
-        c.deref.ensures.value c.in_ok-write.ensures.whole;
-  },
-)
+returns-clause-stopped g c =
+    let holds = g.F.Files.holds c.args.files.now in
+    let old = g.W.Write.contents (device_of c.args.output.now) in
+    let new = g.W.Write.contents (device_of c.write_answer.new.output) in
+    answer_stopped (RefusesLattice holds c.args.asked.compilation.lattice.now)
+    (IsDifference (Writes (OfFiles holds c.args.asked.compilation (ToldRefusal (judgement_of c.args.asked))) old new))
+    ((c.in_ok-is_accepted.is_accepted ≡ false) × Appends old new c.deref.result.now) c.write_answer.result
+    c.write_answer.ensures.stopped
+    (λ told. (
+      refl,
+      record {
+        text = c.in_ok-is_accepted.line;
+        is = c.in_ok-is_accepted.ensures.refused told.0;
+        written = subst (Appends old new) c.deref.ensures.value told.1;
+      },
+    ))

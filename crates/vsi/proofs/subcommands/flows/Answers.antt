@@ -1,11 +1,7 @@
-use Rattle.std.proofs.Common.{◌≡◌, Ok, Err, subst}
-use Rattle.std.specs.Prelude.{MatchResult}
-use Rattle.vsi_answers.specs.Requests.{FlowsTo, WalksTo}
+use Rattle.vsi.specs.Performed.{ToldFlows}
 use Rattle.vsi.specs.Reasons.{AsksFlows}
-use Rattle.vsi.specs.Stops.{stop_of}
-use Rattle.vsi.proofs.Refused.{refuses_by, refuses_lattice}
-use Rattle.vsi.proofs.Written.{told_by}
-use Rattle.vsi.proofs.subcommands.flows.Goals.{then-has_walks, else-has_walks}
+use Rattle.vsi.proofs.Refused.{refuses_files, refuses_lattice}
+use Rattle.vsi.proofs.Written.{told_files, told_flows}
 use Rattle.vsi.proofs.subcommands.flows.Goals as goal
 
 pub returns-in_err-classes-clause-stopped : goal.returns-in_err-classes-clause-stopped
@@ -16,42 +12,14 @@ returns-in_err-classes-clause-stopped g c =
 
 pub returns-clause-told : goal.returns-clause-told
 returns-clause-told g c =
-    elim c.if-has_walks.branch [
-      | then-has_walks w ↦
-          rw w.if-has_walks.true
-          (told_by _ _ WalksTo _ _ _ _ w.walks-answer.result c.answered.result c.in_ok-classes.ensures.told
-          w.as_slice.ensures.value c.profile-profile.ensures
-          (subst (λ a. MatchResult a (λ t. c.answered.result ≡ Ok t) (λ reason. c.answered.result ≡ Err (stop_of
-          reason)))
-          w.answer-is c.answered.ensures)
-          w.walks-answer.ensures.walks)
-      | else-has_walks w ↦
-          rw w.if-has_walks.false
-          (told_by _ _ FlowsTo _ _ _ _ w.flows-answer.result c.answered.result c.in_ok-classes.ensures.told
-          w.as_slice-else-has_walks.ensures.value c.profile-profile.ensures
-          (subst (λ a. MatchResult a (λ t. c.answered.result ≡ Ok t) (λ reason. c.answered.result ≡ Err (stop_of
-          reason)))
-          w.answer-is c.answered.ensures)
-          w.flows-answer.ensures.flows)
-    ]
+    let has_walks = c.args.has_walks in
+    let is_strict = c.args.compilation.is_strict in
+    told_files _ _ (AsksFlows has_walks is_strict) (ToldFlows has_walks is_strict) _ _ _ c.listed_flows.result
+    c.answered.result (told_flows has_walks is_strict) c.in_ok-classes.ensures.told c.as_slice-source.ensures.value
+    c.answered.ensures c.listed_flows.ensures
 
 pub returns-clause-stopped : goal.returns-clause-stopped
 returns-clause-stopped g c =
-    elim c.if-has_walks.branch [
-      | then-has_walks w ↦
-          rw w.if-has_walks.true
-          (refuses_by _ _ (λ l P s a. WalksTo l P s a) _ _ _ _ w.walks-answer.result c.answered.result
-          c.in_ok-classes.ensures.told w.as_slice.ensures.value c.profile-profile.ensures
-          (subst (λ a. MatchResult a (λ t. c.answered.result ≡ Ok t) (λ reason. c.answered.result ≡ Err (stop_of
-          reason)))
-          w.answer-is c.answered.ensures)
-          w.walks-answer.ensures.walks)
-      | else-has_walks w ↦
-          rw w.if-has_walks.false
-          (refuses_by _ _ (λ l P s a. FlowsTo l P s a) _ _ _ _ w.flows-answer.result c.answered.result
-          c.in_ok-classes.ensures.told w.as_slice-else-has_walks.ensures.value c.profile-profile.ensures
-          (subst (λ a. MatchResult a (λ t. c.answered.result ≡ Ok t) (λ reason. c.answered.result ≡ Err (stop_of
-          reason)))
-          w.answer-is c.answered.ensures)
-          w.flows-answer.ensures.flows)
-    ]
+    refuses_files _ _ (AsksFlows c.args.has_walks c.args.compilation.is_strict) _ _ _ c.listed_flows.result
+    c.answered.result c.in_ok-classes.ensures.told c.as_slice-source.ensures.value c.answered.ensures
+    c.listed_flows.ensures

@@ -1,0 +1,32 @@
+use Rattle.std.proofs.Common.{◌∙◌, subst}
+use Rattle.vsi_devices.specs.Counted.{device_of}
+use Rattle.vsi.specs.Performed.{Performs}
+use Rattle.vsi.specs.Reasons.{Why}
+use Rattle.vsi.proofs.Obeyed.{early_told, explained_stops}
+use Rattle.vsi.proofs.obeying.obey_asked.Goals as goal
+
+pub returns-in-Ok-clause-performed : goal.returns-in-Ok-clause-performed
+returns-in-Ok-clause-performed g c =
+    subst
+    (λ holds. Performs holds (g.R.Read.remaining (device_of c.args.input.now)) c.args.asked.request
+    (g.F.Files.holds c.perform.new.files) (g.W.Write.contents (device_of c.args.output.now))
+    (g.W.Write.contents (device_of c.perform.new.output)))
+    c.explaining_of-explaining.ensures c.in-Ok.ensures.performed
+
+pub returns-clause-unfilled : goal.returns-clause-unfilled
+returns-clause-unfilled g c =
+    early_told c.in-Err.stop c.explain_stop.result c.explain_stop.ensures.same
+    (λ early. c.explain_stop.ensures.kept ∙ (c.in-Err.ensures.unfilled early ∙ c.explaining_of-explaining.ensures))
+
+pub returns-clause-stopped : goal.returns-clause-stopped
+returns-clause-stopped g c =
+    let holds = g.F.Files.holds c.args.files.now in
+    let old = g.W.Write.contents (device_of c.args.output.now) in
+    let new = g.W.Write.contents (device_of c.perform.new.output) in
+    explained_stops holds c.args.asked.request old new c.in-Err.stop c.explain_stop.result
+    (record {
+      why = subst (λ h. Why h c.args.asked.request old new c.in-Err.stop) c.explaining_of-explaining.ensures
+          c.in-Err.ensures.stopped;
+      silent = c.in-Err.ensures.silent;
+    })
+    c.explain_stop.ensures.same
