@@ -3,9 +3,9 @@ use Rattle.std.proofs.Common.{◌≡◌, ℕ, zero, suc, ◌+◌, ◌-◌, ◌<�
 use Rattle.std.proofs.lemmas.Bool.{lt-ltb, le-ltb}
 use Rattle.vsi_syntax.specs.declared.operator.Op.{Op}
 use Rattle.vsi_syntax.specs.Tree.{Lexeme, Tree, Binary, right_level, depth}
-use Rattle.vsi_syntax.specs.declared.parser.ParseError.{ParseError}
-use Rattle.vsi_syntax.specs.declared.parser.ParseError.TheVariants as errors
-use Rattle.vsi_syntax.specs.Given.{Fails}
+use Rattle.vsi_syntax.specs.declared.parser.Fault.{Fault}
+use Rattle.vsi_syntax.specs.declared.parser.Fault.TheVariants as fault
+use Rattle.vsi_syntax.specs.Stopped.{Fails}
 use Rattle.vsi_syntax.specs.Parsing.{own_level, next, Reads, first, more, whole, parse, inside}
 
 -- An expression of bounded depth is read with what a bracket may hold as the reader inside.
@@ -66,11 +66,11 @@ more_turns room l (suc n) t r ws after behind op total h low read enough so_far 
     (n, omega arith, sym one ∙ so_far)
 
 -- A failure of one reading is a failure of another that finds nothing where the first finds nothing.
-pub fails_along : {X Y : Type 0} (e : ParseError) (r : Option X) (s : Option Y) → (r ≡ None → s ≡ None) → Fails e r →
+pub fails_along : {X Y : Type 0} (e : Fault) (r : Option X) (s : Option Y) → (r ≡ None → s ≡ None) → Fails e r →
     Fails e s
-fails_along errors.Memory r s f h = tt
-fails_along (errors.Unexpected p) r s f h = f h
-fails_along (errors.TooDeep p) r s f h = f h
+fails_along fault.Memory r s f h = tt
+fails_along (fault.Unexpected p) r s f h = f h
+fails_along (fault.TooDeep p) r s f h = f h
 
 -- Inside a bracket or behind an operator one level less is left.
 pub inside_is : (room l : ℕ) (ws : List Lexeme) → 0 < room → inside room l ws ≡ parse (room - 1) l ws

@@ -3,6 +3,7 @@ pub mod Words
 pub mod Tree
 pub mod View
 pub mod Given
+pub mod Stopped
 pub mod Parsing
 pub mod Cut
 pub mod CommandView

@@ -1,31 +1,31 @@
--- The operators on lexemes of 64 bits, which the optimiser, the code and the machine share.
+-- The operators on words, the 64-bit numbers of the machine, which the optimiser, the code and the machine share.
 use Rattle.std.specs.Prelude.{ℤ, pos, ◌+ℤ◌, ◌-ℤ◌, ◌*ℤ◌, if◌then◌else◌, int_lt}
 use Rattle.std.specs.Ordering.{int_eq}
 use Rattle.std.specs.Int.{w64, int_wrap}
 use Rattle.vsi_syntax.specs.declared.operator.Op.{Op}
 use Rattle.vsi_syntax.specs.declared.operator.Op.TheVariants.{Add, Sub, Mul, Eq, Lt}
 
--- The lexeme that equals the sum modulo 2 ^ 64.
+-- The word that equals the sum modulo 2 ^ 64.
 abbrev pub sum_of : ℤ → ℤ → ℤ
 sum_of a b = int_wrap w64 (a +ℤ b)
 
--- The lexeme that equals the difference modulo 2 ^ 64.
+-- The word that equals the difference modulo 2 ^ 64.
 abbrev pub difference_of : ℤ → ℤ → ℤ
 difference_of a b = int_wrap w64 (a -ℤ b)
 
--- The lexeme that equals the product modulo 2 ^ 64.
+-- The word that equals the product modulo 2 ^ 64.
 abbrev pub product_of : ℤ → ℤ → ℤ
 product_of a b = int_wrap w64 (a *ℤ b)
 
--- 1 where the lexemes are equal, else 0.
+-- 1 where both words are equal, else 0.
 abbrev pub equal_of : ℤ → ℤ → ℤ
 equal_of a b = if int_eq a b then pos 1 else pos 0
 
--- 1 where the first is less as a signed number, else 0.
+-- 1 where the first word is less as a signed number, else 0.
 abbrev pub less_of : ℤ → ℤ → ℤ
 less_of a b = if int_lt a b then pos 1 else pos 0
 
--- The lexeme that an operator gives.
+-- The word that an operator gives for two words.
 abbrev pub apply : Op → ℤ → ℤ → ℤ
 apply Add a b = sum_of a b
 apply Sub a b = difference_of a b

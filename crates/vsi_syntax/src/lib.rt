@@ -4,8 +4,8 @@
 //! `lex` promises the cut of the text or its first fault, `parse` the one program that writes the
 //! tokens, `print` exactly the canonical text. `laws` states what follows from the definitions
 //! alone: one text has one cut and one program, and what is printed reads back as the same program.
-//! `Op::apply` is the meaning of the operators for all layers above, and numbers and places are
-//! written for all of them by `put_number`, `put_word` and `put_place`.
+//! `Op::apply` is the meaning of the operators for all layers above, and `put_number`, `put_word`,
+//! `put_line_column` and `put_place` write numbers and places for all of them.
 //!
 //! To be believed: `specs/Apart`, `specs/Canon`, `specs/CommandView`, `specs/Cut`,
 //! `specs/FaultPlaces`, `specs/Given`, `specs/Limits`, `specs/Lines`, `specs/Operators`,
@@ -26,7 +26,7 @@ mod tree;
 
 pub use lexer::{LexError, MAX_TEXT_LENGTH, is_name, lex};
 pub use lines::line_column;
-pub use numbers::{put_number, put_place, put_word};
+pub use numbers::{put_line_column, put_number, put_place, put_word};
 pub use operator::Op;
 pub use parser::{ParseError, parse};
 pub use printer::print;

@@ -1,9 +1,10 @@
 //! Finds the program that writes the tokens, or the first token where there can be none.
 //!
 //! Commands and expressions are read from the left. `room` is how many levels a tree may still have
-//! below the place where reading stands, and `end` is where the last token stops.
+//! below the place that reading has reached.
 
 ghost use Rattle.std.specs.Prelude.{◌≡◌};
+ghost use Rattle.vsi_syntax.specs.declared.parser.Fault.TheVariants as fault;
 ghost use Rattle.vsi_syntax.specs.declared.parser.ParseError.TheVariants.{Memory};
 
 use crate::token::Span;
@@ -19,7 +20,7 @@ pub enum ParseError {
     #[error("out of memory")]
     Memory,
     /// No program of any depth begins with the tokens up to and with this one. Where the tokens end
-    /// too early this is the empty span behind the last token, at 0 where there is none.
+    /// too early this is the empty span after the last token, at 0 where there is none.
     #[error("no program goes on as the text does at byte {start}", start = .0.start)]
     Unexpected(Span),
     /// Only programs deeper than `MAX_DEPTH` begin with the tokens up to and with this one.
@@ -40,6 +41,34 @@ impl<T: Drop> From<AllocFailed<T>> for ParseError {
 
     fn from(_e: AllocFailed<T>) -> ParseError {
         ParseError::Memory
+    }
+}
+
+/// Why reading ends without a tree, with how many tokens are left there: the one at fault and those
+/// after it, or none where the tokens end too early.
+#[derive(Clone, Copy, Debug)]
+pub(crate) enum Fault {
+    /// Memory ran out.
+    Memory,
+    /// No program of any depth begins with the tokens up to and with the one at fault.
+    Unexpected(usize),
+    /// Only programs deeper than `MAX_DEPTH` begin with them.
+    TooDeep(usize),
+}
+
+impl From<AllocError> for Fault {
+    ghost from_gives = { λ _ e. e ≡ fault.Memory };
+
+    fn from(_e: AllocError) -> Fault {
+        Fault::Memory
+    }
+}
+
+impl<T: Drop> From<AllocFailed<T>> for Fault {
+    ghost from_gives = { λ _ e. e ≡ fault.Memory };
+
+    fn from(_e: AllocFailed<T>) -> Fault {
+        Fault::Memory
     }
 }
 

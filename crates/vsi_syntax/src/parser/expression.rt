@@ -4,13 +4,13 @@
 ghost use Rattle.std.specs.Prelude.{◌≡◌, ◌≤◌, ◌<◌, IfOk, Some, None, option_map, ◌+◌, max};
 ghost use Rattle.vsi_syntax.specs.Tree.{level, left_level, right_level, depth, Binary};
 ghost use Rattle.vsi_syntax.specs.View.{lexemes, tree, IsMeasured};
-ghost use Rattle.vsi_syntax.specs.Given.{Gives};
+ghost use Rattle.vsi_syntax.specs.Stopped.{Gives};
 ghost use Rattle.vsi_syntax.specs.Parsing as spec;
 ghost use Rattle.vsi_syntax.specs.Limits.{max_depth};
 
-use super::ParseError;
+use super::Fault;
 use crate::operator::Op;
-use crate::token::{Kind, Span, Token};
+use crate::token::{Kind, Token};
 use crate::tree::{Expr, Name};
 use std::alloc::Global;
 
@@ -85,24 +85,13 @@ fn next<'t, 'a>(least: u8, left: u8, tokens: &'t [Token<'a>]) -> Option<(Op, &'t
     }
 }
 
-/// Where a fault at the front of the tokens is; `end` is where the last token stops.
-pub(crate) fn fault<'a>(tokens: &[Token<'a>], end: usize) -> Span {
-    match tokens {
-        [token, ..] => token.span,
-        [] => Span {
-            start: end,
-            stop: end,
-        },
-    }
-}
-
 /// What is behind a closing bracket.
-fn close<'t, 'a>(tokens: &'t [Token<'a>], end: usize) -> Result<&'t [Token<'a>], ParseError>
+fn close<'t, 'a>(tokens: &'t [Token<'a>]) -> Result<&'t [Token<'a>], Fault>
     ensures { Gives (λ x. lexemes x.now) result (spec.closing (lexemes tokens.now)) }
 {
     match tokens {
         [token, rest @ ..] if matches!(token.kind, Kind::Close) => Ok(rest),
-        _ => Err(ParseError::Unexpected(fault(tokens, end))),
+        _ => Err(Fault::Unexpected(tokens.len())),
     }
 }
 
@@ -126,15 +115,14 @@ fn atom<'t, 'a>(
     alloc: Global,
     tokens: &'t [Token<'a>],
     room: u8,
-    end: usize,
-) -> Result<(Measured<'a>, &'t [Token<'a>]), ParseError>
+) -> Result<(Measured<'a>, &'t [Token<'a>]), Fault>
     requires { room ≤ max_depth }
     ensures value { Gives (λ x. (tree x.0.expr, lexemes x.1.now)) result
         (spec.first (spec.inside room) (lexemes tokens.now)) }
     ensures measured { IfOk result (λ x. IsMeasured room x.0) }
 {
     let [token, rest @ ..] = tokens else {
-        return Err(ParseError::Unexpected(fault(tokens, end)));
+        return Err(Fault::Unexpected(tokens.len()));
     };
     match token.kind {
         Kind::Name => {
@@ -147,10 +135,10 @@ fn atom<'t, 'a>(
         Kind::Number(n) => Ok((leaf(Expr::Number(n)), rest)),
         Kind::Open => {
             if room == 0 {
-                return Err(ParseError::TooDeep(token.span));
+                return Err(Fault::TooDeep(tokens.len()));
             }
-            let (inner, rest) = expression(alloc, rest, 0, room - 1, end)?;
-            let rest = close(rest, end)?;
+            let (inner, rest) = expression(alloc, rest, 0, room - 1)?;
+            let rest = close(rest)?;
             let depth = inner.depth + 1;
             let expr = Expr::Bracket(Box::new(alloc, inner.expr)?);
             Ok((
@@ -162,7 +150,7 @@ fn atom<'t, 'a>(
                 rest,
             ))
         }
-        _ => Err(ParseError::Unexpected(token.span)),
+        _ => Err(Fault::Unexpected(tokens.len())),
     }
 }
 
@@ -172,7 +160,7 @@ fn join<'a>(
     op: Op,
     left: Measured<'a>,
     right: Measured<'a>,
-) -> Result<Measured<'a>, ParseError>
+) -> Result<Measured<'a>, Fault>
     requires left_room { left.depth < max_depth }
     requires right_room { right.depth < max_depth }
     ensures expr { Gives (λ x. tree x.expr) result
@@ -200,19 +188,18 @@ pub(crate) fn expression<'t, 'a>(
     tokens: &'t [Token<'a>],
     least: u8,
     room: u8,
-    end: usize,
-) -> Result<(Measured<'a>, &'t [Token<'a>]), ParseError>
+) -> Result<(Measured<'a>, &'t [Token<'a>]), Fault>
     requires { room ≤ max_depth }
     ensures value { Gives (λ x. (tree x.0.expr, lexemes x.1.now)) result
         (spec.parse room least (lexemes tokens.now)) }
     ensures measured { IfOk result (λ x. IsMeasured room x.0) }
 {
-    let (mut left, mut rest) = atom(alloc, tokens, room, end)?;
+    let (mut left, mut rest) = atom(alloc, tokens, room)?;
     while let Some((op, after)) = next(least, left.level, rest) {
         if left.depth >= room {
-            return Err(ParseError::TooDeep(fault(rest, end)));
+            return Err(Fault::TooDeep(rest.len()));
         }
-        let (right, behind) = expression(alloc, after, right_level_of(op), room - 1, end)?;
+        let (right, behind) = expression(alloc, after, right_level_of(op), room - 1)?;
         left = join(alloc, op, left, right)?;
         rest = behind;
     }
