@@ -1,0 +1,21 @@
+//! Why no C is written.
+
+use std::alloc::AllocError;
+use thiserror::Error;
+
+/// Why no C is written.
+#[derive(Clone, Copy, PartialEq, Eq, Debug, Error)]
+pub enum EmitError {
+    /// There was no memory for the text.
+    #[error("out of memory")]
+    Memory,
+    /// The name is no identifier of C, begins with an underscore, or is a keyword of C or C++.
+    #[error("the name is no identifier, or it is a keyword")]
+    BadName,
+}
+
+impl From<AllocError> for EmitError {
+    fn from(_error: AllocError) -> EmitError {
+        EmitError::Memory
+    }
+}
