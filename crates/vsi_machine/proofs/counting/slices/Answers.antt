@@ -1,6 +1,6 @@
 use Rattle.std.proofs.Common.{◌∙◌, ◌+◌, sym, arith}
-use Rattle.vsi_count.proofs.CountLemmas.{goes_from, halts, halted_of, going_of, halts_longer}
-use Rattle.vsi_count.proofs.counting.slices.Goals as goal
+use Rattle.vsi_machine.proofs.Counts.{goes_from, halts, halted_of, going_of, halts_longer}
+use Rattle.vsi_machine.proofs.counting.slices.Goals as goal
 
 pub returns-in-Halted-clause-halts : goal.returns-in-Halted-clause-halts
 returns-in-Halted-clause-halts c =
