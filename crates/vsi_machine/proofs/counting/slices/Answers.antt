@@ -21,4 +21,5 @@ loop-done-preserved c =
       image = c.run.ensures.image ∙ i.image;
       state = goes_from c.args.machine.now.image _ _ _ _ _ _ i.image i.state c.run.ensures.state;
       going = going_of c.run.new.self.state (sym c.in-OutOfBudget.ensures.outcome);
+      same = c.take_state.ensures.image ∙ i.same;
     }
