@@ -19,7 +19,7 @@ use std::alloc::Global;
 use std::io::Write;
 use vsi_answers::start_words;
 use vsi_arguments::{Execution, Outset};
-use vsi_count::{count_text, counted, stop_text};
+use vsi_machine::{count_text, counted, stop_text};
 use vsi_devices::{Counted, run_words};
 use vsi_image::Verified;
 use vsi_machine::Outcome;

@@ -2,7 +2,7 @@
 
 use std::alloc::Global;
 use vsi_compiler::unjudged_image;
-use vsi_count::{count_text, counted, stop_text};
+use vsi_machine::{count_text, counted, stop_text};
 use vsi_lattice::read_lattice;
 use vsi_machine::Outcome;
 

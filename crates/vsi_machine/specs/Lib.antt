@@ -4,3 +4,5 @@ pub mod Runs
 pub mod Trace
 pub mod Cells
 pub mod Laws
+pub mod Counting
+pub mod CountTexts

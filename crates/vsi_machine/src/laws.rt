@@ -1,6 +1,6 @@
 //! Laws of runs.
 
-ghost use Rattle.vsi_machine.specs.Laws.{BudgetsAdd, HaltingLasts, NeverStuck, OneEnding};
+ghost use Rattle.vsi_machine.specs.Laws.{BudgetsAdd, CountDecides, HaltingLasts, NeverStuck, OneCount, OneEnding};
 
 /// A run and a further run are one run with the sum of both budgets.
 pub fn budgets_add()
@@ -22,4 +22,14 @@ pub fn one_ending()
 /// slot and its target, and leaves no more operands than the image's stack has room for.
 pub fn never_stuck()
     ensures { NeverStuck }
+{}
+
+/// An image has one count at most from the same words.
+pub fn one_count()
+    ensures { OneCount }
+{}
+
+/// An image halts within a budget exactly where the budget is no smaller than its count.
+pub fn count_decides()
+    ensures { CountDecides }
 {}

@@ -1,6 +1,6 @@
 use Rattle.std.proofs.Common.{◌∙◌, ◌+◌, sym, arith}
-use Rattle.vsi_count.proofs.CountLemmas.{goes_from, halts, halted_of, going_of, halts_longer}
-use Rattle.vsi_count.proofs.counting.slices.Goals as goal
+use Rattle.vsi_machine.proofs.Counts.{goes_from, halts, halted_of, going_of, halts_longer}
+use Rattle.vsi_machine.proofs.counting.slices.Goals as goal
 
 pub returns-in-Halted-clause-halts : goal.returns-in-Halted-clause-halts
 returns-in-Halted-clause-halts c =
@@ -21,4 +21,5 @@ loop-done-preserved c =
       image = c.run.ensures.image ∙ i.image;
       state = goes_from c.args.machine.now.image _ _ _ _ _ _ i.image i.state c.run.ensures.state;
       going = going_of c.run.new.self.state (sym c.in-OutOfBudget.ensures.outcome);
+      same = c.take_state.ensures.image ∙ i.same;
     }

@@ -1,7 +1,7 @@
 //! What is told of a count.
 
 ghost use Rattle.std.specs.Prelude.{◌≡◌, ◌++◌, IfOk, OnOk, false};
-ghost use Rattle.vsi_count.specs.Texts as spec;
+ghost use Rattle.vsi_machine.specs.CountTexts as spec;
 
 use crate::counting::Count;
 use std::alloc::{AllocError, Global};

@@ -8,8 +8,8 @@ use Rattle.vsi_image.specs.Meaning.{State, after, start, stepped}
 use Rattle.vsi_machine.specs.Runs.{run_of, outcome_of}
 use Rattle.vsi_machine.specs.declared.interpreter.Outcome.TheVariants.{Halted, OutOfBudget}
 use Rattle.vsi_machine.proofs.Budgets.{budgets_add, halting_lasts}
-use Rattle.vsi_count.specs.Counting.{Halts, GoesOn, HaltsIn}
-use Rattle.vsi_count.specs.Laws.{OneCount, CountDecides}
+use Rattle.vsi_machine.specs.Counting.{Halts, GoesOn, HaltsIn}
+use Rattle.vsi_machine.specs.Laws.{OneCount, CountDecides}
 
 -- Nothing isn't something.
 none_is : {X : Type 0} {x : X} → None ≡ Some x → ⊥
@@ -183,17 +183,17 @@ pub record IsCounted (image : Image) (words : List ℤ) (budget n : ℕ) (u : St
   pub halted : u.halted ≡ true
   pub exact : HaltsIn image words n
 
--- Of two machines from the start the first halts within the budget, and goes on within a part of it; the second does
--- that part, and then the rest one by one.
-pub is_counted : (image : Image) (words : List ℤ) (budget done more : ℕ) → done ≤ budget
-    → (one two : Image) (first second t u : State) → one ≡ image → first ≡ start image words → two ≡ image
-    → second ≡ start image words → (rest : Image) → rest ≡ two → after two.code.items done second ≡ Some t
-    → GoesOn (after one.code.items done first) → Halts (after one.code.items budget first)
-    → after rest.code.items more t ≡ Some u → ((n : ℕ) → n < more → GoesOn (after rest.code.items n t))
-    → (u.halted ≡ true) ⊎ (more ≡ budget - done) → IsCounted image words budget (done + more) u
-is_counted image words budget done more le one two first second t u i f i' f' rest r part going enough last each ends =
+-- A machine from the start halts within the budget; a mark has the state that it goes on from after a part of it, and
+-- does the rest one by one.
+pub is_counted : (image : Image) (words : List ℤ) (budget done more : ℕ) → done ≤ budget → (one two rest : Image)
+    → (first t u : State) → one ≡ image → first ≡ start image words → two ≡ image → rest ≡ two
+    → after one.code.items done first ≡ Some t → GoesOn (after one.code.items done first)
+    → Halts (after one.code.items budget first) → after rest.code.items more t ≡ Some u
+    → ((n : ℕ) → n < more → GoesOn (after rest.code.items n t)) → (u.halted ≡ true) ⊎ (more ≡ budget - done)
+    → IsCounted image words budget (done + more) u
+is_counted image words budget done more le one two rest first t u i f i' r part going enough last each ends =
     let same = r ∙ i' in
-    let reached = from_start (λ o. o ≡ Some t) two image second words done i' f' part in
+    let reached = from_start (λ o. o ≡ Some t) one image first words done i f part in
     let goes = from_start GoesOn one image first words done i f going in
     let halts_then = from_start Halts one image first words budget i f enough in
     let state = subst (λ (im : Image). after im.code.items more t ≡ Some u) same last in

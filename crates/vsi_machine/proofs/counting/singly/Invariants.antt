@@ -1,7 +1,7 @@
 use Rattle.std.proofs.Common.{◌≡◌, ℕ, ◌<◌, Some}
 use Rattle.vsi_image.specs.Meaning.{after}
-use Rattle.vsi_count.specs.Counting.{GoesOn}
-use Rattle.vsi_count.proofs.counting.singly.Given as goal
+use Rattle.vsi_machine.specs.Counting.{GoesOn}
+use Rattle.vsi_machine.proofs.counting.singly.Given as goal
 
 abbrev pub invariant-loop-done : goal.invariant-loop-done
 invariant-loop-done l = record {

@@ -4,31 +4,35 @@ ghost use Rattle.std.specs.Prelude.{◌≡◌, ◌≢◌, ◌+◌, ◌<◌, ◌�
 ghost use Rattle.vsi_image.specs.Meaning.{after};
 ghost use Rattle.vsi_machine.specs.Runs.{run_of, outcome_of};
 ghost use Rattle.vsi_machine.specs.declared.interpreter.Outcome.TheVariants.{Halted, OutOfBudget};
-ghost use Rattle.vsi_count.specs.Counting.{HaltsIn, Halts, GoesOn};
+ghost use Rattle.vsi_machine.specs.Counting.{HaltsIn, Halts, GoesOn};
 
+use crate::interpreter::{Machine, Outcome, StartError};
 use std::alloc::Global;
 use vsi_image::Verified;
-use vsi_machine::{Machine, Outcome, StartError};
 
-/// How many instructions are done before it is seen whether the machine has halted.
+/// How many instructions are done before the run looks whether the machine has halted.
 const SLICE: u64 = 16384;
 
-/// A machine behind a run, and how many instructions the run did.
+/// A machine after a run, and how many instructions the run did.
 #[derive(Drop)]
 pub struct Count<'a> {
     /// The machine, which a later run goes on with.
     pub machine: Machine<'a>,
     /// How the run ended.
     pub outcome: Outcome,
-    /// The instructions that were done, a HALT among them.
+    /// The number of instructions that the run did, a HALT among them.
     pub instructions: u64,
 }
 
-/// Runs a machine, slice by slice, to a HALT or the end of the budget. Where it halts the answer is
-/// how many instructions were done before the last slice.
-fn slices(machine: &mut Machine<'_>, budget: u64) -> Option<u64>
-    requires { machine.old.state.halted ≡ false }
+/// Runs a machine, slice by slice, to a HALT or the end of the budget. Where it halts, the answer
+/// is how many instructions came before the last slice, and the mark has the state there.
+fn slices(machine: &mut Machine<'_>, mark: &mut Machine<'_>, budget: u64) -> Option<u64>
+    requires going { machine.old.state.halted ≡ false }
+    requires image { mark.old.image ≡ machine.old.image }
     ensures image { machine.new.image ≡ machine.old.image }
+    ensures same { mark.new.image ≡ mark.old.image }
+    ensures marked { IfSome result (λ n.
+        after machine.old.image.code.items n machine.old.state ≡ Some mark.new.state) }
     ensures going { IfSome result (λ n.
         GoesOn (after machine.old.image.code.items n machine.old.state)) }
     ensures within { IfSome result (λ n. n ≤ budget) }
@@ -41,6 +45,7 @@ fn slices(machine: &mut Machine<'_>, budget: u64) -> Option<u64>
     let mut done: u64 = 0;
     while done < budget {
         let slice = (budget - done).min(SLICE);
+        mark.take_state(machine);
         match machine.run(slice) {
             Outcome::Halted => return Some(done),
             Outcome::OutOfBudget => done += slice,
@@ -49,7 +54,7 @@ fn slices(machine: &mut Machine<'_>, budget: u64) -> Option<u64>
     None
 }
 
-/// Does one instruction after another to a HALT, at most so many, and answers how many were done.
+/// Does one instruction after another to a HALT, at most so many, and answers how many it did.
 fn singly(machine: &mut Machine<'_>, limit: u64) -> u64
     ensures image { machine.new.image ≡ machine.old.image }
     ensures state { after machine.old.image.code.items result machine.old.state
@@ -67,8 +72,12 @@ fn singly(machine: &mut Machine<'_>, limit: u64) -> u64
     limit
 }
 
-/// Runs an image within a budget, and counts. The image is run a second time, so as to count one by
-/// one in the last slice alone.
+/// Runs an image within a budget, and counts. Only the last slice of a run that halts, at most
+/// 16,384 instructions, is done a second time, one by one.
+///
+/// # Errors
+///
+/// `WrongStore` where there isn't one word for each global.
 pub fn counted<'a>(
     alloc: Global,
     verified: &'a Verified,
@@ -88,18 +97,17 @@ pub fn counted<'a>(
         → IfErr result (λ e. e ≡ StartError.Memory) }
 {
     let mut machine = Machine::new(alloc, verified, words)?;
-    let Some(done) = slices(&mut machine, budget) else {
+    let mut mark = Machine::new(alloc, verified, words)?;
+    let Some(done) = slices(&mut machine, &mut mark, budget) else {
         return Ok(Count {
             machine,
             outcome: Outcome::OutOfBudget,
             instructions: budget,
         });
     };
-    let mut again = Machine::new(alloc, verified, words)?;
-    again.run(done);
-    let more = singly(&mut again, budget - done);
+    let more = singly(&mut mark, budget - done);
     Ok(Count {
-        machine: again,
+        machine: mark,
         outcome: Outcome::Halted,
         instructions: done + more,
     })

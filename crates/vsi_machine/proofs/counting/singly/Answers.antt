@@ -1,8 +1,8 @@
 use Rattle.std.proofs.Common.{◌≡◌, ◌∙◌, Some, false, subst}
 use Rattle.vsi_image.specs.declared.instr.Image.{Image}
 use Rattle.vsi_image.specs.Meaning.{stepped}
-use Rattle.vsi_count.proofs.CountLemmas.{did_one, one_more, each_more, goes_on}
-use Rattle.vsi_count.proofs.counting.singly.Goals as goal
+use Rattle.vsi_machine.proofs.Counts.{did_one, one_more, each_more, goes_on}
+use Rattle.vsi_machine.proofs.counting.singly.Goals as goal
 
 pub loop-done-preserved : goal.loop-done-preserved
 loop-done-preserved c =
