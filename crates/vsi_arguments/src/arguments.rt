@@ -45,6 +45,34 @@ pub(crate) const NEW_IMAGE: Argument = Argument {
     whole: word_help::NEW_IMAGE,
 };
 
+pub(crate) const EMITTED: Argument = Argument {
+    name: "FILE",
+    form: Form::Place,
+    line: "The image file; with --lattice the source text",
+    whole: word_help::EMITTED,
+};
+
+pub(crate) const NAME: Argument = Argument {
+    name: "name",
+    form: Form::Value("NAME"),
+    line: "The name that each name of the C begins with",
+    whole: word_help::NAME,
+};
+
+pub(crate) const HEADER: Argument = Argument {
+    name: "header",
+    form: Form::Flag,
+    line: "Prints the header instead",
+    whole: word_help::HEADER,
+};
+
+pub(crate) const LATTICE_OPTION: Argument = Argument {
+    name: "lattice",
+    form: Form::Value("LATTICE"),
+    line: "The lattice file of a source text",
+    whole: word_help::LATTICE_OPTION,
+};
+
 pub(crate) const REFUSAL: Argument = Argument {
     name: "NUMBER",
     form: Form::Place,

@@ -217,6 +217,45 @@ Example:
   var x : L;
   x := 3";
 
+/// What `emit-c` does.
+pub(crate) const EMIT_C: &str = "\
+Prints an image as a function in C.
+
+Reads and verifies the image, and prints a file in C99 that needs <stdint.h> and
+no library: the numbers of the globals, and a function
+`int NAME_run(int64_t globals[N], uint64_t budget)`. It answers 0 where the run
+halts within the budget, and the globals then hold its last store; else it
+answers 1 and leaves the globals as they were. With --lattice a source text is
+read, judged and compiled instead.
+
+Statuses: 0 printed, 1 refused, 2 usage, 4 file fault, 5 out of memory.";
+
+/// An example of `emit-c`.
+pub(crate) const EMIT_C_EXAMPLE: &str = "\
+Example:
+  $ vsi emit-c sum.image --header
+  #ifndef VSI_sum_H
+  #define VSI_sum_H
+
+  #include <stdint.h>
+
+  #ifdef __cplusplus
+  extern \"C\" {
+  #endif
+
+  enum {
+      sum_at_x = 0, /* L */
+      sum_globals = 1
+  };
+
+  int sum_run(int64_t globals[1], uint64_t budget);
+
+  #ifdef __cplusplus
+  }
+  #endif
+
+  #endif";
+
 /// What `run` does.
 pub(crate) const RUN: &str = "\
 Runs an image and prints the store in which it halts.

@@ -14,6 +14,6 @@ mod word_help;
 
 pub use error::ArgumentsError;
 pub use request::{
-    Asked, Audit, Colour, Comparison, Compilation, Conformance, Drawing, Driving, Execution,
-    Judging, Manner, Outset, Request, SEARCH, Search, request_of,
+    Asked, Audit, Colour, Comparison, Compilation, Conformance, Drawing, Driving, Emission,
+    Execution, Judging, Manner, Outset, Request, SEARCH, Search, request_of,
 };

@@ -101,6 +101,16 @@ pub struct Drawing<'a> {
     pub is_strict: bool,
 }
 
+/// What is written as C: the path of an image or, with that of a lattice file, of a source text; the
+/// name that the function's name begins with, where one is given; and whether the header is written.
+#[derive(Clone, Copy)]
+pub struct Emission<'a> {
+    pub lattice: Option<&'a str>,
+    pub file: &'a str,
+    pub name: Option<&'a str>,
+    pub is_header: bool,
+}
+
 /// What a source text is judged for: its flows, by the profile that `Compilation` names, or also
 /// whether its image is steady; and whether the answer is written as JSON.
 #[derive(Clone, Copy)]
@@ -149,6 +159,7 @@ pub enum Request<'a> {
     List(&'a str),
     Audit(Audit<'a>),
     Source(&'a str),
+    EmitC(Emission<'a>),
     Run {
         execution: Execution<'a>,
         outset: Outset<'a>,
@@ -322,6 +333,7 @@ fn requested<'a>(name: &str, inner: &ArgMatches<'a>) -> Request<'a> {
         "list" => Request::List(text(inner, "IMAGE")),
         "audit" => Request::Audit(audit_in(inner)),
         "source" => Request::Source(text(inner, "IMAGE")),
+        "emit-c" => Request::EmitC(emission_in(inner)),
         "drive" => Request::Drive(driving_in(inner)),
         "leak" => Request::Leak(search_in(inner)),
         "report" => Request::Report(compilation_in(inner)),
@@ -452,6 +464,15 @@ fn audit_in<'a>(matches: &ArgMatches<'a>) -> Audit<'a> {
         image: text(matches, "IMAGE"),
         is_strict: matches.get_flag("strict"),
         is_steady: matches.get_flag("steady"),
+    }
+}
+
+fn emission_in<'a>(matches: &ArgMatches<'a>) -> Emission<'a> {
+    Emission {
+        lattice: matches.get_str("lattice"),
+        file: text(matches, "FILE"),
+        name: matches.get_str("name"),
+        is_header: matches.get_flag("header"),
     }
 }
 

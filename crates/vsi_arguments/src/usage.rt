@@ -19,7 +19,7 @@ struct Subcommand {
 }
 
 /// The subcommands whose refusals can be explained, in the order of the help.
-const SUBCOMMANDS: [Subcommand; 16] = [
+const SUBCOMMANDS: [Subcommand; 17] = [
     Subcommand {
         name: "check",
         line: "Says whether a source text is accepted",
@@ -75,6 +75,13 @@ const SUBCOMMANDS: [Subcommand; 16] = [
         whole: help::IMAGE_SOURCE,
         example: help::IMAGE_SOURCE_EXAMPLE,
         arguments: &[IMAGE],
+    },
+    Subcommand {
+        name: "emit-c",
+        line: "Prints an image as a function in C",
+        whole: help::EMIT_C,
+        example: help::EMIT_C_EXAMPLE,
+        arguments: &[EMITTED, NAME, HEADER, LATTICE_OPTION],
     },
     Subcommand {
         name: "run",

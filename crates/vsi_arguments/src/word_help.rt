@@ -21,6 +21,28 @@ pub(crate) const NEW_IMAGE: &str = "\
 The path that the image is written to. A file that stands there is
 replaced, and left as it is where the text is refused.";
 
+/// The file that is printed as C.
+pub(crate) const EMITTED: &str = "\
+The path of the image, the bytes that `vsi build` writes, or with
+--lattice the path of a source text. Any bytes may be given: they are
+verified before they are used.";
+
+/// The name in C.
+pub(crate) const NAME: &str = "\
+A letter, then letters, digits and underscores, and no keyword of C or
+C++. Each name of the C begins with it. Without it the name of FILE
+serves, up to its first dot, and `image` where that is no such name.";
+
+/// The header.
+pub(crate) const HEADER: &str = "\
+Prints the header of the file that is printed without --header: the
+numbers of the globals, and the declaration of the function.";
+
+/// The lattice file of a text that is printed as C.
+pub(crate) const LATTICE_OPTION: &str = "\
+The path of the lattice file. With it FILE is a source text, which is
+judged as `vsi build` judges it.";
+
 /// What the number of a refusal is.
 pub(crate) const REFUSAL: &str = "\
 The number behind `refused:`, by digits alone.";

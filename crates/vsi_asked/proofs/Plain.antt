@@ -29,6 +29,8 @@ unvalued word plain =
       apart word (codes "--budget") plain refl,
       apart word (codes "--class") plain refl,
       apart word (codes "--color") plain refl,
+      apart word (codes "--lattice") plain refl,
+      apart word (codes "--name") plain refl,
       apart word (codes "--out") plain refl,
       apart word (codes "--save") plain refl,
       apart word (codes "--seed") plain refl,

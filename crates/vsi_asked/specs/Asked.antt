@@ -6,7 +6,7 @@ use Rattle.vsi_arguments.specs.declared.request.Compilation.{Compilation}
 use Rattle.vsi_arguments.specs.declared.request.Execution.{Execution}
 use Rattle.vsi_arguments.specs.declared.request.Outset.{Outset}
 use Rattle.vsi_arguments.specs.declared.request.Request.{Request}
-use Rattle.vsi_arguments.specs.declared.request.Request.TheVariants.{Check, Conform, Classes, Flows, Build, List as Listing, Audit, Source, Run, View, Drive, Compare, Leak, Report, Draw, Format, Explain}
+use Rattle.vsi_arguments.specs.declared.request.Request.TheVariants.{Check, Conform, Classes, Flows, Build, List as Listing, Audit, Source, EmitC, Run, View, Drive, Compare, Leak, Report, Draw, Format, Explain}
 use Rattle.vsi_arguments.specs.declared.request.TheConstants.{SEARCH}
 use Rattle.vsi_explain.specs.Pages.{page_of}
 use Rattle.vsi_asked.specs.Numbers.{Gives, number_in}
@@ -22,6 +22,7 @@ name_of (Build compilation image) = codes "build"
 name_of (Listing image) = codes "list"
 name_of (Audit audit) = codes "audit"
 name_of (Source image) = codes "source"
+name_of (EmitC emission) = codes "emit-c"
 name_of (Run execution outset has_trace has_count) = codes "run"
 name_of (View lattice class execution outset) = codes "view"
 name_of (Drive driving) = codes "drive"
@@ -51,6 +52,7 @@ operands_of (Build compilation image) = compilation.lattice.now ∷ compilation.
 operands_of (Listing image) = image.now ∷ []
 operands_of (Audit audit) = audit.lattice.now ∷ audit.image.now ∷ []
 operands_of (Source image) = image.now ∷ []
+operands_of (EmitC emission) = emission.file.now ∷ []
 operands_of (Run execution outset has_trace has_count) = execution.image.now ∷ []
 operands_of (View lattice class execution outset) = lattice.now ∷ execution.image.now ∷ []
 operands_of (Drive driving) = driving.execution.image.now ∷ driving.lattice.now ∷ []
@@ -74,6 +76,7 @@ flags_of (Build compilation image) = (codes "--strict", compilation.is_strict) �
 flags_of (Listing image) = []
 flags_of (Audit audit) = (codes "--strict", audit.is_strict) ∷ (codes "--steady", audit.is_steady) ∷ []
 flags_of (Source image) = []
+flags_of (EmitC emission) = (codes "--header", emission.is_header) ∷ []
 flags_of (Run execution outset has_trace has_count) =
     (codes "--full-store", outset.is_full) ∷ (codes "--trace", has_trace) ∷ (codes "--count", has_count) ∷ []
 flags_of (View lattice class execution outset) = (codes "--full-store", outset.is_full) ∷ []
@@ -93,6 +96,8 @@ starting execution outset =
 
 -- The options of a request, each with what is given for it; those of numbers are in `numbers_of`.
 abbrev pub options_of : Request → List (List ℕ × List (List ℕ))
+options_of (EmitC emission) =
+    (codes "--lattice", given emission.lattice) ∷ (codes "--name", given emission.name) ∷ []
 options_of (Run execution outset has_trace has_count) = starting execution outset
 options_of (View lattice class execution outset) = (codes "--class", class.now ∷ []) ∷ starting execution outset
 options_of (Drive driving) =

@@ -23,8 +23,8 @@ is_among (name ∷ names) word = if bytes_eq word name then true else is_among n
 -- The options behind which a value stands.
 abbrev pub VALUED : List (List ℕ)
 VALUED =
-    codes "--budget" ∷ codes "--class" ∷ codes "--color" ∷ codes "--out" ∷ codes "--save" ∷ codes "--seed"
-    ∷ codes "--set" ∷ codes "--store" ∷ codes "--tries" ∷ []
+    codes "--budget" ∷ codes "--class" ∷ codes "--color" ∷ codes "--lattice" ∷ codes "--name" ∷ codes "--out"
+    ∷ codes "--save" ∷ codes "--seed" ∷ codes "--set" ∷ codes "--store" ∷ codes "--tries" ∷ []
 
 -- The word begins with a hyphen, and something stands behind that.
 abbrev pub is_dashed : List ℕ → Bool

@@ -9,8 +9,8 @@ ghost use Rattle.vsi_explain.specs.Pages.{page_of};
 use crate::numbers::{has_number, number_in, only_operand};
 use crate::reading::{has_flag, has_operands, has_values};
 use vsi_arguments::{
-    Audit, Comparison, Compilation, Conformance, Drawing, Driving, Execution, Judging, Outset,
-    Request, SEARCH, Search,
+    Audit, Comparison, Compilation, Conformance, Drawing, Driving, Emission, Execution, Judging,
+    Outset, Request, SEARCH, Search,
 };
 use vsi_explain::page;
 
@@ -275,6 +275,18 @@ fn asks_audit(words: &[String], audit: &Audit<'_>) -> bool
     asks(words, "audit", operands.as_slice(), flags.as_slice())
 }
 
+/// Whether words ask for an image as C.
+fn asks_emission(words: &[String], emission: &Emission<'_>) -> bool
+    ensures { result ≡ true → spec.AsksFor words.now (request.EmitC emission.now) }
+{
+    let operands = [emission.file.as_bytes()];
+    let flags = [("--header", emission.is_header)];
+    let Some(rest) = behind(words, "emit-c", operands.as_slice(), flags.as_slice()) else {
+        return false;
+    };
+    has_value(rest, "--lattice", emission.lattice) && has_value(rest, "--name", emission.name)
+}
+
 /// Whether words ask for what a compilation judges by its profile alone.
 fn asks_judged(words: &[String], name: &str, compilation: &Compilation<'_>) -> bool
     ensures { result ≡ true → spec.Asks words.now name.now (spec.compiled compilation.now)
@@ -334,6 +346,7 @@ pub fn asks_for(words: &[String], request: &Request<'_>) -> bool
         Request::List(image) => asks_file(words, "list", image),
         Request::Audit(audit) => asks_audit(words, audit),
         Request::Source(image) => asks_file(words, "source", image),
+        Request::EmitC(emission) => asks_emission(words, emission),
         Request::Run {
             execution,
             outset,

@@ -5,10 +5,12 @@ ghost use Rattle.std.specs.Prelude.{option_map};
 ghost use Rattle.vsi_asked.specs.Words as spec;
 
 /// The options behind which a value stands.
-const VALUED: [&[u8]; 9] = [
+const VALUED: [&[u8]; 11] = [
     b"--budget",
     b"--class",
     b"--color",
+    b"--lattice",
+    b"--name",
     b"--out",
     b"--save",
     b"--seed",

@@ -1,0 +1,55 @@
+"""Looks for conditional jumps in the machine code of emitted C, of which each must be one of the budget or of an `if`."""
+
+import os
+import re
+import subprocess
+
+from c_compilers import LEVELS, SILENT, Fault
+
+# Where a line of a disassembly begins that names a place of the C, and one with a conditional jump of ARM or RISC-V.
+PLACE = re.compile(r"^\S.*\.c:(\d+)")
+JUMP = re.compile(r"^\s*[0-9a-f]+:\s+(?:[0-9a-f]{4,8}\s)+\s*(b(?:eq|ne|cs|hs|cc|lo|mi|pl|vs|vc|hi|ls|ge|lt|gt|le)(?:\.[nw])?"
+                  r"|cbn?z|tb[bh]|b(?:eqz|nez|lez|gez|ltz|gtz|ltu|geu|gtu|leu)|c\.b\w+)\s")
+CALL = re.compile(r"R_(?:ARM_THM_CALL|ARM_CALL|RISCV_CALL(?:_PLT)?)\s+(\S+)")
+ALLOWED = ("if (budget < ", "if (s0 == 0) goto ")
+# A Cortex-M0 has no product of 64 bits. That of the compiler's own library is arithmetic without a jump.
+PRODUCTS = {"__aeabi_lmul"}
+
+
+def disassembled(controller, level, folder, name):
+    """The machine code of a C file of the folder, with the lines that it comes from."""
+    done = subprocess.run([*controller.compiler, *SILENT, level, "-g", "-c", f"{name}.c", "-o", "looked_at.o"],
+                          cwd=folder, capture_output=True, text=True)
+    if done.returncode or done.stderr:
+        raise Fault(f"{controller.name} {level} {name}.c\n{done.stderr}")
+    return subprocess.run([*controller.disassembler, "-d", "-l", "-r", "looked_at.o"], cwd=folder, capture_output=True,
+                          text=True, check=True).stdout.splitlines()
+
+
+def strange(controller, level, folder, name):
+    """The conditional jumps that stand for no test of the C and the calls, each with its line, and the count of others."""
+    with open(os.path.join(folder, f"{name}.c"), encoding="ascii") as file:
+        source = [line.strip() for line in file]
+    found, allowed, line = [], 0, 0
+    for text in disassembled(controller, level, folder, name):
+        place, jump, call = PLACE.match(text), JUMP.match(text), CALL.search(text)
+        if place:
+            line = int(place[1])
+        elif jump and line and source[line - 1].startswith(ALLOWED):
+            allowed += 1
+        elif jump:
+            found.append((jump[1], source[line - 1] if line else "?"))
+        elif call and call[1] not in PRODUCTS:
+            found.append((call[1], source[line - 1]))
+    return found, allowed
+
+
+def look(controller, folder, names):
+    """Ends the trial at a strange jump or call of one of these files, at any level."""
+    for name in names:
+        for level in LEVELS:
+            found, allowed = strange(controller, level, folder, name)
+            if found:
+                raise Fault(f"{controller.name} {level} {name}.c has {found}")
+            if not allowed:
+                raise Fault(f"{controller.name} {level} {name}.c: no jump of the budget is found")
