@@ -8,7 +8,7 @@ use Rattle.vsi_arguments.specs.declared.request.Execution.{Execution}
 use Rattle.vsi_arguments.specs.declared.request.Outset.{Outset}
 use Rattle.vsi_arguments.specs.declared.request.Request.{Request}
 use Rattle.vsi_arguments.specs.declared.request.Request.TheVariants.{Build, Explain, View}
-use Rattle.vsi_asked.specs.Asked.{AsksFor, given, name_of}
+use Rattle.vsi_asked.specs.Asked.{AsksFor, Spells, given, name_of}
 use Rattle.vsi_asked.specs.Words.{has_flag, operands_in, shown, texts, values_in}
 
 -- What stands behind one first word is the same.
@@ -42,8 +42,8 @@ one_word : (a x : List ℕ) → x ∷ [] ≡ a ∷ [] → x ≡ a
 one_word a x is = cc
 
 -- Two builds that are asked for by the same words are of the same paths.
-same_build : (words : List (String Global)) (c d : Compilation) (i j : Bor (List ℕ)) → AsksFor words (Build c i) →
-    AsksFor words (Build d j) → SameBuild c d i j
+same_build : (words : List (String Global)) (c d : Compilation) (i j : Bor (List ℕ)) → Spells words (Build c i) →
+    Spells words (Build d j) → SameBuild c d i j
 same_build words c d i j first second =
     let rest : second.rest ≡ first.rest =
     behind (texts words) (codes "build") first.rest second.rest first.named second.named in
@@ -62,13 +62,13 @@ pub record OneBuild (c : Compilation) (i : Bor (List ℕ)) (request : Request) :
 pub one_build : (words : List (String Global)) (c : Compilation) (i : Bor (List ℕ)) → AsksFor words (Build c i) →
     (request : Request) → AsksFor words request → OneBuild c i request
 one_build words c i asks (Build d j) asked =
-    record { compilation = d; image = j; is = refl; same = same_build words c d i j asks asked }
+    record { compilation = d; image = j; is = refl; same = same_build words c d i j asks.spelled asked.spelled }
 one_build words c i asks (Explain page) asked =
-    absurd (other_name (texts words) (codes "build") (codes "explain") asks.rest asked.asks.rest asks.named
-    asked.asks.named refl refl)
+    absurd (other_name (texts words) (codes "build") (codes "explain") asks.spelled.rest asked.spelled.asks.rest
+    asks.spelled.named asked.spelled.asks.named refl refl)
 one_build words c i asks request asked =
-    absurd (other_name (texts words) (codes "build") (name_of request) asks.rest asked.rest asks.named asked.named
-    refl refl)
+    absurd (other_name (texts words) (codes "build") (name_of request) asks.spelled.rest asked.spelled.rest
+    asks.spelled.named asked.spelled.named refl refl)
 
 -- The paths, the class and what is set of two views.
 pub record SameView (l m x y : Bor (List ℕ)) (e f : Execution) (o p : Outset) : Type 0 where
@@ -82,7 +82,7 @@ pub record SameView (l m x y : Bor (List ℕ)) (e f : Execution) (o p : Outset) 
 
 -- Two views that are asked for by the same words are of the same.
 same_view : (words : List (String Global)) (l m x y : Bor (List ℕ)) (e f : Execution) (o p : Outset) →
-    AsksFor words (View l x e o) → AsksFor words (View m y f p) → SameView l m x y e f o p
+    Spells words (View l x e o) → Spells words (View m y f p) → SameView l m x y e f o p
 same_view words l m x y e f o p first second =
     let rest : second.rest ≡ first.rest =
     behind (texts words) (codes "view") first.rest second.rest first.named second.named in
@@ -119,11 +119,11 @@ one_view words l x e o asks (View m y f p) asked =
       execution = f;
       outset = p;
       is = refl;
-      same = same_view words l m x y e f o p asks asked;
+      same = same_view words l m x y e f o p asks.spelled asked.spelled;
     }
 one_view words l x e o asks (Explain page) asked =
-    absurd (other_name (texts words) (codes "view") (codes "explain") asks.rest asked.asks.rest asks.named
-    asked.asks.named refl refl)
+    absurd (other_name (texts words) (codes "view") (codes "explain") asks.spelled.rest asked.spelled.asks.rest
+    asks.spelled.named asked.spelled.asks.named refl refl)
 one_view words l x e o asks request asked =
-    absurd (other_name (texts words) (codes "view") (name_of request) asks.rest asked.rest asks.named asked.named
-    refl refl)
+    absurd (other_name (texts words) (codes "view") (name_of request) asks.spelled.rest asked.spelled.rest
+    asks.spelled.named asked.spelled.named refl refl)

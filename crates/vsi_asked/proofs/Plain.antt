@@ -8,7 +8,7 @@ use Rattle.std.proofs.lemmas.Slice.Eq.{bytes_eq-Decides}
 use Rattle.vsi_arguments.specs.declared.request.Judging.{Judging}
 use Rattle.vsi_arguments.specs.declared.request.Request.{Request}
 use Rattle.vsi_arguments.specs.declared.request.Request.TheVariants.{Check, Explain}
-use Rattle.vsi_asked.specs.Asked.{AsksFor, name_of}
+use Rattle.vsi_asked.specs.Asked.{AsksFor, Spells, name_of}
 use Rattle.vsi_asked.specs.Help.{is_first, is_help, is_short}
 use Rattle.vsi_asked.specs.Laws.{ArePlainCheck, CheckIsAsked, IsPlainCheck}
 use Rattle.vsi_asked.specs.Words.{VALUED, has_flag, is_among, is_dashed, operands_in, texts}
@@ -80,7 +80,7 @@ unnamed words behind rest name are named other =
 
 -- What is asked for by `check` and two such words.
 pub plain_check : (judging : Judging) (words : List (String Global)) (lattice source : List ℕ) →
-    ArePlainCheck words lattice source → AsksFor words (Check judging) → IsPlainCheck lattice source judging
+    ArePlainCheck words lattice source → Spells words (Check judging) → IsPlainCheck lattice source judging
 plain_check judging words lattice source plain asks =
     let rest_is : asks.rest ≡ lattice ∷ source ∷ [] = cc (plain.are, asks.named) in
     let given : judging.compilation.lattice.now ∷ judging.compilation.source.now ∷ [] ≡ lattice ∷ source ∷ [] =
@@ -102,11 +102,11 @@ pub one_request : (words : List (String Global)) (lattice source : List ℕ) →
     (request : Request) → AsksFor words request →
     (judging : Judging) × (request ≡ Check judging) × IsPlainCheck lattice source judging
 one_request words lattice source plain (Check judging) asks =
-    (judging, refl, plain_check judging words lattice source plain asks)
+    (judging, refl, plain_check judging words lattice source plain asks.spelled)
 one_request words lattice source plain (Explain page) asks =
-    absurd (unnamed (texts words) _ asks.asks.rest (codes "explain") plain.are asks.asks.named refl)
+    absurd (unnamed (texts words) _ asks.spelled.asks.rest (codes "explain") plain.are asks.spelled.asks.named refl)
 one_request words lattice source plain request asks =
-    absurd (unnamed (texts words) _ asks.rest (name_of request) plain.are asks.named refl)
+    absurd (unnamed (texts words) _ asks.spelled.rest (name_of request) plain.are asks.spelled.named refl)
 
 -- The law.
 pub check_is_asked : CheckIsAsked

@@ -1,5 +1,6 @@
 -- What a request is of the words of a command line.
-use Rattle.std.specs.Prelude.{◌≡◌, ℕ, Bool, false, List, [], ◌∷◌, Option, Some, None, option_map, option_to_list, codes, String}
+use Rattle.std.specs.Prelude.{◌≡◌, ℕ, Bool, false, List, [], ◌∷◌, ◌++◌, map, Option, Some, None, option_map, option_to_list, codes, IsTrue, String}
+use Rattle.std.specs.List.{list_all}
 use Rattle.std.specs.declared.alloc.Global.{Global}
 use Rattle.std.specs.Borrow.{Bor}
 use Rattle.vsi_arguments.specs.declared.request.Compilation.{Compilation}
@@ -10,7 +11,7 @@ use Rattle.vsi_arguments.specs.declared.request.Request.TheVariants.{Check, Conf
 use Rattle.vsi_arguments.specs.declared.request.TheConstants.{SEARCH}
 use Rattle.vsi_explain.specs.Pages.{page_of}
 use Rattle.vsi_asked.specs.Numbers.{Gives, number_in}
-use Rattle.vsi_asked.specs.Words.{has_flag, operands_in, shown, texts, values_in}
+use Rattle.vsi_asked.specs.Words.{dashed_in, has_flag, is_own, operands_in, shown, texts, values_in}
 
 -- The word of the subcommand.
 abbrev pub name_of : Request → List ℕ
@@ -159,9 +160,28 @@ pub record AsksPage (words : List (String Global)) (page : List ℕ) : Type 0 wh
   pub spelled : number_in word ≡ Some number
   pub is_its : page_of number ≡ Some page
 
--- The words are those of the request: its subcommand, and behind it its operands, its flags, its options and its
--- numbers; of `explain` the number of the refusal whose page it has.
-abbrev pub AsksFor : List (String Global) → Request → Type 0
-AsksFor words (Explain page) = AsksPage words page.now
-AsksFor words request =
+-- The words spell the request: its subcommand, and after it its operands, its flags, its options and its numbers; of
+-- `explain` the number of the refusal whose page it has.
+abbrev pub Spells : List (String Global) → Request → Type 0
+Spells words (Explain page) = AsksPage words page.now
+Spells words request =
     Asks words (name_of request) (operands_of request) (flags_of request) (options_of request) (numbers_of request)
+
+-- Each refusal but that of `explain` can be explained: the flag, and the option, that say how it is written.
+abbrev pub manner_of : Request → List (List ℕ) × List (List ℕ)
+manner_of (Explain page) = ([], [])
+manner_of request = (codes "--explain" ∷ [], codes "--color" ∷ [])
+
+-- The flags that the request's subcommand has.
+abbrev pub own_flags : Request → List (List ℕ)
+own_flags request = map (λ f. f.0) (flags_of request) ++ (manner_of request).0
+
+-- The options that the request's subcommand has.
+abbrev pub own_options : Request → List (List ℕ)
+own_options request =
+    map (λ o. o.0) (options_of request) ++ map (λ n. n.0) (numbers_of request) ++ (manner_of request).1
+
+-- The words ask for the request: they spell it, and each flag and option among them is one of its subcommand's own.
+pub record AsksFor (words : List (String Global)) (request : Request) : Type 0 where
+  pub spelled : Spells words request
+  pub own : IsTrue (list_all (is_own (own_flags request) (own_options request)) (dashed_in false (texts words)))

@@ -1,5 +1,5 @@
 -- How the words behind a subcommand are read.
-use Rattle.std.specs.Prelude.{ℕ, ◌==◌, Bool, true, false, List, [], ◌∷◌, ◌++◌, Option, Some, None, option_to_list, map, bytes_eq, codes, if◌then◌else◌, String, string_bytes}
+use Rattle.std.specs.Prelude.{ℕ, ◌==◌, Bool, true, false, List, [], ◌∷◌, ◌++◌, Option, Some, None, option_to_list, map, bytes_eq, codes, if◌then◌else◌, is_some, String, string_bytes}
 use Rattle.std.specs.declared.alloc.Global.{Global}
 use Rattle.std.specs.Borrow.{Bor}
 
@@ -64,3 +64,22 @@ values_in option false (word ∷ rest) =
     if is_end word then []
     else (if bytes_eq word option then values_in option true rest
     else option_to_list (joined option word) ++ values_in option false rest)
+
+-- The flags and options among words, the first of which may be the value of an option: each word in front of the first
+-- `--` that begins with a hyphen and is no value of an option.
+abbrev pub dashed_in : Bool → List (List ℕ) → List (List ℕ)
+dashed_in is_value [] = []
+dashed_in true (word ∷ rest) = dashed_in false rest
+dashed_in false (word ∷ rest) =
+    if is_end word then []
+    else (if is_dashed word then word ∷ dashed_in (is_among VALUED word) rest else dashed_in false rest)
+
+-- The word is one of these options, alone or with `=` and its value.
+abbrev pub is_option : List (List ℕ) → List ℕ → Bool
+is_option [] word = false
+is_option (option ∷ options) word =
+    if bytes_eq word option then true else (if is_some (joined option word) then true else is_option options word)
+
+-- The word is one of these flags or of these options.
+abbrev pub is_own : List (List ℕ) → List (List ℕ) → List ℕ → Bool
+is_own flags options word = if is_among flags word then true else is_option options word

@@ -7,6 +7,7 @@ ghost use Rattle.vsi_asked.specs.Words.{operands_in, shown, texts, values_in};
 ghost use Rattle.vsi_explain.specs.Pages.{page_of};
 
 use crate::numbers::{has_number, number_in, only_operand};
+use crate::own::has_own_alone;
 use crate::reading::{has_flag, has_operands, has_values};
 use vsi_arguments::{
     Audit, Comparison, Compilation, Conformance, Drawing, Driving, Emission, Execution, Judging,
@@ -117,7 +118,7 @@ fn asks_run(
     has_count: bool,
 ) -> bool
     ensures { result ≡ true
-        → spec.AsksFor words.now (request.Run execution.now outset.now has_trace has_count) }
+        → spec.Spells words.now (request.Run execution.now outset.now has_trace has_count) }
 {
     let operands = [execution.image.as_bytes()];
     let flags = [
@@ -139,7 +140,7 @@ fn asks_view(
     execution: &Execution<'_>,
     outset: &Outset<'_>,
 ) -> bool
-    ensures { result ≡ true → spec.AsksFor words.now
+    ensures { result ≡ true → spec.Spells words.now
         (request.View lattice.entry class.entry execution.now outset.now) }
 {
     let operands = [lattice.as_bytes(), execution.image.as_bytes()];
@@ -154,7 +155,7 @@ fn asks_view(
 
 /// Whether words ask to drive a controller.
 fn asks_drive(words: &[String], driving: &Driving<'_>) -> bool
-    ensures { result ≡ true → spec.AsksFor words.now (request.Drive driving.now) }
+    ensures { result ≡ true → spec.Spells words.now (request.Drive driving.now) }
 {
     let operands = [
         driving.execution.image.as_bytes(),
@@ -171,7 +172,7 @@ fn asks_drive(words: &[String], driving: &Driving<'_>) -> bool
 
 /// Whether words ask for a comparison.
 fn asks_compare(words: &[String], comparison: &Comparison<'_>) -> bool
-    ensures { result ≡ true → spec.AsksFor words.now (request.Compare comparison.now) }
+    ensures { result ≡ true → spec.Spells words.now (request.Compare comparison.now) }
 {
     let operands = [comparison.lattice.as_bytes(), comparison.image.as_bytes()];
     let Some(rest) = behind(words, "compare", operands.as_slice(), &[]) else {
@@ -186,7 +187,7 @@ fn asks_compare(words: &[String], comparison: &Comparison<'_>) -> bool
 
 /// Whether words ask for a search.
 fn asks_leak(words: &[String], search: &Search<'_>) -> bool
-    ensures { result ≡ true → spec.AsksFor words.now (request.Leak search.now) }
+    ensures { result ≡ true → spec.Spells words.now (request.Leak search.now) }
 {
     let operands = [search.lattice.as_bytes(), search.source.as_bytes()];
     let flags = [
@@ -204,7 +205,7 @@ fn asks_leak(words: &[String], search: &Search<'_>) -> bool
 
 /// Whether words ask to draw.
 fn asks_draw(words: &[String], drawing: &Drawing<'_>) -> bool
-    ensures { result ≡ true → spec.AsksFor words.now (request.Draw drawing.now) }
+    ensures { result ≡ true → spec.Spells words.now (request.Draw drawing.now) }
 {
     let flags = [("--strict", drawing.is_strict)];
     match drawing.source {
@@ -223,7 +224,7 @@ fn asks_draw(words: &[String], drawing: &Drawing<'_>) -> bool
 
 /// Whether words ask for a judgement of a source text.
 fn asks_check(words: &[String], judging: &Judging<'_>) -> bool
-    ensures { result ≡ true → spec.AsksFor words.now (request.Check judging.now) }
+    ensures { result ≡ true → spec.Spells words.now (request.Check judging.now) }
 {
     let flags = [
         ("--strict", judging.compilation.is_strict),
@@ -235,7 +236,7 @@ fn asks_check(words: &[String], judging: &Judging<'_>) -> bool
 
 /// Whether words ask for a judgement by an interface.
 fn asks_conform(words: &[String], conformance: &Conformance<'_>) -> bool
-    ensures { result ≡ true → spec.AsksFor words.now (request.Conform conformance.now) }
+    ensures { result ≡ true → spec.Spells words.now (request.Conform conformance.now) }
 {
     let operands = [
         conformance.interface.as_bytes(),
@@ -247,7 +248,7 @@ fn asks_conform(words: &[String], conformance: &Conformance<'_>) -> bool
 
 /// Whether words ask for flows.
 fn asks_flows(words: &[String], compilation: &Compilation<'_>, has_walks: bool) -> bool
-    ensures { result ≡ true → spec.AsksFor words.now (request.Flows compilation.now has_walks) }
+    ensures { result ≡ true → spec.Spells words.now (request.Flows compilation.now has_walks) }
 {
     let flags = [("--strict", compilation.is_strict), ("--walks", has_walks)];
     asks_compilation(words, "flows", compilation, flags.as_slice())
@@ -255,7 +256,7 @@ fn asks_flows(words: &[String], compilation: &Compilation<'_>, has_walks: bool) 
 
 /// Whether words ask for an image.
 fn asks_build(words: &[String], compilation: &Compilation<'_>, image: &str) -> bool
-    ensures { result ≡ true → spec.AsksFor words.now (request.Build compilation.now image.entry) }
+    ensures { result ≡ true → spec.Spells words.now (request.Build compilation.now image.entry) }
 {
     let operands = [
         compilation.lattice.as_bytes(),
@@ -268,7 +269,7 @@ fn asks_build(words: &[String], compilation: &Compilation<'_>, image: &str) -> b
 
 /// Whether words ask for an audit.
 fn asks_audit(words: &[String], audit: &Audit<'_>) -> bool
-    ensures { result ≡ true → spec.AsksFor words.now (request.Audit audit.now) }
+    ensures { result ≡ true → spec.Spells words.now (request.Audit audit.now) }
 {
     let operands = [audit.lattice.as_bytes(), audit.image.as_bytes()];
     let flags = [("--strict", audit.is_strict), ("--steady", audit.is_steady)];
@@ -315,7 +316,7 @@ fn is_page(number: u64, text: &str) -> bool
 
 /// Whether words ask for the page of a refusal.
 fn asks_page(words: &[String], text: &str) -> bool
-    ensures { result ≡ true → spec.AsksFor words.now (request.Explain text.entry) }
+    ensures { result ≡ true → spec.Spells words.now (request.Explain text.entry) }
 {
     let Some(rest) = behind_name(words, "explain") else {
         return false;
@@ -329,10 +330,9 @@ fn asks_page(words: &[String], text: &str) -> bool
     }
 }
 
-/// Whether words ask for a request. It reads the words again, and stands on nothing that
-/// `request_of` has made of them.
-pub fn asks_for(words: &[String], request: &Request<'_>) -> bool
-    ensures asked { result ≡ true → spec.AsksFor words.now request.now }
+/// Whether words spell a request.
+fn spells(words: &[String], request: &Request<'_>) -> bool
+    ensures { result ≡ true → spec.Spells words.now request.now }
 {
     match request {
         Request::Check(judging) => asks_check(words, judging),
@@ -367,4 +367,12 @@ pub fn asks_for(words: &[String], request: &Request<'_>) -> bool
         Request::Format(source) => asks_file(words, "fmt", source),
         Request::Explain(text) => asks_page(words, text),
     }
+}
+
+/// Whether words ask for a request. It reads the words again, and uses nothing that `request_of` has
+/// made of them.
+pub fn asks_for(words: &[String], request: &Request<'_>) -> bool
+    ensures asked { result ≡ true → spec.AsksFor words.now request.now }
+{
+    spells(words, request) && has_own_alone(words, request)
 }

@@ -20,14 +20,14 @@ const VALUED: [&[u8]; 11] = [
 ];
 
 /// Whether a word is the one behind which there are operands alone.
-fn is_end(word: &[u8]) -> bool
+pub(crate) fn is_end(word: &[u8]) -> bool
     ensures { result ≡ spec.is_end word.now }
 {
     word == b"--".as_slice()
 }
 
 /// Whether a value stands behind a word.
-fn is_valued(word: &[u8]) -> bool
+pub(crate) fn is_valued(word: &[u8]) -> bool
     ensures { result ≡ spec.is_among spec.VALUED word.now }
 {
     let mut rest = VALUED.as_slice();
@@ -41,7 +41,7 @@ fn is_valued(word: &[u8]) -> bool
 }
 
 /// Whether a word begins with a hyphen, and something stands behind that.
-fn is_dashed(word: &[u8]) -> bool
+pub(crate) fn is_dashed(word: &[u8]) -> bool
     ensures { result ≡ spec.is_dashed word.now }
 {
     match word {
@@ -123,7 +123,7 @@ fn are_from(words: &[String], texts: &[&[u8]], place: usize) -> bool
 }
 
 /// What stands behind the option and `=` in a word.
-fn joined<'a>(option: &[u8], word: &'a [u8]) -> Option<&'a [u8]>
+pub(crate) fn joined<'a>(option: &[u8], word: &'a [u8]) -> Option<&'a [u8]>
     ensures { option_map (λ value. value.now) result ≡ spec.joined option.now word.now }
 {
     let mut left = option;

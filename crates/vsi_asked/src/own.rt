@@ -1,0 +1,139 @@
+//! Whether each flag and option among words is one of its subcommand's own.
+
+ghost use Rattle.std.specs.Prelude.{◌≡◌, false};
+ghost use Rattle.std.specs.List.{list_all};
+ghost use Rattle.vsi_asked.specs.Asked as asked;
+ghost use Rattle.vsi_asked.specs.Words as spec;
+
+use crate::reading::{is_dashed, is_end, is_valued, joined};
+use vsi_arguments::Request;
+
+/// The options of a subcommand that has none but for how a refusal is explained.
+const NO_OPTIONS: [&[u8]; 1] = [b"--color"];
+
+/// The flags of a subcommand that has none but for whether a refusal is explained.
+const NO_FLAGS: [&[u8]; 1] = [b"--explain"];
+
+/// The flags of a subcommand that judges by a profile.
+const STRICT: [&[u8]; 2] = [b"--strict", b"--explain"];
+
+/// The flags of `check`.
+const CHECK: [&[u8]; 4] = [b"--strict", b"--steady", b"--json", b"--explain"];
+
+/// The flags of `conform`.
+const CONFORM: [&[u8]; 2] = [b"--json", b"--explain"];
+
+/// The flags of `flows`.
+const FLOWS: [&[u8]; 3] = [b"--strict", b"--walks", b"--explain"];
+
+/// The flags of `audit`.
+const AUDIT: [&[u8]; 3] = [b"--strict", b"--steady", b"--explain"];
+
+/// The flags of `run`.
+const RUN: [&[u8]; 4] = [b"--full-store", b"--trace", b"--count", b"--explain"];
+
+/// The options of `run`.
+const RUN_OPTIONS: [&[u8]; 5] = [b"--store", b"--out", b"--set", b"--budget", b"--color"];
+
+/// The flags of `view`.
+const VIEW: [&[u8]; 2] = [b"--full-store", b"--explain"];
+
+/// The options of `view`.
+const VIEW_OPTIONS: [&[u8]; 6] = [
+    b"--class",
+    b"--store",
+    b"--out",
+    b"--set",
+    b"--budget",
+    b"--color",
+];
+
+/// The options of `drive`.
+const DRIVE_OPTIONS: [&[u8]; 5] = [b"--class", b"--store", b"--save", b"--budget", b"--color"];
+
+/// The options of `compare`.
+const COMPARE_OPTIONS: [&[u8]; 4] = [b"--class", b"--store", b"--budget", b"--color"];
+
+/// The flags of `leak`.
+const LEAK: [&[u8]; 3] = [b"--endings", b"--steps", b"--explain"];
+
+/// The options of `leak`.
+const LEAK_OPTIONS: [&[u8]; 5] = [b"--class", b"--budget", b"--tries", b"--seed", b"--color"];
+
+/// Whether a word is one of these names.
+fn is_among(names: &[&[u8]], word: &[u8]) -> bool
+    ensures { result ≡ spec.is_among (spec.shown names.now) word.now }
+{
+    let mut rest = names;
+    while let [name, behind @ ..] = rest {
+        if word == *name {
+            return true;
+        }
+        rest = behind;
+    }
+    false
+}
+
+/// Whether a word is one of these options, alone or with `=` and its value.
+fn is_option(options: &[&[u8]], word: &[u8]) -> bool
+    ensures { result ≡ spec.is_option (spec.shown options.now) word.now }
+{
+    let mut rest = options;
+    while let [option, behind @ ..] = rest {
+        if word == *option || joined(option, word).is_some() {
+            return true;
+        }
+        rest = behind;
+    }
+    false
+}
+
+/// Whether each flag and option among words is one of these.
+fn are_own(words: &[String], flags: &[&[u8]], options: &[&[u8]]) -> bool
+    ensures { result ≡ list_all (spec.is_own (spec.shown flags.now) (spec.shown options.now))
+        (spec.dashed_in false (spec.texts words.now)) }
+{
+    let mut rest = words;
+    let mut is_value = false;
+    while let [word, behind @ ..] = rest {
+        if is_value {
+            is_value = false;
+        } else if is_end(word.as_bytes()) {
+            return true;
+        } else if is_dashed(word.as_bytes()) {
+            if !is_among(flags, word.as_bytes()) && !is_option(options, word.as_bytes()) {
+                return false;
+            }
+            is_value = is_valued(word.as_bytes());
+        }
+        rest = behind;
+    }
+    true
+}
+
+/// Whether each flag and option among words is one that the request's subcommand has.
+pub(crate) fn has_own_alone(words: &[String], request: &Request<'_>) -> bool
+    ensures { result ≡ list_all
+        (spec.is_own (asked.own_flags request.now) (asked.own_options request.now))
+        (spec.dashed_in false (spec.texts words.now)) }
+{
+    match request {
+        Request::Check(_) => are_own(words, CHECK.as_slice(), NO_OPTIONS.as_slice()),
+        Request::Conform(_) => are_own(words, CONFORM.as_slice(), NO_OPTIONS.as_slice()),
+        Request::Classes(_) => are_own(words, STRICT.as_slice(), NO_OPTIONS.as_slice()),
+        Request::Build(_, _) => are_own(words, STRICT.as_slice(), NO_OPTIONS.as_slice()),
+        Request::Report(_) => are_own(words, STRICT.as_slice(), NO_OPTIONS.as_slice()),
+        Request::Draw(_) => are_own(words, STRICT.as_slice(), NO_OPTIONS.as_slice()),
+        Request::Flows { .. } => are_own(words, FLOWS.as_slice(), NO_OPTIONS.as_slice()),
+        Request::Audit(_) => are_own(words, AUDIT.as_slice(), NO_OPTIONS.as_slice()),
+        Request::List(_) => are_own(words, NO_FLAGS.as_slice(), NO_OPTIONS.as_slice()),
+        Request::Source(_) => are_own(words, NO_FLAGS.as_slice(), NO_OPTIONS.as_slice()),
+        Request::Format(_) => are_own(words, NO_FLAGS.as_slice(), NO_OPTIONS.as_slice()),
+        Request::Run { .. } => are_own(words, RUN.as_slice(), RUN_OPTIONS.as_slice()),
+        Request::View { .. } => are_own(words, VIEW.as_slice(), VIEW_OPTIONS.as_slice()),
+        Request::Drive(_) => are_own(words, NO_FLAGS.as_slice(), DRIVE_OPTIONS.as_slice()),
+        Request::Compare(_) => are_own(words, NO_FLAGS.as_slice(), COMPARE_OPTIONS.as_slice()),
+        Request::Leak(_) => are_own(words, LEAK.as_slice(), LEAK_OPTIONS.as_slice()),
+        Request::Explain(_) => are_own(words, &[], &[]),
+    }
+}
