@@ -9,3 +9,4 @@ pub mod Begins
 pub mod Tables
 pub mod Readable
 pub mod Told
+pub mod Allowed

@@ -1,10 +1,12 @@
 -- What an interface file holds, over the table that its text is.
-use Rattle.std.specs.Prelude.{◌≡◌, ℕ, ℤ, pos, negsuc, List, [], ◌∷◌, Bool, true, false, if◌then◌else◌, Option, Some, None, option_map, option_and_then, map, codes, bytes_eq}
+use Rattle.std.specs.Prelude.{◌≡◌, ℕ, ℤ, pos, negsuc, List, [], ◌∷◌, Bool, true, false, ◌&&◌, ◌||◌, if◌then◌else◌, Option, Some, None, option_map, option_and_then, map, codes, bytes_eq}
+use Rattle.std.specs.Borrow.{Bor}
+use Rattle.std.specs.List.{All}
 use Rattle.std.specs.Str.{IsUtf8}
 use Rattle.toml.specs.Data.{Data, Members, no_members, member, get_member, as_str, as_integer, as_bool, as_array, as_table}
 use Rattle.toml.specs.Parse.{parse_document}
 use Rattle.vsi_lattice.specs.Shape.{pair_of, all_of, array_at}
-use Rattle.vsi_image.specs.Fields.{Global, globals}
+use Rattle.vsi_image.specs.Fields.{Global, globals, is_taken}
 use Rattle.vsi_conform.specs.declared.error.InterfaceError.{InterfaceError}
 use Rattle.vsi_conform.specs.declared.error.InterfaceError.TheVariants.{NotToml, Memory}
 use Rattle.vsi_conform.specs.declared.interface.Interface.{Interface}
@@ -28,6 +30,30 @@ IsNoTable text Memory = Unit {0}
 IsNoTable text e = ⊥
 
 -- ---- the keys.
+
+-- The texts that references show.
+abbrev pub shown : List (Bor (List ℕ)) → List (List ℕ)
+shown references = map (λ r. r.now) references
+
+-- The key is one of these.
+abbrev pub is_among : List (List ℕ) → List ℕ → Bool
+is_among [] key = false
+is_among (k ∷ ks) key = bytes_eq k key || is_among ks key
+
+-- Each key of a table is one of these.
+abbrev pub has_keys : List (List ℕ) → Members → Bool
+has_keys keys no_members = true
+has_keys keys (member key d ms) = is_among keys key && has_keys keys ms
+
+-- The keys of an interface.
+abbrev pub interface_keys : List (List ℕ)
+interface_keys =
+    codes "lattice" ∷ codes "classes" ∷ codes "below" ∷ codes "profile" ∷ codes "order" ∷ codes "globals"
+    ∷ codes "runs" ∷ []
+
+-- The keys of a run.
+abbrev pub run_keys : List (List ℕ)
+run_keys = codes "store" ∷ codes "budget" ∷ codes "expect" ∷ codes "halts" ∷ []
 
 -- The text at a key.
 abbrev pub text_at : List ℕ → Members → Option (List ℕ)
@@ -117,13 +143,14 @@ run_from (Some store) (Some budget) None = None
 run_from (Some store) (Some budget) (Some expect) =
     Some (record { store = store; budget = budget; expect = expect })
 
--- The run that a table tells.
+-- The run that a table gives, which has no key but those of a run.
 abbrev pub run_in : Members → Option Run
 run_in ms =
+    if has_keys run_keys ms then
     run_from (store_from (get_member (codes "store") ms)) (budget_from (get_member (codes "budget") ms))
-    (expect_from (get_member (codes "expect") ms) (get_member (codes "halts") ms))
+    (expect_from (get_member (codes "expect") ms) (get_member (codes "halts") ms)) else None
 
--- The run that a value tells, which is a table.
+-- The run that a value gives, which is a table.
 abbrev pub run_of : Data → Option Run
 run_of d = option_and_then run_in (as_table d)
 
@@ -142,16 +169,32 @@ IsPolicy ms (File path) =
     × (get_member (codes "classes") ms ≡ None) × (get_member (codes "below") ms ≡ None)
 IsPolicy ms (Tables text) = (get_member (codes "lattice") ms ≡ None) × IsTablesText ms text.items
 
+-- Each name is that of a global.
+abbrev pub are_named : List Global → List Entry → Bool
+are_named gs [] = true
+are_named gs (e ∷ es) = is_taken gs e.0 && are_named gs es
+
+-- The run names no variable but these globals.
+pub record NamesGlobals (gs : List Global) (r : Run) : Type 0 where
+  pub store : are_named gs r.store ≡ true
+  pub expect : are_named gs r.expect ≡ true
+
+-- The runs of an interface name no variable but its globals.
+abbrev pub NameGlobals : Interface → Type 0
+NameGlobals i = All (NamesGlobals (globals i.globals.items)) (map run i.trials.items)
+
 -- What a table asks of a text.
 pub record Asks (ms : Members) (i : Interface) : Type 0 where
   pub judgement : judgement_at ms ≡ Some i.judgement
   pub order : order_from (get_member (codes "order") ms) ≡ Some i.is_ordered
   pub globals : globals_at ms ≡ Some (globals i.globals.items)
   pub runs : runs_from (get_member (codes "runs") ms) ≡ Some (map run i.trials.items)
+  pub named : NameGlobals i
 
--- The text is a document that has this policy and asks this.
+-- The text is a document that has this policy and asks this, and no key but those of an interface.
 pub record IsReadAs (text : List ℕ) (a : Asked) : Type 0 where
   pub table : Members
   pub document : IsDocument text table
+  pub keys : has_keys interface_keys table ≡ true
   pub policy : IsPolicy table a.policy
   pub interface : Asks table a.interface

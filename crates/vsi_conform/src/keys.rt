@@ -1,7 +1,7 @@
 //! What stands at the keys of a table.
 
-ghost use Rattle.std.specs.Prelude.{◌≡◌, IfOk, MatchResult, option_map};
-ghost use Rattle.std.specs.Option.{option_copied};
+ghost use Rattle.std.specs.Prelude.{◌≡◌, false, true, IfOk, MatchResult, option_map};
+ghost use Rattle.std.specs.Option.{MatchOption, option_copied};
 ghost use Rattle.toml.specs.Data.{get_member};
 ghost use Rattle.toml.specs.View.{table_view, view};
 ghost use Rattle.vsi_conform.specs.declared.error.InterfaceError.TheVariants.{Memory, NotToml};
@@ -36,10 +36,12 @@ pub(crate) fn value_at<'t>(table: &'t Table, key: &str) -> Option<&'t Value>
     table.get(key)
 }
 
-/// Whether one of the words is the key.
-fn is_among(words: &[&str], key: &str) -> bool {
-    for word in words {
-        if word.as_bytes() == key.as_bytes() {
+/// Whether the key is one of these.
+fn is_among(keys: &[&str], key: &str) -> bool
+    ensures { result ≡ spec.is_among (spec.shown keys.now) key.now }
+{
+    for allowed in keys {
+        if allowed.as_bytes() == key.as_bytes() {
             return true;
         }
     }
@@ -47,9 +49,13 @@ fn is_among(words: &[&str], key: &str) -> bool {
 }
 
 /// The first key in byte order that isn't one of these.
-pub(crate) fn other_key<'t>(table: &'t Table, words: &[&str]) -> Option<&'t str> {
+pub(crate) fn other_key<'t>(table: &'t Table, keys: &[&str]) -> Option<&'t str>
+    ensures { MatchOption result
+        (spec.has_keys (spec.shown keys.now) (table_view table.now) ≡ true)
+        (λ key. spec.is_among (spec.shown keys.now) key.now ≡ false) }
+{
     for (key, _value) in table {
-        if !is_among(words, key.as_str()) {
+        if !is_among(keys, key.as_str()) {
             return Some(key.as_str());
         }
     }

@@ -1,11 +1,13 @@
 //! Reads an interface file.
 
 ghost use Rattle.std.specs.Prelude.{◌≡◌, ◌≤◌, length, map, take, codes, Some, None, true, false};
-ghost use Rattle.std.specs.Prelude.{IsTrue, IfOk, OnOk, option_map, option_and_then, string_bytes};
+ghost use Rattle.std.specs.Prelude.{IsTrue, IfOk, IfSome, OnOk, option_map, option_and_then, string_bytes};
+ghost use Rattle.std.specs.List.{All};
 ghost use Rattle.std.specs.Str.{IsUtf8};
 ghost use Rattle.std.specs.Str.Lossy.{utf8_lossy};
 ghost use Rattle.toml.specs.Data.{as_bool, as_table, get_member};
 ghost use Rattle.toml.specs.View.{items_view, table_view, view};
+ghost use Rattle.vsi_image.specs.Fields as image;
 ghost use Rattle.vsi_image.specs.Fields.{global, globals};
 ghost use Rattle.vsi_lattice.specs.Shape as shape;
 ghost use Rattle.vsi_conform.specs.Beside.{beside, folder};
@@ -286,8 +288,10 @@ fn known_entries(
     value: &Value,
     globals: &[(Vec<u8>, Vec<u8>)],
 ) -> Result<Option<Vec<(Vec<u8>, i64)>>, InterfaceError>
-    ensures { IfOk result (λ found. option_map (λ es. entries es.items) found
+    ensures entries { IfOk result (λ found. option_map (λ es. entries es.items) found
         ≡ spec.entries_of (view value.now)) }
+    ensures named { IfOk result (λ found. IfSome found
+        (λ es. spec.are_named (image.globals globals.now) (entries es.items) ≡ true)) }
 {
     let Some(entries) = entries_of(alloc, value)? else {
         return Ok(None);
@@ -301,9 +305,11 @@ fn know_names(
     alloc: Global,
     number: usize,
     globals: &[(Vec<u8>, Vec<u8>)],
-    entries: &[(Vec<u8>, i64)],
-) -> Result<(), InterfaceError> {
-    for entry in entries {
+    found: &[(Vec<u8>, i64)],
+) -> Result<(), InterfaceError>
+    ensures { OnOk result (spec.are_named (image.globals globals.now) (entries found.now) ≡ true) }
+{
+    for entry in found {
         if !is_named(globals, &entry.0) {
             let name = Vec::from_slice(alloc, &entry.0)?;
             return Err(InterfaceError::UnknownGlobal(number, name));
@@ -319,8 +325,10 @@ fn store_in(
     table: &Table,
     globals: &[(Vec<u8>, Vec<u8>)],
 ) -> Result<Vec<(Vec<u8>, i64)>, InterfaceError>
-    ensures { IfOk result (λ store. spec.store_from
+    ensures store { IfOk result (λ store. spec.store_from
         (get_member (codes "store") (table_view table.now)) ≡ Some (entries store.items)) }
+    ensures named { IfOk result
+        (λ store. spec.are_named (image.globals globals.now) (entries store.items) ≡ true) }
 {
     let Some(value) = value_at(table, "store") else {
         return Ok(Vec::new(alloc));
@@ -380,9 +388,11 @@ fn expect_in(
     table: &Table,
     globals: &[(Vec<u8>, Vec<u8>)],
 ) -> Result<Vec<(Vec<u8>, i64)>, InterfaceError>
-    ensures { IfOk result (λ expect. spec.expect_from
+    ensures expect { IfOk result (λ expect. spec.expect_from
         (get_member (codes "expect") (table_view table.now))
         (get_member (codes "halts") (table_view table.now)) ≡ Some (entries expect.items)) }
+    ensures named { IfOk result
+        (λ expect. spec.are_named (image.globals globals.now) (entries expect.items) ≡ true) }
 {
     let Some(value) = value_at(table, "expect") else {
         if is_halting(table) {
@@ -401,7 +411,9 @@ fn expect_in(
 
 /// The table of a run, whose keys are those of one.
 fn run_table(number: usize, value: &Value) -> Result<&Table, InterfaceError>
-    ensures { IfOk result (λ table. as_table (view value.now) ≡ Some (table_view table.now)) }
+    ensures table { IfOk result (λ table. as_table (view value.now) ≡ Some (table_view table.now)) }
+    ensures keys { IfOk result
+        (λ table. spec.has_keys spec.run_keys (table_view table.now) ≡ true) }
 {
     let Some(table) = value.as_table() else {
         return Err(InterfaceError::BadRun(number));
@@ -419,7 +431,9 @@ fn trial_of(
     value: &Value,
     globals: &[(Vec<u8>, Vec<u8>)],
 ) -> Result<Trial, InterfaceError>
-    ensures { IfOk result (λ trial. spec.run_of (view value.now) ≡ Some (spec.run trial)) }
+    ensures run { IfOk result (λ trial. spec.run_of (view value.now) ≡ Some (spec.run trial)) }
+    ensures named { IfOk result
+        (λ trial. spec.NamesGlobals (image.globals globals.now) (spec.run trial)) }
 {
     let table = run_table(number, value)?;
     let store = store_in(alloc, number, table, globals)?;
@@ -438,8 +452,10 @@ fn trials_in(
     table: &Table,
     globals: &[(Vec<u8>, Vec<u8>)],
 ) -> Result<Vec<Trial>, InterfaceError>
-    ensures { IfOk result (λ trials. spec.runs_from
+    ensures runs { IfOk result (λ trials. spec.runs_from
         (get_member (codes "runs") (table_view table.now)) ≡ Some (map spec.run trials.items)) }
+    ensures named { IfOk result (λ trials. All (spec.NamesGlobals (image.globals globals.now))
+        (map spec.run trials.items)) }
 {
     let Some(value) = value_at(table, "runs") else {
         return Ok(Vec::new(alloc));
@@ -456,8 +472,10 @@ fn trials_of(
     array: &[Value],
     globals: &[(Vec<u8>, Vec<u8>)],
 ) -> Result<Vec<Trial>, InterfaceError>
-    ensures { IfOk result (λ trials. shape.all_of spec.run_of (items_view array.now)
+    ensures runs { IfOk result (λ trials. shape.all_of spec.run_of (items_view array.now)
         ≡ Some (map spec.run trials.items)) }
+    ensures named { IfOk result (λ trials. All (spec.NamesGlobals (image.globals globals.now))
+        (map spec.run trials.items)) }
 {
     let mut trials = Vec::new(alloc);
     for (i, item) in array.iter().enumerate() {
