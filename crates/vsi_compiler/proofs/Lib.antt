@@ -7,3 +7,4 @@ pub mod Coded
 pub mod Runs
 pub mod Profiles
 pub mod Typed
+pub mod Held

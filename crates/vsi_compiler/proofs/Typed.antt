@@ -1,9 +1,8 @@
 -- What is promised of the image of a text that is accepted, though its flows weren't judged.
-use Rattle.std.proofs.Common.{◌≡◌, ℕ, List, map, sym, subst, ◌∙◌}
+use Rattle.std.proofs.Common.{ℕ, List, map, sym, subst, ◌∙◌}
 use Rattle.vsi_syntax.specs.Tree.{Whole}
 use Rattle.vsi_lattice.specs.Order.{Lattice}
 use Rattle.vsi_lattice.specs.Known.{Known}
-use Rattle.vsi_scope.specs.Language.{Command}
 use Rattle.vsi_scope.specs.Program.{Resolved}
 use Rattle.vsi_scope.specs.Resolving.{IsResolution}
 use Rattle.vsi_scope.specs.View.{command}

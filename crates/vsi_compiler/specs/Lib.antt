@@ -5,6 +5,7 @@ pub mod Observation
 pub mod Acceptance
 pub mod Headline
 pub mod Stands
+pub mod SourceView
 pub mod Run
 pub mod Classes
 pub mod Explaining

@@ -5,6 +5,7 @@ use Rattle.vsi_lattice.specs.Order.{Lattice}
 use Rattle.vsi_scope.specs.Language.{Command}
 use Rattle.vsi_types.specs.declared.rules.Profile.{Profile}
 use Rattle.vsi_types.specs.declared.rules.Step.{Step}
+use Rattle.vsi_types.specs.Security.{Program}
 use Rattle.vsi_infer.specs.Inference.{IsShortest}
 use Rattle.vsi_syntax.specs.Cut as cut
 use Rattle.vsi_syntax.specs.Tree.{Whole}
@@ -50,6 +51,14 @@ pub record HasShortestBadWalk (known : Known) (L : Lattice) (P : Profile) (text 
   pub reads : Reads text tree
   pub resolution : IsResolution known tree commands
   pub shortest : IsShortest L P (program_of known tree commands) steps
+
+-- A refusal of a program that was read: want of memory, or a bad walk such that no bad walk has fewer steps.
+abbrev pub RefusesFlow : Lattice → Profile → Program → CompileError → Type 0
+RefusesFlow L P p Memory = Unit {0}
+RefusesFlow L P p (Lex e) = ⊥
+RefusesFlow L P p (Parse e) = ⊥
+RefusesFlow L P p (Scope e) = ⊥
+RefusesFlow L P p (Flow walk) = IsShortest L P p walk.steps.items
 
 -- A refusal of the compiler: the first in the order text, words, tree, scopes, size, flow.
 abbrev pub Refuses : Known → Lattice → Profile → List ℕ → CompileError → Type 0

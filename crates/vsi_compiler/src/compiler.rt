@@ -10,21 +10,19 @@ ghost use Rattle.vsi_compiler.specs.Observation.{IsNoninterfering, EndsAlike};
 ghost use Rattle.vsi_compiler.specs.Refusal.{Refuses};
 
 use crate::error::CompileError;
-use crate::operands::have_opcodes;
-use crate::source::resolved_program;
+use crate::image::image_of;
+use crate::judging::judge;
+use crate::reading::read_source;
 use std::alloc::Global;
-use vsi_code::generate;
 use vsi_image::Verified;
-use vsi_infer::infer_in;
 use vsi_lattice::Lattice;
-use vsi_opt::optimise;
 use vsi_types::Profile;
 
 /// The image of a text that is accepted under a profile.
 ///
 /// # Errors
 ///
-/// The first refusal in the order text, words, tree, scope, size, flow. `Memory` may stand in place
+/// The first refusal in the order text, tokens, tree, scope, size, flow. `Memory` may take the place
 /// of any answer.
 pub fn compile_in(
     alloc: Global,
@@ -48,12 +46,9 @@ pub fn compile_in(
     ensures image { IfOk result (IsImageOf (class_named lattice.now) text.now) }
     ensures size { IfOk result (IsNoLarger (class_named lattice.now) text.now) }
 {
-    let resolved = resolved_program(alloc, lattice, text)?;
-    let _classes = infer_in(alloc, profile, lattice, &resolved)?;
-    let optimised = optimise(alloc, &resolved)?;
-    let verified = generate(alloc, &optimised)?;
-    // Done for its contract alone: each operand fits its width, so the image has bytes.
-    have_opcodes(&verified.image().code);
+    let source = read_source(alloc, lattice, text)?;
+    let _classes = judge(alloc, profile, &source)?;
+    let verified = image_of(alloc, &source)?;
     Ok(verified)
 }
 

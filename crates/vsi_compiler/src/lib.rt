@@ -5,8 +5,11 @@
 
 mod compiler;
 mod error;
+mod image;
+mod judging;
 pub mod laws;
 mod operands;
+mod reading;
 mod refused;
 mod run;
 mod source;
@@ -15,8 +18,11 @@ mod unjudged;
 
 pub use compiler::{compile, compile_in};
 pub use error::CompileError;
-pub use refused::explanation_text;
+pub use image::image_of;
+pub use judging::judge;
+pub use reading::{read_source, resolved_program};
+pub use refused::{explanation_text, walk_explanation};
 pub use run::{RunError, run_source};
-pub use source::resolved_program;
-pub use texts::{classes_text, classes_text_in, format_text};
+pub use source::Source;
+pub use texts::{classes_text, classes_text_in, classes_text_of, format_text};
 pub use unjudged::unjudged_image;

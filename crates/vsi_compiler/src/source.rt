@@ -1,52 +1,100 @@
-//! The program that a text stands for.
+//! A source text, read once under a lattice.
 
-ghost use Rattle.std.specs.Prelude.{◌≡◌, ℕ, List, IfOk, IfErr, MatchResult};
-ghost use Rattle.vsi_syntax.specs.Tree.{Whole};
-ghost use Rattle.vsi_syntax.specs.ProgramView.{whole};
-ghost use Rattle.vsi_compiler.specs.declared.error.CompileError.TheVariants.{Memory};
-ghost use Rattle.vsi_compiler.specs.Source.{Reads};
-ghost use Rattle.vsi_compiler.specs.Refusal.{RefusesTree, RefusesProgram};
-ghost use Rattle.vsi_compiler.specs.Stands.{Stands};
-ghost use Rattle.vsi_lattice.specs.LatticeView.{class_named};
-ghost use Rattle.vsi_scope.specs.Language.{Command};
-ghost use Rattle.vsi_scope.specs.Program.{IsResolved};
-ghost use Rattle.vsi_scope.specs.Resolving.{AreBelow, HasClassesBelow, IsResolution};
-
-use crate::error::CompileError;
-use std::alloc::Global;
+use std::marker::Model;
 use vsi_lattice::Lattice;
-use vsi_scope::{Resolved, resolve};
-use vsi_syntax::{Program, lex, parse};
+use vsi_scope::Resolved;
+use vsi_syntax::{Declaration, Program};
 
-/// The tree that writes the text.
-pub(crate) fn read_program<'a>(alloc: Global, text: &'a [u8]) -> Result<Program<'a>, CompileError>
-    ensures reads { IfOk result (λ p. Reads text.now (whole p)) }
-    ensures refused { IfErr result (RefusesTree text.now) }
-    ensures exact { (tree : Whole) → Reads text.now tree →
-        MatchResult result (λ p. whole p ≡ tree) (λ e. e ≡ Memory) }
-{
-    let tokens = lex(alloc, text)?;
-    let program = parse(alloc, &tokens)?;
-    Ok(program)
+/// A source text, read under a lattice: what every layer above the reader borrows.
+///
+/// Its program is the one that the text stands for, and each class in it is one of the lattice. Its
+/// flows may be in order or not: `judge` says which.
+#[derive(Drop)]
+pub struct Source<'a> {
+    lattice: &'a Lattice,
+    text: &'a [u8],
+    tree: Program<'a>,
+    resolved: Resolved<'a>,
 }
 
-/// The text over locations.
-pub fn resolved_program<'a>(
-    alloc: Global,
-    lattice: &Lattice,
-    text: &'a [u8],
-) -> Result<Resolved<'a>, CompileError>
-    ensures stands { IfOk result (Stands (class_named lattice.now) text.now) }
-    ensures kept { IfOk result IsResolved }
-    ensures classes { (n : ℕ) → AreBelow n (class_named lattice.now) →
-        IfOk result (HasClassesBelow n) }
-    ensures refused { IfErr result (RefusesProgram (class_named lattice.now) text.now) }
-    ensures exact { (tree : Whole) (commands : List Command) → Reads text.now tree
-        → IsResolution (class_named lattice.now) tree commands → IfErr result (λ e. e ≡ Memory) }
-{
-    let program = read_program(alloc, text)?;
-    let resolved = resolve(alloc, &program, lattice)?;
-    // What `body` ensures says that the program is resolved, which the proofs ask for.
-    let _body = resolved.body();
-    Ok(resolved)
+impl<'a> Model for Source<'a> {
+    ghost use Rattle.std.specs.Coded.{codes};
+    ghost use Rattle.vsi_lattice.specs.contracts.lattice.Lattice as policy;
+    ghost use Rattle.vsi_scope.specs.contracts.program.Cmd as cmd;
+    ghost use Rattle.vsi_syntax.specs.ProgramView.{whole};
+    ghost use Rattle.vsi_compiler.specs.SourceView as spec;
+    ghost use Rattle.vsi_compiler.specs.SourceView.{source_of, IsSource, IsOnlyTree};
+
+    ghost Value = { spec.Source };
+
+    ghost coded = { Prim.hlevel (codes, policy.the_row.coded, cmd.the_row.coded) };
+
+    ghost view = { λ s. source_of s.lattice.now s.text.now s.resolved };
+
+    ghost invariant = { λ s. IsSource (source_of s.lattice.now s.text.now s.resolved)
+        × IsOnlyTree s.text.now (whole s.tree) };
+}
+
+impl<'a> Source<'a> {
+    ghost use Rattle.std.specs.Prelude.{◌≡◌, map};
+    ghost use Rattle.vsi_lattice.specs.LatticeView.{class_named, order};
+    ghost use Rattle.vsi_syntax.specs.CommandView.{declared};
+    ghost use Rattle.vsi_syntax.specs.ProgramView.{whole};
+    ghost use Rattle.vsi_syntax.specs.Tree.{Whole};
+    ghost use Rattle.vsi_scope.specs.Program.{IsResolved};
+    ghost use Rattle.vsi_scope.specs.Resolving.{HasClassesBelow, Resolves};
+    ghost use Rattle.vsi_compiler.specs.Source.{Reads};
+    ghost use Rattle.vsi_compiler.specs.SourceView.{source_of, IsSource, IsOnlyTree};
+
+    /// The source of a text, its tree and its program.
+    pub(crate) fn new(
+        lattice: &'a Lattice,
+        text: &'a [u8],
+        tree: Program<'a>,
+        resolved: Resolved<'a>,
+    ) -> Source<'a>
+        requires reads { Reads text.now (whole tree) }
+        requires only { IsOnlyTree text.now (whole tree) }
+        requires resolves { Resolves (class_named lattice.now) (whole tree) resolved }
+        requires kept { IsResolved resolved }
+        requires classes { HasClassesBelow (order lattice.now).count resolved }
+        ensures { result ≡ source_of lattice.entry.now text.entry.now resolved.entry }
+    {
+        Source {
+            lattice,
+            text,
+            tree,
+            resolved,
+        }
+    }
+
+    /// The lattice.
+    pub fn lattice(&self) -> &'a Lattice
+        ensures { result.now ≡ self.now.lattice }
+    {
+        self.lattice
+    }
+
+    /// The text.
+    pub fn text(&self) -> &'a [u8]
+        ensures { result.now ≡ self.now.text }
+    {
+        self.text
+    }
+
+    /// The declarations of the globals, in order.
+    pub fn globals(&self) -> &[Declaration<'a>]
+        ensures { (tree : Whole) → Reads self.now.text tree
+            → map declared result.now ≡ tree.globals }
+    {
+        self.tree.globals()
+    }
+
+    /// The program over locations.
+    pub fn resolved(&self) -> &Resolved<'a>
+        ensures value { result.now ≡ self.now.resolved }
+        ensures kept { IsSource self.now }
+    {
+        &self.resolved
+    }
 }

@@ -6,20 +6,22 @@ ghost use Rattle.vsi_lattice.specs.LatticeView.{class_named, names, order};
 ghost use Rattle.vsi_lattice.specs.Order.{IsClass};
 ghost use Rattle.vsi_scope.specs.Resolving.{variable};
 ghost use Rattle.vsi_syntax.specs.CommandView.{declared};
+ghost use Rattle.vsi_types.specs.Security.{program as program_of};
 ghost use Rattle.vsi_types.specs.declared.rules.Profile.TheVariants.{Base};
 ghost use Rattle.vsi_syntax.specs.Tree.{Whole};
 ghost use Rattle.vsi_compiler.specs.declared.error.CompileError.TheVariants.{Memory};
 ghost use Rattle.vsi_compiler.specs.Acceptance.{IsAccepted};
 ghost use Rattle.vsi_compiler.specs.Classes.{class_line, global_lines, letvar_lines, IsClassText};
-ghost use Rattle.vsi_compiler.specs.Refusal.{Refuses, RefusesTree};
+ghost use Rattle.vsi_compiler.specs.Refusal.{Refuses, RefusesFlow, RefusesTree};
 ghost use Rattle.vsi_compiler.specs.Source.{Reads, IsCanonicalText};
 
 use crate::error::CompileError;
-use crate::source::read_program;
+use crate::judging::judge;
+use crate::reading::{read_program, read_source};
+use crate::source::Source;
 use std::alloc::{AllocError, Global};
-use vsi_infer::infer_in;
 use vsi_lattice::{Class, Lattice};
-use vsi_scope::{Entry, resolve};
+use vsi_scope::Entry;
 use vsi_syntax::{Declaration, Span, print, put_place};
 use vsi_types::Profile;
 
@@ -27,7 +29,7 @@ use vsi_types::Profile;
 ///
 /// # Errors
 ///
-/// The refusals of the words and the tree; names and classes aren't looked at.
+/// The refusals of the tokens and the tree; names and classes aren't looked at.
 pub fn format_text(alloc: Global, text: &[u8]) -> Result<Vec<u8>, CompileError>
     ensures canonical { IfOk result (λ out. IsCanonicalText text.now out.items) }
     ensures refused { IfErr result (RefusesTree text.now) }
@@ -97,6 +99,41 @@ fn push_letvars(
 ///
 /// # Errors
 ///
+/// Those of `judge`.
+pub fn classes_text_of(
+    alloc: Global,
+    profile: Profile,
+    source: &Source<'_>,
+) -> Result<Vec<u8>, CompileError>
+    ensures lines { IfOk result (λ out. IsClassText
+        (class_named source.now.lattice) (order source.now.lattice) profile
+        (names source.now.lattice) source.now.text out.items) }
+    ensures refused { IfErr result (Refuses
+        (class_named source.now.lattice) (order source.now.lattice) profile source.now.text) }
+    ensures flow { IfErr result
+        (RefusesFlow (order source.now.lattice) profile (program_of source.now.resolved)) }
+    ensures exact { IsAccepted
+        (class_named source.now.lattice) (order source.now.lattice) profile source.now.text
+        → IfErr result (λ e. e ≡ Memory) }
+{
+    let classes = judge(alloc, profile, source)?;
+    let text = source.text();
+    let mut out = Vec::new(alloc);
+    push_globals(&mut out, text, source.globals())?;
+    push_letvars(
+        &mut out,
+        text,
+        source.lattice(),
+        source.resolved().letvars(),
+        &classes,
+    )?;
+    Ok(out)
+}
+
+/// The class lines of a text, by `classes_text_of`.
+///
+/// # Errors
+///
 /// The refusals of `compile_in`.
 pub fn classes_text_in(
     alloc: Global,
@@ -112,15 +149,8 @@ pub fn classes_text_in(
     ensures exact { IsAccepted (class_named lattice.now) (order lattice.now) profile text.now
         → IfErr result (λ e. e ≡ Memory) }
 {
-    let program = read_program(alloc, text)?;
-    let resolved = resolve(alloc, &program, lattice)?;
-    // What `body` ensures says that the program is resolved, which the proofs ask for.
-    let _body = resolved.body();
-    let classes = infer_in(alloc, profile, lattice, &resolved)?;
-    let mut out = Vec::new(alloc);
-    push_globals(&mut out, text, program.globals())?;
-    push_letvars(&mut out, text, lattice, resolved.letvars(), &classes)?;
-    Ok(out)
+    let source = read_source(alloc, lattice, text)?;
+    classes_text_of(alloc, profile, &source)
 }
 
 /// The class lines under the base profile.

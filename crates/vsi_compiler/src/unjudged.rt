@@ -11,19 +11,18 @@ ghost use Rattle.vsi_compiler.specs.Refusal.{RefusesProgram};
 ghost use Rattle.vsi_compiler.specs.declared.error.CompileError.TheVariants.{Memory};
 
 use crate::error::CompileError;
-use crate::source::resolved_program;
+use crate::image::image_of;
+use crate::reading::read_source;
 use std::alloc::Global;
-use vsi_code::generate;
 use vsi_image::Verified;
 use vsi_lattice::Lattice;
-use vsi_opt::optimise;
 
 /// The image of a text, whether its flows are in order or not: where `compile` accepts the text,
 /// the one that it answers.
 ///
 /// # Errors
 ///
-/// The first refusal in the order text, words, tree, scope, size, and never one of a flow.
+/// The first refusal in the order text, tokens, tree, scope, size, and never one of a flow.
 pub fn unjudged_image(
     alloc: Global,
     lattice: &Lattice,
@@ -40,8 +39,7 @@ pub fn unjudged_image(
         IsAccepted (class_named lattice.now) (order lattice.now) P text.now
         → IfOk result (IsNoninterfering (class_named lattice.now) (order lattice.now)) }
 {
-    let resolved = resolved_program(alloc, lattice, text)?;
-    let optimised = optimise(alloc, &resolved)?;
-    let verified = generate(alloc, &optimised)?;
+    let source = read_source(alloc, lattice, text)?;
+    let verified = image_of(alloc, &source)?;
     Ok(verified)
 }

@@ -21,5 +21,5 @@ mod walks;
 pub use error::FlowsError;
 pub use pair::Pair;
 pub use table::flows_in;
-pub use text::{flows_text_in, table_text};
-pub use walks::walks_text_in;
+pub use text::{flows_text_in, flows_text_of, table_text};
+pub use walks::{walks_text_in, walks_text_of};

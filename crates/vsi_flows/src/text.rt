@@ -18,7 +18,7 @@ use crate::error::FlowsError;
 use crate::pair::Pair;
 use crate::table::flows_in;
 use std::alloc::{AllocError, Global as Heap};
-use vsi_compiler::{CompileError, resolved_program};
+use vsi_compiler::{CompileError, Source, read_source};
 use vsi_infer::put_variable;
 use vsi_lattice::Lattice;
 use vsi_scope::Resolved;
@@ -72,11 +72,29 @@ pub fn table_text(
 }
 
 /// The table of a source text under a profile, as text.
+pub fn flows_text_of(
+    alloc: Heap,
+    profile: Profile,
+    source: &Source<'_>,
+) -> Result<Vec<u8>, AllocError>
+    ensures { IfOk result (λ out.
+        spec.IsTableText source.now.lattice profile source.now.text out.items) }
+{
+    let lattice = source.lattice();
+    let resolved = source.resolved();
+    let pairs = match flows_in(alloc, profile, lattice, resolved) {
+        Ok(pairs) => pairs,
+        Err(FlowsError::Memory) => return Err(AllocError),
+    };
+    let lines = table_text(alloc, lattice, resolved, &pairs)?;
+    Ok(lines)
+}
+
+/// The table of a text under a profile, as text, by `flows_text_of`.
 ///
 /// # Errors
 ///
-/// The refusals of the words, the tree, the scope and the size, as `compile_in`; no flow is refused
-/// here.
+/// Those of `read_source`: no flow is refused here.
 pub fn flows_text_in(
     alloc: Heap,
     profile: Profile,
@@ -88,10 +106,7 @@ pub fn flows_text_in(
     ensures exact { (tree : Whole) (commands : List Command) → Reads text.now tree
         → IsResolution (class_named lattice.now) tree commands → IfErr result (λ e. e ≡ Memory) }
 {
-    let resolved = resolved_program(alloc, lattice, text)?;
-    let pairs = match flows_in(alloc, profile, lattice, &resolved) {
-        Ok(pairs) => pairs,
-        Err(FlowsError::Memory) => return Err(CompileError::Memory),
-    };
-    Ok(table_text(alloc, lattice, &resolved, &pairs)?)
+    let source = read_source(alloc, lattice, text)?;
+    let lines = flows_text_of(alloc, profile, &source)?;
+    Ok(lines)
 }

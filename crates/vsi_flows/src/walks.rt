@@ -23,7 +23,7 @@ use crate::rows::{declarations, program_rows};
 use crate::table::pairs_of;
 use crate::text::put_pair;
 use std::alloc::{AllocError, Global as Heap};
-use vsi_compiler::{CompileError, resolved_program};
+use vsi_compiler::{CompileError, Source, read_source};
 use vsi_infer::{WalksTo, marks_of, put_steps, row_of, walks_to};
 use vsi_lattice::Lattice;
 use vsi_scope::Resolved;
@@ -125,12 +125,31 @@ fn walk_lines(
 
 /// The table of a source text under a profile, as text, and below the line of each pair those of a
 /// walk of its fewest steps, as a refusal's explanation has them. Of these walks it is the one that
-/// a refusal would tell, the first in the order of the program's steps, step by step.
+/// a refusal would have, the first in the order of the program's steps, step by step.
+pub fn walks_text_of(
+    alloc: Heap,
+    profile: Profile,
+    source: &Source<'_>,
+) -> Result<Vec<u8>, AllocError>
+    ensures { IfOk result (λ out.
+        spec.IsWalksText source.now.lattice profile source.now.text out.items) }
+{
+    let lattice = source.lattice();
+    let text = source.text();
+    let resolved = source.resolved();
+    let rows = program_rows(alloc, profile, lattice, resolved)?;
+    let pairs = pairs_of(alloc, lattice, resolved, &rows)?;
+    let last = declarations(resolved);
+    let found = found_in(alloc, profile, resolved, &rows, last)?;
+    let lines = walk_lines(alloc, profile, lattice, resolved, text, &found, &pairs)?;
+    Ok(lines)
+}
+
+/// The table of a text with a walk below each pair, by `walks_text_of`.
 ///
 /// # Errors
 ///
-/// The refusals of the words, the tree, the scope and the size, as `compile_in`; no flow is refused
-/// here.
+/// Those of `read_source`: no flow is refused here.
 pub fn walks_text_in(
     alloc: Heap,
     profile: Profile,
@@ -142,11 +161,7 @@ pub fn walks_text_in(
     ensures exact { (tree : Whole) (commands : List Command) → Reads text.now tree
         → IsResolution (class_named lattice.now) tree commands → IfErr result (λ e. e ≡ Memory) }
 {
-    let resolved = resolved_program(alloc, lattice, text)?;
-    let rows = program_rows(alloc, profile, lattice, &resolved)?;
-    let pairs = pairs_of(alloc, lattice, &resolved, &rows)?;
-    let last = declarations(&resolved);
-    let found = found_in(alloc, profile, &resolved, &rows, last)?;
-    let lines = walk_lines(alloc, profile, lattice, &resolved, text, &found, &pairs)?;
+    let source = read_source(alloc, lattice, text)?;
+    let lines = walks_text_of(alloc, profile, &source)?;
     Ok(lines)
 }

@@ -1,6 +1,6 @@
 use Rattle.std.proofs.lemmas.Result.{err_from_is_err_and}
 use Rattle.vsi_compiler.proofs.Sources.{reads_from, reads_tokens, words_refused, lexical_memory, tree_refused, syntactic_memory, found_is}
-use Rattle.vsi_compiler.proofs.source.read_program.Goals as goal
+use Rattle.vsi_compiler.proofs.reading.read_program.Goals as goal
 
 pub returns-in_err-tokens-clause-refused : goal.returns-in_err-tokens-clause-refused
 returns-in_err-tokens-clause-refused c =

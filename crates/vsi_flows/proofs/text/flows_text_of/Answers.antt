@@ -1,0 +1,39 @@
+use Rattle.std.proofs.Common.{refl, ap, ◌∙◌}
+use Rattle.vsi_flows.specs.Text.{table_text}
+use Rattle.vsi_compiler.proofs.Held.{of_parts, globals_at, declared_at}
+use Rattle.vsi_flows.proofs.text.flows_text_of.Goals as goal
+
+pub flows_in-requires-clause-globals : goal.flows_in-requires-clause-globals
+flows_in-requires-clause-globals c =
+    globals_at _ c.resolved-resolved.ensures.kept _ _ c.lattice-lattice.ensures
+    c.resolved-resolved.ensures.value
+
+pub flows_in-requires-clause-declared : goal.flows_in-requires-clause-declared
+flows_in-requires-clause-declared c =
+    declared_at _ c.resolved-resolved.ensures.kept _ _ c.lattice-lattice.ensures
+    c.resolved-resolved.ensures.value
+
+pub table_text-requires-clause-globals : goal.table_text-requires-clause-globals
+table_text-requires-clause-globals c =
+    globals_at _ c.resolved-resolved.ensures.kept _ _ c.lattice-lattice.ensures
+    c.resolved-resolved.ensures.value
+
+pub table_text-requires-clause-declared : goal.table_text-requires-clause-declared
+table_text-requires-clause-declared c =
+    declared_at _ c.resolved-resolved.ensures.kept _ _ c.lattice-lattice.ensures
+    c.resolved-resolved.ensures.value
+
+pub returns : goal.returns
+returns c =
+    let s = c.args.source.now in
+    let l = c.lattice-lattice.result.now in
+    let r = c.resolved-resolved.result.now in
+    let is = of_parts s c.resolved-resolved.ensures.kept l s.text r c.lattice-lattice.ensures refl
+    c.resolved-resolved.ensures.value in
+    rw (← c.lattice-lattice.ensures) (record {
+      resolved = r;
+      stands = is.stands;
+      pairs = c.in-Ok.pairs.items;
+      table = c.in-Ok.ensures.table;
+      lines = c.in_ok-lines.ensures ∙ ap (table_text l r) c.deref.ensures.value;
+    })
