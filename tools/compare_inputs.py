@@ -1,4 +1,4 @@
-"""The programs of tools/compare.py: lattices, source texts and stores, drawn from a generator of numbers."""
+"""The programs of tools/compare_second.py: lattices, source texts and stores, drawn from a generator of numbers."""
 
 import itertools
 

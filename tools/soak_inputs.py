@@ -1,4 +1,4 @@
-"""The inputs of tools/soak.py and tools/compare.py: command lines with files, drawn from a generator of numbers."""
+"""The inputs of tools/soak.py and tools/compare_second.py: command lines with files, drawn from a generator of numbers."""
 
 import random
 import re

@@ -1,7 +1,7 @@
 #!/usr/bin/env python3
 """Runs the built program and the second implementation, tools/second, on the same inputs, and reports differences.
 
-usage: tools/compare.py [PROGRAM] [--programs N] [--inputs N] [--minutes M] [--seed S] [--first N] [--jobs J]
+usage: tools/compare_second.py [PROGRAM] [--programs N] [--inputs N] [--minutes M] [--seed S] [--first N] [--jobs J]
         [--keep FOLDER]
 
 PROGRAM is crates/vsi_program/out/vsi_program unless another is named. Programs are source texts from a generator,
