@@ -11,7 +11,7 @@ PLACE = re.compile(r"^\S.*\.c:(\d+)")
 JUMP = re.compile(r"^\s*[0-9a-f]+:\s+(?:[0-9a-f]{4,8}\s)+\s*(b(?:eq|ne|cs|hs|cc|lo|mi|pl|vs|vc|hi|ls|ge|lt|gt|le)(?:\.[nw])?"
                   r"|cbn?z|tb[bh]|b(?:eqz|nez|lez|gez|ltz|gtz|ltu|geu|gtu|leu)|c\.b\w+)\s")
 CALL = re.compile(r"R_(?:ARM_THM_CALL|ARM_CALL|RISCV_CALL(?:_PLT)?)\s+(\S+)")
-ALLOWED = ("if (budget < ", "if (s0 == 0) goto ")
+ALLOWED = "if ("
 # A Cortex-M0 has no product of 64 bits. That of the compiler's own library is arithmetic without a jump.
 PRODUCTS = {"__aeabi_lmul"}
 
