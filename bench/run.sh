@@ -1,10 +1,14 @@
 #!/bin/bash
-# Times the machine beside a plain switch interpreter in C, on the same images, and prints a table.
-# usage: bench/run.sh [REPEATS]
+# Times the machine beside a plain switch interpreter in C, on the same images, and prints a table. A second table has the
+# images as C, which `vsi emit-c` prints, beside C by hand for the same programs.
+# usage: bench/run.sh [REPEATS [PROGRAM]]
+# PROGRAM is the built program: crates/vsi_program/out/vsi_program where none is given.
 set -euo pipefail
 here=$(cd "$(dirname "$0")" && pwd)
 top=$(dirname "$here")
 repeats=${1:-9}
+vsi=$(readlink -f "${2:-$top/crates/vsi_program/out/vsi_program}")
+[ -x "$vsi" ] || { echo "there is no program $vsi"; exit 1; }
 work=$(mktemp -d)
 trap 'rm -rf "$work"' EXIT
 
@@ -27,6 +31,14 @@ gcc -O2 -Wall -o "$work/interpreter" "$here/interpreter.c"
 machine=$work/crates/machine/out/machine
 [ -x "$machine" ] || { cat "$work/build.log"; exit 1; }
 
+# The images as C, and the same programs by hand, by the same compiler.
+python3 "$here/by_hand.py" > "$work/by_hand.c"
+for program in counting nested straight; do
+  "$vsi" emit-c "$work/$program.vsi" > "$work/$program.c"
+  "$vsi" emit-c "$work/$program.vsi" --header > "$work/$program.h"
+done
+gcc -O2 -Wall -I "$here" -I "$work" -o "$work/emitted" "$here/emitted.c" "$work"/{by_hand,counting,nested,straight}.c
+
 # One line per run: program, who ran it, outcome, instructions, nanoseconds, globals.
 for ((round = 0; round < repeats; round++)); do
   for program in counting nested straight; do
@@ -35,6 +47,8 @@ for ((round = 0; round < repeats; round++)); do
     count=$(cut -d' ' -f2 <<< "$done")
     echo "$program C $done"
     echo "$program machine $("$machine" "$image" "$count")"
+    echo "$program emitted $("$work/emitted" "$program" emitted "$count")"
+    echo "$program hand $("$work/emitted" "$program" hand "$count")"
   done
 done > "$work/times"
 
@@ -50,5 +64,10 @@ awk '
     print "|---|---|---|---|---|"
     split("counting nested straight", programs, " ")
     for (i = 1; i <= 3; i++) { p = programs[i]
-      printf "| %s | %d | %.3f | %.3f | %.2f |\n", p, count[p], best[p " C"], best[p " machine"], best[p " machine"] / best[p " C"] } }
+      printf "| %s | %d | %.3f | %.3f | %.2f |\n", p, count[p], best[p " C"], best[p " machine"], best[p " machine"] / best[p " C"] }
+    print ""
+    print "| Program | C by hand, ms | emitted C, ms | machine, ms | emitted by hand's | machine by emitted's |"
+    print "|---|---|---|---|---|---|"
+    for (i = 1; i <= 3; i++) { p = programs[i]; ms = count[p] / 1e6; e = best[p " emitted"]
+      printf "| %s | %.1f | %.1f | %.1f | %.2f | %.1f |\n", p, best[p " hand"] * ms, e * ms, best[p " machine"] * ms, e / best[p " hand"], best[p " machine"] / e } }
 ' "$work/times"

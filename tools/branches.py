@@ -11,9 +11,10 @@ PLACE = re.compile(r"^\S.*\.c:(\d+)")
 JUMP = re.compile(r"^\s*[0-9a-f]+:\s+(?:[0-9a-f]{4,8}\s)+\s*(b(?:eq|ne|cs|hs|cc|lo|mi|pl|vs|vc|hi|ls|ge|lt|gt|le)(?:\.[nw])?"
                   r"|cbn?z|tb[bh]|b(?:eqz|nez|lez|gez|ltz|gtz|ltu|geu|gtu|leu)|c\.b\w+)\s")
 CALL = re.compile(r"R_(?:ARM_THM_CALL|ARM_CALL|RISCV_CALL(?:_PLT)?)\s+(\S+)")
-ALLOWED = ("if (budget < ", "if (s0 == 0) goto ")
-# A Cortex-M0 has no product of 64 bits. That of the compiler's own library is arithmetic without a jump.
-PRODUCTS = {"__aeabi_lmul"}
+ALLOWED = "if ("
+# A Cortex-M0 has no product of 64 bits: a compiler calls this function, of which examples/controller/firmware has one
+# without a jump.
+PRODUCT = "__aeabi_lmul"
 
 
 def disassembled(controller, level, folder, name):
@@ -39,7 +40,7 @@ def strange(controller, level, folder, name):
             allowed += 1
         elif jump:
             found.append((jump[1], source[line - 1] if line else "?"))
-        elif call and call[1] not in PRODUCTS:
+        elif call and call[1] != PRODUCT:
             found.append((call[1], source[line - 1]))
     return found, allowed
 
