@@ -1,4 +1,4 @@
-"""Looks for conditional jumps in the machine code of emitted C, of which each must be one of the budget or of an `if`."""
+"""Looks for conditional jumps in the machine code of emitted C: each must be one of the budget or of a guard."""
 
 import os
 import re
@@ -8,8 +8,8 @@ from c_compilers import LEVELS, SILENT, Fault
 
 # Where a line of a disassembly begins that names a place of the C, and one with a conditional jump of ARM or RISC-V.
 PLACE = re.compile(r"^\S.*\.c:(\d+)")
-JUMP = re.compile(r"^\s*[0-9a-f]+:\s+(?:[0-9a-f]{4,8}\s)+\s*(b(?:eq|ne|cs|hs|cc|lo|mi|pl|vs|vc|hi|ls|ge|lt|gt|le)(?:\.[nw])?"
-                  r"|cbn?z|tb[bh]|b(?:eqz|nez|lez|gez|ltz|gtz|ltu|geu|gtu|leu)|c\.b\w+)\s")
+JUMP = re.compile(r"^\s*[0-9a-f]+:\s+(?:[0-9a-f]{4,8}\s)+\s*"
+                  r"(b(?:eq|ne|cs|hs|cc|lo|mi|pl|vs|vc|hi|ls|ge|lt|gt|le)(?:\.[nw])?|cbn?z|tb[bh]|b(?:eqz|nez|lez|gez|ltz|gtz|ltu|geu|gtu|leu)|c\.b\w+)\s")
 CALL = re.compile(r"R_(?:ARM_THM_CALL|ARM_CALL|RISCV_CALL(?:_PLT)?)\s+(\S+)")
 ALLOWED = "if ("
 # The levels, and one at which the barrier is that of a compiler which isn't GNU's.
@@ -30,7 +30,7 @@ def disassembled(controller, way, folder, name):
 
 
 def strange(controller, way, folder, name):
-    """The conditional jumps that stand for no test of the C and the calls, each with its line, and the count of others."""
+    """The conditional jumps of no test in the C, and the calls, each with its line; and the count of other jumps."""
     with open(os.path.join(folder, f"{name}.c"), encoding="ascii") as file:
         source = [line.strip() for line in file]
     found, allowed, line = [], 0, 0
