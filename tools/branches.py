@@ -9,7 +9,8 @@ from c_compilers import LEVELS, SILENT, Fault
 # Where a line of a disassembly begins that names a place of the C, and one with a conditional jump of ARM or RISC-V.
 PLACE = re.compile(r"^\S.*\.c:(\d+)")
 JUMP = re.compile(r"^\s*[0-9a-f]+:\s+(?:[0-9a-f]{4,8}\s)+\s*"
-                  r"(b(?:eq|ne|cs|hs|cc|lo|mi|pl|vs|vc|hi|ls|ge|lt|gt|le)(?:\.[nw])?|cbn?z|tb[bh]|b(?:eqz|nez|lez|gez|ltz|gtz|ltu|geu|gtu|leu)|c\.b\w+)\s")
+                  r"(b(?:eq|ne|cs|hs|cc|lo|mi|pl|vs|vc|hi|ls|ge|lt|gt|le)(?:\.[nw])?|cbn?z|tb[bh]"
+                  r"|b(?:eqz|nez|lez|gez|ltz|gtz|ltu|geu|gtu|leu)|c\.b\w+)\s")
 CALL = re.compile(r"R_(?:ARM_THM_CALL|ARM_CALL|RISCV_CALL(?:_PLT)?)\s+(\S+)")
 ALLOWED = "if ("
 # The levels, and one at which the barrier is that of a compiler which isn't GNU's.
