@@ -1,5 +1,8 @@
 //! Why no C is written.
 
+ghost use Rattle.std.specs.Prelude.{◌≡◌};
+ghost use Rattle.vsi_emit.specs.declared.error.EmitError.TheVariants.{Memory};
+
 use std::alloc::AllocError;
 use thiserror::Error;
 
@@ -15,6 +18,8 @@ pub enum EmitError {
 }
 
 impl From<AllocError> for EmitError {
+    ghost from_gives = { λ _ e. e ≡ Memory };
+
     fn from(_error: AllocError) -> EmitError {
         EmitError::Memory
     }

@@ -1,0 +1,6 @@
+pub mod Bits
+pub mod Memory
+pub mod Straight
+pub mod Courses
+pub mod Emulating
+pub mod Passes

@@ -1,0 +1,9 @@
+pub mod SmallC
+pub mod Writing
+pub mod Emulation
+pub mod Jumps
+pub mod Emitted
+pub mod Closed
+pub mod Depths
+pub mod Translation
+pub mod Names
