@@ -1,4 +1,4 @@
-"""Looks for conditional jumps in the machine code of emitted C, of which each must be one of the budget or of an `if`."""
+"""Looks for conditional jumps in the machine code of emitted C: each must be one of the budget or of a guard."""
 
 import os
 import re
@@ -8,31 +8,34 @@ from c_compilers import LEVELS, SILENT, Fault
 
 # Where a line of a disassembly begins that names a place of the C, and one with a conditional jump of ARM or RISC-V.
 PLACE = re.compile(r"^\S.*\.c:(\d+)")
-JUMP = re.compile(r"^\s*[0-9a-f]+:\s+(?:[0-9a-f]{4,8}\s)+\s*(b(?:eq|ne|cs|hs|cc|lo|mi|pl|vs|vc|hi|ls|ge|lt|gt|le)(?:\.[nw])?"
-                  r"|cbn?z|tb[bh]|b(?:eqz|nez|lez|gez|ltz|gtz|ltu|geu|gtu|leu)|c\.b\w+)\s")
+JUMP = re.compile(r"^\s*[0-9a-f]+:\s+(?:[0-9a-f]{4,8}\s)+\s*"
+                  r"(b(?:eq|ne|cs|hs|cc|lo|mi|pl|vs|vc|hi|ls|ge|lt|gt|le)(?:\.[nw])?|cbn?z|tb[bh]"
+                  r"|b(?:eqz|nez|lez|gez|ltz|gtz|ltu|geu|gtu|leu)|c\.b\w+)\s")
 CALL = re.compile(r"R_(?:ARM_THM_CALL|ARM_CALL|RISCV_CALL(?:_PLT)?)\s+(\S+)")
 ALLOWED = "if ("
+# The levels, and one at which the barrier is that of a compiler which isn't GNU's.
+WAYS = [[level] for level in LEVELS] + [["-O2", "-U__GNUC__", "-ffreestanding"]]
 # A Cortex-M0 has no product of 64 bits: a compiler calls this function, of which examples/controller/firmware has one
 # without a jump.
 PRODUCT = "__aeabi_lmul"
 
 
-def disassembled(controller, level, folder, name):
+def disassembled(controller, way, folder, name):
     """The machine code of a C file of the folder, with the lines that it comes from."""
-    done = subprocess.run([*controller.compiler, *SILENT, level, "-g", "-c", f"{name}.c", "-o", "looked_at.o"],
+    done = subprocess.run([*controller.compiler, *SILENT, *way, "-g", "-c", f"{name}.c", "-o", "looked_at.o"],
                           cwd=folder, capture_output=True, text=True)
     if done.returncode or done.stderr:
-        raise Fault(f"{controller.name} {level} {name}.c\n{done.stderr}")
+        raise Fault(f"{controller.name} {way} {name}.c\n{done.stderr}")
     return subprocess.run([*controller.disassembler, "-d", "-l", "-r", "looked_at.o"], cwd=folder, capture_output=True,
                           text=True, check=True).stdout.splitlines()
 
 
-def strange(controller, level, folder, name):
-    """The conditional jumps that stand for no test of the C and the calls, each with its line, and the count of others."""
+def strange(controller, way, folder, name):
+    """The conditional jumps of no test in the C, and the calls, each with its line; and the count of other jumps."""
     with open(os.path.join(folder, f"{name}.c"), encoding="ascii") as file:
         source = [line.strip() for line in file]
     found, allowed, line = [], 0, 0
-    for text in disassembled(controller, level, folder, name):
+    for text in disassembled(controller, way, folder, name):
         place, jump, call = PLACE.match(text), JUMP.match(text), CALL.search(text)
         if place:
             line = int(place[1])
@@ -48,9 +51,9 @@ def strange(controller, level, folder, name):
 def look(controller, folder, names):
     """Ends the trial at a strange jump or call of one of these files, at any level."""
     for name in names:
-        for level in LEVELS:
-            found, allowed = strange(controller, level, folder, name)
+        for way in WAYS:
+            found, allowed = strange(controller, way, folder, name)
             if found:
-                raise Fault(f"{controller.name} {level} {name}.c has {found}")
+                raise Fault(f"{controller.name} {way} {name}.c has {found}")
             if not allowed:
-                raise Fault(f"{controller.name} {level} {name}.c: no jump of the budget is found")
+                raise Fault(f"{controller.name} {way} {name}.c: no jump of the budget is found")

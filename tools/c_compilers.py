@@ -1,4 +1,4 @@
-"""The C compilers and emulators with which tools/emitted.py and .ci/emitted try emitted files, where they are installed."""
+"""The C compilers and emulators with which tools/emitted.py and .ci/emitted try emitted files."""
 
 import os
 import shutil

@@ -15,6 +15,7 @@ the trial with its case; else nothing is written.
 import argparse
 import os
 import random
+import shutil
 import subprocess
 import sys
 import tempfile
@@ -24,7 +25,7 @@ HERE = os.path.dirname(os.path.abspath(__file__))
 sys.path.insert(1, os.path.join(HERE, "second"))
 
 import image as images  # noqa: E402
-from c_compilers import HOSTS, OTHERS, SILENT, Fault, installed  # noqa: E402
+from c_compilers import HOSTS, OTHERS, SILENT, Fault, Target, installed  # noqa: E402
 from emitted_images import NUMBERS, odd_image  # noqa: E402
 from generated import Trial  # noqa: E402
 
@@ -115,6 +116,16 @@ def write_harness(folder, batch):
             "rows": ",\n".join(f"    {{{each.name}_run, {each.name}_globals}}" for each in batch)})
 
 
+def compile_headers(folder, batch):
+    """Compiles the headers as C++ too, silently."""
+    with open(os.path.join(folder, "headers.cpp"), "w", encoding="ascii") as file:
+        file.writelines(f'#include "{each.name}.h"\n' for each in batch)
+    for name in ("g++", "clang++"):
+        if shutil.which(name):
+            options = ["-std=c++11", *SILENT[1:], "-c", "headers.cpp", "-o", "headers.o"]
+            Target(name, [name], [], []).compile(options, folder)
+
+
 def compare(target, level, folder, batch):
     """Compiles a batch by a compiler at a level, and compares its lines with those of the machine."""
     target.compile([*SILENT, level, "functions.c", "harness.c", "-o", "built"], folder)
@@ -147,6 +158,7 @@ def main():
         for first in range(options.first, end, BATCH):
             batch = [Emitted(program, folder, number) for number in range(first, min(first + BATCH, end))]
             write_harness(folder, batch)
+            compile_headers(folder, batch)
             for target in targets:
                 for level in target.levels:
                     compare(target, level, folder, batch)
