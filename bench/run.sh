@@ -26,7 +26,7 @@ echo "machine: vsi_image vsi_machine anyhow" >> "$work/crates.txt"
 
 python3 "$here/images.py" "$work"
 gcc -O2 -Wall -o "$work/interpreter" "$here/interpreter.c"
-# `rt run` builds the program, and here only shows that it refuses to run without words.
+# `rt run` builds the program, and here only shows that it refuses to run without arguments.
 (cd "$work/crates/machine" && rt check --jobs 1 && rt run) > "$work/build.log" 2>&1 || true
 machine=$work/crates/machine/out/machine
 [ -x "$machine" ] || { cat "$work/build.log"; exit 1; }

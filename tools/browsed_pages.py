@@ -6,7 +6,7 @@ usage: tools/browsed_pages.py PROGRAM [EXAMPLE ..]
 PROGRAM is the built program; without EXAMPLE all folders of examples/ are gone through, each lattice file with each
 source text. Chromium opens each page, headless, in a frame that is 360, 800 and 1,600 wide, since its windows aren't as
 narrow as a phone; it is installed first where it is missing. The text of the source panel as the browser has it must be
-the source, byte for byte; nothing may stand out of the frame to the right; and no error may be told on the console.
+the source, byte for byte; nothing may stick out of the frame to the right; and the console may show no error.
 Silent where all is well; it needs some three minutes.
 """
 
@@ -56,7 +56,7 @@ def browser():
 
 
 def opened(path):
-    """What the browser tells of the page in the frame, or None, and its complaints."""
+    """The browser's account of the page in the frame, or None, and its complaints."""
     words = [browser(), "--headless=new", "--no-sandbox", "--disable-gpu", "--hide-scrollbars", "--window-size=1700,1100",
              "--enable-logging=stderr", "--virtual-time-budget=2000", "--dump-dom", f"file://{path}"]
     ran = subprocess.run(words, capture_output=True, timeout=120)

@@ -1,12 +1,12 @@
 #!/usr/bin/env python3
-"""Holds `vsi flows` against `vsi check` and against runs, on programs that are made by lot.
+"""Compares `vsi flows` with `vsi check` and with runs, on random programs.
 
     tools/flows_agree.py PROGRAM [COUNT [SEED]]
 
 PROGRAM is the built program. Each text is judged under three orders and both profiles: its table has to have a refused
 line exactly where `check` refuses it. Then the text runs, with all classes made one, from stores that differ in one
-global alone: a global whose word differs at the end has to be told as reached from it. Nothing is written where all is
-well; the status is 1 where something isn't.
+global alone: a global whose word differs at the end must be listed as reached from it. Nothing is written if all is
+well; else the status is 1.
 """
 import random
 import subprocess
@@ -87,7 +87,7 @@ def ended(program, folder, store):
 
 
 def dependences(program, folder, lot, source):
-    """The pairs of globals of which the one is seen to depend on the other."""
+    """The pairs of globals where the runs show that one depends on the other."""
     for name in CLASSES[1:]:
         source = source.replace(f": {name}", ": L")
     (folder / "low.vsi").write_text(source)
@@ -121,7 +121,7 @@ def main():
                 found = dependences(program, folder, lot, source)
                 seen |= {(number, pair) for pair in found}
                 missing = found - joined
-                fault = f"not told: {sorted(missing)}" if missing else None
+                fault = f"not listed: {sorted(missing)}" if missing else None
             if fault is not None:
                 wrong += 1
                 print(f"{number}: {fault}\n{source}", file=sys.stderr)

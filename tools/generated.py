@@ -29,8 +29,8 @@ from compare_inputs import Maker, ORDERS, written  # noqa: E402
 BUDGET = 2_000
 TURNS = 40_000
 WORDS = (0, 1, -4, 6, 2, -1, 2 ** 63 - 1, -2 ** 63)
-# Of a hundred programs: how many are accepted, how many have both runs compared, how many texts of one class leave
-# different words. About half of what was counted when this was written, so that a shallow generator shows.
+# Counts in a hundred programs: accepted ones, those with both runs compared, and texts of one class that leave different
+# words. About half of the counts when this was written, so that a shallow generator shows.
 LEAST_ACCEPTED, LEAST_COMPARED, LEAST_LEAKING = 40, 30, 3
 
 

@@ -64,7 +64,7 @@ def guard_round_chain(room=ROOM, links=NEST):
 
 
 def guard_behind_chain(room=ROOM, links=NEST - 20):
-    """The same with the guard behind the bad assignment."""
+    """The same with the guard after the bad assignment."""
     reads, writes = room // 4, room // 4 - 2 * links
     return FRONT + chain("h", links, f"{{ l := v{links - 1}; while {balanced(['g'] * reads)} do "
                          f"{{ {assignments(['w'], writes)} }} }}")

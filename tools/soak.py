@@ -9,9 +9,9 @@ pieces, deep nesting and great length, or drawn from the grammar. Input number K
 whatever the other options are, so --first K --count 1 gives it again. Reported are a status outside 0 to 5, a signal,
 two runs with different answers (status, both streams, written image), a stream or a written image that isn't of the
 documented form, a run of more than half a second of processor time, and one that is stopped after twenty seconds. Each
-input whose words are right is run a third time with an option that tells more, --explain, --count or --json: its status
-is to be the same, and so are standard output, the first lines of standard error and the written image; what stands
-behind those lines has no byte but printable ASCII and line feeds, and the JSON says what the lines did. The
+input whose words are right is run a third time with an option that adds output, --explain, --count or --json: its status
+is to be the same, and so are standard output, the first lines of standard error and the written image; the text
+after those lines has no byte but printable ASCII and line feeds, and the JSON says what the lines did. The
 files of reported inputs are copied to FOLDER/K. The last line has the figures, of which the most memory
 is at least a worker's own; the status is 1 where anything was reported. It needs /dev/shm, and leaves nothing there.
 """
@@ -70,7 +70,7 @@ ROWS = rb"(?:(?:  |\* ).*\n)*"
 LEAK = re.compile(rb"leak at \w+\n" + ROWS + rb"\w+ sees\n" + ROWS)
 COMPARED = rb"\w+ sees before\n" + ROWS + rb"\w+ sees after\n" + ROWS
 INTERFACE_REFUSAL = re.compile(rb"refused interface: (?s:.*)\n")
-# What a subcommand that tells its answer on standard output writes at status 1.
+# The output at status 1 of a subcommand that answers on standard output.
 TOLD = {"compare": re.compile(COMPARED),
         "conform": re.compile(rb'\{"conforms":false,"points":\[.*\]\}\n|(?:[^{\n].*\n)+')}
 TRACE = rb"(?:\d+: [A-Z]+(?: -?\d+)? \|(?: -?\d+)*\n)*"
@@ -86,7 +86,7 @@ DONE = {command: re.compile(form) for command, form in {
     "list": rb"globals \d+\nslots \d+\nstack \d+\n(?:\w+ : \w+\n)*(?:\d+: [A-Z]+(?: -?\d+)?\n)+"}.items()}
 UNFINISHED = re.compile(TRACE)
 
-# The options that tell more, of each subcommand that takes them.
+# The options that add output, for each subcommand that takes them.
 FURTHER = {command: ("--explain",) for command in DONE if command not in ("", "?", "explain")}
 FURTHER["run"] += ("--count",)
 FURTHER["check"] += ("--json",)

@@ -329,12 +329,12 @@ INTERFACES = [text.encode() for text in (
     'classes = ["L"]\nbelow = []\nprofile = "base"\nglobals = [["x", "L"], ["y", "L"]]\n',
 )]
 
-# What the second implementation does too; and all, with those more often.
+# The subcommands of the second implementation; and all of them, with those more often.
 COMPILING = ("", "", "check", "check", "classes", "fmt", "build", "list", "run", "run", "view")
 ALL = COMPILING * 2 + ("flows", "flows", "leak", "audit", "audit", "source", "compare", "drive", "conform", "conform",
                        "report", "draw", "explain")
 
-# How the words behind a subcommand are made, where not by its own name.
+# How the arguments after a subcommand are made, if not by its own name.
 FORMS = {"": "source_alone", "fmt": "source_alone", "list": "image_alone", "source": "image_alone",
          "check": "compilation", "classes": "compilation", "build": "compilation", "flows": "compilation",
          "report": "compilation"}

@@ -10,7 +10,7 @@ PROGRAM = os.path.join(os.path.dirname(os.path.dirname(os.path.abspath(__file__)
 
 
 def option_parser(text, minutes, jobs):
-    """A parser with the options of all, whose usage stands in the tool's own text."""
+    """A parser with the options of all, whose usage is in the tool's own text."""
     parser = argparse.ArgumentParser(usage=text.split("usage: ")[1].split("\n\n")[0])
     parser.add_argument("program", nargs="?", default=PROGRAM)
     parser.add_argument("--minutes", type=float, default=minutes)
