@@ -18,5 +18,6 @@ pub mod StartLemmas
 pub mod LevelLemmas
 pub mod ShortestLemmas
 pub mod LawLemmas
+pub mod Begun
 pub mod ExplainLemmas
 pub mod LineLemmas

@@ -1,6 +1,6 @@
 //! A walk as text.
 
-ghost use Rattle.std.specs.Prelude.{◌≡◌, ◌++◌, [], OnOk, IfOk, IfSome};
+ghost use Rattle.std.specs.Prelude.{◌≡◌, ◌++◌, [], OnOk, IfOk, IfSome, codes, is_ok, if◌then◌else◌, length, take};
 ghost use Rattle.std.specs.List.{All, flat_map};
 ghost use Rattle.vsi_syntax.specs.Lines.{place_text};
 ghost use Rattle.vsi_lattice.specs.Order.{IsClass};
@@ -17,18 +17,17 @@ use crate::walk::{Walk, declared_class};
 use std::alloc::{AllocError, Global as Heap};
 use vsi_lattice::{Class, Lattice};
 use vsi_scope::{Resolved, Var};
-use vsi_syntax::put_number;
+use vsi_syntax::put_line_column;
 use vsi_types::{LOOP, Rule, Step};
 
-/// Adds the line and the column of a place.
+/// Adds the line and the column of a place, or leaves the text as it was.
 fn put_place(text: &mut Vec<u8>, source: &[u8], marks: &[Mark], at: usize) -> Result<(), AllocError>
     requires { All (IsMarkOf source.now) marks.now }
-    ensures { OnOk result (text.new.items ≡ text.old.items ++ place_text source.now at) }
+    ensures { text.new.items ≡ (if is_ok result
+        then text.old.items ++ place_text source.now at else text.old.items) }
 {
     let (line, column) = place_among(source, marks, at);
-    put_number(text, line)?;
-    text.extend_from_slice(b":")?;
-    put_number(text, column)
+    put_line_column(text, line, column)
 }
 
 /// The word of a rule.
@@ -44,9 +43,10 @@ fn rule_text(rule: Rule) -> &'static [u8]
     }
 }
 
-/// Adds the name of a variable.
+/// Adds the name of a variable, or leaves the text as it was.
 fn put_name(text: &mut Vec<u8>, program: &Resolved<'_>, variable: Var) -> Result<(), AllocError>
-    ensures { OnOk result (text.new.items ≡ text.old.items ++ spec.name_of program.now variable) }
+    ensures { text.new.items ≡ (if is_ok result
+        then text.old.items ++ spec.name_of program.now variable else text.old.items) }
 {
     if variable == LOOP {
         return text.extend_from_slice(b"(loop)");
@@ -62,10 +62,11 @@ fn put_name(text: &mut Vec<u8>, program: &Resolved<'_>, variable: Var) -> Result
     }
 }
 
-/// Adds the name of a class.
+/// Adds the name of a class, or leaves the text as it was.
 fn put_class(text: &mut Vec<u8>, lattice: &Lattice, class: Option<Class>) -> Result<(), AllocError>
     requires { IfSome class (IsClass (order lattice.now)) }
-    ensures { OnOk result (text.new.items ≡ text.old.items ++ spec.class_text lattice.now class) }
+    ensures { text.new.items ≡ (if is_ok result
+        then text.old.items ++ spec.class_text lattice.now class else text.old.items) }
 {
     match class {
         Some(class) => text.extend_from_slice(lattice.name(class)),
@@ -73,7 +74,28 @@ fn put_class(text: &mut Vec<u8>, lattice: &Lattice, class: Option<Class>) -> Res
     }
 }
 
-/// Adds the name of a variable and that of its declared class.
+/// Adds ` : ` and the name of a class, or leaves the text as it was.
+fn put_class_after_colon(
+    text: &mut Vec<u8>,
+    lattice: &Lattice,
+    class: Option<Class>,
+) -> Result<(), AllocError>
+    requires { IfSome class (IsClass (order lattice.now)) }
+    ensures { text.new.items ≡ (if is_ok result
+        then text.old.items ++ codes " : " ++ spec.class_text lattice.now class
+        else text.old.items) }
+{
+    let before = text.len();
+    text.extend_from_slice(b" : ")?;
+    let added = put_class(text, lattice, class);
+    if added.is_err() {
+        text.truncate(before);
+    }
+    added
+}
+
+/// Adds the name of a variable and that of its declared class. Where memory runs out the text stays
+/// as it was.
 pub fn put_variable(
     text: &mut Vec<u8>,
     lattice: &Lattice,
@@ -82,15 +104,22 @@ pub fn put_variable(
 ) -> Result<(), AllocError>
     requires globals { All (IsClass (order lattice.now)) (program_of program.now).globals }
     requires declared { AreClasses (order lattice.now) (program_of program.now).declared }
-    ensures { OnOk result
-        (text.new.items ≡ text.old.items ++ spec.variable_text lattice.now program.now variable) }
+    ensures { text.new.items ≡ (if is_ok result
+        then text.old.items ++ spec.variable_text lattice.now program.now variable
+        else text.old.items) }
 {
+    let before = text.len();
     put_name(text, program, variable)?;
-    text.extend_from_slice(b" : ")?;
-    put_class(text, lattice, declared_class(lattice, program, variable))
+    let class = declared_class(lattice, program, variable);
+    let added = put_class_after_colon(text, lattice, class);
+    if added.is_err() {
+        text.truncate(before);
+    }
+    added
 }
 
-/// Adds the line of a step.
+/// Adds the line of a step, or a part of it where memory runs out.
+#[tactic(auto, using(crate::proofs::Begun::begins_more))]
 fn put_step(
     text: &mut Vec<u8>,
     source: &[u8],
@@ -99,8 +128,9 @@ fn put_step(
     step: &Step,
 ) -> Result<(), AllocError>
     requires { All (IsMarkOf source.now) marks.now }
-    ensures { OnOk result
+    ensures line { OnOk result
         (text.new.items ≡ text.old.items ++ spec.step_line source.now program.now step.now) }
+    ensures begins { take (length text.old.items) text.new.items ≡ text.old.items }
 {
     put_place(text, source, marks, step.read.start)?;
     text.extend_from_slice(b" ")?;
@@ -111,10 +141,30 @@ fn put_step(
     text.extend_from_slice(rule_text(step.rule))?;
     text.extend_from_slice(b" at ")?;
     put_place(text, source, marks, step.written.start)?;
-    text.extend_from_slice(b"\n")
+    text.extend_from_slice(b"\n")?;
+    Ok(())
 }
 
-/// Adds the lines of steps.
+/// Adds the lines of steps, or a part of them where memory runs out.
+fn put_lines(
+    text: &mut Vec<u8>,
+    source: &[u8],
+    marks: &[Mark],
+    program: &Resolved<'_>,
+    steps: &[Step],
+) -> Result<(), AllocError>
+    requires { All (IsMarkOf source.now) marks.now }
+    ensures lines { OnOk result (text.new.items ≡ text.old.items ++ flat_map
+        (spec.step_line source.now program.now) steps.now) }
+    ensures begins { take (length text.old.items) text.new.items ≡ text.old.items }
+{
+    for step in steps {
+        put_step(text, source, marks, program, step)?;
+    }
+    Ok(())
+}
+
+/// Adds the lines of steps. Where memory runs out the text stays as it was.
 pub fn put_steps(
     text: &mut Vec<u8>,
     source: &[u8],
@@ -123,13 +173,16 @@ pub fn put_steps(
     steps: &[Step],
 ) -> Result<(), AllocError>
     requires { All (IsMarkOf source.now) marks.now }
-    ensures { OnOk result (text.new.items ≡ text.old.items ++ flat_map
-        (spec.step_line source.now program.now) steps.now) }
+    ensures { text.new.items ≡ (if is_ok result
+        then text.old.items ++ flat_map (spec.step_line source.now program.now) steps.now
+        else text.old.items) }
 {
-    for step in steps {
-        put_step(text, source, marks, program, step)?;
+    let before = text.len();
+    let added = put_lines(text, source, marks, program, steps);
+    if added.is_err() {
+        text.truncate(before);
     }
-    Ok(())
+    added
 }
 
 /// Adds the last line, from the first variable of a walk to its last one.

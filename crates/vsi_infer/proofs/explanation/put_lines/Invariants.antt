@@ -1,7 +1,7 @@
-use Rattle.std.proofs.Common.{◌≡◌, ◌++◌, take}
+use Rattle.std.proofs.Common.{◌≡◌, ◌++◌, length, take}
 use Rattle.std.specs.List.{flat_map}
 use Rattle.vsi_infer.specs.Explanation.{step_line}
-use Rattle.vsi_infer.proofs.explanation.put_steps.Given as goal
+use Rattle.vsi_infer.proofs.explanation.put_lines.Given as goal
 
 abbrev pub invariant-loop-step : goal.invariant-loop-step
 invariant-loop-step l = l.text.items ≡ l.initial.text.items ++ flat_map (step_line l.source l.program)
