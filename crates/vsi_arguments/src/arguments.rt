@@ -45,11 +45,11 @@ pub(crate) const NEW_IMAGE: Argument = Argument {
     whole: word_help::NEW_IMAGE,
 };
 
-pub(crate) const REFUSAL: Argument = Argument {
-    name: "NUMBER",
+pub(crate) const EXPLAINED: Argument = Argument {
+    name: "WHAT",
     form: Form::Place,
-    line: "The number of the refusal",
-    whole: word_help::REFUSAL,
+    line: "The number of a refusal, or a subject",
+    whole: word_help::WHAT,
 };
 
 pub(crate) const STRICT: Argument = Argument {

@@ -21,9 +21,10 @@ pub(crate) const NEW_IMAGE: &str = "\
 The path that the image is written to. A file that stands there is
 replaced, and left as it is where the text is refused.";
 
-/// What the number of a refusal is.
-pub(crate) const REFUSAL: &str = "\
-The number behind `refused:`, by digits alone.";
+/// What `explain` can explain.
+pub(crate) const WHAT: &str = "\
+The number after `refused:`, by digits alone, or one of the subjects
+language, lattice, store, interface, classes and profiles.";
 
 /// What the strict profile is.
 pub(crate) const STRICT: &str = "\
