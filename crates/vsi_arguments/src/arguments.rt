@@ -73,11 +73,11 @@ pub(crate) const LATTICE_OPTION: Argument = Argument {
     whole: word_help::LATTICE_OPTION,
 };
 
-pub(crate) const REFUSAL: Argument = Argument {
-    name: "NUMBER",
+pub(crate) const EXPLAINED: Argument = Argument {
+    name: "WHAT",
     form: Form::Place,
-    line: "The number of the refusal",
-    whole: word_help::REFUSAL,
+    line: "The number of a refusal, or a subject",
+    whole: word_help::WHAT,
 };
 
 pub(crate) const STRICT: Argument = Argument {

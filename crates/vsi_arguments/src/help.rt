@@ -16,6 +16,9 @@ under the classes L and H, L below H, runs it from a store of zeros for at most
 
 /// The statuses of the program, and its example.
 pub(crate) const PROGRAM_EXAMPLE: &str = "\
+The language by one program: `vsi explain language`. Also: `vsi explain lattice`,
+`store`, `interface`, `classes` and `profiles`.
+
 Statuses, of which each but 0 has its cause told on standard error:
   0  done
   1  refused: the lattice, the source text, the image or the store has a fault
@@ -449,13 +452,22 @@ Example:
 
 /// What `explain` does.
 pub(crate) const EXPLAIN: &str = "\
-Explains a refusal by its number.
+Explains a refusal by its number, or a subject.
 
 Prints what the refusal with this number means, what to do, and, where the
 program can be made to tell it, an example. A refusal is told as the line
-`refused: NUMBER NAME`, with its place or other fields behind it.
+`refused: NUMBER NAME`, with its place or other fields after it.
 
-Statuses: 0 printed, 2 usage or no such refusal, 4 file fault, 5 out of memory.";
+The subjects are
+  language   the whole language, by one program
+  lattice    lattice files: the classes, and which is below which
+  store      store files: the values with which globals begin
+  interface  interface files, for `vsi conform`
+  classes    which flows are accepted, and which aren't
+  profiles   base, strict and steady
+
+Statuses: 0 printed, 2 usage or nothing to explain, 4 file fault, 5 out of
+memory.";
 
 /// An example of `explain`.
 pub(crate) const EXPLAIN_EXAMPLE: &str = "\

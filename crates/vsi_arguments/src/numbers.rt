@@ -8,7 +8,6 @@ pub(crate) enum Limit {
     Budget,
     Tries,
     Seed,
-    Refusal,
 }
 
 impl Limit {
@@ -21,17 +20,15 @@ impl Limit {
             Limit::Tries =>
                 "--tries takes a number from 0 to 18446744073709551615, by digits alone",
             Limit::Seed => "--seed takes a number from 0 to 18446744073709551615, by digits alone",
-            Limit::Refusal => "a refusal is given by its number, by digits alone, as in 25",
         }
     }
 }
 
 /// The words that are to be numbers.
-const NUMBERS: [(&str, Limit); 4] = [
+const NUMBERS: [(&str, Limit); 3] = [
     ("budget", Limit::Budget),
     ("tries", Limit::Tries),
     ("seed", Limit::Seed),
-    ("NUMBER", Limit::Refusal),
 ];
 
 /// The number of a word, where it is there and is a number of at most 64 bits by digits alone.

@@ -7,7 +7,7 @@ use crate::usage::program;
 use clap::error::ErrorKind;
 use clap::{ArgMatches, Command, Error};
 use std::alloc::{AllocError, Global};
-use vsi_explain::page;
+use vsi_explain::{page, subject_page};
 
 /// What is compiled: the paths of a lattice file and of a source text, and whether the strict
 /// profile judges it.
@@ -222,6 +222,7 @@ enum Mistake {
     NoNumber(Limit),
     NoTwoStores,
     NoRefusal,
+    NoSubject,
     /// The image would take the place of a file that is read.
     ImageIsRead,
     NoSubcommand,
@@ -230,9 +231,10 @@ enum Mistake {
 impl Mistake {
     fn kind(self) -> ErrorKind {
         match self {
-            Mistake::NoNumber(_) | Mistake::NoRefusal | Mistake::ImageIsRead => {
+            Mistake::NoNumber(_) | Mistake::NoRefusal | Mistake::NoSubject => {
                 ErrorKind::ValueValidation
             }
+            Mistake::ImageIsRead => ErrorKind::ValueValidation,
             Mistake::NoTwoStores => ErrorKind::WrongNumberOfValues,
             Mistake::NoSubcommand => ErrorKind::MissingSubcommand,
         }
@@ -243,6 +245,10 @@ impl Mistake {
             Mistake::NoNumber(limit) => limit.text(),
             Mistake::NoTwoStores => "two stores are compared",
             Mistake::NoRefusal => "no refusal has this number",
+            Mistake::NoSubject => {
+                "`explain` takes the number of a refusal, as in 25, or one of language, lattice, \
+                store, interface, classes and profiles"
+            }
             Mistake::ImageIsRead => "the image would take the place of a file that is read",
             Mistake::NoSubcommand => "a subcommand is needed",
         }
@@ -415,7 +421,13 @@ fn compare_request<'a>(matches: &ArgMatches<'a>) -> Result<Request<'a>, Mistake>
 }
 
 fn explain_request<'a>(matches: &ArgMatches<'a>) -> Result<Request<'a>, Mistake> {
-    match page(number_of(matches, "NUMBER").unwrap_or(0)) {
+    if let Some(explained) = subject_page(text(matches, "WHAT").as_bytes()) {
+        return Ok(Request::Explain(explained));
+    }
+    let Some(number) = number_of(matches, "WHAT") else {
+        return Err(Mistake::NoSubject);
+    };
+    match page(number) {
         Some(explained) => Ok(Request::Explain(explained)),
         None => Err(Mistake::NoRefusal),
     }

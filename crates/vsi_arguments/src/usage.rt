@@ -146,10 +146,10 @@ const SUBCOMMANDS: [Subcommand; 17] = [
 /// The subcommand that explains a refusal.
 const EXPLAINING: Subcommand = Subcommand {
     name: "explain",
-    line: "Explains a refusal by its number",
+    line: "Explains a refusal by its number, or the language and its files",
     whole: help::EXPLAIN,
     example: help::EXPLAIN_EXAMPLE,
-    arguments: &[REFUSAL],
+    arguments: &[EXPLAINED],
 };
 
 /// How a refusal is told.

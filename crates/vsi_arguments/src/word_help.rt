@@ -43,9 +43,10 @@ pub(crate) const LATTICE_OPTION: &str = "\
 The path of the lattice file. With it FILE is a source text, which is
 judged as `vsi build` judges it.";
 
-/// What the number of a refusal is.
-pub(crate) const REFUSAL: &str = "\
-The number behind `refused:`, by digits alone.";
+/// What `explain` can explain.
+pub(crate) const WHAT: &str = "\
+The number after `refused:`, by digits alone, or one of the subjects
+language, lattice, store, interface, classes and profiles.";
 
 /// What the strict profile is.
 pub(crate) const STRICT: &str = "\

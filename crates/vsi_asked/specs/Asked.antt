@@ -1,6 +1,7 @@
 -- What a request is of the words of a command line.
 use Rattle.std.specs.Prelude.{◌≡◌, ℕ, Bool, false, List, [], ◌∷◌, ◌++◌, map, Option, Some, None, option_map, option_to_list, codes, IsTrue, String}
 use Rattle.std.specs.List.{list_all}
+use Rattle.std.specs.Option.{option_and_then, option_or}
 use Rattle.std.specs.declared.alloc.Global.{Global}
 use Rattle.std.specs.Borrow.{Bor}
 use Rattle.vsi_arguments.specs.declared.request.Compilation.{Compilation}
@@ -10,6 +11,7 @@ use Rattle.vsi_arguments.specs.declared.request.Request.{Request}
 use Rattle.vsi_arguments.specs.declared.request.Request.TheVariants.{Check, Conform, Classes, Flows, Build, List as Listing, Audit, Source, EmitC, Run, View, Drive, Compare, Leak, Report, Draw, Format, Explain}
 use Rattle.vsi_arguments.specs.declared.request.TheConstants.{SEARCH}
 use Rattle.vsi_explain.specs.Pages.{page_of}
+use Rattle.vsi_explain.specs.Subjects.{subject_page}
 use Rattle.vsi_asked.specs.Numbers.{Gives, number_in}
 use Rattle.vsi_asked.specs.Words.{dashed_in, has_flag, is_own, operands_in, shown, texts, values_in}
 
@@ -152,16 +154,18 @@ pub record Asks (words : List (String Global)) (name : List ℕ) (operands : Lis
   pub has_options : HasOptions rest options
   pub has_numbers : HasNumbers rest numbers
 
--- The first word is `explain`, its one operand spells a number, and this is the page of the refusal of that number.
+-- The page that an argument names: that of the subject of this name, or that of the refusal whose number it spells.
+abbrev pub named_page : List ℕ → Option (List ℕ)
+named_page argument = option_or (subject_page argument) (option_and_then page_of (number_in argument))
+
+-- The first argument is `explain`, and its one operand names this page.
 pub record AsksPage (words : List (String Global)) (page : List ℕ) : Type 0 where
-  pub word : List ℕ
-  pub number : ℕ
-  pub asks : Asks words (codes "explain") (word ∷ []) [] [] []
-  pub spelled : number_in word ≡ Some number
-  pub is_its : page_of number ≡ Some page
+  pub argument : List ℕ
+  pub asks : Asks words (codes "explain") (argument ∷ []) [] [] []
+  pub is_named : named_page argument ≡ Some page
 
 -- The words spell the request: its subcommand, and after it its operands, its flags, its options and its numbers; of
--- `explain` the number of the refusal whose page it has.
+-- `explain` the page that its operand names.
 abbrev pub Spells : List (String Global) → Request → Type 0
 Spells words (Explain page) = AsksPage words page.now
 Spells words request =

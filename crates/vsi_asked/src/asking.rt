@@ -4,7 +4,6 @@ ghost use Rattle.std.specs.Prelude.{◌≡◌, [], ◌∷◌, IfSome, Some, code
 ghost use Rattle.vsi_arguments.specs.declared.request.Request.TheVariants as request;
 ghost use Rattle.vsi_asked.specs.Asked as spec;
 ghost use Rattle.vsi_asked.specs.Words.{operands_in, shown, texts, values_in};
-ghost use Rattle.vsi_explain.specs.Pages.{page_of};
 
 use crate::numbers::{has_number, number_in, only_operand};
 use crate::own::has_own_alone;
@@ -13,7 +12,7 @@ use vsi_arguments::{
     Audit, Comparison, Compilation, Conformance, Drawing, Driving, Emission, Execution, Judging,
     Outset, Request, SEARCH, Search,
 };
-use vsi_explain::page;
+use vsi_explain::{page, subject_page};
 
 /// Whether each of these flags is among words exactly where it is set.
 fn has_flags(words: &[String], flags: &[(&str, bool)]) -> bool
@@ -304,28 +303,28 @@ fn asks_file(words: &[String], name: &str, path: &str) -> bool
     asks(words, name, [path.as_bytes()].as_slice(), &[])
 }
 
-/// Whether it is the page of the refusal of this number.
-fn is_page(number: u64, text: &str) -> bool
-    ensures { result ≡ true → page_of number ≡ Some text.now }
+/// The page that an argument names.
+fn named_page(argument: &[u8]) -> Option<&'static str>
+    ensures { IfSome result (λ page. spec.named_page argument.now ≡ Some page.now) }
 {
-    match page(number) {
-        Some(found) => found.as_bytes() == text.as_bytes(),
-        None => false,
+    match subject_page(argument) {
+        Some(found) => Some(found),
+        None => page(number_in(argument)?),
     }
 }
 
-/// Whether words ask for the page of a refusal.
+/// Whether words ask for the page of a subject or a refusal.
 fn asks_page(words: &[String], text: &str) -> bool
     ensures { result ≡ true → spec.Spells words.now (request.Explain text.entry) }
 {
     let Some(rest) = behind_name(words, "explain") else {
         return false;
     };
-    let Some(word) = only_operand(rest) else {
+    let Some(argument) = only_operand(rest) else {
         return false;
     };
-    match number_in(word) {
-        Some(number) => is_page(number, text),
+    match named_page(argument) {
+        Some(found) => found.as_bytes() == text.as_bytes(),
         None => false,
     }
 }

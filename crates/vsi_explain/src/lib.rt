@@ -1,9 +1,10 @@
-//! Pages that explain refusals: what each number means, an example, and what to do next.
+//! The pages of `vsi explain`: what each refusal means, and the language with its files.
 //!
 //! `page` has one for each number that the program or the library answers; `specs/Numbers` lists
-//! them, and `specs/Pages` says which page each has.
+//! them, and `specs/Pages` says which page each has. `subject_page` has one for each name of
+//! `specs/Subjects`, and which one.
 //!
-//! To be believed: `specs/Numbers`, `specs/Pages`.
+//! To be believed: `specs/Numbers`, `specs/Pages`, `specs/Subjects`.
 #![tactic(auto)]
 
 ghost use Rattle.std.specs.Prelude.{◌≡◌, ◌↔◌, IsSome, option_map, true};
@@ -14,12 +15,14 @@ mod image;
 mod lattice;
 mod scope;
 mod store;
+mod subjects;
 mod text;
 
 use image::image_page;
 use lattice::lattice_page;
 use scope::scope_page;
 use store::store_page;
+pub use subjects::subject_page;
 use text::text_page;
 
 /// The page of a refusal, by its number: a line with its number, its name and its fields, what
