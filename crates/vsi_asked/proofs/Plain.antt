@@ -9,7 +9,7 @@ use Rattle.vsi_arguments.specs.declared.request.Judging.{Judging}
 use Rattle.vsi_arguments.specs.declared.request.Request.{Request}
 use Rattle.vsi_arguments.specs.declared.request.Request.TheVariants.{Check, Explain}
 use Rattle.vsi_asked.specs.Asked.{AsksFor, Spells, name_of}
-use Rattle.vsi_asked.specs.Help.{is_first, is_help, is_short}
+use Rattle.vsi_asked.specs.Help.{front_of, is_first, is_help, is_short}
 use Rattle.vsi_asked.specs.Laws.{ArePlainCheck, CheckIsAsked, IsPlainCheck}
 use Rattle.vsi_asked.specs.Words.{VALUED, has_flag, is_among, is_dashed, operands_in, texts}
 
@@ -64,10 +64,16 @@ unhelpful word plain =
 
 -- Nor do `check` and two such words.
 pub no_help : (words : List (List ℕ)) (first second : List ℕ) → words ≡ codes "check" ∷ first ∷ second ∷ [] →
-    is_dashed first ≡ false → is_dashed second ≡ false → IsTrue (is_first words || list_any is_help words) → ⊥
+    is_dashed first ≡ false → is_dashed second ≡ false → IsTrue (is_first words || list_any is_help (front_of false words)) → ⊥
 no_help words first second are a b asks =
-    let asked : IsTrue (list_any is_help (codes "check" ∷ first ∷ second ∷ [])) = rw are at asks in
-    let none : false ≡ true = rw (unhelpful first a, unhelpful second b) at asked in
+    let asked : IsTrue (list_any is_help (front_of false (codes "check" ∷ first ∷ second ∷ []))) = rw are at asks in
+    let none : false ≡ true = rw (
+      apart first (codes "--") a refl,
+      unvalued first a,
+      apart second (codes "--") b refl,
+      unhelpful first a,
+      unhelpful second b,
+    ) at asked in
     absurd cc
 
 -- Words that are `check` ask for no subcommand of another name.

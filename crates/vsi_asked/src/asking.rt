@@ -277,7 +277,7 @@ fn asks_audit(words: &[String], audit: &Audit<'_>) -> bool
 
 /// Whether words ask for an image as C.
 fn asks_emission(words: &[String], emission: &Emission<'_>) -> bool
-    ensures { result ≡ true → spec.AsksFor words.now (request.EmitC emission.now) }
+    ensures { result ≡ true → spec.Spells words.now (request.EmitC emission.now) }
 {
     let operands = [emission.file.as_bytes()];
     let flags = [("--header", emission.is_header)];

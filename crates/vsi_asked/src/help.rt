@@ -3,6 +3,8 @@
 ghost use Rattle.std.specs.Prelude.{◌≡◌, ◌↔◌, IsTrue};
 ghost use Rattle.vsi_asked.specs.Help as spec;
 
+use crate::reading::{is_end, is_valued};
+
 /// Whether a word asks for help or for the version.
 fn is_help(word: &[u8]) -> bool
     ensures { result ≡ spec.is_help word.now }
@@ -13,7 +15,7 @@ fn is_help(word: &[u8]) -> bool
     }
 }
 
-/// Whether words ask for help or for the version.
+/// Whether words ask for help or for the version: the first word, or one in front of the first `--`.
 pub fn asks_help(words: &[String]) -> bool
     ensures help { IsTrue result ↔ spec.AsksHelp words.now }
 {
@@ -23,10 +25,15 @@ pub fn asks_help(words: &[String]) -> bool
         return true;
     }
     let mut rest = words;
+    let mut is_value = false;
     while let [word, behind @ ..] = rest {
+        if !is_value && is_end(word.as_bytes()) {
+            return false;
+        }
         if is_help(word.as_bytes()) {
             return true;
         }
+        is_value = !is_value && is_valued(word.as_bytes());
         rest = behind;
     }
     false
