@@ -7,7 +7,7 @@ use Rattle.vsi_image.specs.Fields.{globals}
 use Rattle.vsi_store.specs.View.{first_unknown}
 use Rattle.vsi_store.specs.declared.views.ViewError.{ViewError}
 use Rattle.vsi_store.specs.declared.views.ViewError.TheVariants as views
-use Rattle.vsi_faults.specs.declared.texts.Fault.TheVariants as fault
+use Rattle.vsi_diagnostics.specs.declared.fault.Fault.TheVariants as fault
 use Rattle.vsi_answers.specs.Answers.{Because}
 use Rattle.vsi_answers.specs.Judged.{IsViewFault, TellsFault}
 use Rattle.vsi_arguments.specs.declared.request.Driving.{Driving}

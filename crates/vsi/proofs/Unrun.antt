@@ -19,8 +19,8 @@ use Rattle.vsi_answers.specs.Requests.{BeginsWith}
 use Rattle.vsi_answers.specs.declared.unanswered.Cause.TheVariants as cause
 use Rattle.vsi_answers.specs.declared.unanswered.Unanswered.{Unanswered}
 use Rattle.vsi_answers.specs.declared.unanswered.Unanswered.TheVariants as unanswered
-use Rattle.vsi_faults.specs.declared.texts.Fault.{Fault}
-use Rattle.vsi_faults.specs.declared.texts.Fault.TheVariants as fault
+use Rattle.vsi_diagnostics.specs.declared.fault.Fault.{Fault}
+use Rattle.vsi_diagnostics.specs.declared.fault.Fault.TheVariants as fault
 use Rattle.vsi_devices.specs.Engine.{IsOfWriting}
 use Rattle.vsi_devices.specs.declared.error.EngineError.{EngineError}
 use Rattle.vsi_devices.specs.declared.error.EngineError.TheVariants as engine

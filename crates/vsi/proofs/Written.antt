@@ -9,7 +9,7 @@ use Rattle.vsi_lattice.specs.declared.lattice.Lattice.{Lattice}
 use Rattle.vsi_conform.specs.declared.interface.Judgement.{Judgement}
 use Rattle.vsi_types.specs.declared.rules.Profile.{Profile}
 use Rattle.vsi_answers.specs.declared.unanswered.Unanswered.{Unanswered}
-use Rattle.vsi_json.specs.Answer.{BeginApart, TellsAccepted, TellsAnswer, accepted_line}
+use Rattle.vsi_conform.specs.Checking.{TellsAnswer}
 use Rattle.vsi_arguments.specs.declared.request.Audit.{Audit}
 use Rattle.vsi_arguments.specs.declared.request.Compilation.{Compilation}
 use Rattle.vsi.specs.declared.stop.Stop.{Stop}
@@ -80,11 +80,12 @@ pub silent_fault : {T : Type 0} (result : Result T Stop) (old new : Option (List
 silent_fault (Ok x) old new fault = tt
 silent_fault (Err stop) old new fault = λ other below. absurd (omega arith)
 
--- A line that is that of an accepted text tells of one.
-pub accepted_told : BeginApart → (l : Lattice) (j : Judgement) (text out : List ℕ) → TellsAnswer l j text out →
-    out ≡ accepted_line → TellsAccepted l j text out
-accepted_told apart l j text out (inl told) is = told
-accepted_told apart l j text out (inr told) is = absurd (apart told.rest (sym is ∙ told.line))
+-- An answer of this verdict is the answer of a verdict that is the same, of the same judgement and text.
+pub answer_so : (l : Lattice) (j k : Judgement) (text source : List ℕ) (b c : Bool) (out : List ℕ) → j ≡ k →
+    text ≡ source → b ≡ c → TellsAnswer l j text b out → TellsAnswer l k source c out
+answer_so l j k text source b c out e f g tells =
+    subst (λ c. TellsAnswer l k source c out) g
+    (subst (λ s. TellsAnswer l k s b out) f (subst (λ k. TellsAnswer l k text b out) e tells))
 
 -- What is answered of a lattice and a source text is told of the files that hold them.
 pub told_files : (holds : Holding) (c : Compilation)

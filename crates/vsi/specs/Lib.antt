@@ -8,3 +8,4 @@ pub mod Performed
 pub mod Reasons
 pub mod Done
 pub mod Laws
+pub mod Diagnosing

@@ -40,7 +40,7 @@ use Rattle.vsi_conform.specs.declared.reader.Policy.TheVariants.{File, Tables}
 use Rattle.vsi_conform.specs.declared.interface.Interface.{Interface}
 use Rattle.vsi_conform.specs.declared.interface.Judgement.{Judgement}
 use Rattle.vsi_conform.specs.declared.interface.Judgement.TheVariants as judgement
-use Rattle.vsi_json.specs.Answer.{TellsAccepted}
+use Rattle.vsi_conform.specs.Checking.{TellsAccepted}
 use Rattle.vsi_answers.specs.Judged.{Declares}
 use Rattle.vsi_answers.specs.Requests.{BuildsTo, ChecksSteadyTo, ChecksTo, ClassesTo, ComparesTo, FlowsTo, ListsTo, ViewsTo, WalksTo}
 use Rattle.vsi_arguments.specs.declared.request.Audit.{Audit}

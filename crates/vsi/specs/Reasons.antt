@@ -13,8 +13,8 @@ use Rattle.vsi_image.specs.Fields.{globals}
 use Rattle.vsi_store.specs.declared.comparison.Comparison as found
 use Rattle.vsi_store.specs.declared.error.StoreError.TheVariants as store
 use Rattle.vsi_store.specs.declared.views.ViewError.TheVariants as views
-use Rattle.vsi_faults.specs.declared.texts.Fault.{Fault}
-use Rattle.vsi_faults.specs.declared.texts.Fault.TheVariants as fault
+use Rattle.vsi_diagnostics.specs.declared.fault.Fault.{Fault}
+use Rattle.vsi_diagnostics.specs.declared.fault.Fault.TheVariants as fault
 use Rattle.vsi_compiler.specs.Headline.{IsImageOf}
 use Rattle.vsi_audit.specs.Refusal as audited
 use Rattle.vsi_audit.specs.Telling.{IsAuditText}
@@ -30,7 +30,7 @@ use Rattle.vsi_conform.specs.declared.interface.Judgement.{Judgement}
 use Rattle.vsi_conform.specs.declared.reader.Asked.{Asked}
 use Rattle.vsi_conform.specs.declared.reader.Policy.{Policy}
 use Rattle.vsi_conform.specs.declared.reader.Policy.TheVariants.{File, Tables}
-use Rattle.vsi_json.specs.Answer.{TellsAnswer, accepted_line}
+use Rattle.vsi_conform.specs.Checking.{TellsRefused}
 use Rattle.vsi_answers.specs.Answers.{Because}
 use Rattle.vsi_answers.specs.Judged.{Declares, IsProgramFault, IsStoreFault, IsViewFault, TellsFault, TellsSource}
 use Rattle.vsi_answers.specs.Requests.{Answer, BeginsWith, BuildsTo, ChecksSteadyTo, ChecksTo, ClassesTo, ComparesTo, FlowsTo, FormatsTo, ListsTo, ReadsImage, ReadsLattice, ViewsTo, WalksTo}
@@ -181,9 +181,9 @@ AsksCanonical source answer = (l : Lattice) × Declares two_classes l × Formats
 
 -- ---- why each subcommand has stopped.
 
--- `check --json` has told of a refusal in a line.
+-- The line of JSON of a text that is refused.
 abbrev pub ToldRefusal : Judgement → Lattice → List ℕ → Vec ℕ → Type 0
-ToldRefusal j l source text = TellsAnswer l j source text.items × (text.items ≢ accepted_line)
+ToldRefusal j l source text = TellsRefused l j source text.items
 
 -- `check`: the text is refused, and with `--json` that has been told.
 abbrev pub WhyCheck : Bool → Holding → Judging → Option (List ℕ) → Option (List ℕ) → Stop → Type 0

@@ -26,8 +26,8 @@ use std::alloc::Global;
 use std::io::{Read, Write};
 use vsi_arguments::Driving;
 use vsi_devices::Counted;
+use vsi_diagnostics::Fault;
 use vsi_drive::{Controller, LINE_LIMIT};
-use vsi_faults::Fault;
 use vsi_image::Verified;
 use vsi_store::{read_store, store_text};
 

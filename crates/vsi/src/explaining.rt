@@ -3,6 +3,7 @@
 ghost use Rattle.std.specs.Prelude.{◌≡◌};
 
 use crate::desk::{Desk, Kept, Kind};
+use crate::diagnosing::stop_diagnostic;
 use crate::files::Files;
 use crate::reading::TWO_CLASSES;
 use crate::stop::{STREAM, Stop};
@@ -16,12 +17,13 @@ use vsi_blame::refused_flows;
 use vsi_caret::{Manner, put_safe};
 use vsi_compiler::CompileError;
 use vsi_conform::InterfaceError;
+use vsi_diagnostics::{Diagnostic, Fault};
 use vsi_drive::{LineFault, StartFault};
-use vsi_faults::Fault;
 use vsi_image::{Image, decode};
 use vsi_lattice::{Lattice, read_lattice};
 use vsi_steady::{SteadyError, UnsteadyError};
 use vsi_store::StoreError;
+use vsi_syntax::put_number;
 use vsi_telling::{Refused, class_list, explanation};
 use vsi_types::Profile;
 
@@ -79,7 +81,7 @@ fn is_strict(request: &Request<'_>) -> bool {
     }
 }
 
-/// What stands behind the text of a stop.
+/// The explanation of a stop, and for a refusal with a number the page that has more.
 pub(crate) fn explained<F: Files>(
     desk: &Desk,
     explaining: Explaining,
@@ -88,35 +90,46 @@ pub(crate) fn explained<F: Files>(
 ) -> Result<Vec<u8>, AllocError>
     ensures { F.holds files.new ≡ F.holds files.old }
 {
-    match stop {
-        Stop::Refused(text, cause) => {
-            let mut lines = match cause {
-                Some(cause) => explaining.of_cause(desk, cause)?,
-                None => Vec::new(desk.alloc),
-            };
-            push_page(&mut lines, text)?;
-            Ok(lines)
-        }
-        Stop::Interface(_, error) => explaining.of_interface(desk, error),
-        Stop::Audit(text, error) => {
-            let mut lines = explaining.of_audit(desk, error)?;
-            push_page(&mut lines, text)?;
-            Ok(lines)
-        }
-        Stop::Unsteady(text, error) => {
-            let mut lines = explaining.of_unsteady(desk, text, error)?;
-            push_page(&mut lines, text)?;
-            Ok(lines)
-        }
-        Stop::FileFault(path) => of_fault(desk.alloc, files, path),
-        Stop::LostFile(path) => of_fault(desk.alloc, files, path.as_str()),
-        Stop::OutOfBudget => Vec::from_slice(desk.alloc, SPENT),
-        Stop::NoClass(_) => of_class(desk),
-        Stop::Differs | Stop::Usage(_) | Stop::Memory => Ok(Vec::new(desk.alloc)),
+    let mut lines = explaining.of_stop(desk, files, stop)?;
+    if let Some(diagnostic) = stop_diagnostic(source_of(desk), stop) {
+        push_page(&mut lines, &diagnostic)?;
+    }
+    Ok(lines)
+}
+
+/// The source text that was read, empty where none was.
+fn source_of(desk: &Desk) -> &[u8] {
+    match desk.last(Kind::Source) {
+        Some(kept) => kept.bytes.as_slice(),
+        None => b"",
     }
 }
 
 impl Explaining {
+    /// The explanation of a stop.
+    fn of_stop<F: Files>(
+        self,
+        desk: &Desk,
+        files: &mut F,
+        stop: &Stop<'_>,
+    ) -> Result<Vec<u8>, AllocError>
+        ensures { F.holds files.new ≡ F.holds files.old }
+    {
+        match stop {
+            Stop::Refused(_, Some(cause)) => self.of_cause(desk, cause),
+            Stop::Interface(_, error) => self.of_interface(desk, error),
+            Stop::Audit(_, error) => self.of_audit(desk, error),
+            Stop::Unsteady(text, error) => self.of_unsteady(desk, text, error),
+            Stop::FileFault(path) => of_fault(desk.alloc, files, path),
+            Stop::LostFile(path) => of_fault(desk.alloc, files, path.as_str()),
+            Stop::OutOfBudget => Vec::from_slice(desk.alloc, SPENT),
+            Stop::NoClass(_) => of_class(desk),
+            Stop::Refused(_, None) | Stop::Differs | Stop::Usage(_) | Stop::Memory => {
+                Ok(Vec::new(desk.alloc))
+            }
+        }
+    }
+
     /// What stands behind a refusal with this cause.
     fn of_cause(self, desk: &Desk, cause: &Cause) -> Result<Vec<u8>, AllocError> {
         match cause {
@@ -276,20 +289,11 @@ impl Explaining {
     }
 }
 
-/// Tells which page has more, where the text begins with a number.
-fn push_page(lines: &mut Vec<u8>, text: &[u8]) -> Result<(), AllocError> {
-    let Some(rest) = text.strip_prefix(b"refused: ") else {
-        return Ok(());
-    };
+/// Adds the line that names the page of a refusal.
+fn push_page(lines: &mut Vec<u8>, diagnostic: &Diagnostic) -> Result<(), AllocError> {
     lines.extend_from_slice(b"More: vsi explain ")?;
-    for byte in rest {
-        if !byte.is_ascii_digit() {
-            break;
-        }
-        lines.push(*byte)?;
-    }
-    lines.push(b'\n')?;
-    Ok(())
+    put_number(lines, diagnostic.code)?;
+    lines.extend_from_slice(b"\n")
 }
 
 /// Why a file can't be used.

@@ -21,7 +21,7 @@ use std::alloc::Global;
 use vsi_answers::{Unanswered, judged_image, refused_file, refused_source};
 use vsi_compiler::CompileError;
 use vsi_devices::{Counted, EngineError, READ_LIMIT, read_all};
-use vsi_faults::Fault;
+use vsi_diagnostics::Fault;
 use vsi_image::{DecodeError, Verified};
 use vsi_lattice::{Class, Lattice, LatticeError};
 use vsi_store::{StoreError, ViewError};

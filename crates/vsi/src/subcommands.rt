@@ -18,9 +18,8 @@ use std::alloc::Global;
 use std::io::Write;
 use vsi_answers::Unanswered;
 use vsi_arguments::{Compilation, Judging};
-use vsi_conform::Judgement;
+use vsi_conform::{Checked, Judgement, check_json};
 use vsi_devices::Counted;
-use vsi_json::check_json;
 use vsi_lattice::Lattice;
 use vsi_types::Profile;
 
@@ -104,19 +103,19 @@ fn checked_line<'a, F: Files>(
     desk: &mut Desk,
     asked: Judging<'a>,
     files: &mut F,
-) -> Result<(bool, Vec<u8>), Stop<'a>>
+) -> Result<Checked, Stop<'a>>
     ensures kept { F.holds files.new ≡ F.holds files.old }
-    ensures told { IfOk result (λ pair. pair.0 ≡ true → OfFiles (F.holds files.old)
-        asked.entry.compilation (ToldJson (judgement_of asked.entry)) pair.1) }
-    ensures refused { IfOk result (λ pair. pair.0 ≡ false → OfFiles (F.holds files.old)
-        asked.entry.compilation (ToldRefusal (judgement_of asked.entry)) pair.1) }
+    ensures told { IfOk result (λ checked. checked.is_accepted ≡ true → OfFiles (F.holds files.old)
+        asked.entry.compilation (ToldJson (judgement_of asked.entry)) checked.line) }
+    ensures refused { IfOk result (λ checked. checked.is_accepted ≡ false
+        → OfFiles (F.holds files.old) asked.entry.compilation
+        (ToldRefusal (judgement_of asked.entry)) checked.line) }
     ensures stopped { IfErr result (StopsBy
         (RefusesLattice (F.holds files.old) asked.entry.compilation.lattice.now) NoOther) }
 {
     let (classes, text) = policy_and_text(desk, asked.compilation, files)?;
-    let line = check_json(desk.alloc, judgement(asked), &classes, text.as_slice())?;
-    let is_accepted = line.as_slice() == b"{\"accepted\":true}\n".as_slice();
-    Ok((is_accepted, line))
+    let checked = check_json(desk.alloc, judgement(asked), &classes, text.as_slice())?;
+    Ok(checked)
 }
 
 /// Writes whether the source text is accepted as a line of JSON.
@@ -137,8 +136,8 @@ pub(crate) fn check_as_json<'a, F: Files, W: Write>(
     ensures stopped { IfErr result (WhyCheck true (F.holds files.old) asked.entry
         (W.contents (device_of output.old)) (W.contents (device_of output.new))) }
 {
-    let (is_accepted, line) = checked_line(desk, asked, files)?;
-    write_answer(&line, is_accepted, output)
+    let checked = checked_line(desk, asked, files)?;
+    write_answer(&checked.line, checked.is_accepted, output)
 }
 
 /// The class of each declaration of the source text.

@@ -32,9 +32,10 @@ use Rattle.vsi_steady.specs.declared.unsteady.UnsteadyError.{UnsteadyError}
 use Rattle.vsi_steady.specs.declared.unsteady.UnsteadyError.TheVariants as unsteady
 use Rattle.vsi_drive.specs.Starts.{IsStartFault, start_fault_line}
 use Rattle.vsi_drive.specs.declared.starts.StartFault.{StartFault}
-use Rattle.vsi_faults.specs.Texts.{IsRefusalText, fault_line, text_of}
-use Rattle.vsi_faults.specs.declared.texts.Fault.{Fault}
-use Rattle.vsi_faults.specs.declared.texts.Fault.TheVariants as fault
+use Rattle.vsi_diagnostics.specs.Files.{fault_diagnostic}
+use Rattle.vsi_diagnostics.specs.Texts.{IsRefusalText, text_of}
+use Rattle.vsi_diagnostics.specs.declared.fault.Fault.{Fault}
+use Rattle.vsi_diagnostics.specs.declared.fault.Fault.TheVariants as fault
 use Rattle.vsi_answers.specs.declared.unanswered.Cause.TheVariants.{Source, File as InFile, Start, Steady}
 use Rattle.vsi_answers.specs.Answers.{Telling}
 
@@ -48,7 +49,7 @@ TellsSource Kind l source text (Steady e) = ⊥
 -- The text is the refusal of another file for a fault of this kind.
 abbrev pub TellsFault : (Fault → Type 0) → Telling
 TellsFault Kind text (Source e) = ⊥
-TellsFault Kind text (InFile f) = Kind f × (text ≡ text_of (fault_line f))
+TellsFault Kind text (InFile f) = Kind f × (text ≡ text_of (fault_diagnostic f))
 TellsFault Kind text (Start f) = ⊥
 TellsFault Kind text (Steady e) = ⊥
 

@@ -6,7 +6,7 @@ use crate::refusing::refused_file;
 use crate::unanswered::Unanswered;
 use std::alloc::Global;
 use vsi_devices::{EngineError, verified_image};
-use vsi_faults::Fault;
+use vsi_diagnostics::Fault;
 use vsi_image::{Verified, listing};
 use vsi_lattice::{Lattice, LatticeError, read_lattice};
 

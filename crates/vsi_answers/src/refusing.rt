@@ -7,8 +7,8 @@ ghost use Rattle.vsi_answers.specs.Judged.{TellsFault, TellsSource, TellsStartFa
 use crate::unanswered::{Cause, Unanswered};
 use std::alloc::Global;
 use vsi_compiler::CompileError;
+use vsi_diagnostics::{Fault, fault_text, refusal_text};
 use vsi_drive::{StartFault, start_fault_line};
-use vsi_faults::{Fault, fault_text, refusal_text};
 use vsi_lattice::Lattice;
 
 /// Why a request for a source text that is refused with this error has no answer.

@@ -9,7 +9,7 @@ use crate::texts::ACCEPTED;
 use crate::unanswered::{Cause, Unanswered};
 use std::alloc::{AllocError, Global};
 use vsi_compiler::{CompileError, unjudged_image};
-use vsi_faults::refusal_text;
+use vsi_diagnostics::refusal_text;
 use vsi_infer::Walk;
 use vsi_lattice::Lattice;
 use vsi_steady::{SteadyError, UnsteadyError, compile_steady, steady_explanation, steady_text};

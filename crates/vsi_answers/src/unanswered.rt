@@ -6,8 +6,8 @@ ghost use Rattle.vsi_answers.specs.declared.unanswered.Unanswered.TheVariants.{M
 use std::alloc::{AllocError, AllocFailed};
 use thiserror::Error;
 use vsi_compiler::CompileError;
+use vsi_diagnostics::Fault;
 use vsi_drive::StartFault;
-use vsi_faults::Fault;
 use vsi_steady::UnsteadyError;
 
 /// What is wrong with what was handed in.

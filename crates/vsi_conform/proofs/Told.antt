@@ -13,7 +13,8 @@ use Rattle.vsi_conform.specs.Points.{is_conforming, is_none_told}
 use Rattle.vsi_conform.specs.Shown.{Declares, Page}
 use Rattle.vsi_conform.specs.Lines.{page_of}
 use Rattle.vsi_conform.specs.Json as json
-use Rattle.vsi_conform.proofs.Plain.{refusal_plain, points_plain, append_plain}
+use Rattle.vsi_diagnostics.proofs.Plain.{append_plain}
+use Rattle.vsi_conform.proofs.Plain.{refusal_plain, points_plain}
 use Rattle.vsi_conform.proofs.Begins.{conforming_so, differing_so}
 
 -- Where there is no refusal and no point, the line is known.

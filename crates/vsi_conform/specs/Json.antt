@@ -1,7 +1,6 @@
 -- What is written of an answer as JSON.
 use Rattle.std.specs.Prelude.{◌≡◌, ℕ, ℤ, Bool, true, false, List, [], ◌∷◌, ◌++◌, map, codes, Option, Some, None, slice_get}
-use Rattle.std.specs.Str.Lossy.{utf8_lossy}
-use Rattle.serde_json.specs.Data.{Data, null, boolean, number, string, array, object, unsigned, Members, no_members, put}
+use Rattle.serde_json.specs.Data.{Data, null, boolean, number, string, array, object, Members, no_members, put}
 use Rattle.serde_json.specs.Find.{of_integer}
 use Rattle.serde_json.specs.View.{items_of}
 use Rattle.serde_json.specs.Written.{compact_text}
@@ -9,6 +8,7 @@ use Rattle.vsi_syntax.specs.Tree.{Declared}
 use Rattle.vsi_lattice.specs.declared.lattice.Lattice.{Lattice}
 use Rattle.vsi_image.specs.Fields.{Global}
 use Rattle.vsi_steady.specs.declared.unsteady.UnsteadyError.{UnsteadyError}
+use Rattle.vsi_diagnostics.specs.Members.{with_text, with_natural}
 use Rattle.vsi_conform.specs.declared.interface.Interface.{Interface}
 use Rattle.vsi_conform.specs.declared.interface.Trial.{Trial}
 use Rattle.vsi_conform.specs.declared.point.Answer.{Answer}
@@ -19,14 +19,6 @@ use Rattle.vsi_conform.specs.Shown.{asked, expected, run_number, Declares, Shown
 use Rattle.vsi_conform.specs.Lines.{AreFirst, page_of}
 
 -- ---- members of objects, whose keys stand in byte order.
-
--- A text more, in which what is no UTF-8 is replaced.
-abbrev pub with_text : List ℕ → List ℕ → Members → Members
-with_text key bytes ms = put key (string (utf8_lossy bytes)) ms
-
--- A number of at least 0 more.
-abbrev pub with_natural : List ℕ → ℕ → Members → Members
-with_natural key n ms = put key (number (unsigned n)) ms
 
 -- A word more.
 abbrev pub with_word : List ℕ → ℤ → Members → Members

@@ -8,3 +8,4 @@ pub mod Beside
 pub mod Shown
 pub mod Lines
 pub mod Json
+pub mod Checking

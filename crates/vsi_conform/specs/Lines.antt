@@ -6,14 +6,18 @@ use Rattle.vsi_syntax.specs.Tree.{Declared}
 use Rattle.vsi_lattice.specs.declared.lattice.Lattice.{Lattice}
 use Rattle.vsi_lattice.specs.LatticeView.{class_named}
 use Rattle.vsi_types.specs.declared.rules.Step.{Step}
+use Rattle.vsi_image.specs.declared.instr.Image.{Image}
 use Rattle.vsi_image.specs.Fields.{Global}
+use Rattle.vsi_compiler.specs.Headline.{IsImageOf}
 use Rattle.vsi_compiler.specs.declared.error.CompileError.{CompileError}
 use Rattle.vsi_compiler.specs.declared.error.CompileError.TheVariants as compiler
 use Rattle.vsi_compiler.specs.Readable.{HasProgram}
 use Rattle.vsi_steady.specs.Source.{ExplainsWatchedWalk}
+use Rattle.vsi_steady.specs.Telling.{IsUnsteadyText}
+use Rattle.vsi_steady.specs.declared.error.SteadyError.{SteadyError}
 use Rattle.vsi_steady.specs.declared.unsteady.UnsteadyError.{UnsteadyError}
 use Rattle.vsi_steady.specs.declared.unsteady.UnsteadyError.TheVariants as unsteady
-use Rattle.vsi_faults.specs.Texts.{IsRefusalText}
+use Rattle.vsi_diagnostics.specs.Texts.{IsRefusalText}
 use Rattle.vsi_conform.specs.declared.interface.Interface.{Interface}
 use Rattle.vsi_conform.specs.declared.interface.Judgement.{Judgement}
 use Rattle.vsi_conform.specs.declared.interface.Judgement.TheVariants.{Base, Strict, Steady}
@@ -96,10 +100,17 @@ IsCompileText l text true (compiler.Parse e) out = IsRefusalText l text (compile
 IsCompileText l text true (compiler.Scope e) out = IsRefusalText l text (compiler.Scope e) out
 IsCompileText l text true compiler.Memory out = IsRefusalText l text compiler.Memory out
 
--- The lines of a refusal; of those of a refused image is said only that the text has a program.
+-- The text of a refusal of the image of a text.
+pub record IsImageText (l : Lattice) (text : List ℕ) (e : SteadyError) (out : List ℕ) : Type 0 where
+  pub program : HasProgram (class_named l) text
+  pub image : Image
+  pub is_image : IsImageOf (class_named l) text image
+  pub told : IsUnsteadyText l image e out
+
+-- The lines of a refusal.
 abbrev pub IsRefusalLines : Lattice → List ℕ → Bool → UnsteadyError → List ℕ → Type 0
 IsRefusalLines l text is_steady (unsteady.Compile e) out = IsCompileText l text is_steady e out
-IsRefusalLines l text is_steady (unsteady.Image e) out = HasProgram (class_named l) text
+IsRefusalLines l text is_steady (unsteady.Image e) out = IsImageText l text e out
 IsRefusalLines l text is_steady unsteady.Memory out = ⊥
 
 -- The image is to be steady.

@@ -12,35 +12,9 @@ use crate::point::{Answer, Point};
 use crate::texts::{Pages, asked, expected, is_steady, refusal_lines};
 use serde_json::{Map, Value, put};
 use std::alloc::{AllocError, Global};
+use vsi_diagnostics::members::{put_natural, put_text};
 use vsi_lattice::Lattice;
 use vsi_steady::UnsteadyError;
-
-/// A text as a JSON string.
-fn put_text(
-    alloc: Global,
-    map: &mut Map<String, Value>,
-    key: &str,
-    bytes: &[u8],
-) -> Result<(), AllocError>
-    ensures { OnOk result (members_view map.new.entries
-        ≡ spec.with_text key.now bytes.now (members_view map.old.entries)) }
-{
-    let text = String::from_utf8_lossy(alloc, bytes)?;
-    put(map, alloc, key, Value::String(text))
-}
-
-/// A number, as of a line or of a run.
-fn put_number(
-    alloc: Global,
-    map: &mut Map<String, Value>,
-    key: &str,
-    number: usize,
-) -> Result<(), AllocError>
-    ensures { OnOk result (members_view map.new.entries
-        ≡ spec.with_natural key.now number (members_view map.old.entries)) }
-{
-    put(map, alloc, key, Value::from(number))
-}
 
 /// An object of this point.
 fn object(alloc: Global, point: &str) -> Result<Map<String, Value>, AllocError>
@@ -67,8 +41,8 @@ fn put_shown(
     let shown = global_at(pages.text, pages.found, place, is_class);
     put_text(alloc, map, "name", shown.name)?;
     put_text(alloc, map, "class", shown.class)?;
-    put_number(alloc, map, "line", shown.line)?;
-    put_number(alloc, map, "column", shown.column)
+    put_natural(alloc, map, "line", shown.line)?;
+    put_natural(alloc, map, "column", shown.column)
 }
 
 /// A global that the text lacks.
@@ -134,7 +108,7 @@ fn out_of_budget(
         ≡ spec.out_of_budget trial (slice_get pages.now.interface.now.trials.items trial)) }
 {
     let mut map = object(alloc, "budget")?;
-    put_number(alloc, &mut map, "run", trial.saturating_add(1))?;
+    put_natural(alloc, &mut map, "run", trial.saturating_add(1))?;
     if let Some(trial) = pages.interface.trials.get(trial) {
         put(&mut map, alloc, "budget", Value::from(trial.budget))?;
     }
@@ -154,7 +128,7 @@ fn wrong_word(
 {
     let mut map = object(alloc, "word")?;
     let (name, want) = expected(pages.interface, trial, wanted);
-    put_number(alloc, &mut map, "run", trial.saturating_add(1))?;
+    put_natural(alloc, &mut map, "run", trial.saturating_add(1))?;
     put_text(alloc, &mut map, "name", name)?;
     put(&mut map, alloc, "expected", Value::from(want))?;
     let found = match word {
@@ -211,7 +185,7 @@ fn refusal_objects(
 {
     match refusal {
         Some(error) => {
-            let steady = is_steady(pages.interface);
+            let steady = is_steady(pages.interface.judgement);
             let lines = refusal_lines(alloc, lattice, pages.text, error, steady)?;
             let map = refused(alloc, &lines)?;
             let mut found = Vec::new(alloc);

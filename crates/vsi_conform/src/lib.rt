@@ -1,6 +1,7 @@
 //! Interfaces that are fixed from outside a program, and whether a text conforms to one.
 //!
-//! `read_interface` reads an interface file: the lattice, the judgement, the globals with their
+//! `check_json` judges a source text as `vsi check` does, and writes the answer as a line of JSON,
+//! as `specs/Checking` says. `read_interface` reads an interface file: the lattice, the judgement, the globals with their
 //! classes, and the runs that are asked for. `conform` tells each point in which a text differs
 //! from an interface; where it tells none, the text conforms to it, as `specs/Conforms` says.
 //! `points_text` and `points_json` write what is told, as `specs/Lines` and `specs/Json` say,
@@ -10,6 +11,7 @@
 #![tactic(auto)]
 
 mod accepting;
+mod checking;
 mod conforming;
 mod declared;
 mod error;
@@ -23,6 +25,7 @@ mod texts;
 mod trials;
 
 pub use accepting::judged;
+pub use checking::{Checked, check_json, steady_diagnostic, unsteady_diagnostic};
 pub use conforming::conform;
 pub use error::{InterfaceError, interface_text};
 pub use interface::{Interface, Judgement, Trial};

@@ -3,8 +3,6 @@
 ghost use Rattle.std.specs.Prelude.{◌≡◌, ◌++◌, Some, true, IfOk, OnOk};
 ghost use Rattle.std.specs.List.{flat_map};
 ghost use Rattle.std.specs.Option.{option_copied};
-ghost use Rattle.vsi_lattice.specs.LatticeView.{class_named};
-ghost use Rattle.vsi_compiler.specs.Readable.{HasProgram};
 ghost use Rattle.vsi_conform.specs.Lines as spec;
 ghost use Rattle.vsi_conform.specs.Shown as told;
 
@@ -13,7 +11,7 @@ use crate::interface::{Interface, Judgement, Trial};
 use crate::point::{Answer, Point};
 use std::alloc::{AllocError, Global};
 use vsi_compiler::{CompileError, unjudged_image};
-use vsi_faults::refusal_text;
+use vsi_diagnostics::refusal_text;
 use vsi_infer::Walk;
 use vsi_lattice::Lattice;
 use vsi_steady::{SteadyError, UnsteadyError, steady_explanation, steady_text};
@@ -79,7 +77,8 @@ fn image_lines(
     text: &[u8],
     error: &SteadyError,
 ) -> Result<Vec<u8>, AllocError>
-    ensures { IfOk result (λ _. HasProgram (class_named lattice.now) text.now) }
+    ensures { IfOk result
+        (λ lines. spec.IsImageText lattice.now text.now error.now lines.items) }
 {
     match unjudged_image(alloc, lattice, text) {
         Ok(verified) => {
@@ -318,16 +317,19 @@ fn first_lines(
         refusal.now lines.items) }
 {
     match refusal {
-        Some(error) => refusal_lines(alloc, lattice, text, error, is_steady(interface)),
+        Some(error) => {
+            let steady = is_steady(interface.judgement);
+            refusal_lines(alloc, lattice, text, error, steady)
+        }
         None => Ok(Vec::new(alloc)),
     }
 }
 
 /// Whether the text is to be steady.
-pub(crate) fn is_steady(interface: &Interface) -> bool
-    ensures { result ≡ spec.is_steady interface.now.judgement }
+pub(crate) fn is_steady(judgement: Judgement) -> bool
+    ensures { result ≡ spec.is_steady judgement }
 {
-    matches!(interface.judgement, Judgement::Steady)
+    matches!(judgement, Judgement::Steady)
 }
 
 /// The lines of an answer: `conforms`, or those of the refusal and one for each point. Names, lines

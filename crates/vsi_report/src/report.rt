@@ -18,7 +18,7 @@ use crate::source_view::{plain_panel, source_panel};
 use crate::telling::put_walk;
 use std::alloc::{AllocError, Global};
 use vsi_compiler::{CompileError, compile_in};
-use vsi_faults::refusal_text;
+use vsi_diagnostics::refusal_text;
 use vsi_image::{Verified, listing};
 use vsi_lattice::Lattice;
 use vsi_types::{Profile, Step};

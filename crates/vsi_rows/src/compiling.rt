@@ -9,7 +9,7 @@ use vsi_compiler::{
     CompileError, RunError, classes_text, classes_text_in, compile, compile_in, explanation_text,
     run_source,
 };
-use vsi_faults::refusal_text;
+use vsi_diagnostics::refusal_text;
 use vsi_image::Verified;
 use vsi_lattice::Lattice;
 use vsi_types::Profile;

@@ -4,7 +4,7 @@ use crate::row::Row;
 use crate::wrong::Wrong;
 use std::alloc::Global;
 use vsi_compiler::CompileError;
-use vsi_faults::{Fault, fault_text, refusal_text};
+use vsi_diagnostics::{Fault, fault_text, refusal_text};
 use vsi_image::{DecodeError, Limit, VerifyError};
 use vsi_lattice::{Class, Lattice, LatticeError};
 use vsi_store::{StoreError, ViewError};

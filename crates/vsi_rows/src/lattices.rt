@@ -5,7 +5,7 @@ ghost use Rattle.vsi_lattice.specs.Pairs.{ArePairsBelow};
 use crate::row::Row;
 use crate::wrong::Wrong;
 use std::alloc::Global;
-use vsi_faults::{Fault, fault_text};
+use vsi_diagnostics::{Fault, fault_text};
 use vsi_lattice::{
     Class, Classes, Lattice, LatticeError, MaskLattice, OrderError, PairLattice, read_lattice,
 };

@@ -4,7 +4,7 @@ use crate::images::{globals, image};
 use crate::row::Row;
 use crate::wrong::Wrong;
 use std::alloc::Global;
-use vsi_faults::{Fault, fault_text};
+use vsi_diagnostics::{Fault, fault_text};
 use vsi_image::{Image, Verified, verify};
 use vsi_lattice::Lattice;
 use vsi_store::{View, read_store, store_text, view};

@@ -29,7 +29,7 @@ use names::{class_names, put_names_between};
 use std::alloc::{AllocError, Global};
 use vsi_caret::{Manner, put_place_in, put_safe, put_text};
 use vsi_compiler::CompileError;
-use vsi_faults::Fault;
+use vsi_diagnostics::Fault;
 use vsi_image::Image;
 use vsi_lattice::Lattice;
 use vsi_store::StoreError;

@@ -13,8 +13,8 @@ returns-clause-performed g c =
     let new = g.W.Write.contents (device_of c.write_answer.new.output) in
     on_ok_weaker c.write_answer.result
     (λ told. record {
-      text = c.in_ok-is_accepted.line;
-      is = c.in_ok-is_accepted.ensures.told told.0;
+      text = c.in_ok-checked.checked.line;
+      is = c.in_ok-checked.ensures.told told.0;
       written = subst (Appends old new) c.deref.ensures.value told.1;
     })
     c.write_answer.ensures.whole
@@ -26,13 +26,13 @@ returns-clause-stopped g c =
     let new = g.W.Write.contents (device_of c.write_answer.new.output) in
     answer_stopped (RefusesLattice holds c.args.asked.compilation.lattice.now)
     (IsDifference (Writes (OfFiles holds c.args.asked.compilation (ToldRefusal (judgement_of c.args.asked))) old new))
-    ((c.in_ok-is_accepted.is_accepted ≡ false) × Appends old new c.deref.result.now) c.write_answer.result
+    ((c.in_ok-checked.checked.is_accepted ≡ false) × Appends old new c.deref.result.now) c.write_answer.result
     c.write_answer.ensures.stopped
     (λ told. (
       refl,
       record {
-        text = c.in_ok-is_accepted.line;
-        is = c.in_ok-is_accepted.ensures.refused told.0;
+        text = c.in_ok-checked.checked.line;
+        is = c.in_ok-checked.ensures.refused told.0;
         written = subst (Appends old new) c.deref.ensures.value told.1;
       },
     ))

@@ -1,0 +1,77 @@
+//! The refusal of a stop as a value.
+
+ghost use Rattle.std.specs.Prelude.{◌≡◌, option_map};
+ghost use Rattle.vsi.specs.Diagnosing as spec;
+ghost use Rattle.vsi_diagnostics.specs.Diagnostic.{line_text};
+ghost use Rattle.vsi_diagnostics.specs.View.{diagnostic_of};
+ghost use Rattle.vsi_drive.specs.Settings.{fault_line};
+ghost use Rattle.vsi_drive.specs.Starts.{start_fault_line};
+
+use crate::stop::Stop;
+use vsi_answers::Cause;
+use vsi_audit::AuditError;
+use vsi_conform::{steady_diagnostic, unsteady_diagnostic};
+use vsi_diagnostics::{Diagnostic, Field, fault_diagnostic, refusal_diagnostic};
+use vsi_drive::{LineFault, StartFault};
+
+/// The refusal of a setting, whose line is the one that is written.
+fn setting_diagnostic(fault: LineFault) -> Diagnostic<'static>
+    ensures { line_text (diagnostic_of result) ≡ fault_line fault }
+{
+    match fault {
+        LineFault::TooLong => Diagnostic::new(44, b"LineTooLong", Field::Nothing),
+        LineFault::BadSetting(n) => Diagnostic::new(45, b"BadSetting", Field::Number(n)),
+        LineFault::UnknownGlobal(n) => Diagnostic::new(46, b"NoGlobal", Field::Number(n)),
+        LineFault::AboveClass(n) => Diagnostic::new(47, b"AboveClass", Field::Number(n)),
+        LineFault::NotANumber(n) => Diagnostic::new(48, b"NoNumber", Field::Number(n)),
+    }
+}
+
+/// The refusal of a run that doesn't begin, whose line is the one that is written.
+fn start_diagnostic(fault: StartFault) -> Diagnostic<'static>
+    ensures { line_text (diagnostic_of result) ≡ start_fault_line fault }
+{
+    match fault {
+        StartFault::Setting(fault) => setting_diagnostic(fault),
+        StartFault::Unnamed(i) => Diagnostic::new(56, b"GlobalNotNamed", Field::Number(i)),
+    }
+}
+
+/// The refusal of an image whose commands are judged; none where memory was wanting.
+fn audit_diagnostic(error: &AuditError) -> Option<Diagnostic<'static>>
+    ensures { option_map diagnostic_of result ≡ spec.audit_diagnostic error.now }
+{
+    match error {
+        AuditError::UnknownClass(i) => {
+            Some(Diagnostic::new(43, b"ClassNotInLattice", Field::Number(*i)))
+        }
+        AuditError::Unstructured(at) => {
+            Some(Diagnostic::new(49, b"NoCommands", Field::Number(*at)))
+        }
+        AuditError::WrongFields => Some(Diagnostic::new(50, b"WrongFields", Field::Nothing)),
+        AuditError::NoText => Some(Diagnostic::new(51, b"NoText", Field::Nothing)),
+        AuditError::Flow(_) => Some(Diagnostic::new(25, b"Refused", Field::Nothing)),
+        AuditError::Memory => None,
+    }
+}
+
+/// The refusal with this cause, where the source text that was read is this one.
+fn cause_diagnostic<'s>(source: &[u8], cause: &'s Cause) -> Option<Diagnostic<'s>> {
+    match cause {
+        Cause::Source(error) => refusal_diagnostic(source, error),
+        Cause::Steady(error) => unsteady_diagnostic(source, error),
+        Cause::File(fault) => fault_diagnostic(fault),
+        Cause::Start(fault) => Some(start_diagnostic(*fault)),
+    }
+}
+
+/// The refusal that a stop is, where the source text that was read is this one; none where the
+/// stop has no number.
+pub(crate) fn stop_diagnostic<'s>(source: &[u8], stop: &'s Stop<'_>) -> Option<Diagnostic<'s>> {
+    match stop {
+        Stop::Refused(_, Some(cause)) => cause_diagnostic(source, cause),
+        Stop::Audit(_, error) => audit_diagnostic(error),
+        Stop::Unsteady(_, error) => steady_diagnostic(error),
+        _ => None,
+    }
+}

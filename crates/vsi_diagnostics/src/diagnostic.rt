@@ -1,0 +1,105 @@
+//! A refusal as a value, and its line.
+
+ghost use Rattle.std.specs.Prelude.{◌≡◌, ◌++◌, IfOk, OnOk};
+ghost use Rattle.vsi_diagnostics.specs.Diagnostic as spec;
+ghost use Rattle.vsi_diagnostics.specs.View.{diagnostic_of, field_of};
+
+use std::alloc::{AllocError, Global};
+use vsi_syntax::put_number;
+use vsi_types::Step;
+
+/// What a refusal names.
+#[derive(Clone, Copy, Debug)]
+pub enum Field<'a> {
+    /// It names nothing.
+    Nothing,
+    /// A number, as that of a global, of an instruction or of a byte.
+    Number(usize),
+    /// Two numbers, as those of classes.
+    Pair(usize, usize),
+    /// A line and a column of the source text, both from 1.
+    Place(usize, usize),
+    /// Bytes, as the key of a store file.
+    Word(&'a [u8]),
+    /// Bytes and a number.
+    Numbered(&'a [u8], usize),
+}
+
+/// A refusal, whatever refused: its number, its name, what it names, and for a flow of a source
+/// text the steps of its walk.
+#[derive(Clone, Copy, Debug)]
+pub struct Diagnostic<'a> {
+    /// The number of the refusal.
+    pub code: usize,
+    /// The name of the refusal.
+    pub name: &'a [u8],
+    /// What the refusal names.
+    pub field: Field<'a>,
+    /// The steps of the walk of a refused flow.
+    pub steps: Option<&'a [Step]>,
+}
+
+impl<'a> Diagnostic<'a> {
+    /// A refusal that has no walk.
+    pub fn new(code: usize, name: &'a [u8], field: Field<'a>) -> Diagnostic<'a>
+        ensures { diagnostic_of result
+            ≡ spec.refusal code name.now (field_of field.entry) }
+    {
+        Diagnostic {
+            code,
+            name,
+            field,
+            steps: None,
+        }
+    }
+}
+
+/// Adds a field, after a space.
+fn push_field(text: &mut Vec<u8>, field: Field) -> Result<(), AllocError>
+    ensures { OnOk result
+        (text.new.items ≡ text.old.items ++ spec.field_text (field_of field.entry)) }
+{
+    match field {
+        Field::Nothing => Ok(()),
+        Field::Number(n) => {
+            text.extend_from_slice(b" ")?;
+            put_number(text, n)
+        }
+        Field::Pair(a, b) => {
+            text.extend_from_slice(b" ")?;
+            put_number(text, a)?;
+            text.extend_from_slice(b" ")?;
+            put_number(text, b)
+        }
+        Field::Place(line, column) => {
+            text.extend_from_slice(b" ")?;
+            put_number(text, line)?;
+            text.extend_from_slice(b":")?;
+            put_number(text, column)
+        }
+        Field::Word(word) => {
+            text.extend_from_slice(b" ")?;
+            text.extend_from_slice(word)
+        }
+        Field::Numbered(word, n) => {
+            text.extend_from_slice(b" ")?;
+            text.extend_from_slice(word)?;
+            text.extend_from_slice(b" ")?;
+            put_number(text, n)
+        }
+    }
+}
+
+/// The line of a refusal: `refused: `, its number, its name and what it names.
+pub fn line_text(alloc: Global, diagnostic: &Diagnostic) -> Result<Vec<u8>, AllocError>
+    ensures line { IfOk result
+        (λ text. text.items ≡ spec.line_text (diagnostic_of diagnostic.now)) }
+{
+    let mut text = Vec::from_slice(alloc, b"refused: ")?;
+    put_number(&mut text, diagnostic.code)?;
+    text.extend_from_slice(b" ")?;
+    text.extend_from_slice(diagnostic.name)?;
+    push_field(&mut text, diagnostic.field)?;
+    text.extend_from_slice(b"\n")?;
+    Ok(text)
+}

@@ -1,0 +1,232 @@
+//! A refusal as a line of JSON.
+
+ghost use Rattle.std.specs.Prelude.{◌≡◌, ◌≢◌, ◌++◌, codes, false, map, option_map, IfOk, OnOk};
+ghost use Rattle.serde_json.specs.Data.{object};
+ghost use Rattle.serde_json.specs.View.{members_view, view};
+ghost use Rattle.serde_json.specs.Written.{compact_text, members_have_float};
+ghost use Rattle.vsi_compiler.specs.declared.error.CompileError.TheVariants.{Memory};
+ghost use Rattle.vsi_infer.specs.Explanation.{name_of, rule_text};
+ghost use Rattle.vsi_diagnostics.specs.Json as spec;
+ghost use Rattle.vsi_diagnostics.specs.View.{diagnostic_of, field_of};
+
+use crate::diagnostic::{Diagnostic, Field};
+use crate::members::{put_natural, put_text};
+use serde_json::{Map, Value, put};
+use std::alloc::{AllocError, Global};
+use vsi_compiler::{CompileError, resolved_program};
+use vsi_lattice::Lattice;
+use vsi_scope::{Resolved, Var};
+use vsi_syntax::line_column;
+use vsi_types::{LOOP, Rule, Step};
+
+/// The name of the rule by which a step flows.
+fn rule_name(rule: Rule) -> &'static [u8]
+    ensures { result.now ≡ rule_text rule }
+{
+    match rule {
+        Rule::Assign => b"ASSIGN",
+        Rule::If => b"IF",
+        Rule::While => b"WHILE",
+        Rule::Letvar => b"LETVAR",
+        Rule::Loop => b"LOOP",
+    }
+}
+
+/// The name of a variable, globals first; the ending of loops has one of its own.
+fn variable_name<'a>(program: &'a Resolved<'_>, variable: Var) -> &'a [u8]
+    ensures { result.now ≡ name_of program.now variable }
+{
+    if variable == LOOP {
+        return b"(loop)";
+    }
+    let number = variable.0 as usize;
+    let globals = program.globals();
+    if number < globals.len() {
+        return globals[number].name;
+    }
+    match program.letvars().get(number - globals.len()) {
+        Some(entry) => entry.name,
+        None => b"",
+    }
+}
+
+/// The object of a step: where its source is read, its rule, and the names of both ends.
+fn step_object(
+    alloc: Global,
+    source: &[u8],
+    program: &Resolved<'_>,
+    step: &Step,
+) -> Result<Map<String, Value>, AllocError>
+    ensures { IfOk result (λ map. members_view map.entries
+        ≡ spec.step_members source.now program.now step.now) }
+{
+    let mut map = Map::new(alloc);
+    let (line, column) = line_column(source, step.read.start);
+    put_natural(alloc, &mut map, "line", line)?;
+    put_natural(alloc, &mut map, "column", column)?;
+    put_text(alloc, &mut map, "kind", rule_name(step.rule))?;
+    put_text(alloc, &mut map, "from", variable_name(program, step.source))?;
+    put_text(alloc, &mut map, "to", variable_name(program, step.target))?;
+    Ok(map)
+}
+
+/// Adds the objects of steps, in their order.
+fn push_steps(
+    alloc: Global,
+    found: &mut Vec<Value>,
+    source: &[u8],
+    program: &Resolved<'_>,
+    steps: &[Step],
+) -> Result<(), AllocError>
+    ensures { OnOk result (map view found.new.items
+        ≡ map view found.old.items ++ spec.step_objects source.now program.now steps.now) }
+{
+    for step in steps {
+        found.push(Value::Object(step_object(alloc, source, program, step)?))?;
+    }
+    Ok(())
+}
+
+/// Whether the error is want of memory.
+fn wants_memory(error: &CompileError) -> bool
+    ensures { result ≡ false → error.now ≢ Memory }
+{
+    matches!(error, CompileError::Memory)
+}
+
+/// The objects of the steps of a walk, by the names of the text's program; none where it has none.
+fn walk_objects(
+    alloc: Global,
+    lattice: &Lattice,
+    source: &[u8],
+    steps: &[Step],
+) -> Result<Vec<Value>, AllocError>
+    ensures { IfOk result (λ found.
+        spec.NamesWalk lattice.now source.now steps.now (map view found.items)) }
+{
+    let program = match resolved_program(alloc, lattice, source) {
+        Ok(program) => program,
+        Err(error) => {
+            if wants_memory(&error) {
+                return Err(AllocError);
+            }
+            return Ok(Vec::new(alloc));
+        }
+    };
+    let mut found = Vec::new(alloc);
+    push_steps(alloc, &mut found, source, &program, steps)?;
+    Ok(found)
+}
+
+/// The objects of the steps of a flow; none of another refusal.
+fn flow_objects(
+    alloc: Global,
+    lattice: &Lattice,
+    source: &[u8],
+    steps: Option<&[Step]>,
+) -> Result<Option<Vec<Value>>, AllocError>
+    ensures { IfOk result (λ found. spec.NamesFlow lattice.now source.now
+        (option_map (λ s. s.now) steps.entry) (option_map (λ v. map view v.items) found)) }
+{
+    match steps {
+        Some(steps) => {
+            let found = walk_objects(alloc, lattice, source, steps)?;
+            Ok(Some(found))
+        }
+        None => Ok(None),
+    }
+}
+
+/// Puts the line and the column of a refusal that has a place.
+fn put_place(alloc: Global, map: &mut Map<String, Value>, field: Field) -> Result<(), AllocError>
+    ensures { OnOk result (members_view map.new.entries
+        ≡ spec.with_place (field_of field.entry) (members_view map.old.entries)) }
+{
+    match field {
+        Field::Place(line, column) => {
+            put_natural(alloc, map, "line", line)?;
+            put_natural(alloc, map, "column", column)
+        }
+        Field::Nothing | Field::Number(_) | Field::Pair(_, _) => Ok(()),
+        Field::Word(_) | Field::Numbered(_, _) => Ok(()),
+    }
+}
+
+/// Puts the steps of a flow.
+fn put_steps(
+    alloc: Global,
+    members: &mut Map<String, Value>,
+    steps: Option<Vec<Value>>,
+) -> Result<(), AllocError>
+    ensures { OnOk result (members_view members.new.entries ≡ spec.with_steps
+        (option_map (λ v. map view v.items) steps) (members_view members.old.entries)) }
+{
+    match steps {
+        Some(objects) => put(members, alloc, "steps", Value::Array(objects)),
+        None => Ok(()),
+    }
+}
+
+/// The lines without the last line feed.
+fn without_end(lines: &[u8]) -> &[u8]
+    ensures { result.now ≡ spec.without_end lines.now }
+{
+    &lines[..lines.len().saturating_sub(1)]
+}
+
+/// The members of the object of a refusal with these lines.
+fn refusal_members(
+    alloc: Global,
+    diagnostic: &Diagnostic,
+    steps: Option<Vec<Value>>,
+    lines: &[u8],
+) -> Result<Map<String, Value>, AllocError>
+    ensures { IfOk result (λ members. members_view members.entries
+        ≡ spec.refusal_members (diagnostic_of diagnostic.now)
+        (option_map (λ v. map view v.items) steps) lines.now) }
+{
+    let mut map = Map::new(alloc);
+    put(&mut map, alloc, "accepted", Value::Bool(false))?;
+    put_natural(alloc, &mut map, "number", diagnostic.code)?;
+    put_text(alloc, &mut map, "name", diagnostic.name)?;
+    put_place(alloc, &mut map, diagnostic.field)?;
+    put_steps(alloc, &mut map, steps)?;
+    put_text(alloc, &mut map, "text", without_end(lines))?;
+    Ok(map)
+}
+
+/// The line of an object.
+fn object_line(alloc: Global, map: Map<String, Value>) -> Result<Vec<u8>, AllocError>
+    ensures { IfOk result (λ line. members_have_float (members_view map.entries) ≡ false
+        → line.items ≡ compact_text (object (members_view map.entries)) ++ codes "\n") }
+{
+    let mut line = Value::Object(map).to_vec(alloc)?;
+    line.extend_from_slice(b"\n")?;
+    Ok(line)
+}
+
+/// A refusal of a source text as a line of JSON: an object with `accepted`, `number`, `name`,
+/// `text`, which has these lines without the last line feed, `line` and `column` where the refusal
+/// has a place, and `steps` of a flow.
+pub fn refusal_json(
+    alloc: Global,
+    lattice: &Lattice,
+    source: &[u8],
+    diagnostic: &Diagnostic,
+    lines: &[u8],
+) -> Result<Vec<u8>, AllocError>
+    ensures json { IfOk result (λ out. spec.IsRefusalJson lattice.now source.now
+        (diagnostic_of diagnostic.now) lines.now out.items) }
+{
+    let steps = flow_objects(alloc, lattice, source, diagnostic.steps)?;
+    let map = refusal_members(alloc, diagnostic, steps, lines)?;
+    let line = object_line(alloc, map)?;
+    Ok(line)
+}
+
+/// The line of JSON that says that a text is accepted.
+pub fn accepted_json(alloc: Global) -> Result<Vec<u8>, AllocError>
+    ensures line { IfOk result (λ out. out.items ≡ spec.accepted_line) }
+{
+    Vec::from_slice(alloc, b"{\"accepted\":true}\n")
+}

@@ -1,0 +1,26 @@
+//! A refusal as one value, whatever refused, and the texts that are made of it.
+//!
+//! `refusal_diagnostic` makes the value of a refused source text and `fault_diagnostic` that of any
+//! other file, as `specs/Source`, `specs/Lattice` and `specs/Files` say for each error.
+//! `refusal_text` and `fault_text` write its fixed text, as `specs/Texts` says: the line
+//! `refused: NUMBER NAME FIELDS` of `specs/Diagnostic`, and for a flow the explanation of its walk.
+//! `refusal_json` writes the value as a line of JSON, as `specs/Json` says.
+//!
+//! To be believed: all files of `specs/`.
+#![tactic(auto)]
+
+mod diagnostic;
+mod fault;
+mod files;
+mod json;
+mod lattice;
+pub mod members;
+mod source;
+mod texts;
+
+pub use diagnostic::{Diagnostic, Field, line_text};
+pub use fault::Fault;
+pub use files::fault_diagnostic;
+pub use json::{accepted_json, refusal_json};
+pub use source::refusal_diagnostic;
+pub use texts::{fault_text, refusal_text};

@@ -1,0 +1,73 @@
+//! The texts of refusals, each a line that ends with a line feed.
+
+ghost use Rattle.std.specs.Prelude.{◌≡◌, IfOk, option_map};
+ghost use Rattle.vsi_diagnostics.specs.Files.{fault_diagnostic};
+ghost use Rattle.vsi_diagnostics.specs.View.{diagnostic_of};
+ghost use Rattle.vsi_diagnostics.specs.Texts as spec;
+
+use crate::diagnostic::{Diagnostic, line_text};
+use crate::fault::Fault;
+use crate::files::fault_diagnostic;
+use crate::source::refusal_diagnostic;
+use std::alloc::{AllocError, Global};
+use vsi_compiler::{CompileError, explanation_text};
+use vsi_lattice::Lattice;
+
+/// What is printed where memory was wanting.
+const OUT_OF_MEMORY: &[u8] = b"out of memory\n";
+
+/// The line of a refusal; without one memory was wanting.
+fn text_of(alloc: Global, diagnostic: Option<Diagnostic>) -> Result<Vec<u8>, AllocError>
+    ensures { IfOk result
+        (λ text. text.items ≡ spec.text_of (option_map diagnostic_of diagnostic.entry)) }
+{
+    match diagnostic {
+        Some(diagnostic) => line_text(alloc, &diagnostic),
+        None => Vec::from_slice(alloc, OUT_OF_MEMORY),
+    }
+}
+
+/// What follows the line of a refused source text.
+fn following(
+    alloc: Global,
+    lattice: &Lattice,
+    source: &[u8],
+    error: &CompileError,
+) -> Result<Vec<u8>, AllocError>
+    ensures { IfOk result (λ more. spec.Follows lattice.now source.now error.now more.items) }
+{
+    match error {
+        CompileError::Flow(walk) => explanation_text(alloc, lattice, source, walk),
+        CompileError::Lex(_) => Ok(Vec::new(alloc)),
+        CompileError::Parse(_) => Ok(Vec::new(alloc)),
+        CompileError::Scope(_) => Ok(Vec::new(alloc)),
+        CompileError::Memory => Ok(Vec::new(alloc)),
+    }
+}
+
+/// The text of the refusal of a source text: the number and the name of the refusal, and the line
+/// and the column, both from 1, where it has a place; for a refused flow the explanation of its
+/// walk follows. Places are taken from the source that is handed in, which is to be the one that
+/// was refused; a walk that isn't bad there isn't explained.
+pub fn refusal_text(
+    alloc: Global,
+    lattice: &Lattice,
+    source: &[u8],
+    error: &CompileError,
+) -> Result<Vec<u8>, AllocError>
+    ensures text { IfOk result
+        (λ text. spec.IsRefusalText lattice.now source.now error.now text.items) }
+{
+    let mut text = text_of(alloc, refusal_diagnostic(source, error))?;
+    let more = following(alloc, lattice, source, error)?;
+    text.extend_from_slice(&more)?;
+    Ok(text)
+}
+
+/// The text of the refusal of a lattice file, an image, a store file or a view: the number and the
+/// name of the refusal, and what it names, in decimal or, for a key of a store file, as it is.
+pub fn fault_text(alloc: Global, fault: &Fault) -> Result<Vec<u8>, AllocError>
+    ensures text { IfOk result (λ text. text.items ≡ spec.text_of (fault_diagnostic fault.now)) }
+{
+    text_of(alloc, fault_diagnostic(fault))
+}
