@@ -15,7 +15,7 @@ use crate::engine::{read_all, write_out};
 use crate::error::EngineError;
 use std::alloc::Global;
 use std::io::{Read, Write};
-use vsi_compiler::compile_in;
+use vsi_compiler::{Source, image_of, judge, read_source};
 use vsi_image::{EncodeError, encode};
 use vsi_lattice::Lattice;
 use vsi_types::Profile;
@@ -127,7 +127,32 @@ fn read_compiled<R: Read>(
     image_bytes(alloc, profile, lattice, &text)
 }
 
-/// The bytes of the image of a text: `compile_in` and `encode`.
+/// The bytes of the image of a source text that is accepted under a profile.
+///
+/// # Errors
+///
+/// `Compile` with the refusal of `judge`, or `Memory`.
+pub fn image_bytes_of(
+    alloc: Global,
+    profile: Profile,
+    source: &Source<'_>,
+) -> Result<Vec<u8>, EngineError>
+    ensures built { IfOk result (λ bytes. IsBuilt
+        (class_named source.now.lattice) (order source.now.lattice) profile source.now.text
+        bytes.items) }
+    ensures refused { IfErr result (RefusesText
+        (class_named source.now.lattice) (order source.now.lattice) profile source.now.text) }
+{
+    let _classes = judge(alloc, profile, source)?;
+    let verified = image_of(alloc, source)?;
+    match encode(alloc, verified.image()) {
+        Ok(bytes) => Ok(bytes),
+        Err(EncodeError::Memory) => Err(EngineError::Memory),
+        Err(EncodeError::Unencodable(_)) => unreachable!(),
+    }
+}
+
+/// The bytes of the image of a text, by `image_bytes_of`.
 ///
 /// # Errors
 ///
@@ -143,10 +168,6 @@ pub fn image_bytes(
     ensures refused { IfErr result
         (RefusesText (class_named lattice.now) (order lattice.now) profile text.now) }
 {
-    let verified = compile_in(alloc, profile, lattice, text)?;
-    match encode(alloc, verified.image()) {
-        Ok(bytes) => Ok(bytes),
-        Err(EncodeError::Memory) => Err(EngineError::Memory),
-        Err(EncodeError::Unencodable(_)) => unreachable!(),
-    }
+    let source = read_source(alloc, lattice, text)?;
+    image_bytes_of(alloc, profile, &source)
 }

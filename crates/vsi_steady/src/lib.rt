@@ -7,8 +7,9 @@
 //! through with no classes of its slots. `laws` says the first of the definition. `steady_text`
 //! tells why an image is refused: for a flow, a chain of steps of its code.
 //!
-//! `compile_steady` makes such an image of a source text, or tells a shortest walk from a secret to
-//! a guard, the lines of which `steady_explanation` writes.
+//! `steady_image_of` makes such an image of a source text, or answers a shortest walk from a secret
+//! to a guard, the lines of which `steady_explanation_of` writes; `compile_steady` and
+//! `steady_explanation` read the text first.
 //!
 //! To be believed: all files of `specs/`.
 #![tactic(auto)]
@@ -27,7 +28,7 @@ mod unsteady;
 mod watched;
 
 pub use error::SteadyError;
-pub use source::{compile_steady, steady_explanation};
+pub use source::{compile_steady, steady_explanation, steady_explanation_of, steady_image_of};
 pub use steady::steady_in;
 pub use text::steady_text;
 pub use unsteady::UnsteadyError;

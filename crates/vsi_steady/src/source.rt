@@ -18,21 +18,52 @@ use crate::steady::steady_in;
 use crate::unsteady::UnsteadyError;
 use crate::watched::watched_program;
 use std::alloc::{AllocError, Global};
-use vsi_compiler::{CompileError, compile_in, resolved_program};
+use vsi_compiler::{CompileError, Source, image_of, read_source};
 use vsi_image::Verified;
 use vsi_infer::{Walk, check_walk_once, explain, infer_in};
 use vsi_lattice::Lattice;
 use vsi_types::Profile;
 
-/// The image of a text that is accepted under the strict profile, and in which each guard, that of
-/// a choice too, has the bottom class. The image is `compile_in`'s. A text of which this holds and
-/// whose image is steady is refused for want of memory alone.
+/// The image of a source text that is accepted under the strict profile, and in which each guard,
+/// that of a choice too, has the bottom class. The image is `image_of`'s. A text of which this holds
+/// and whose image is steady is refused for want of memory alone.
 ///
 /// # Errors
 ///
-/// The first refusal in the order text, words, tree, scope, size, flow, image. The image is refused
-/// where one of its slots serves two variables of classes that don't agree. `Memory` may stand in
-/// place of any answer.
+/// A flow first, then the image, which is refused where one of its slots serves two variables of
+/// classes that don't agree. `Memory` may take the place of any answer.
+pub fn steady_image_of(alloc: Global, source: &Source<'_>) -> Result<Verified, UnsteadyError>
+    ensures flows { IfOk result (λ _. HasSteadyFlows
+        (class_named source.now.lattice) (order source.now.lattice) source.now.text) }
+    ensures compiled { IfOk result (IsCompiled
+        (class_named source.now.lattice) (order source.now.lattice) Strict source.now.text) }
+    ensures steady { IfOk result
+        (IsSteady (class_named source.now.lattice) (order source.now.lattice)) }
+    ensures alike { IfOk result
+        (RunsAlike (class_named source.now.lattice) (order source.now.lattice)) }
+    ensures views { IfOk result
+        (ViewsAlike (class_named source.now.lattice) (order source.now.lattice)) }
+    ensures refused { IfErr result (RefusesSteady
+        (class_named source.now.lattice) (order source.now.lattice) source.now.text) }
+    ensures exact { IsSteadilyAccepted
+        (class_named source.now.lattice) (order source.now.lattice) source.now.text
+        → IfErr result (λ e. e ≡ Memory) }
+{
+    let lattice = source.lattice();
+    let resolved = source.resolved();
+    let watched = watched_program(alloc, resolved)?;
+    let _classes = infer_in(alloc, Profile::Strict, lattice, &watched)?;
+    let verified = image_of(alloc, source)?;
+    steady_in(alloc, lattice, &verified)?;
+    Ok(verified)
+}
+
+/// The steady image of a text, by `steady_image_of`.
+///
+/// # Errors
+///
+/// The first refusal in the order text, tokens, tree, scope, size, flow, image. `Memory` may take
+/// the place of any answer.
 pub fn compile_steady(
     alloc: Global,
     lattice: &Lattice,
@@ -50,17 +81,34 @@ pub fn compile_steady(
     ensures exact { IsSteadilyAccepted (class_named lattice.now) (order lattice.now) text.now
         → IfErr result (λ e. e ≡ Memory) }
 {
-    let resolved = resolved_program(alloc, lattice, text)?;
-    let watched = watched_program(alloc, &resolved)?;
-    let _classes = infer_in(alloc, Profile::Strict, lattice, &watched)?;
-    let verified = compile_in(alloc, Profile::Strict, lattice, text)?;
-    steady_in(alloc, lattice, &verified)?;
-    Ok(verified)
+    let source = read_source(alloc, lattice, text)?;
+    steady_image_of(alloc, &source)
 }
 
-/// The explanation of a walk that `compile_steady` tells: a line for each of its steps, and one for
-/// the classes of its ends. It is empty where the walk isn't a bad walk of the text, judged as
-/// there.
+/// The explanation of a walk that `steady_image_of` answers: a line for each of its steps, and one
+/// for the classes of its ends. It is empty where the walk isn't a bad walk of the source, judged
+/// as there.
+pub fn steady_explanation_of(
+    alloc: Global,
+    source: &Source<'_>,
+    walk: &Walk,
+) -> Result<Vec<u8>, AllocError>
+    ensures { IfOk result (λ out. ExplainsWatchedWalk
+        source.now.lattice source.now.text walk.now.steps.items out.items) }
+{
+    let lattice = source.lattice();
+    let resolved = source.resolved();
+    let watched = watched_program(alloc, resolved)?;
+    let is_bad = check_walk_once(alloc, Profile::Strict, lattice, &watched, walk)?;
+    if is_bad {
+        explain(alloc, source.text(), lattice, &watched, walk)
+    } else {
+        Ok(Vec::new(alloc))
+    }
+}
+
+/// The explanation of a walk of a text, by `steady_explanation_of`. It is empty where the text has
+/// no program.
 pub fn steady_explanation(
     alloc: Global,
     lattice: &Lattice,
@@ -70,16 +118,9 @@ pub fn steady_explanation(
     ensures { IfOk result
         (λ out. ExplainsWatchedWalk lattice.now text.now walk.now.steps.items out.items) }
 {
-    let resolved = match resolved_program(alloc, lattice, text) {
-        Ok(resolved) => resolved,
-        Err(CompileError::Memory) => return Err(AllocError),
-        Err(_) => return Ok(Vec::new(alloc)),
-    };
-    let watched = watched_program(alloc, &resolved)?;
-    let is_bad = check_walk_once(alloc, Profile::Strict, lattice, &watched, walk)?;
-    if is_bad {
-        explain(alloc, text, lattice, &watched, walk)
-    } else {
-        Ok(Vec::new(alloc))
+    match read_source(alloc, lattice, text) {
+        Ok(source) => steady_explanation_of(alloc, &source, walk),
+        Err(CompileError::Memory) => Err(AllocError),
+        Err(_) => Ok(Vec::new(alloc)),
     }
 }

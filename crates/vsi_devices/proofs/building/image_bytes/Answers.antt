@@ -1,39 +1,24 @@
-use Rattle.std.proofs.Common.{ap, sym, subst, ◌∙◌}
 use Rattle.std.proofs.lemmas.Result.{err_from_is_err_and}
-use Rattle.vsi_image.specs.declared.instr.Image.{Image}
-use Rattle.vsi_image.specs.Fields.{IsAllowed, bytes_of, fields}
 use Rattle.vsi_lattice.specs.LatticeView.{class_named, order}
-use Rattle.vsi_devices.proofs.Builds.{never_past}
+use Rattle.vsi_compiler.proofs.Held.{program_refused}
 use Rattle.vsi_devices.proofs.Refusals.{text_refused}
 use Rattle.vsi_devices.proofs.building.image_bytes.Goals as goal
 
-pub returns-in_err-verified-clause-refused : goal.returns-in_err-verified-clause-refused
-returns-in_err-verified-clause-refused c =
+pub returns-in_err-source-clause-refused : goal.returns-in_err-source-clause-refused
+returns-in_err-source-clause-refused c =
     let l = c.args.lattice.now in
+    let e = c.in_err-source.field-0.0 in
     let p = err_from_is_err_and c.from_residual.result c.from_residual.ensures.1 in
-    rw (p.1, p.2) (text_refused (class_named l) (order l) c.args.profile c.args.text.now
-    c.in_err-verified.field-0.0 c.in_err-verified.ensures.refused c.in_err-verified.ensures.exact)
+    rw (p.1, p.2) (text_refused (class_named l) (order l) c.args.profile c.args.text.now e
+    (program_refused (class_named l) (order l) c.args.profile c.args.text.now e c.in_err-source.ensures.refused)
+    (λ a. c.in_err-source.ensures.exact a.tree a.commands a.reads a.resolution))
 
-pub returns-in-Ok-clause-built : goal.returns-in-Ok-clause-built
-returns-in-Ok-clause-built c =
-    let v = c.in_ok-verified.ensures in
-    record {
-      image = c.in_ok-verified.verified;
-      compiled = record {
-        accepted = v.accepted;
-        globals = v.globals;
-        meaning = v.meaning;
-        noninterference = v.noninterference;
-        endings = v.endings;
-        coded = v.coded;
-        image = v.image;
-        size = v.size;
-      };
-      spelled = c.in-Ok.ensures.bytes ∙ ap (λ i. bytes_of 2 (fields i)) c.image.ensures.same;
-    }
+pub returns-clause-built : goal.returns-clause-built
+returns-clause-built c =
+    let s = c.in_ok-source.ensures in
+    rw (← s.lattice, ← s.text) c.image_bytes_of.ensures.built
 
-pub unreachable-requires : goal.unreachable-requires
-unreachable-requires c =
-    never_past (fields c.image.result.now) c.in-Err-Unencodable.field-0-0
-    (subst (λ (i : Image). IsAllowed (fields i)) (sym c.image.ensures.same) c.image.ensures.valid.allowed)
-    (rw c.in-Err-Unencodable.field-0-is at c.in-Err-Unencodable.ensures.first)
+pub returns-clause-refused : goal.returns-clause-refused
+returns-clause-refused c =
+    let s = c.in_ok-source.ensures in
+    rw (← s.lattice, ← s.text) c.image_bytes_of.ensures.refused
