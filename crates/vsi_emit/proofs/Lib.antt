@@ -4,3 +4,5 @@ pub mod Straight
 pub mod Courses
 pub mod Emulating
 pub mod Passes
+pub mod Following
+pub mod Apart
