@@ -6,3 +6,4 @@ pub mod Emulating
 pub mod Passes
 pub mod Following
 pub mod Apart
+pub mod Small
