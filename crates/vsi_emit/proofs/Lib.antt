@@ -7,3 +7,4 @@ pub mod Passes
 pub mod Following
 pub mod Apart
 pub mod Small
+pub mod Whole

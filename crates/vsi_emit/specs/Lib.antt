@@ -4,6 +4,7 @@ pub mod Emulation
 pub mod Jumps
 pub mod Emitted
 pub mod Apart
+pub mod Whole
 pub mod Laws
 pub mod Closed
 pub mod Depths
