@@ -9,7 +9,7 @@
 //! text are those of the code and those of the budget. Where two runs of the image are at the same
 //! places, the calls take the same jumps, `specs/Jumps`.
 //!
-//! To be believed: `specs/Emitted`, `specs/Emulation`, `specs/Jumps`, `specs/Names`,
+//! To be believed: `specs/Emitted`, `specs/Emulation`, `specs/Jumps`, `specs/Laws`, `specs/Names`,
 //! `specs/SmallC` and `specs/Writing`; the other files of `specs/` are stepping stones of proofs.
 #![tactic(auto)]
 
@@ -18,6 +18,7 @@ mod depths;
 mod emit;
 mod error;
 mod frame;
+pub mod laws;
 mod marks;
 mod names;
 mod operands;
