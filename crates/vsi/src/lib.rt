@@ -18,6 +18,7 @@ mod conformance;
 mod desk;
 mod drawing;
 mod driving;
+mod emitting;
 mod explaining;
 mod files;
 mod filling;
