@@ -4,6 +4,7 @@ pub mod Input
 pub mod Words
 pub mod Holding
 pub mod Driven
+pub mod Naming
 pub mod Performed
 pub mod Reasons
 pub mod Done

@@ -12,6 +12,8 @@ use Rattle.vsi_types.specs.declared.rules.Profile.{Profile}
 use Rattle.vsi_types.specs.declared.rules.Profile.TheVariants.{Base, Strict}
 use Rattle.vsi_image.specs.declared.instr.Image.{Image}
 use Rattle.vsi_image.specs.Fields.{globals}
+use Rattle.vsi_emit.specs.Emitted.{IsEmitted}
+use Rattle.vsi_emit.specs.Writing.{header_text}
 use Rattle.vsi_store.specs.File.{Tells}
 use Rattle.vsi_store.specs.Text.{store_text_of}
 use Rattle.vsi_store.specs.declared.comparison.Comparison as found
@@ -41,7 +43,7 @@ use Rattle.vsi_conform.specs.declared.interface.Interface.{Interface}
 use Rattle.vsi_conform.specs.declared.interface.Judgement.{Judgement}
 use Rattle.vsi_conform.specs.declared.interface.Judgement.TheVariants as judgement
 use Rattle.vsi_conform.specs.Checking.{TellsAccepted}
-use Rattle.vsi_answers.specs.Judged.{Declares}
+use Rattle.vsi_answers.specs.Judged.{AreImage, Declares}
 use Rattle.vsi_answers.specs.Requests.{BuildsTo, ChecksSteadyTo, ChecksTo, ClassesTo, ComparesTo, FlowsTo, ListsTo, ViewsTo, WalksTo}
 use Rattle.vsi_arguments.specs.declared.request.Audit.{Audit}
 use Rattle.vsi_arguments.specs.declared.request.Comparison.{Comparison}
@@ -49,6 +51,7 @@ use Rattle.vsi_arguments.specs.declared.request.Compilation.{Compilation}
 use Rattle.vsi_arguments.specs.declared.request.Conformance.{Conformance}
 use Rattle.vsi_arguments.specs.declared.request.Drawing.{Drawing}
 use Rattle.vsi_arguments.specs.declared.request.Driving.{Driving}
+use Rattle.vsi_arguments.specs.declared.request.Emission.{Emission}
 use Rattle.vsi_arguments.specs.declared.request.Execution.{Execution}
 use Rattle.vsi_arguments.specs.declared.request.Judging.{Judging}
 use Rattle.vsi_arguments.specs.declared.request.Outset.{Outset}
@@ -57,6 +60,7 @@ use Rattle.vsi_arguments.specs.declared.request.Request.{Request}
 use Rattle.vsi_arguments.specs.declared.request.Request.TheVariants as request
 use Rattle.vsi.specs.Driven.{DrivesInput}
 use Rattle.vsi.specs.Holding.{Delivers, Fills, Holding, IsImageAt, IsLatticeAt, IsReadAt, IsStoreAt}
+use Rattle.vsi.specs.Naming.{function_name}
 
 -- ---- what is written.
 
@@ -256,6 +260,32 @@ abbrev pub IsPolicyAt : Holding → List ℕ → Policy → Lattice → Type 0
 IsPolicyAt holds interface (File path) l = IsLatticeAt holds (named_path interface path) l
 IsPolicyAt holds interface (Tables text) l = Declares text.items l
 
+-- A source text and the lattice that it is compiled with, under the base profile.
+abbrev pub compilation_of : Bor (List ℕ) → Bor (List ℕ) → Compilation
+compilation_of lattice source = record { lattice = lattice; source = source; is_strict = false }
+
+-- The image whose bytes `build` makes of the files of a compilation.
+pub record IsBuiltAt (holds : Holding) (c : Compilation) (im : Image) : Type 0 where
+  pub bytes : Vec ℕ
+  pub built : OfFiles holds c (ToldImage c.is_strict) bytes
+  pub are : AreImage bytes.items im
+
+-- The image of a file, or with a lattice that of a source text.
+abbrev pub IsEmittedFrom : Holding → Option (Bor (List ℕ)) → Bor (List ℕ) → Image → Type 0
+IsEmittedFrom holds None file = IsImageAt holds file.now
+IsEmittedFrom holds (Some lattice) file = IsBuiltAt holds (compilation_of lattice file)
+
+-- The header of an image's C, or the C.
+abbrev pub IsWrittenInC : Bool → Image → List ℕ → List ℕ → Type 0
+IsWrittenInC true im name text = text ≡ header_text name (globals im.globals.items)
+IsWrittenInC false im name text = IsEmitted im name text
+
+-- The C of an image that is asked for, or its header.
+pub record EmitsFile (holds : Holding) (asked : Emission) (text : Vec ℕ) : Type 0 where
+  pub image : Image
+  pub held : IsEmittedFrom holds asked.lattice asked.file image
+  pub is : IsWrittenInC asked.is_header image (function_name asked.name asked.file.now) text.items
+
 -- What an interface asks, with its lattice, and a source text, as the files hold them.
 pub record AreAsked (holds : Holding) (c : Conformance) (asked : Asked) (l : Lattice) (source : List ℕ) : Type 0 where
   pub interface : IsAskedAt holds c.interface.now asked
@@ -376,6 +406,7 @@ Performs holds given (request.Build c image) left = PerformsBuild holds c image.
 Performs holds given (request.List image) left = Alone (Writes (OfFile holds image.now ToldListing)) holds left
 Performs holds given (request.Audit asked) left = Alone (PerformsAudit holds asked) holds left
 Performs holds given (request.Source image) left = Alone (Writes (SourceOfFile holds image.now)) holds left
+Performs holds given (request.EmitC asked) left = Alone (Writes (EmitsFile holds asked)) holds left
 Performs holds given (request.Run e o has_trace has_count) left = PerformsRun holds e o has_trace left
 Performs holds given (request.View lattice class e o) left = PerformsView holds lattice.now class.now e o left
 Performs holds given (request.Drive driving) left = PerformsDrive holds driving given left

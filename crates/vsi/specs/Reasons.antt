@@ -51,7 +51,7 @@ use Rattle.vsi.specs.declared.stop.Stop.{Stop}
 use Rattle.vsi.specs.declared.stop.Stop.TheVariants as stops
 use Rattle.vsi.specs.Holding.{Holding, IsImageAt, IsLatticeAt, IsReadAt, IsStoreAt}
 use Rattle.vsi.specs.Input.{two_classes}
-use Rattle.vsi.specs.Performed.{AreFiles, BeginsAt, ComparesFiles, ConformsFiles, IsAskedAt, LooksAt, OfFiles, Writes, judgement_of, named_path, profile_of}
+use Rattle.vsi.specs.Performed.{AreFiles, BeginsAt, ComparesFiles, ConformsFiles, IsAskedAt, LooksAt, OfFiles, Writes, compilation_of, judgement_of, named_path, profile_of}
 
 -- ---- what a stop tells.
 
@@ -328,6 +328,11 @@ abbrev pub OtherLeak : Holding → Search → Stop → Type 0
 OtherLeak holds s stop =
     IsSomeAnd s.class (λ class. LacksClassAt holds s.lattice.now class.now stop) ⊎ ToldLeak holds s stop
 
+-- `emit-c`: the image is refused, or with a lattice the lattice or the source text.
+abbrev pub WhyEmit : Holding → Option (Bor (List ℕ)) → Bor (List ℕ) → Unanswered → Type 0
+WhyEmit holds None file = RefusesImage holds file.now
+WhyEmit holds (Some lattice) file = RefusesFiles holds (compilation_of lattice file) (AsksImage false)
+
 -- `draw`: the lattice is refused, or a source text without a program.
 abbrev pub WhyDraw : Holding → List ℕ → Option (Bor (List ℕ)) → Unanswered → Type 0
 WhyDraw holds lattice None reason = RefusesLattice holds lattice reason
@@ -364,6 +369,7 @@ Why holds (request.Audit asked) old new =
     (λ reason. RefusesLattice holds asked.lattice.now reason ⊎ RefusesImage holds asked.image.now reason)
     (RefusesAudit holds asked)
 Why holds (request.Source image) old new = StopsBy (RefusesImage holds image.now) (HasNoText holds image.now)
+Why holds (request.EmitC asked) old new = StopsBy (WhyEmit holds asked.lattice asked.file) NoOther
 Why holds (request.Run e o has_trace has_count) old new = StopsBy (WhyRun holds e o has_trace old new) NoOther
 Why holds (request.View lattice class e o) old new =
     StopsBy (WhyView holds lattice.now class.now e o) (LacksClassAt holds lattice.now class.now)

@@ -19,6 +19,7 @@ mod desk;
 mod diagnosing;
 mod drawing;
 mod driving;
+mod emitting;
 mod explaining;
 mod files;
 mod filling;

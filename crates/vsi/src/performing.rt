@@ -14,6 +14,7 @@ use crate::conformance::conform;
 use crate::desk::Desk;
 use crate::drawing::{draw, report};
 use crate::driving::drive;
+use crate::emitting::emit;
 use crate::files::Files;
 use crate::leaking::leak;
 use crate::running::{Running, run, view};
@@ -122,6 +123,7 @@ pub(crate) fn perform<'a, F: Files, R: Read, W: Write>(
         Request::List(image) => put(list(desk, image, files), output),
         Request::Audit(asked) => accept(audit(desk, asked, files), output),
         Request::Source(image) => put(source(desk, image, files), output),
+        Request::EmitC(asked) => put(emit(desk, asked, files), output),
         Request::Run {
             execution,
             outset,

@@ -200,7 +200,7 @@ pub(crate) fn flows<'a, F: Files>(
 }
 
 /// The bytes of the image of the source text.
-fn built<'a, F: Files>(
+pub(crate) fn built<'a, F: Files>(
     desk: &mut Desk,
     compilation: Compilation<'a>,
     files: &mut F,

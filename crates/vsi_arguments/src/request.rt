@@ -7,6 +7,7 @@ use crate::usage::program;
 use clap::error::ErrorKind;
 use clap::{ArgMatches, Command, Error};
 use std::alloc::{AllocError, Global};
+use vsi_emit::is_function_name;
 use vsi_explain::{page, subject_page};
 
 /// What is compiled: the paths of a lattice file and of a source text, and whether the strict
@@ -225,16 +226,19 @@ enum Mistake {
     NoSubject,
     /// The image would take the place of a file that is read.
     ImageIsRead,
+    /// The name that is given can't begin names of C.
+    NoName,
     NoSubcommand,
 }
 
 impl Mistake {
     fn kind(self) -> ErrorKind {
         match self {
-            Mistake::NoNumber(_) | Mistake::NoRefusal | Mistake::NoSubject => {
-                ErrorKind::ValueValidation
-            }
-            Mistake::ImageIsRead => ErrorKind::ValueValidation,
+            Mistake::NoNumber(_)
+            | Mistake::NoRefusal
+            | Mistake::NoSubject
+            | Mistake::ImageIsRead
+            | Mistake::NoName => ErrorKind::ValueValidation,
             Mistake::NoTwoStores => ErrorKind::WrongNumberOfValues,
             Mistake::NoSubcommand => ErrorKind::MissingSubcommand,
         }
@@ -250,6 +254,7 @@ impl Mistake {
                 store, interface, classes and profiles"
             }
             Mistake::ImageIsRead => "the image would take the place of a file that is read",
+            Mistake::NoName => "the name is no identifier of C, or it is a keyword",
             Mistake::NoSubcommand => "a subcommand is needed",
         }
     }
@@ -325,6 +330,7 @@ fn named<'a>(
         "compare" => Ok(compare_request(inner)),
         "explain" => Ok(explain_request(inner)),
         "build" => Ok(build_request(inner)),
+        "emit-c" => Ok(emission_request(inner)),
         _ => Ok(Ok(requested(name, inner))),
     }
 }
@@ -339,7 +345,6 @@ fn requested<'a>(name: &str, inner: &ArgMatches<'a>) -> Request<'a> {
         "list" => Request::List(text(inner, "IMAGE")),
         "audit" => Request::Audit(audit_in(inner)),
         "source" => Request::Source(text(inner, "IMAGE")),
-        "emit-c" => Request::EmitC(emission_in(inner)),
         "drive" => Request::Drive(driving_in(inner)),
         "leak" => Request::Leak(search_in(inner)),
         "report" => Request::Report(compilation_in(inner)),
@@ -479,13 +484,19 @@ fn audit_in<'a>(matches: &ArgMatches<'a>) -> Audit<'a> {
     }
 }
 
-fn emission_in<'a>(matches: &ArgMatches<'a>) -> Emission<'a> {
-    Emission {
+fn emission_request<'a>(matches: &ArgMatches<'a>) -> Result<Request<'a>, Mistake> {
+    let name = matches.get_str("name");
+    if let Some(name) = name
+        && !is_function_name(name.as_bytes())
+    {
+        return Err(Mistake::NoName);
+    }
+    Ok(Request::EmitC(Emission {
         lattice: matches.get_str("lattice"),
         file: text(matches, "FILE"),
-        name: matches.get_str("name"),
+        name,
         is_header: matches.get_flag("header"),
-    }
+    }))
 }
 
 fn execution_in<'a>(matches: &ArgMatches<'a>) -> Execution<'a> {

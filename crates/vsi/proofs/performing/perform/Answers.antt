@@ -3,7 +3,7 @@ use Rattle.std.specs.Prelude.{OnOk}
 use Rattle.std.specs.Io.KnownBytes.{Appends}
 use Rattle.vsi_devices.specs.Counted.{device_of}
 use Rattle.vsi_answers.specs.Requests.{ListsTo}
-use Rattle.vsi.specs.Reasons.{AsksCanonical, AsksClasses, AsksFlows, HasNoText, NoOther, OtherLeak, RefusesAudit, RefusesFile, RefusesFiles, RefusesImage, RefusesLattice, RefusesSource, WhyDraw}
+use Rattle.vsi.specs.Reasons.{AsksCanonical, AsksClasses, AsksFlows, HasNoText, NoOther, OtherLeak, RefusesAudit, RefusesFile, RefusesFiles, RefusesImage, RefusesLattice, RefusesSource, WhyDraw, WhyEmit}
 use Rattle.vsi.proofs.Filled.{alone}
 use Rattle.vsi.proofs.Obeyed.{put_stops}
 use Rattle.vsi.proofs.Unrun.{Unseen, fault_stopped}
@@ -31,6 +31,11 @@ pub returns-in-Source-clause-performed : goal.returns-in-Source-clause-performed
 returns-in-Source-clause-performed g c = rw c.in-Source.is
     (put_alone _ _ _ _ _ c.source.result c.put-in-Source.result c.source.ensures.kept c.source.ensures.told
     c.put-in-Source.ensures.done)
+
+pub returns-in-EmitC-clause-performed : goal.returns-in-EmitC-clause-performed
+returns-in-EmitC-clause-performed g c = rw c.in-EmitC.is
+    (put_alone _ _ _ _ _ c.emit.result c.put-in-EmitC.result c.emit.ensures.kept c.emit.ensures.told
+    c.put-in-EmitC.ensures.done)
 
 pub returns-in-Leak-clause-performed : goal.returns-in-Leak-clause-performed
 returns-in-Leak-clause-performed g c = rw c.in-Leak.is
@@ -124,6 +129,11 @@ returns-in-Source-clause-stopped g c = rw c.in-Source.is
     (put_stops (RefusesImage (g.F.Files.holds c.args.files.now) c.in-Source.image.now)
     (HasNoText (g.F.Files.holds c.args.files.now) c.in-Source.image.now)
     c.source.result c.put-in-Source.result c.source.ensures.stopped c.put-in-Source.ensures.stopped)
+
+pub returns-in-EmitC-clause-stopped : goal.returns-in-EmitC-clause-stopped
+returns-in-EmitC-clause-stopped g c = rw c.in-EmitC.is
+    (put_stops (WhyEmit (g.F.Files.holds c.args.files.now) c.in-EmitC.asked.lattice c.in-EmitC.asked.file) NoOther
+    c.emit.result c.put-in-EmitC.result c.emit.ensures.stopped c.put-in-EmitC.ensures.stopped)
 
 pub returns-in-Leak-clause-stopped : goal.returns-in-Leak-clause-stopped
 returns-in-Leak-clause-stopped g c = rw c.in-Leak.is

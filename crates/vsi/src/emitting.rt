@@ -1,0 +1,166 @@
+//! What `emit-c` answers: an image in C, or why there is none.
+
+ghost use Rattle.std.specs.Prelude.{◌≡◌, ◌≤◌, IfErr, IfOk, length};
+ghost use Rattle.vsi.specs.Naming as naming;
+ghost use Rattle.vsi.specs.Performed.{EmitsFile, IsBuiltAt, IsEmittedFrom, IsWrittenInC};
+ghost use Rattle.vsi.specs.Reasons.{AsksImage, NoOther, RefusesFiles, StopsBy, WhyEmit};
+ghost use Rattle.vsi.specs.declared.stop.Stop.TheVariants as stops;
+
+use crate::desk::Desk;
+use crate::files::Files;
+use crate::reading::image_in;
+use crate::stop::Stop;
+use crate::subcommands::built;
+use std::alloc::Global;
+use vsi_answers::judged_image;
+use vsi_arguments::{Compilation, Emission};
+use vsi_emit::{emit_c, emit_header, is_function_name};
+use vsi_image::Verified;
+
+/// The name of C where neither the name that is given nor that of the file serves.
+const OTHERWISE: &[u8] = b"image";
+
+/// What follows the last slash of a path.
+fn file_name(path: &[u8]) -> &[u8]
+    ensures { result.now ≡ naming.after_slash path.now path.now }
+{
+    let mut found = path;
+    let mut rest = path;
+    while let [byte, behind @ ..] = rest {
+        if *byte == b'/' {
+            found = behind;
+        }
+        rest = behind;
+    }
+    found
+}
+
+/// How many bytes come before the first dot of a name.
+fn plain_length(name: &[u8]) -> usize
+    ensures count { result ≡ naming.plain_length name.now }
+    ensures within { result ≤ length name.now }
+{
+    let mut count = 0;
+    let mut rest = name;
+    while let [byte, behind @ ..] = rest {
+        if *byte == b'.' {
+            break;
+        }
+        count += 1;
+        rest = behind;
+    }
+    count
+}
+
+/// A file's name without its folder, up to its first dot.
+fn stem(path: &[u8]) -> &[u8]
+    ensures { result.now ≡ naming.stem path.now }
+{
+    let name = file_name(path);
+    &name[..plain_length(name)]
+}
+
+/// The name that is given, or else that of the file.
+fn proposed<'a>(name: Option<&'a str>, path: &'a str) -> &'a [u8]
+    ensures { result.now ≡ naming.proposed name.entry path.now }
+{
+    match name {
+        Some(name) => name.as_bytes(),
+        None => stem(path.as_bytes()),
+    }
+}
+
+/// That name where functions may have it, and `image` where they may not.
+fn function_name<'a>(name: Option<&'a str>, path: &'a str) -> &'a [u8]
+    ensures { result.now ≡ naming.function_name name.entry path.now }
+{
+    let own = proposed(name, path);
+    if is_function_name(own) {
+        own
+    } else {
+        OTHERWISE
+    }
+}
+
+/// The image of the files of a compilation, which is read from its bytes as one of a file is.
+fn built_image<'a, F: Files>(
+    desk: &mut Desk,
+    compilation: Compilation<'a>,
+    files: &mut F,
+) -> Result<Verified, Stop<'a>>
+    ensures kept { F.holds files.new ≡ F.holds files.old }
+    ensures told { IfOk result (IsBuiltAt (F.holds files.old) compilation.entry) }
+    ensures stopped { IfErr result (StopsBy (RefusesFiles (F.holds files.old) compilation.entry
+        (AsksImage compilation.entry.is_strict)) NoOther) }
+{
+    let bytes = built(desk, compilation, files)?;
+    match judged_image(desk.alloc, bytes.as_slice()) {
+        Ok(verified) => Ok(verified),
+        // The bytes that are built are an image's, so only memory can be wanting.
+        Err(_) => Err(Stop::Memory),
+    }
+}
+
+/// The image of the file, or with a lattice that of the source text.
+fn emitted_image<'a, F: Files>(
+    desk: &mut Desk,
+    lattice: Option<&'a str>,
+    file: &'a str,
+    files: &mut F,
+) -> Result<Verified, Stop<'a>>
+    ensures kept { F.holds files.new ≡ F.holds files.old }
+    ensures told { IfOk result (IsEmittedFrom (F.holds files.old) lattice.entry file.entry) }
+    ensures stopped { IfErr result
+        (StopsBy (WhyEmit (F.holds files.old) lattice.entry file.entry) NoOther) }
+{
+    match lattice {
+        Some(lattice) => {
+            let compilation = Compilation {
+                lattice,
+                source: file,
+                is_strict: false,
+            };
+            built_image(desk, compilation, files)
+        }
+        None => image_in(desk, file, files),
+    }
+}
+
+/// The header of an image's C, or the C.
+fn written_in_c<'a>(
+    alloc: Global,
+    verified: &Verified,
+    name: &[u8],
+    is_header: bool,
+) -> Result<Vec<u8>, Stop<'a>>
+    ensures told { IfOk result
+        (λ text. IsWrittenInC is_header verified.now name.now text.items) }
+    ensures memory { IfErr result (λ stop. stop ≡ stops.Memory) }
+{
+    let answer = if is_header {
+        emit_header(alloc, verified, name)
+    } else {
+        emit_c(alloc, verified, name)
+    };
+    match answer {
+        Ok(text) => Ok(text),
+        // Functions may have the name that is handed over.
+        Err(_) => Err(Stop::Memory),
+    }
+}
+
+/// The C of the image that is asked for, or its header.
+pub(crate) fn emit<'a, F: Files>(
+    desk: &mut Desk,
+    asked: Emission<'a>,
+    files: &mut F,
+) -> Result<Vec<u8>, Stop<'a>>
+    ensures kept { F.holds files.new ≡ F.holds files.old }
+    ensures told { IfOk result (EmitsFile (F.holds files.old) asked.entry) }
+    ensures stopped { IfErr result (StopsBy
+        (WhyEmit (F.holds files.old) asked.entry.lattice asked.entry.file) NoOther) }
+{
+    let verified = emitted_image(desk, asked.lattice, asked.file, files)?;
+    let name = function_name(asked.name, asked.file);
+    written_in_c(desk.alloc, &verified, name, asked.is_header)
+}
