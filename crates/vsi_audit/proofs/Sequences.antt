@@ -6,6 +6,7 @@ use Rattle.vsi_scope.specs.Language.{Expression, Command, Skip, Assign, Sequence
 use Rattle.vsi_scope.specs.declared.resolved.Entry.{Entry}
 use Rattle.vsi_scope.specs.Program.{Resolved, IsResolved, resolved_of}
 use Rattle.vsi_scope.specs.View.{command, sequence}
+use Rattle.vsi_scope.proofs.Limits.{expressions_within}
 use Rattle.vsi_audit.specs.Fitting.{Fits, FitsExpression}
 
 -- Commands that fit, and one more that fits.
@@ -87,7 +88,7 @@ fitting_resolved p ys cs n kept fits same few small =
       few_declarations = omega (arith, few, same, fits.count);
       small = small;
       nested = omega (arith, nested (sequence cs), fits.shallow);
-      shallow = fits.shallow;
+      shallow = omega (arith, expressions_within (sequence cs), fits.shallow);
       distinct = kept.distinct;
       named = kept.named;
     }

@@ -2,7 +2,7 @@
 use Rattle.std.proofs.Common.{◌≡◌, ℕ, ◌+◌, ◌<◌, ◌≤◌, max, List, [], ◌∷◌, ◌++◌, length, take, get_or, refl, sym, ap, ◌∙◌, arith}
 use Rattle.std.proofs.lemmas.List.{take_more}
 use Rattle.vsi_scope.specs.declared.program.Cmd.{Cmd}
-use Rattle.vsi_scope.specs.Language.{Expression, Number, Location, Operator, Command, Skip, Assign, Sequence, If, While, Letvar, nesting, expression_depth, depth}
+use Rattle.vsi_scope.specs.Language.{Expression, Number, Location, Operator, Command, Skip, Assign, Sequence, If, While, Letvar, nesting, expression_depth, expressions_depth}
 use Rattle.vsi_scope.specs.View.{command, sequence}
 use Rattle.vsi_code.specs.Needs.{expression_height, height}
 
@@ -45,8 +45,8 @@ expression_height-within_depth (Location l s) = omega arith
 expression_height-within_depth (Operator o a b) =
     omega (arith, expression_height-within_depth a, expression_height-within_depth b)
 
--- So has a command.
-pub height-within_depth : (c : Command) → height c ≤ depth c + 1
+-- A command has at most one operand more at a time than its deepest expression is deep.
+pub height-within_depth : (c : Command) → height c ≤ expressions_depth c + 1
 height-within_depth Skip = omega arith
 height-within_depth (Assign l s e) = expression_height-within_depth e
 height-within_depth (Sequence a b) = omega (arith, height-within_depth a, height-within_depth b)

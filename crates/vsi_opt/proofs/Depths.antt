@@ -1,7 +1,7 @@
 -- Folding and removal make neither expressions nor letvars deeper.
 use Rattle.std.proofs.Common.{◌≡◌, ℕ, ◌+◌, ◌≤◌, max, Bool, true, false, Option, Some, None, refl, arith}
 use Rattle.vsi_syntax.specs.declared.operator.Op.{Op}
-use Rattle.vsi_scope.specs.Language.{Expression, Number, Location, Operator, Command, Skip, Assign, Sequence, If, While, Letvar, nesting, expression_depth, depth}
+use Rattle.vsi_scope.specs.Language.{Expression, Number, Location, Operator, Command, Skip, Assign, Sequence, If, While, Letvar, nesting, expression_depth, expressions_depth, depth}
 use Rattle.vsi_opt.specs.Folding.{fold_operator, folded, append, truth_of, branch, loop, fold}
 use Rattle.vsi_opt.specs.Optimised.{globals_alone, optimised}
 use Rattle.vsi_opt.proofs.Removal.{append_most, IsCarried, kept_live_carried}
@@ -110,8 +110,60 @@ fold_depth (While e c) =
     omega (arith, joins, folded_depth e, fold_depth c)
 fold_depth (Letvar e c) = omega (arith, folded_depth e, fold_depth c)
 
--- The optimised body has no deeper expression.
+-- The optimised body isn't deeper.
 pub optimised_depth : (c : Command) (g : ℕ) → depth (optimised g c) ≤ depth c
 optimised_depth c g =
     let removed = kept_live_carried (λ a c. depth a ≤ depth c) no_deeper (fold c) g g (globals_alone g) in
     omega (arith, removed, fold_depth c)
+
+-- The deepest expression of two sequences joined.
+pub append_expressions : (a b : Command) → expressions_depth (append a b) ≤ max (expressions_depth a) (expressions_depth b)
+append_expressions = append_most expressions_depth (λ a b. refl)
+
+-- Removal leaves no deeper expression where it leaves none in the parts.
+no_deeper_expressions : IsCarried (λ a c. expressions_depth a ≤ expressions_depth c)
+no_deeper_expressions = record {
+  nothing = omega arith;
+  stays = λ l s e. omega arith;
+  goes = λ l s e. omega arith;
+  joined = λ a b c d x y. omega (arith, append_expressions a b, x, y);
+  choice = λ e a b c d x y. omega (arith, x, y);
+  repeated = λ e a c x. omega (arith, x);
+  local = λ e a c x. omega (arith, x);
+}
+
+-- A choice that is folded has no deeper expression than the choice.
+branch_expressions : (t : Option Bool) (e : Expression) (a b : Command) →
+    expressions_depth (branch t e a b) ≤ max (expression_depth e) (max (expressions_depth a) (expressions_depth b))
+branch_expressions (Some true) e a b = omega arith
+branch_expressions (Some false) e a b = omega arith
+branch_expressions None e a b = omega arith
+
+-- A loop that is folded has no deeper expression than the loop.
+loop_expressions : (t : Option Bool) (e : Expression) (c : Command) →
+    expressions_depth (loop t e c) ≤ max (expression_depth e) (expressions_depth c)
+loop_expressions (Some true) e c = omega arith
+loop_expressions (Some false) e c = omega arith
+loop_expressions None e c = omega arith
+
+-- Folding deepens no expression.
+fold_expressions : (c : Command) → expressions_depth (fold c) ≤ expressions_depth c
+fold_expressions Skip = omega arith
+fold_expressions (Assign l s e) = omega (arith, folded_depth e)
+fold_expressions (Sequence a b) =
+    omega (arith, append_expressions (fold a) (fold b), fold_expressions a, fold_expressions b)
+fold_expressions (If e a b) =
+    let joins = branch_expressions (truth_of (folded e)) (folded e) (fold a) (fold b) in
+    omega (arith, joins, folded_depth e, fold_expressions a, fold_expressions b)
+fold_expressions (While e c) =
+    let joins = loop_expressions (truth_of (folded e)) (folded e) (fold c) in
+    omega (arith, joins, folded_depth e, fold_expressions c)
+fold_expressions (Letvar e c) = omega (arith, folded_depth e, fold_expressions c)
+
+-- The optimised body has no deeper expression.
+pub optimised_expressions : (c : Command) (g : ℕ) → expressions_depth (optimised g c) ≤ expressions_depth c
+optimised_expressions c g =
+    let removed = kept_live_carried (λ a c. expressions_depth a ≤ expressions_depth c) no_deeper_expressions (fold c)
+    g g (globals_alone g)
+    in
+    omega (arith, removed, fold_expressions c)

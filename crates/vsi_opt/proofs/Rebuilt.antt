@@ -3,7 +3,7 @@ use Rattle.std.proofs.Common.{◌≡◌, ℕ, ◌+◌, ◌≤◌, Bool, true, fa
 use Rattle.std.proofs.lemmas.List.{length-map}
 use Rattle.vsi_scope.specs.declared.program.Cmd.{Cmd}
 use Rattle.vsi_scope.specs.declared.resolved.Entry.{Entry}
-use Rattle.vsi_scope.specs.Language.{Expression, Command, Skip, Assign, Sequence, If, While, Letvar, letvars, HasPlaces, size, nesting, depth}
+use Rattle.vsi_scope.specs.Language.{Expression, Command, Skip, Assign, Sequence, If, While, Letvar, letvars, HasPlaces, size, nesting, expressions_depth}
 use Rattle.vsi_scope.specs.Program.{Resolved, IsResolved, resolved_of}
 use Rattle.vsi_scope.specs.View.{sequence}
 use Rattle.vsi_opt.specs.Folding.{folded, truth_of, branch, loop, fold}
@@ -11,6 +11,7 @@ use Rattle.vsi_opt.specs.Folded.{IsFolded}
 use Rattle.vsi_opt.specs.Optimised.{globals_alone, optimised, RunsAlike}
 use Rattle.vsi_opt.specs.Remaining.{may_be_true, may_be_false, list_if, remaining, HasEntries, Remains, IsRemainder}
 use Rattle.vsi_opt.proofs.Remains.{optimised_remains}
+use Rattle.vsi_opt.proofs.Depths.{optimised_expressions}
 use Rattle.vsi_opt.proofs.Kept.{append_letvars, kept_live_letvars, fold_letvars, not_larger, nothing_to_fold, places_kept}
 use Rattle.vsi_opt.proofs.LiveRuns.{evaluates_same}
 
@@ -73,7 +74,7 @@ rebuilt_resolved p ys cs r has is =
       few_declarations = omega (arith, r.few_declarations, optimised_letvars c g, ap letvars is);
       small = omega (arith, r.small, less.0, ap size is);
       nested = omega (arith, r.nested, less.2, ap nesting is);
-      shallow = omega (arith, r.shallow, less.1, ap depth is);
+      shallow = omega (arith, r.shallow, optimised_expressions c g, ap expressions_depth is);
       distinct = r.distinct;
       named = r.named;
     }

@@ -1,7 +1,7 @@
 -- The commands over locations are no deeper than the tree.
 use Rattle.std.proofs.Common.{◌≡◌, ◌≤◌, max, List, [], ◌∷◌, ◌++◌, arith}
 use Rattle.vsi_syntax.specs.Tree as tree
-use Rattle.vsi_scope.specs.Language.{Command, nesting, expression_depth, depth}
+use Rattle.vsi_scope.specs.Language.{Command, Skip, Assign, Sequence, If, While, Letvar, nesting, expression_depth, expressions_depth, depth}
 use Rattle.vsi_scope.specs.Scopes.{Scope, in_sequence}
 use Rattle.vsi_scope.specs.Places.{expression_of, commands_of, all_commands}
 
@@ -53,3 +53,12 @@ mutual
   all_shallow s tree.Done = omega arith
   all_shallow s (tree.Then c rest) =
       omega (arith, depth-append (commands_of s c) (all_commands s rest), shallow s c, all_shallow s rest)
+
+-- No expression of a command is deeper than the command.
+pub expressions_within : (c : Command) → expressions_depth c ≤ depth c
+expressions_within Skip = omega arith
+expressions_within (Assign l s e) = omega arith
+expressions_within (Sequence a b) = omega (arith, expressions_within a, expressions_within b)
+expressions_within (If e a b) = omega (arith, expressions_within a, expressions_within b)
+expressions_within (While e c) = omega (arith, expressions_within c)
+expressions_within (Letvar e c) = omega (arith, expressions_within c)

@@ -27,7 +27,7 @@ use Rattle.vsi_scope.proofs.Views.{sequence_in}
 use Rattle.vsi_scope.proofs.Walks.{all_counted}
 use Rattle.vsi_scope.proofs.Meaning.{does_all, all_places, all_letvars, not_none}
 use Rattle.vsi_scope.proofs.Complete.{does_all_one}
-use Rattle.vsi_scope.proofs.Limits.{all_nested, all_shallow}
+use Rattle.vsi_scope.proofs.Limits.{all_nested, all_shallow, expressions_within}
 use Rattle.vsi_scope.proofs.Clean.{names_distinct, globals_few, globals_known, globals_clean, all_keep, body_clean}
 
 -- No fault of a mark is that the program is too large.
@@ -285,6 +285,10 @@ module _ (k : Known) (p : tree.Whole) (list : List Global) (w : Resolver) (b : B
       large = subst (λ c. 65534 < size c) (sequence_in after) large;
     }
 
+    -- The body is no deeper than the tree.
+    pub no_deeper : depth (sequence after) ≤ 200
+    no_deeper = omega (arith, ap depth sequence_is, all_shallow (global_names p.globals) p.body, b.shallow)
+
     -- The program keeps what a resolved program keeps.
     pub is_resolved : size (sequence after) ≤ 65534 → IsResolved (resolved_of list new.letvars.items after)
     is_resolved fits = record {
@@ -294,7 +298,7 @@ module _ (k : Known) (p : tree.Whole) (list : List Global) (w : Resolver) (b : B
       few_declarations = omega (arith, counted, globals_counted, few_declarations);
       small = fits;
       nested = omega (arith, ap nesting sequence_is, all_nested (global_names p.globals) p.body, b.shallow);
-      shallow = omega (arith, ap depth sequence_is, all_shallow (global_names p.globals) p.body, b.shallow);
+      shallow = omega (arith, expressions_within (sequence after), no_deeper);
       distinct =
           subst (IsDistinct bytes_eq) (sym (same_names k list p.globals b.listed))
           (names_distinct k [] p.globals b.faultless);

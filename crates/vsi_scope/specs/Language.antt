@@ -81,6 +81,15 @@ expression_depth (Number n) = 0
 expression_depth (Location l s) = 0
 expression_depth (Operator o a b) = 1 + max (expression_depth a) (expression_depth b)
 
+-- The depth of the deepest expression of a command.
+abbrev pub expressions_depth : Command → ℕ
+expressions_depth Skip = 0
+expressions_depth (Assign l s e) = expression_depth e
+expressions_depth (Sequence a b) = max (expressions_depth a) (expressions_depth b)
+expressions_depth (If e a b) = max (expression_depth e) (max (expressions_depth a) (expressions_depth b))
+expressions_depth (While e c) = max (expression_depth e) (expressions_depth c)
+expressions_depth (Letvar e c) = max (expression_depth e) (expressions_depth c)
+
 -- The depth of a command: each choice, loop and letvar lies one level above the deepest of its parts.
 abbrev pub depth : Command → ℕ
 depth Skip = 0

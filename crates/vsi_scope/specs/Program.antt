@@ -6,7 +6,7 @@ use Rattle.vsi_syntax.specs.Words.{is_name}
 use Rattle.vsi_scope.specs.declared.program.Cmd.{Cmd}
 use Rattle.vsi_scope.specs.declared.resolved.Global.{Global}
 use Rattle.vsi_scope.specs.declared.resolved.Entry.{Entry}
-use Rattle.vsi_scope.specs.Language.{letvars, size, nesting, depth, HasPlaces}
+use Rattle.vsi_scope.specs.Language.{letvars, size, nesting, expressions_depth, HasPlaces}
 use Rattle.vsi_scope.specs.View.{sequence}
 use Rattle.vsi_scope.specs.Limits.{max_globals, max_declarations, max_size}
 
@@ -24,8 +24,8 @@ resolved_of gs ls cs = record { globals = gs; letvars = ls; body = cs }
 abbrev pub IsNamed : Global → Type 0
 IsNamed g = IsTrue (is_name g.name.now) × IsTrue (is_name g.class_name.now)
 
--- What a resolved program keeps: an entry for each letvar, locations that exist, the limits, and distinct names of
--- globals.
+-- What a resolved program keeps: an entry for each letvar, locations that exist, the limits, letvars and expressions
+-- that nest at most 200 deep, and distinct names of globals.
 pub record IsResolved (r : Resolved) : Type 0 where
   pub entries : length r.letvars ≡ letvars (sequence r.body)
   pub places : HasPlaces (length r.globals) (sequence r.body)
@@ -33,6 +33,6 @@ pub record IsResolved (r : Resolved) : Type 0 where
   pub few_declarations : length r.globals + letvars (sequence r.body) ≤ max_declarations
   pub small : size (sequence r.body) ≤ max_size
   pub nested : nesting (sequence r.body) ≤ max_depth
-  pub shallow : depth (sequence r.body) ≤ max_depth
+  pub shallow : expressions_depth (sequence r.body) ≤ max_depth
   pub distinct : IsDistinct bytes_eq (map (λ g. g.name.now) r.globals)
   pub named : All IsNamed r.globals

@@ -38,8 +38,9 @@ pub struct Entry<'a> {
 
 /// A program over locations. It has at most 256 globals of distinct names, at most 1,024
 /// declarations, one entry for each `letvar`, and a body of size 65,534 at most whose locations
-/// exist and which is 200 deep at most, an `if`, a `while`, a `letvar` and an operator each a
-/// level. So what follows its commands goes no deeper than that.
+/// exist and in which the `letvar`s and the operators of an expression each nest at most 200 deep.
+/// The body that `resolve` makes of a text is at most 200 deep as a whole; one that is handed to
+/// `rebuilt` may have more `if`s and `while`s within one another.
 #[derive(Drop)]
 pub struct Resolved<'a> {
     globals: Vec<Global<'a>>,

@@ -18,7 +18,8 @@ use Rattle.vsi_machine.proofs.Steps.{Moved, moved, sound_on}
 use Rattle.vsi_lattice.specs.Known.{Known}
 use Rattle.vsi_store.specs.View.{is_seen}
 use Rattle.vsi_steady.specs.Steady.{Operates, Stores, Passes, GoesThrough, IsSteady}
-use Rattle.vsi_steady.specs.Laws.{AgreeAt, AgreeBelow, is_slot_seen, write_to, write_of, next_write, writes, StandAlike, SteadyRunsAlike}
+use Rattle.vsi_compiler.specs.Observation.{AgreeAt}
+use Rattle.vsi_steady.specs.Laws.{AgreeBelow, is_slot_seen, write_to, write_of, next_write, writes, StandAlike, SteadyRunsAlike}
 use Rattle.vsi_steady.proofs.Alike.{SameOperands, SameSlots, both_pass}
 
 -- ---- the operands that are held at a place.

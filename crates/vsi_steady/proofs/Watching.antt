@@ -5,7 +5,7 @@ use Rattle.vsi_scope.specs.declared.program.Ex.{Ex}
 use Rattle.vsi_scope.specs.declared.program.Cmd.{Cmd}
 use Rattle.vsi_scope.specs.declared.program.Cmd.TheViews as view
 use Rattle.vsi_scope.specs.declared.resolved.Entry.{Entry}
-use Rattle.vsi_scope.specs.Language.{Command, Skip, Assign, Sequence, If, While, Letvar, letvars, HasPlaces, size, nesting, depth}
+use Rattle.vsi_scope.specs.Language.{Command, Skip, Assign, Sequence, If, While, Letvar, letvars, HasPlaces, size, nesting, expressions_depth}
 use Rattle.vsi_scope.specs.Program.{Resolved, IsResolved, resolved_of}
 use Rattle.vsi_scope.specs.View.{expression, command, sequence}
 use Rattle.vsi_scope.proofs.Views.{command_If, command_While, command_Letvar}
@@ -32,8 +32,9 @@ append_nesting (If e a c) b = omega arith
 append_nesting (While e c) b = omega arith
 append_nesting (Letvar e c) b = omega arith
 
--- They are no deeper than the deeper one.
-append_depth : (a b : Command) → depth (append a b) ≤ max (depth a) (depth b)
+-- They have no deeper expression than both.
+append_depth : (a b : Command) →
+    expressions_depth (append a b) ≤ max (expressions_depth a) (expressions_depth b)
 append_depth Skip b = omega arith
 append_depth (Assign l s e) b = omega arith
 append_depth (Sequence a c) b = omega (arith, append_depth c b)
@@ -79,8 +80,8 @@ watched_nesting (If e a b) =
 watched_nesting (While e c) = omega (arith, watched_nesting c)
 watched_nesting (Letvar e c) = omega (arith, watched_nesting c)
 
--- The command is no deeper.
-watched_depth : (c : Command) → depth (watched c) ≤ depth c
+-- No expression is deeper.
+watched_depth : (c : Command) → expressions_depth (watched c) ≤ expressions_depth c
 watched_depth Skip = omega arith
 watched_depth (Assign l s e) = omega arith
 watched_depth (Sequence a b) = omega (arith, watched_depth a, watched_depth b)
@@ -110,7 +111,7 @@ watched_resolved p cs r is =
       few_declarations = omega (arith, r.few_declarations, watched_letvars c, ap letvars is);
       small = omega (arith, r.small, watched_size c, ap size is);
       nested = omega (arith, r.nested, watched_nesting c, ap nesting is);
-      shallow = omega (arith, r.shallow, watched_depth c, ap depth is);
+      shallow = omega (arith, r.shallow, watched_depth c, ap expressions_depth is);
       distinct = r.distinct;
       named = r.named;
     }

@@ -1,11 +1,11 @@
 -- What two runs of a steady image have in common.
-use Rattle.std.specs.Prelude.{◌≡◌, ℕ, zero, suc, ℤ, pos, List, [], ◌∷◌, ◌++◌, length, slice_get, slice_index_or, Option, Some, None, Bool, false, if◌then◌else◌}
+use Rattle.std.specs.Prelude.{◌≡◌, ℕ, zero, suc, ℤ, List, [], ◌∷◌, ◌++◌, length, slice_get, Option, Some, None, Bool, false, if◌then◌else◌}
 use Rattle.std.specs.Option.{option_map_or}
-use Rattle.vsi_lattice.specs.Order.{Lattice, IsLattice, IsClass, Below}
+use Rattle.vsi_lattice.specs.Order.{Lattice, IsLattice, IsClass}
 use Rattle.vsi_image.specs.declared.instr.Instr.{Instr}
 use Rattle.vsi_image.specs.declared.instr.Instr.TheVariants.{Store}
 use Rattle.vsi_image.specs.declared.instr.Image.{Image}
-use Rattle.vsi_image.specs.Fields.{Global, globals}
+use Rattle.vsi_image.specs.Fields.{globals}
 use Rattle.vsi_image.specs.Valid.{IsValid}
 use Rattle.vsi_image.specs.Meaning.{State, stepped, start}
 use Rattle.vsi_machine.specs.Runs.{globals_of, run_of}
@@ -13,13 +13,8 @@ use Rattle.vsi_lattice.specs.Known.{Known}
 use Rattle.vsi_store.specs.View.{Views, is_seen}
 use Rattle.vsi_store.specs.declared.views.View.{View}
 use Rattle.vsi_store.specs.declared.views.View.TheVariants.{Text, OutOfBudget}
+use Rattle.vsi_compiler.specs.Observation.{AgreeAt}
 use Rattle.vsi_steady.specs.Steady.{IsSteady}
-
--- Two stores have equal words in every global whose class name stands for a class at or below a.
-abbrev pub AgreeAt : Known → Lattice → Image → ℕ → List ℤ → List ℤ → Type 0
-AgreeAt known L image a m m' =
-    (i : ℕ) (g : Global) (c : ℕ) → slice_get (globals image.globals.items) i ≡ Some g → known g.1 ≡ Some c →
-    Below L c a → slice_index_or m i (pos 0) ≡ slice_index_or m' i (pos 0)
 
 -- The class sees this slot: it is that of a global at or below it.
 abbrev pub is_slot_seen : Known → Lattice → ℕ → Image → ℕ → Bool

@@ -1,10 +1,12 @@
 //! A whole program.
 
-ghost use Rattle.std.specs.Prelude.{◌≡◌, ℕ, List, IfOk, IfErr};
+ghost use Rattle.std.specs.Prelude.{◌≡◌, ◌≤◌, ℕ, List, IfOk, IfErr};
+ghost use Rattle.vsi_syntax.specs.Limits.{max_depth};
 ghost use Rattle.vsi_syntax.specs.ProgramView.{whole};
 ghost use Rattle.vsi_lattice.specs.LatticeView.{class_named};
 ghost use Rattle.vsi_scope.specs.declared.resolution.ScopeError.TheVariants.{Memory};
-ghost use Rattle.vsi_scope.specs.Language.{Command};
+ghost use Rattle.vsi_scope.specs.Language.{Command, depth};
+ghost use Rattle.vsi_scope.specs.View.{sequence};
 ghost use Rattle.vsi_scope.specs.Resolving.{Resolves, AreBelow, HasClassesBelow, IsResolution, ExplainsScope};
 
 use super::command::{Resolver, sequence};
@@ -30,6 +32,8 @@ pub fn resolve<'a>(
     lattice: &Lattice,
 ) -> Result<Resolved<'a>, ScopeError>
     ensures resolved { IfOk result (λ r. Resolves (class_named lattice.now) (whole program.now) r) }
+    // Each choice, loop, letvar and operator of the body counts as a level.
+    ensures shallow { IfOk result (λ r. depth (sequence r.body) ≤ max_depth) }
     ensures classes { (n : ℕ) → AreBelow n (class_named lattice.now) →
         IfOk result (λ r. HasClassesBelow n r) }
     ensures refused { IfErr result

@@ -4,7 +4,7 @@ use Rattle.vsi_scope.specs.declared.program.Ex.TheVariants.{Loc}
 use Rattle.vsi_scope.specs.declared.program.Cmd.{Cmd}
 use Rattle.vsi_scope.specs.declared.program.Cmd.TheViews as view
 use Rattle.vsi_scope.specs.declared.resolved.Entry.{Entry}
-use Rattle.vsi_scope.specs.Language.{Location, Command, Skip, Sequence, If, While, letvars, size, nesting, depth, HasPlaces}
+use Rattle.vsi_scope.specs.Language.{Location, Command, Skip, Sequence, If, While, letvars, size, nesting, expressions_depth, HasPlaces}
 use Rattle.vsi_scope.specs.Program.{Resolved, resolved_of, IsResolved}
 use Rattle.vsi_scope.specs.View.{command, sequence}
 use Rattle.vsi_scope.proofs.Views.{command_If, command_While}
@@ -40,7 +40,7 @@ bare_resolved r ls cs s old some none e = record {
   few_declarations = omega (arith, ap letvars e, old.few_globals);
   small = omega (arith, ap size e);
   nested = omega (arith, ap nesting e);
-  shallow = omega (arith, ap depth e);
+  shallow = omega (arith, ap expressions_depth e);
   distinct = old.distinct;
   named = old.named;
 }

@@ -4,7 +4,7 @@ use Rattle.vsi_syntax.specs.ProgramView.{whole}
 use Rattle.vsi_lattice.specs.LatticeView.{class_named}
 use Rattle.vsi_scope.specs.Language.{size}
 use Rattle.vsi_scope.specs.View.{sequence}
-use Rattle.vsi_scope.proofs.Top.{Begun, Over, begun_within, body_refuses, globals_refuse, too_large, is_resolved, resolves, exact, resolution_small}
+use Rattle.vsi_scope.proofs.Top.{Begun, Over, begun_within, body_refuses, globals_refuse, too_large, is_resolved, no_deeper, resolves, exact, resolution_small}
 use Rattle.vsi_scope.proofs.Classes.{classes_below}
 use Rattle.vsi_scope.proofs.resolution.whole.resolve.Goals as goal
 use Rattle.vsi_scope.proofs.resolution.whole.resolve.Goals.{After-body, After-size}
@@ -85,6 +85,11 @@ returns-clause-resolved c =
     let at = goal.at.returns-clause-resolved c in
     rw (c.new-2.ensures) (resolves _ _ _ _ (begun at.After-body) _ _ (over at.After-size)
     (omega (arith, c.if-size-gt-MAX_SIZE.false, measured at.After-size)))
+
+pub returns-clause-shallow : goal.returns-clause-shallow
+returns-clause-shallow c =
+    let at = goal.at.returns-clause-shallow c in
+    rw (c.new-2.ensures) (no_deeper _ _ _ _ (begun at.After-body) _ _ (over at.After-size))
 
 pub returns-clause-classes : goal.returns-clause-classes
 returns-clause-classes c n below =
