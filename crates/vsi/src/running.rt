@@ -19,10 +19,9 @@ use std::alloc::Global;
 use std::io::Write;
 use vsi_answers::start_words;
 use vsi_arguments::{Execution, Outset};
-use vsi_machine::{count_text, counted, stop_text};
 use vsi_devices::{Counted, run_words};
 use vsi_image::Verified;
-use vsi_machine::Outcome;
+use vsi_machine::{Outcome, count_text, counted, stop_text};
 
 /// What stands in the place of a path where a setting is told.
 const SETTING: &str = "--set";

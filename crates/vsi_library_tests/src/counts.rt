@@ -2,9 +2,8 @@
 
 use std::alloc::Global;
 use vsi_compiler::unjudged_image;
-use vsi_machine::{count_text, counted, stop_text};
 use vsi_lattice::read_lattice;
-use vsi_machine::Outcome;
+use vsi_machine::{Outcome, count_text, counted, stop_text};
 
 const TWO: &[u8] = b"classes = [\"L\", \"H\"]\nbelow = [[\"L\", \"H\"]]\n";
 
