@@ -83,8 +83,8 @@ below the second one, so values may flow from it up to the second one.
   classes = [\"Public\", \"Staff\", \"Board\"]
   below = [[\"Public\", \"Staff\"], [\"Staff\", \"Board\"]]
 
-`Public` is below `Board` too, and needs no pair for that. Two classes that are
-not to learn from each other stand side by side, with one class below both and
+`Public` is below `Board` too, and needs no pair for that. Two classes that
+must not learn from each other are side by side, with one class below both and
 one above both:
 
   classes = [\"Low\", \"Alice\", \"Bob\", \"High\"]
