@@ -15,22 +15,50 @@ use crate::refused::refused_pairs;
 use crate::sentences::Page;
 use crate::telling::{count_text, told_of};
 use crate::walking::walks_of;
-use std::alloc::Global;
+use std::alloc::{AllocError, Global};
 use vsi_caret::put_text;
-use vsi_compiler::{CompileError, resolved_program};
+use vsi_compiler::{CompileError, Source, read_source};
 use vsi_lattice::Lattice;
 use vsi_types::Profile;
 
-/// How many pairs are told.
+/// How many pairs the prose names at most.
 const TOLD: usize = 20;
 
-/// What is told a person of the refused flows of a source text under a profile, and what would mend
-/// them: at most 20 pairs, each with the steps of a shortest walk, and how many there are if more.
+/// The prose on the refused flows of a source text under a profile, and what would fix them: at most
+/// 20 pairs, each with the steps of a shortest walk, and how many there are if more.
+pub fn refused_flows_of(
+    alloc: Global,
+    profile: Profile,
+    path: &str,
+    source: &Source<'_>,
+) -> Result<Vec<u8>, AllocError>
+    ensures told { IfOk result (λ out.
+        TellsRefused source.now.lattice profile source.now.text out.items) }
+    ensures plain { IfOk result (λ out. all_plain out.items ≡ true) }
+{
+    let lattice = source.lattice();
+    let text = source.text();
+    let resolved = source.resolved();
+    let pairs = refused_pairs(alloc, profile, lattice, resolved)?;
+    let first = &pairs[..pairs.len().min(TOLD)];
+    let walks = walks_of(alloc, profile, lattice, resolved, first)?;
+    let page = Page {
+        path: path.as_bytes(),
+        source: text,
+    };
+    let mut prose = told_of(alloc, lattice, &page, resolved, &walks)?;
+    let count = count_text(alloc, pairs.len(), walks.len())?;
+    prose.extend_from_slice(&count)?;
+    let mut answer = Vec::new(alloc);
+    put_text(&mut answer, &prose)?;
+    Ok(answer)
+}
+
+/// The prose on the refused flows of a text, by `refused_flows_of`.
 ///
 /// # Errors
 ///
-/// The refusals of the words, the tree, the scope and the size, as `compile_in`; no flow is refused
-/// here.
+/// Those of `read_source`: no flow is refused here.
 pub fn refused_flows(
     alloc: Global,
     profile: Profile,
@@ -44,18 +72,7 @@ pub fn refused_flows(
     ensures exact { (tree : Whole) (commands : List Command) → Reads source.now tree
         → IsResolution (class_named lattice.now) tree commands → IfErr result (λ e. e ≡ Memory) }
 {
-    let resolved = resolved_program(alloc, lattice, source)?;
-    let pairs = refused_pairs(alloc, profile, lattice, &resolved)?;
-    let first = &pairs[..pairs.len().min(TOLD)];
-    let walks = walks_of(alloc, profile, lattice, &resolved, first)?;
-    let page = Page {
-        path: path.as_bytes(),
-        source,
-    };
-    let mut text = told_of(alloc, lattice, &page, &resolved, &walks)?;
-    let count = count_text(alloc, pairs.len(), walks.len())?;
-    text.extend_from_slice(&count)?;
-    let mut answer = Vec::new(alloc);
-    put_text(&mut answer, &text)?;
-    Ok(answer)
+    let read = read_source(alloc, lattice, source)?;
+    let prose = refused_flows_of(alloc, profile, path, &read)?;
+    Ok(prose)
 }
