@@ -1,7 +1,7 @@
 //! Laws of emitted functions.
 
 ghost use Rattle.vsi_emit.specs.Apart.{WrittenApart};
-ghost use Rattle.vsi_emit.specs.Laws.{Noninterference, SteadyJumps};
+ghost use Rattle.vsi_emit.specs.Laws.{AnswersLast, Noninterference, SteadyJumps};
 
 use vsi_steady::laws::steady_runs_alike;
 
@@ -24,4 +24,9 @@ pub fn steady_jumps()
 /// Different functions are written differently.
 pub fn written_apart()
     ensures { WrittenApart }
+{}
+
+/// What a call answers within so many blocks, it answers within more: so a call has one answer.
+pub fn answers_last()
+    ensures { AnswersLast }
 {}
