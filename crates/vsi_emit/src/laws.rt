@@ -12,8 +12,8 @@ pub fn noninterference()
     ensures { Noninterference }
 {}
 
-/// Two calls of a steady image's function, with arrays that agree at and below a class, come to the
-/// same labels in the same order.
+/// Two calls of a steady image's function, with arrays that agree at and below a class, reach the same
+/// labels in the same order.
 pub fn steady_jumps()
     ensures { SteadyJumps }
 {
@@ -26,7 +26,8 @@ pub fn written_apart()
     ensures { WrittenApart }
 {}
 
-/// What a call answers within so many blocks, it answers within more: so a call has one answer.
+/// A call that answers within some number of blocks gives the same answer within any larger number,
+/// so it has one answer.
 pub fn answers_last()
     ensures { AnswersLast }
 {}
