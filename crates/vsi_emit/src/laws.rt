@@ -1,7 +1,7 @@
 //! Laws of emitted functions.
 
 ghost use Rattle.vsi_emit.specs.Apart.{WrittenApart};
-ghost use Rattle.vsi_emit.specs.Laws.{Noninterference, SteadyJumps};
+ghost use Rattle.vsi_emit.specs.Laws.{AnswersLast, Noninterference, SteadyJumps};
 
 use vsi_steady::laws::steady_runs_alike;
 
@@ -12,8 +12,8 @@ pub fn noninterference()
     ensures { Noninterference }
 {}
 
-/// Two calls of a steady image's function, with arrays that agree at and below a class, come to the
-/// same labels in the same order.
+/// Two calls of a steady image's function, with arrays that agree at and below a class, reach the same
+/// labels in the same order.
 pub fn steady_jumps()
     ensures { SteadyJumps }
 {
@@ -24,4 +24,10 @@ pub fn steady_jumps()
 /// Different functions are written differently.
 pub fn written_apart()
     ensures { WrittenApart }
+{}
+
+/// A call that answers within some number of blocks gives the same answer within any larger number,
+/// so it has one answer.
+pub fn answers_last()
+    ensures { AnswersLast }
 {}
