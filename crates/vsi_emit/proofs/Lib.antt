@@ -4,3 +4,7 @@ pub mod Straight
 pub mod Courses
 pub mod Emulating
 pub mod Passes
+pub mod Following
+pub mod Apart
+pub mod Small
+pub mod Whole

@@ -3,6 +3,9 @@ pub mod Writing
 pub mod Emulation
 pub mod Jumps
 pub mod Emitted
+pub mod Apart
+pub mod Whole
+pub mod Laws
 pub mod Closed
 pub mod Depths
 pub mod Translation

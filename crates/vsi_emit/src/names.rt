@@ -124,11 +124,11 @@ fn all_name_bytes(name: &[u8]) -> bool
     ensures { result ≡ words.every words.is_word_byte name.now }
 {
     let mut rest = name;
-    while let [byte, behind @ ..] = rest {
+    while let [byte, after @ ..] = rest {
         if !is_name_byte(*byte) {
             return false;
         }
-        rest = behind;
+        rest = after;
     }
     true
 }

@@ -1,4 +1,4 @@
-//! What the types of instructions say of their operands. Nothing is computed here.
+//! Facts about the operands of instructions that follow from their types. Nothing is computed here.
 
 ghost use Rattle.std.specs.Prelude.{All};
 ghost use Rattle.vsi_image.specs.Fields.{HasOpcode};
