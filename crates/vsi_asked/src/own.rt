@@ -29,6 +29,12 @@ const FLOWS: [&[u8]; 3] = [b"--strict", b"--walks", b"--explain"];
 /// The flags of `audit`.
 const AUDIT: [&[u8]; 3] = [b"--strict", b"--steady", b"--explain"];
 
+/// The flags of `emit-c`.
+const EMIT_C: [&[u8]; 2] = [b"--header", b"--explain"];
+
+/// The options of `emit-c`.
+const EMIT_C_OPTIONS: [&[u8]; 3] = [b"--lattice", b"--name", b"--color"];
+
 /// The flags of `run`.
 const RUN: [&[u8]; 4] = [b"--full-store", b"--trace", b"--count", b"--explain"];
 
@@ -129,6 +135,7 @@ pub(crate) fn has_own_alone(words: &[String], request: &Request<'_>) -> bool
         Request::List(_) => are_own(words, NO_FLAGS.as_slice(), NO_OPTIONS.as_slice()),
         Request::Source(_) => are_own(words, NO_FLAGS.as_slice(), NO_OPTIONS.as_slice()),
         Request::Format(_) => are_own(words, NO_FLAGS.as_slice(), NO_OPTIONS.as_slice()),
+        Request::EmitC(_) => are_own(words, EMIT_C.as_slice(), EMIT_C_OPTIONS.as_slice()),
         Request::Run { .. } => are_own(words, RUN.as_slice(), RUN_OPTIONS.as_slice()),
         Request::View { .. } => are_own(words, VIEW.as_slice(), VIEW_OPTIONS.as_slice()),
         Request::Drive(_) => are_own(words, NO_FLAGS.as_slice(), DRIVE_OPTIONS.as_slice()),

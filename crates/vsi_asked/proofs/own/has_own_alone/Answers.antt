@@ -40,6 +40,10 @@ pub returns-in-Format : goal.returns-in-Format
 returns-in-Format c =
     rw c.in-Format.is (rw (c.as_slice-in-Format.ensures, c.as_slice-in-Format-2.ensures) at c.are_own-in-Format.ensures)
 
+pub returns-in-EmitC : goal.returns-in-EmitC
+returns-in-EmitC c =
+    rw c.in-EmitC.is (rw (c.as_slice-in-EmitC.ensures, c.as_slice-in-EmitC-2.ensures) at c.are_own-in-EmitC.ensures)
+
 pub returns-in-Run : goal.returns-in-Run
 returns-in-Run c =
     rw c.in-Run.is (rw (c.as_slice-in-Run.ensures, c.as_slice-in-Run-2.ensures) at c.are_own-in-Run.ensures)
