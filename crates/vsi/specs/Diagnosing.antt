@@ -1,9 +1,26 @@
--- The refusals of images whose commands are judged, as values.
+-- The refusals of settings, of runs that don't begin, and of images whose commands are judged, as values.
 use Rattle.std.specs.Prelude.{Option, None, codes}
 use Rattle.vsi_audit.specs.declared.error.AuditError.{AuditError}
 use Rattle.vsi_audit.specs.declared.error.AuditError.TheVariants as audit
-use Rattle.vsi_diagnostics.specs.Diagnostic.{Diagnostic, nothing, number}
+use Rattle.vsi_drive.specs.declared.fault.LineFault.{LineFault}
+use Rattle.vsi_drive.specs.declared.fault.LineFault.TheVariants.{TooLong, BadSetting, UnknownGlobal, AboveClass, NotANumber}
+use Rattle.vsi_drive.specs.declared.starts.StartFault.{StartFault}
+use Rattle.vsi_drive.specs.declared.starts.StartFault.TheVariants as start
+use Rattle.vsi_diagnostics.specs.Diagnostic.{Diagnostic, nothing, number, refusal}
 use Rattle.vsi_diagnostics.specs.Source.{refused}
+
+-- Of a setting.
+abbrev pub setting_diagnostic : LineFault → Diagnostic
+setting_diagnostic TooLong = refusal 44 (codes "LineTooLong") nothing
+setting_diagnostic (BadSetting n) = refusal 45 (codes "BadSetting") (number n)
+setting_diagnostic (UnknownGlobal n) = refusal 46 (codes "NoGlobal") (number n)
+setting_diagnostic (AboveClass n) = refusal 47 (codes "AboveClass") (number n)
+setting_diagnostic (NotANumber n) = refusal 48 (codes "NoNumber") (number n)
+
+-- Of a run that doesn't begin.
+abbrev pub start_diagnostic : StartFault → Diagnostic
+start_diagnostic (start.Setting f) = setting_diagnostic f
+start_diagnostic (start.Unnamed i) = refusal 56 (codes "GlobalNotNamed") (number i)
 
 -- Of an image whose commands are judged; none where memory was wanting.
 abbrev pub audit_diagnostic : AuditError → Option Diagnostic

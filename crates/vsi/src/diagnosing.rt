@@ -2,10 +2,7 @@
 
 ghost use Rattle.std.specs.Prelude.{◌≡◌, option_map};
 ghost use Rattle.vsi.specs.Diagnosing as spec;
-ghost use Rattle.vsi_diagnostics.specs.Diagnostic.{line_text};
 ghost use Rattle.vsi_diagnostics.specs.View.{diagnostic_of};
-ghost use Rattle.vsi_drive.specs.Settings.{fault_line};
-ghost use Rattle.vsi_drive.specs.Starts.{start_fault_line};
 
 use crate::stop::Stop;
 use vsi_answers::Cause;
@@ -14,9 +11,9 @@ use vsi_conform::{steady_diagnostic, unsteady_diagnostic};
 use vsi_diagnostics::{Diagnostic, Field, fault_diagnostic, refusal_diagnostic};
 use vsi_drive::{LineFault, StartFault};
 
-/// The refusal of a setting, whose line is the one that is written.
+/// The refusal of a setting.
 fn setting_diagnostic(fault: LineFault) -> Diagnostic<'static>
-    ensures { line_text (diagnostic_of result) ≡ fault_line fault }
+    ensures { diagnostic_of result ≡ spec.setting_diagnostic fault }
 {
     match fault {
         LineFault::TooLong => Diagnostic::new(44, b"LineTooLong", Field::Nothing),
@@ -27,9 +24,9 @@ fn setting_diagnostic(fault: LineFault) -> Diagnostic<'static>
     }
 }
 
-/// The refusal of a run that doesn't begin, whose line is the one that is written.
+/// The refusal of a run that doesn't begin.
 fn start_diagnostic(fault: StartFault) -> Diagnostic<'static>
-    ensures { line_text (diagnostic_of result) ≡ start_fault_line fault }
+    ensures { diagnostic_of result ≡ spec.start_diagnostic fault }
 {
     match fault {
         StartFault::Setting(fault) => setting_diagnostic(fault),

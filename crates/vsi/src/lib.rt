@@ -8,7 +8,8 @@
 //! as a `LexError` or a `Walk` of `Step`s, stands here beside it.
 //!
 //! To be believed: of `specs/` `Words`, `Holding`, `Driven`, `Performed`, `Reasons`, `Done`,
-//! `Input` and `Laws`, and of `Stops` all but `StopsFor`; `Silent` is a stepping stone of proofs.
+//! `Input` and `Laws`, and of `Stops` all but `StopsFor`; `Silent` and `Diagnosing` are stepping
+//! stones of proofs.
 #![tactic(auto)]
 
 mod auditing;
