@@ -16,8 +16,8 @@ under the classes L and H, L below H, runs it from a store of zeros for at most
 
 /// The statuses of the program, and its example.
 pub(crate) const PROGRAM_EXAMPLE: &str = "\
-The language by one program: `vsi explain language`. Also: `vsi explain lattice`,
-`store`, `interface`, `classes` and `profiles`.
+`vsi explain language` shows the language by one program; `vsi explain` also has
+`lattice`, `store`, `interface`, `classes` and `profiles`.
 
 Statuses, of which each but 0 has its cause told on standard error:
   0  done
