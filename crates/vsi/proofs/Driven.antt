@@ -22,7 +22,7 @@ store_behind-append c m [] ys = refl
 store_behind-append c m (x ∷ xs) ys = store_behind-append c (cycle c m x).store xs ys
 
 -- What is written of some lines and others is what is written of the first, and then of the others.
-text_of-append : (c : Control) (m : List ℤ) (xs ys : List (List ℕ)) →
+pub text_of-append : (c : Control) (m : List ℤ) (xs ys : List (List ℕ)) →
     text_of c m (xs ++ ys) ≡ text_of c m xs ++ text_of c (store_behind c m xs) ys
 text_of-append c m [] ys = refl
 text_of-append c m (x ∷ xs) ys =

@@ -2,6 +2,9 @@ pub mod Answered
 pub mod Reasons
 pub mod Seen
 pub mod Written
+pub mod Partly
+pub mod Cut
+pub mod Leaving
 pub mod Filled
 pub mod Driven
 pub mod Stopped

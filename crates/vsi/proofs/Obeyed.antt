@@ -13,8 +13,10 @@ use Rattle.vsi.specs.declared.stop.Stop.TheVariants.{Memory}
 use Rattle.vsi.specs.Done.{IsStopOf, Stopped, StopsAt}
 use Rattle.vsi.specs.Holding.{Holding}
 use Rattle.vsi.specs.Input.{TellsStop}
+use Rattle.vsi.specs.Partly.{Answers}
 use Rattle.vsi.specs.Reasons.{StopsBy, Why, WhyCheck}
 use Rattle.vsi.specs.Stops.{status_of}
+use Rattle.vsi.proofs.Leaving.{leaves_memory}
 use Rattle.vsi.proofs.Reasons.{late_stops}
 
 -- What is so of each stop is so of the one that an answer is.
@@ -59,12 +61,17 @@ memory_why holds (request.Format source) old new = tt
 memory_why holds (request.Explain page) old new = tt
 
 -- A request has stopped so too where the explanation has found no memory.
-pub explained_stops : (holds : Holding) (asked : Request) (old new : Option (List ℕ)) (stop told : Stop) →
-    IsStopOf holds asked old new stop → (told ≡ stop) ⊎ (told ≡ Memory) → IsStopOf holds asked old new told
-explained_stops holds asked old new stop told so (inl same) = subst (IsStopOf holds asked old new) (sym same) so
-explained_stops holds asked old new stop told so (inr wants) =
-    subst (IsStopOf holds asked old new) (sym wants)
-    (record { why = memory_why holds asked old new; silent = λ other below. absurd (omega arith) })
+pub explained_stops : (holds : Holding) (given : Option (List ℕ)) (asked : Request) (old new : Option (List ℕ))
+    (stop told : Stop) → IsStopOf holds given asked old new stop → (told ≡ stop) ⊎ (told ≡ Memory) →
+    IsStopOf holds given asked old new told
+explained_stops holds given asked old new stop told so (inl same) =
+    subst (IsStopOf holds given asked old new) (sym same) so
+explained_stops holds given asked old new stop told so (inr wants) =
+    subst (IsStopOf holds given asked old new) (sym wants)
+    (record {
+      why = memory_why holds asked old new;
+      leaves = leaves_memory (Answers holds given asked) asked old new so.leaves.partly;
+    })
 
 -- What is so where a stop comes early is so where the one that is told does.
 pub early_told : {A : Type 0} (stop told : Stop) → (told ≡ stop) ⊎ (told ≡ Memory) → (status_of stop < 4 → A) →
@@ -79,20 +86,20 @@ pub fault_late : {T : Type 0} (before : Stop → Type 0) (result : Result T Stop
 fault_late before result fault = IfErr-weaker result _ _ (λ stop is. inr (omega arith)) fault
 
 -- Words have stopped so where there are words.
-pub stops_at : (holds : Holding) (words : List (String Global)) (old new : Option (List ℕ)) (stop : Stop) →
-    Stopped holds words old new stop → StopsAt holds words old new stop
-stops_at holds [] old new stop so = tt
-stops_at holds (word ∷ words) old new stop so = so
+pub stops_at : (holds : Holding) (given : Option (List ℕ)) (words : List (String Global)) (old new : Option (List ℕ))
+    (stop : Stop) → Stopped holds given words old new stop → StopsAt holds given words old new stop
+stops_at holds given [] old new stop so = tt
+stops_at holds given (word ∷ words) old new stop so = so
 
 -- Where there are no words, nothing is asked of the stop that is told.
-pub tells_without_words : {E : Type 0} (holds : Holding) (words : List (String Global)) (old new : Option (List ℕ))
-    (status : ℕ) (contents : E → Option (List ℕ)) (before after : Counted E) → words ≡ [] →
-    TellsStop (λ stop. Unit {0}) status contents before after →
-    TellsStop (StopsAt holds words old new) status contents before after
-tells_without_words holds words old new status contents before after none tells = record {
+pub tells_without_words : {E : Type 0} (holds : Holding) (given : Option (List ℕ)) (words : List (String Global))
+    (old new : Option (List ℕ)) (status : ℕ) (contents : E → Option (List ℕ)) (before after : Counted E) →
+    words ≡ [] → TellsStop (λ stop. Unit {0}) status contents before after →
+    TellsStop (StopsAt holds given words old new) status contents before after
+tells_without_words holds given words old new status contents before after none tells = record {
   stop = tells.stop;
   note = tells.note;
-  so = subst (λ w. StopsAt holds w old new tells.stop) (sym none) tt;
+  so = subst (λ w. StopsAt holds given w old new tells.stop) (sym none) tt;
   stopped = tells.stopped;
   told = tells.told;
 }

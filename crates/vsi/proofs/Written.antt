@@ -16,7 +16,6 @@ use Rattle.vsi.specs.declared.stop.Stop.{Stop}
 use Rattle.vsi.specs.Holding.{Holding}
 use Rattle.vsi.specs.Performed.{AreFiles, AuditsFiles, BuildsFile, OfFiles, PerformsAudit, PerformsBuild, ToldAccepted, ToldFlows, Writes, profile_of}
 use Rattle.vsi.specs.Reasons.{AsksCheck, AsksFlows}
-use Rattle.vsi.specs.Silent.{IsSilent}
 use Rattle.vsi.specs.Stops.{status_of, stop_of}
 use Rattle.vsi.proofs.Answered.{answered_told}
 
@@ -62,23 +61,6 @@ pub build_performs : {T : Type 0} (holds : Holding) (c : Compilation) (image : L
     OnOk result (PerformsBuild holds c image left old old)
 build_performs holds c image left old result builds =
     on_ok_weaker result (λ is. record { builds = is; kept = Keeps-refl old }) builds
-
--- Where nothing is written the output is as it was.
-pub silent_kept : {T : Type 0} (result : Result T Stop) (old : Option (List ℕ)) → IsSilent result old old
-silent_kept (Ok x) old = tt
-silent_kept (Err stop) old = λ other below. Keeps-refl old
-
--- A stop of a greater status may have written something.
-pub silent_late : {T : Type 0} (result : Result T Stop) (old new : Option (List ℕ)) →
-    IfErr result (λ stop. 3 < status_of stop) → IsSilent result old new
-silent_late (Ok x) old new late = tt
-silent_late (Err stop) old new late = λ other below. absurd (omega arith)
-
--- A fault of the output may have written something.
-pub silent_fault : {T : Type 0} (result : Result T Stop) (old new : Option (List ℕ)) →
-    IfErr result (λ stop. status_of stop ≡ 4) → IsSilent result old new
-silent_fault (Ok x) old new fault = tt
-silent_fault (Err stop) old new fault = λ other below. absurd (omega arith)
 
 -- An answer of this verdict is the answer of a verdict that is the same, of the same judgement and text.
 pub answer_so : (l : Lattice) (j k : Judgement) (text source : List ℕ) (b c : Bool) (out : List ℕ) → j ≡ k →

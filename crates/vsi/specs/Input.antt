@@ -31,6 +31,16 @@ pub record WritesRun (remaining old new : Option (List ℕ)) : Type 0 where
   pub declared : Declares two_classes lattice
   pub writes : WritesRunOf lattice source old new
 
+-- The text of the run of a source that is read of what a reader gives, which halts, under the two classes.
+pub record AnswersInput (remaining : Option (List ℕ)) (bytes : List ℕ) : Type 0 where
+  pub source : List ℕ
+  pub given : IsReadFrom remaining source
+  pub lattice : Lattice
+  pub declared : Declares two_classes lattice
+  pub text : Vec ℕ
+  pub ran : RunsSourceTo lattice source 1000000 (Ok text)
+  pub is : bytes ≡ text.items
+
 -- A source is read of what a reader gives, and this is why its run under the two classes has no answer.
 pub record StopsRun (remaining : Option (List ℕ)) (reason : Unanswered) : Type 0 where
   pub source : List ℕ

@@ -1,5 +1,4 @@
 pub mod Stops
-pub mod Silent
 pub mod Input
 pub mod Words
 pub mod Holding
@@ -7,6 +6,7 @@ pub mod Driven
 pub mod Naming
 pub mod Performed
 pub mod Reasons
+pub mod Partly
 pub mod Done
 pub mod Laws
 pub mod Diagnosing

@@ -3,7 +3,8 @@
 ghost use Rattle.std.specs.Prelude.{◌≡◌, ◌≢◌, ◌<◌, ◌≤◌, ◌⊎◌, ◌++◌, [], false, Ok, Err, IfOk, IfErr, OnOk, codes};
 ghost use Rattle.std.specs.Io.KnownBytes.{Keeps};
 ghost use Rattle.vsi.specs.Done.{Done, Stopped, StopsAt};
-ghost use Rattle.vsi.specs.Input.{Hears, HearsFault, RefusesRun, SpendsRun, StopsRun, TellsStop, WritesRun, WritesRunOf};
+ghost use Rattle.vsi.specs.Input.{AnswersInput, Hears, HearsFault, RefusesRun, SpendsRun, StopsRun, TellsStop, WritesRun, WritesRunOf};
+ghost use Rattle.vsi.specs.Partly.{BytesOf, Partly};
 ghost use Rattle.vsi.specs.Stops.{note_behind, status_of, text_of_stop, Gets, IsStreamFault, StopsFor, TellsFault};
 ghost use Rattle.vsi.specs.Words as spec;
 ghost use Rattle.vsi_answers.specs.Requests.{RunsSourceTo};
@@ -55,6 +56,9 @@ pub fn command<F: Files, R: Read, W: Write, E: Write>(
     ensures output_fault { faults_of output.old < faults_of output.new → result ≡ 4 }
     ensures silent { words.now ≡ [] → result ≢ 0 → result ≢ 4
         → Keeps (W.contents (device_of output.old)) (W.contents (device_of output.new)) }
+    ensures partly { words.now ≡ [] → result ≢ 0
+        → Partly (AnswersInput (R.remaining (device_of input.old)))
+        (W.contents (device_of output.old)) (W.contents (device_of output.new)) }
     ensures unread { words.now ≢ [] → spec.reads_input words.now ≡ false → input.new ≡ input.old }
     ensures kept { words.now ≡ [] → F.holds files.new ≡ F.holds files.old }
     ensures unfilled { result ≢ 0 → result < 4 → F.holds files.new ≡ F.holds files.old }
@@ -71,7 +75,8 @@ pub fn command<F: Files, R: Read, W: Write, E: Write>(
         → HearsFault E.contents error.old error.new }
     ensures quiet { words.now ≡ [] → result ≡ 0 → Hears E.contents error.old error.new [] }
     ensures memory { result ≡ 5 → Hears E.contents error.old error.new (codes "out of memory\n") }
-    ensures told { result ≢ 0 → TellsStop (StopsAt (F.holds files.old) words.now
+    ensures told { result ≢ 0 → TellsStop (StopsAt (F.holds files.old)
+        (spec.given_to words.now (R.remaining (device_of input.old))) words.now
         (W.contents (device_of output.old)) (W.contents (device_of output.new)))
         result E.contents error.old error.new }
     ensures done { words.now ≢ [] → result ≡ 0
@@ -103,6 +108,8 @@ fn without_words<F: Files, R: Read, W: Write, E: Write>(
     ensures output_fault { faults_of output.old < faults_of output.new → result ≡ 4 }
     ensures silent { result ≢ 0 → result ≢ 4
         → Keeps (W.contents (device_of output.old)) (W.contents (device_of output.new)) }
+    ensures partly { result ≢ 0 → Partly (AnswersInput (R.remaining (device_of input.old)))
+        (W.contents (device_of output.old)) (W.contents (device_of output.new)) }
     ensures kept { F.holds files.new ≡ F.holds files.old }
     ensures ran { result ≡ 0 → WritesRun (R.remaining (device_of input.old))
         (W.contents (device_of output.old)) (W.contents (device_of output.new)) }
@@ -143,7 +150,8 @@ fn obeyed<'a, F: Files, R: Read, W: Write>(
     ensures done { OnOk result (Done (F.holds files.old)
         (spec.given_to words.now (R.remaining (device_of input.old))) words.now (F.holds files.new)
         (W.contents (device_of output.old)) (W.contents (device_of output.new))) }
-    ensures stopped { IfErr result (Stopped (F.holds files.old) words.now
+    ensures stopped { IfErr result (Stopped (F.holds files.old)
+        (spec.given_to words.now (R.remaining (device_of input.old))) words.now
         (W.contents (device_of output.old)) (W.contents (device_of output.new))) }
 {
     if reads_input(words) {
@@ -226,6 +234,8 @@ fn run_input<'a, R: Read, W: Write>(
     ensures output_fault { TellsFault (faults_of output.old) (faults_of output.new) result }
     ensures silent { IfErr result (λ stop. status_of stop ≢ 4
         → Keeps (W.contents (device_of output.old)) (W.contents (device_of output.new))) }
+    ensures partly { IfErr result (λ _. Partly (AnswersInput (R.remaining (device_of input.old)))
+        (W.contents (device_of output.old)) (W.contents (device_of output.new))) }
     ensures ran { OnOk result (WritesRun (R.remaining (device_of input.old))
         (W.contents (device_of output.old)) (W.contents (device_of output.new))) }
     ensures stopped { IfErr result (StopsFor (StopsRun (R.remaining (device_of input.old)))
@@ -250,6 +260,9 @@ fn write_run<'a, W: Write>(
     ensures output_fault { TellsFault (faults_of output.old) (faults_of output.new) result }
     ensures silent { IfErr result (λ stop. status_of stop ≢ 4
         → Keeps (W.contents (device_of output.old)) (W.contents (device_of output.new))) }
+    ensures partly { IfErr result (λ _. Partly
+        (BytesOf (λ text. RunsSourceTo lattice.now source.now 1000000 (Ok text)))
+        (W.contents (device_of output.old)) (W.contents (device_of output.new))) }
     ensures ran { OnOk result (WritesRunOf lattice.now source.now
         (W.contents (device_of output.old)) (W.contents (device_of output.new))) }
     ensures stopped { IfErr result

@@ -1,10 +1,10 @@
 //! A source text beside an interface that is fixed from outside.
 
-ghost use Rattle.std.specs.Prelude.{◌≡◌, ◌<◌, true, IfErr, IfOk, OnOk};
+ghost use Rattle.std.specs.Prelude.{◌≡◌, ◌<◌, Bool, true, IfErr, IfOk, OnOk};
 ghost use Rattle.std.specs.Str.Lossy.{utf8_lossy};
 ghost use Rattle.vsi.specs.Holding.{IsReadAt};
 ghost use Rattle.vsi.specs.Performed.{ConformsFiles, IsAskedAt, IsPolicyAt, IsWrittenAs, TellsConforming, Writes};
-ghost use Rattle.vsi.specs.Silent.{IsSilent};
+ghost use Rattle.vsi.specs.Partly.{BytesOf, Leaves};
 ghost use Rattle.vsi.specs.Stops.{TellsFault};
 ghost use Rattle.vsi_conform.specs.Beside.{beside};
 ghost use Rattle.vsi_devices.specs.Counted.{device_of, faults_of};
@@ -176,8 +176,9 @@ pub(crate) fn conform<'a, F: Files, W: Write>(
     requires { faults_of output.old < u64.MAX }
     ensures kept { F.holds files.new ≡ F.holds files.old }
     ensures fault { TellsFault (faults_of output.old) (faults_of output.new) result }
-    ensures silent { IsSilent result (W.contents (device_of output.old))
-        (W.contents (device_of output.new)) }
+    ensures left { IfErr result (Leaves (BytesOf (λ text. (conforms : Bool)
+        × ConformsFiles (F.holds files.old) asked.entry conforms text)) 4
+        (W.contents (device_of output.old)) (W.contents (device_of output.new))) }
     ensures performed { OnOk result (Writes (ConformsFiles (F.holds files.old) asked.entry true)
         (W.contents (device_of output.old)) (W.contents (device_of output.new))) }
     ensures stopped { IfErr result

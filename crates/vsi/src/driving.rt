@@ -4,11 +4,11 @@ ghost use Rattle.std.specs.Prelude.{◌≡◌, ◌<◌, ◌≤◌, ◌∷◌, �
 ghost use Rattle.std.specs.Io.KnownBytes.{Appends};
 ghost use Rattle.vsi.specs.Driven.{Drives, DrivesInput, begun, last_line, whole_lines};
 ghost use Rattle.vsi.specs.Performed.{IsStoredAt, PerformsDrive};
-ghost use Rattle.vsi.specs.Silent.{IsSilent};
+ghost use Rattle.vsi.specs.Partly.{AnswersDrive, DrivenText, Leaves, Partly, WritesPart};
 ghost use Rattle.vsi.specs.Stops.{TellsFault, status_of};
 ghost use Rattle.vsi_devices.specs.Counted.{device_of, faults_of};
 ghost use Rattle.vsi_drive.specs.Control.{control};
-ghost use Rattle.vsi_drive.specs.Cycles.{cycle};
+ghost use Rattle.vsi_drive.specs.Cycles.{cycle, text_of};
 ghost use Rattle.vsi_image.specs.Fields.{globals};
 ghost use Rattle.vsi_store.specs.Text.{store_text_of};
 ghost use Rattle.vsi.specs.Holding.{Delivers, IsStoreAt};
@@ -49,8 +49,9 @@ pub(crate) fn drive<'a, F: Files, R: Read, W: Write>(
         → F.holds files.new ≡ F.holds files.old) }
     ensures input_fault { TellsFault (faults_of input.old) (faults_of input.new) result }
     ensures output_fault { TellsFault (faults_of output.old) (faults_of output.new) result }
-    ensures silent { IsSilent result (W.contents (device_of output.old))
-        (W.contents (device_of output.new)) }
+    ensures left { IfErr result (Leaves (AnswersDrive (F.holds files.old) driving.entry
+        (R.remaining (device_of input.old))) 4
+        (W.contents (device_of output.old)) (W.contents (device_of output.new))) }
     ensures performed { OnOk result (PerformsDrive (F.holds files.old) driving.entry
         (R.remaining (device_of input.old)) (F.holds files.new)
         (W.contents (device_of output.old)) (W.contents (device_of output.new))) }
@@ -134,6 +135,9 @@ fn drive_input<'a, R: Read, W: Write>(
     ensures driven { OnOk result (DrivesInput (control controller.now) store.old store.new
         (R.remaining (device_of input.old)) (W.contents (device_of output.old))
         (W.contents (device_of output.new))) }
+    ensures cut { IfErr result (λ _. Partly (DrivenText (control controller.now) store.old
+        (R.remaining (device_of input.old)))
+        (W.contents (device_of output.old)) (W.contents (device_of output.new))) }
 {
     let mut line = Vec::new(alloc);
     let mut chunk = [0; CHUNK];
@@ -164,6 +168,8 @@ fn drive_rest<'a, W: Write>(
     ensures driven { OnOk result (Drives (control controller.now) store.old store.new
         (last_line line.now) (W.contents (device_of output.old))
         (W.contents (device_of output.new))) }
+    ensures part { WritesPart (text_of (control controller.now) store.old (last_line line.now))
+        (W.contents (device_of output.old)) (W.contents (device_of output.new)) }
 {
     if line.is_empty() {
         return Ok(());
@@ -189,6 +195,9 @@ fn drive_bytes<'a, W: Write>(
     ensures driven { OnOk result (Drives (control controller.now) store.old store.new
         (whole_lines line.old.items bytes.now) (W.contents (device_of output.old))
         (W.contents (device_of output.new))) }
+    ensures cut { IfErr result (λ _. WritesPart (text_of (control controller.now) store.old
+        (whole_lines line.old.items bytes.now))
+        (W.contents (device_of output.old)) (W.contents (device_of output.new))) }
 {
     for byte in bytes {
         if *byte == b'\n' {
@@ -213,6 +222,8 @@ fn drive_line<'a, W: Write>(
     requires output { faults_of output.old < u64.MAX }
     ensures fault { TellsFault (faults_of output.old) (faults_of output.new) result }
     ensures stop { IfErr result (λ stop. 3 < status_of stop) }
+    ensures part { WritesPart (cycle (control controller.now) store.old line.now).line
+        (W.contents (device_of output.old)) (W.contents (device_of output.new)) }
     ensures written { OnOk result (Appends (W.contents (device_of output.old))
         (W.contents (device_of output.new))
         (cycle (control controller.now) store.old line.now).line) }

@@ -3,6 +3,7 @@
 ghost use Rattle.std.specs.Prelude.{◌<◌, IfErr, OnOk};
 ghost use Rattle.std.specs.Io.KnownBytes.{Appends};
 ghost use Rattle.vsi.specs.Holding.{Delivers, Fills, Replaces};
+ghost use Rattle.vsi.specs.Partly.{WritesPart};
 ghost use Rattle.vsi.specs.Performed.{shown};
 ghost use Rattle.vsi.specs.Stops.{TellsFault, status_of};
 ghost use Rattle.vsi_devices.specs.Counted.{device_of, faults_of};
@@ -59,6 +60,8 @@ pub(crate) fn deliver<'a, F: Files, W: Write>(
     ensures stop { IfErr result (λ stop. 3 < status_of stop) }
     ensures whole { OnOk result (Appends (W.contents (device_of output.old))
         (W.contents (device_of output.new)) (shown out.entry text.now)) }
+    ensures part { WritesPart (shown out.entry text.now)
+        (W.contents (device_of output.old)) (W.contents (device_of output.new)) }
     ensures delivered { OnOk result
         (Delivers out.entry text.now (F.holds files.old) (F.holds files.new)) }
 {

@@ -2,7 +2,7 @@
 
 ghost use Rattle.std.specs.Prelude.{◌≡◌, ◌<◌, ◌⊎◌, IfErr, OnOk};
 ghost use Rattle.std.specs.Io.KnownBytes.{Keeps};
-ghost use Rattle.vsi.specs.Done.{Done, IsMistake, IsStopOf, Stopped};
+ghost use Rattle.vsi.specs.Done.{Done, IsMistake, IsStopOf, Stopped, Unread};
 ghost use Rattle.vsi.specs.Performed.{Performs};
 ghost use Rattle.vsi.specs.Stops.{TellsFault, status_of};
 ghost use Rattle.vsi.specs.declared.stop.Stop.TheVariants.{Memory};
@@ -42,7 +42,8 @@ pub(crate) fn obey<'a, F: Files, R: Read, W: Write>(
     ensures done { OnOk result (Done (F.holds files.old)
         (R.remaining (device_of input.old)) words.now (F.holds files.new)
         (W.contents (device_of output.old)) (W.contents (device_of output.new))) }
-    ensures stopped { IfErr result (Stopped (F.holds files.old) words.now
+    ensures stopped { IfErr result (Stopped (F.holds files.old)
+        (R.remaining (device_of input.old)) words.now
         (W.contents (device_of output.old)) (W.contents (device_of output.new))) }
 {
     match request_of(alloc, words) {
@@ -74,7 +75,8 @@ fn obey_asked<'a, F: Files, R: Read, W: Write>(
     ensures performed { OnOk result (Performs (F.holds files.old)
         (R.remaining (device_of input.old)) asked.entry.request (F.holds files.new)
         (W.contents (device_of output.old)) (W.contents (device_of output.new))) }
-    ensures stopped { IfErr result (IsStopOf (F.holds files.old) asked.entry.request
+    ensures stopped { IfErr result (IsStopOf (F.holds files.old)
+        (R.remaining (device_of input.old)) asked.entry.request
         (W.contents (device_of output.old)) (W.contents (device_of output.new))) }
 {
     let explaining = explaining_of(&asked, files);
@@ -136,9 +138,8 @@ fn answer_arguments<'a, W: Write>(
     requires { faults_of output.old < u64.MAX }
     ensures fault { TellsFault (faults_of output.old) (faults_of output.new) result }
     ensures help { OnOk result (AsksHelp words.now) }
-    ensures stopped { IfErr result (λ stop. (IsMistake stop
-        × Keeps (W.contents (device_of output.old)) (W.contents (device_of output.new)))
-        ⊎ (3 < status_of stop)) }
+    ensures stopped { IfErr result (Unread words.now
+        (W.contents (device_of output.old)) (W.contents (device_of output.new))) }
 {
     match error {
         ArgumentsError::Help(text) => {

@@ -1,9 +1,9 @@
 //! Does one subcommand.
 
 ghost use Rattle.std.specs.Prelude.{◌≡◌, ◌<◌, ◌⊎◌, Err, IfErr, IsOkAnd, OnOk, codes};
-ghost use Rattle.std.specs.Io.KnownBytes.{Appends};
+ghost use Rattle.std.specs.Io.KnownBytes.{Appends, Keeps};
 ghost use Rattle.vsi.specs.Performed.{Performs, PerformsCheck};
-ghost use Rattle.vsi.specs.Silent.{IsSilent};
+ghost use Rattle.vsi.specs.Partly.{Answers, AnswersCheck, BytesOf, Leaves, WritesPart, cut_from};
 ghost use Rattle.vsi.specs.Stops.{TellsFault, status_of};
 ghost use Rattle.vsi_devices.specs.Counted.{device_of, faults_of};
 ghost use Rattle.vsi.specs.Reasons.{Why, WhyCheck};
@@ -33,8 +33,10 @@ fn accept<'a, W: Write>(
 ) -> Result<(), Stop<'a>>
     requires { faults_of output.old < u64.MAX }
     ensures fault { TellsFault (faults_of output.old) (faults_of output.new) result }
-    ensures silent { IsSilent result (W.contents (device_of output.old))
-        (W.contents (device_of output.new)) }
+    ensures left { IfErr result (λ stop.
+        Keeps (W.contents (device_of output.old)) (W.contents (device_of output.new))
+        ⊎ ((status_of stop ≡ 4) × IsOkAnd answer.entry (λ _. WritesPart (codes "accepted\n")
+        (W.contents (device_of output.old)) (W.contents (device_of output.new))))) }
     ensures done { OnOk result (IsOkAnd answer.entry (λ _.
         Appends (W.contents (device_of output.old)) (W.contents (device_of output.new))
         (codes "accepted\n"))) }
@@ -51,8 +53,10 @@ fn put<'a, W: Write>(
 ) -> Result<(), Stop<'a>>
     requires { faults_of output.old < u64.MAX }
     ensures fault { TellsFault (faults_of output.old) (faults_of output.new) result }
-    ensures silent { IsSilent result (W.contents (device_of output.old))
-        (W.contents (device_of output.new)) }
+    ensures left { IfErr result (λ stop.
+        Keeps (W.contents (device_of output.old)) (W.contents (device_of output.new))
+        ⊎ ((status_of stop ≡ 4) × IsOkAnd answer.entry (λ text. WritesPart text.items
+        (W.contents (device_of output.old)) (W.contents (device_of output.new))))) }
     ensures done { OnOk result (IsOkAnd answer.entry (λ text.
         Appends (W.contents (device_of output.old)) (W.contents (device_of output.new))
         text.items)) }
@@ -72,8 +76,8 @@ fn put_check<'a, F: Files, W: Write>(
     requires { faults_of output.old < u64.MAX }
     ensures kept { F.holds files.new ≡ F.holds files.old }
     ensures fault { TellsFault (faults_of output.old) (faults_of output.new) result }
-    ensures silent { IsSilent result (W.contents (device_of output.old))
-        (W.contents (device_of output.new)) }
+    ensures left { IfErr result (Leaves (BytesOf (AnswersCheck asked.entry.is_json (F.holds files.old) asked.entry)) 4
+        (W.contents (device_of output.old)) (W.contents (device_of output.new))) }
     ensures performed { OnOk result
         (PerformsCheck asked.entry.is_json (F.holds files.old) asked.entry
         (W.contents (device_of output.old)) (W.contents (device_of output.new))) }
@@ -103,8 +107,10 @@ pub(crate) fn perform<'a, F: Files, R: Read, W: Write>(
         → F.holds files.new ≡ F.holds files.old) }
     ensures input_fault { TellsFault (faults_of input.old) (faults_of input.new) result }
     ensures output_fault { TellsFault (faults_of output.old) (faults_of output.new) result }
-    ensures silent { IsSilent result (W.contents (device_of output.old))
-        (W.contents (device_of output.new)) }
+    ensures left { IfErr result (Leaves
+        (Answers (F.holds files.old) (R.remaining (device_of input.old)) request.entry)
+        (cut_from request.entry)
+        (W.contents (device_of output.old)) (W.contents (device_of output.new))) }
     ensures performed { OnOk result (Performs (F.holds files.old)
         (R.remaining (device_of input.old)) request.entry (F.holds files.new)
         (W.contents (device_of output.old)) (W.contents (device_of output.new))) }

@@ -2,7 +2,7 @@
 
 ghost use Rattle.std.specs.Prelude.{◌≡◌, ◌<◌, ◌⊎◌, length, IfOk, IfErr, OnOk, Ok, Err};
 ghost use Rattle.vsi.specs.Performed.{BeginsAt, PerformsRun, PerformsView, ViewsFiles};
-ghost use Rattle.vsi.specs.Silent.{IsSilent};
+ghost use Rattle.vsi.specs.Partly.{AnswersRun, AnswersView, Leaves};
 ghost use Rattle.vsi.specs.Stops.{TellsFault, status_of};
 ghost use Rattle.vsi.specs.declared.stop.Stop.TheVariants.{Memory};
 ghost use Rattle.vsi_answers.specs.Requests.{BeginsWith};
@@ -134,8 +134,9 @@ pub(crate) fn run<'a, F: Files, W: Write>(
     ensures unfilled { IfErr result (λ stop. status_of stop < 4
         → F.holds files.new ≡ F.holds files.old) }
     ensures fault { TellsFault (faults_of output.old) (faults_of output.new) result }
-    ensures silent { IsSilent result (W.contents (device_of output.old))
-        (W.contents (device_of output.new)) }
+    ensures left { IfErr result (Leaves (AnswersRun (F.holds files.old) asked.now.execution
+        asked.now.outset asked.now.has_trace) 3
+        (W.contents (device_of output.old)) (W.contents (device_of output.new))) }
     ensures performed { OnOk result (PerformsRun (F.holds files.old) asked.now.execution
         asked.now.outset asked.now.has_trace (F.holds files.new)
         (W.contents (device_of output.old)) (W.contents (device_of output.new))) }
@@ -214,8 +215,9 @@ pub(crate) fn view<'a, F: Files, W: Write>(
     ensures unfilled { IfErr result (λ stop. status_of stop < 4
         → F.holds files.new ≡ F.holds files.old) }
     ensures fault { TellsFault (faults_of output.old) (faults_of output.new) result }
-    ensures silent { IsSilent result (W.contents (device_of output.old))
-        (W.contents (device_of output.new)) }
+    ensures left { IfErr result (Leaves (AnswersView (F.holds files.old) lattice.now class.now
+        execution.entry outset.now) 4
+        (W.contents (device_of output.old)) (W.contents (device_of output.new))) }
     ensures performed { OnOk result (PerformsView (F.holds files.old) lattice.now class.now
         execution.entry outset.now (F.holds files.new)
         (W.contents (device_of output.old)) (W.contents (device_of output.new))) }

@@ -3,7 +3,7 @@
 ghost use Rattle.std.specs.Prelude.{◌≡◌, ◌<◌, ◌≤◌, ◌⊎◌, ◌==◌, true, false, IfErr, OnOk, OnErr, IsTrue};
 ghost use Rattle.std.specs.Io.KnownBytes.{Appends};
 ghost use Rattle.vsi.specs.Stops.{line_of, status_of, text_of_stop, IsStreamFault, StopsFor, TellsFault};
-ghost use Rattle.vsi.specs.Silent.{IsSilent};
+ghost use Rattle.vsi.specs.Partly.{WritesPart};
 ghost use Rattle.vsi.specs.declared.stop.Stop.TheVariants.{Differs, Memory};
 ghost use Rattle.vsi_devices.specs.Counted.{device_of, faults_of};
 
@@ -156,6 +156,8 @@ pub(crate) fn write<'a, W: Write>(text: &[u8], output: &mut Counted<W>) -> Resul
         (IsStreamFault (faults_of output.old < faults_of output.new))) }
     ensures whole { OnOk result
         (Appends (W.contents (device_of output.old)) (W.contents (device_of output.new)) text.now) }
+    ensures part { WritesPart text.now
+        (W.contents (device_of output.old)) (W.contents (device_of output.new)) }
 {
     write_out(text, output).map_err(|_| Stop::FileFault(STREAM))
 }
@@ -168,8 +170,8 @@ pub(crate) fn write_answer<'a, W: Write>(
 ) -> Result<(), Stop<'a>>
     requires { faults_of output.old < u64.MAX }
     ensures fault { TellsFault (faults_of output.old) (faults_of output.new) result }
-    ensures silent { IsSilent result (W.contents (device_of output.old))
-        (W.contents (device_of output.new)) }
+    ensures part { WritesPart text.now
+        (W.contents (device_of output.old)) (W.contents (device_of output.new)) }
     ensures whole { OnOk result ((agrees ≡ true)
         × Appends (W.contents (device_of output.old)) (W.contents (device_of output.new)) text.now) }
     ensures stopped { IfErr result (λ stop. ((stop ≡ Differs) × ((agrees ≡ false)

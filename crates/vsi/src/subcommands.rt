@@ -4,7 +4,7 @@ ghost use Rattle.std.specs.Prelude.{◌≡◌, ◌<◌, true, false, IfErr, IfOk
 ghost use Rattle.vsi.specs.Performed.{AreFiles, BuildsFile, OfFile, OfFiles, ToldAccepted, ToldCanonical, ToldClasses, ToldFlows, ToldImage, ToldJson, ToldListing, Writes};
 ghost use Rattle.vsi.specs.Performed.{judgement_of, profile_of};
 ghost use Rattle.vsi.specs.Reasons.{AsksCanonical, AsksCheck, AsksClasses, AsksFlows, AsksImage, NoOther, RefusesFile, RefusesFiles, RefusesLattice, StopsBy, ToldRefusal, WhyCheck};
-ghost use Rattle.vsi.specs.Silent.{IsSilent};
+ghost use Rattle.vsi.specs.Partly.{AnswersCheck, BytesOf, Leaves};
 ghost use Rattle.vsi.specs.Stops.{TellsFault, status_of};
 ghost use Rattle.vsi_answers.specs.Requests.{ListsTo};
 ghost use Rattle.vsi_devices.specs.Counted.{device_of, faults_of};
@@ -128,8 +128,8 @@ pub(crate) fn check_as_json<'a, F: Files, W: Write>(
     requires { faults_of output.old < u64.MAX }
     ensures kept { F.holds files.new ≡ F.holds files.old }
     ensures fault { TellsFault (faults_of output.old) (faults_of output.new) result }
-    ensures silent { IsSilent result (W.contents (device_of output.old))
-        (W.contents (device_of output.new)) }
+    ensures left { IfErr result (Leaves (BytesOf (AnswersCheck true (F.holds files.old) asked.entry)) 4
+        (W.contents (device_of output.old)) (W.contents (device_of output.new))) }
     ensures performed { OnOk result (Writes (OfFiles (F.holds files.old) asked.entry.compilation
         (ToldJson (judgement_of asked.entry)))
         (W.contents (device_of output.old)) (W.contents (device_of output.new))) }

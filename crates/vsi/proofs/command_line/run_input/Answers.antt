@@ -4,6 +4,7 @@ use Rattle.vsi_answers.specs.Requests.{RunsSourceTo}
 use Rattle.vsi_devices.specs.Counted.{device_of}
 use Rattle.vsi_devices.specs.Engine.{IsReadFrom}
 use Rattle.vsi.specs.Input.{StopsRun}
+use Rattle.vsi.proofs.Partly.{Partly-weaker, any_stop, kept_partly}
 use Rattle.vsi.proofs.Stopped.{StopsFor-weaker}
 use Rattle.vsi.proofs.command_line.run_input.Goals as goal
 
@@ -36,3 +37,25 @@ returns-in-Ok-clause-stopped g c =
     })
     (λ path fault. (fault.0, inr fault.1)))
     c.write_run.ensures.stopped
+
+pub returns-in_err-lattice-clause-partly : goal.returns-in_err-lattice-clause-partly
+returns-in_err-lattice-clause-partly g c = any_stop _ c.from_residual.result (kept_partly _ _)
+
+pub returns-clause-partly : goal.returns-clause-partly
+returns-clause-partly g c = kept_partly _ _
+
+pub returns-in-Ok-clause-partly : goal.returns-in-Ok-clause-partly
+returns-in-Ok-clause-partly g c =
+    IfErr-weaker c.write_run.result _ _
+    (λ stop. Partly-weaker _ _ _ _
+    (λ bytes is. record {
+      source = c.as_slice.result.now;
+      given = subst (IsReadFrom (g.R.Read.remaining (device_of c.args.input.now))) (sym c.as_slice.ensures.value)
+          c.in-Ok.ensures.bytes;
+      lattice = c.in_ok-lattice.lattice;
+      declared = c.in_ok-lattice.ensures.declared;
+      text = is.0;
+      ran = is.1;
+      is = is.2;
+    }))
+    c.write_run.ensures.partly

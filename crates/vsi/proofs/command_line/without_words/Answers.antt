@@ -1,6 +1,7 @@
 use Rattle.std.proofs.Common.{◌<◌, ◌⊎◌}
 use Rattle.vsi.specs.Input.{Hears, StopsRun}
 use Rattle.vsi_devices.specs.Counted.{device_of, faults_of}
+use Rattle.vsi.proofs.Leaving.{partly_at}
 use Rattle.vsi.proofs.Obeyed.{each_stop}
 use Rattle.vsi.proofs.Stopped.{Hears-behind, done_at_zero, heard_fault, heard_nothing, heard_stop, refused_at_one, spent_at_three, tells_stop}
 use Rattle.vsi.proofs.command_line.without_words.Goals as goal
@@ -54,3 +55,7 @@ returns-clause-told g c =
     c.new.result.note.items c.run_input-answer.result c.ended.result
     (each_stop (λ stop. Unit {0}) c.run_input-answer.result (λ stop. tt)) c.greet.ensures.count
     c.ended.ensures.count c.greet.ensures.told c.ended.ensures.done c.ended.ensures.stopped c.ended.ensures.shut
+
+pub returns-clause-partly : goal.returns-clause-partly
+returns-clause-partly g c =
+    partly_at _ c.run_input-answer.result c.ended.result c.run_input-answer.ensures.partly c.ended.ensures.done

@@ -1,7 +1,8 @@
-use Rattle.std.proofs.Common.{subst}
+use Rattle.std.proofs.Common.{inr, subst}
 use Rattle.std.proofs.lemmas.Result.{on_ok_weaker}
 use Rattle.std.specs.Io.KnownBytes.{Appends}
 use Rattle.vsi_devices.specs.Counted.{device_of}
+use Rattle.vsi.proofs.Partly.{any_stop, kept_partly}
 use Rattle.vsi.proofs.command_line.write_run.Goals as goal
 
 pub returns-clause-ran : goal.returns-clause-ran
@@ -14,3 +15,15 @@ returns-clause-ran g c =
           (g.W.Write.contents (device_of c.write.new.output))) c.as_slice.ensures.value written;
     })
     c.write.ensures.whole
+
+pub returns-in_err-text-clause-partly : goal.returns-in_err-text-clause-partly
+returns-in_err-text-clause-partly g c = any_stop _ c.from_residual.result (kept_partly _ _)
+
+pub returns-clause-partly : goal.returns-clause-partly
+returns-clause-partly g c =
+    any_stop _ c.write.result
+    (inr (
+      c.as_slice.result.now,
+      (c.in_ok-text.text, c.in_ok-text.ensures.ran, c.as_slice.ensures.value),
+      c.write.ensures.part,
+    ))

@@ -2,7 +2,9 @@ use Rattle.std.proofs.Common.{◌≡◌, false, inl, inr, refl, subst}
 use Rattle.std.proofs.lemmas.Result.{on_ok_weaker}
 use Rattle.std.specs.Io.KnownBytes.{Appends}
 use Rattle.vsi_devices.specs.Counted.{device_of}
+use Rattle.vsi.specs.Partly.{AnswersCompare}
 use Rattle.vsi.specs.Reasons.{LacksClassAt, OtherCompare, StopsBy, WhyCompare}
+use Rattle.vsi.proofs.Partly.{answer_leaves, kept_leaves}
 use Rattle.vsi.proofs.Reasons.{StopsBy-weaker, handed}
 use Rattle.vsi.proofs.Unrun.{answer_stopped}
 use Rattle.vsi.proofs.comparing.compare.Goals as goal
@@ -48,3 +50,16 @@ returns-clause-stopped g c =
         written = subst (Appends old new) c.deref.ensures.value told.1;
       },
     ))
+
+pub returns-in_err-found-clause-left : goal.returns-in_err-found-clause-left
+returns-in_err-found-clause-left g c = kept_leaves _ 4 _ c.from_residual.result
+
+pub returns-clause-left : goal.returns-clause-left
+returns-clause-left g c =
+    let holds = g.F.Files.holds c.args.files.now in
+    let old = g.W.Write.contents (device_of c.args.output.now) in
+    let new = g.W.Write.contents (device_of c.write_answer.new.output) in
+    answer_leaves (AnswersCompare holds c.args.asked)
+    ((c.in_ok-found.found.is_same ≡ false) × Appends old new c.deref.result.now) old new c.deref.result.now
+    c.write_answer.result (c.in_ok-found.found, c.in_ok-found.ensures.told, c.deref.ensures.value)
+    c.write_answer.ensures.stopped c.write_answer.ensures.part

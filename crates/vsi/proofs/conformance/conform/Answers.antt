@@ -1,9 +1,11 @@
-use Rattle.std.proofs.Common.{◌≡◌, false, inl, inr, refl, subst}
+use Rattle.std.proofs.Common.{◌≡◌, Bool, false, inl, inr, refl, subst}
 use Rattle.std.proofs.lemmas.Result.{on_ok_weaker}
 use Rattle.std.specs.Io.KnownBytes.{Appends}
 use Rattle.vsi_devices.specs.Counted.{device_of}
+use Rattle.vsi.specs.Partly.{BytesOf}
 use Rattle.vsi.specs.Performed.{ConformsFiles}
 use Rattle.vsi.specs.Reasons.{DiffersConform, IsUnusable, RefusesAsked, StopsBy}
+use Rattle.vsi.proofs.Partly.{answer_leaves, kept_leaves}
 use Rattle.vsi.proofs.Reasons.{StopsBy-weaker, handed}
 use Rattle.vsi.proofs.Unrun.{answer_stopped}
 use Rattle.vsi.proofs.conformance.conform.Goals as goal
@@ -47,3 +49,21 @@ returns-in_err-conforms-clause-stopped g c =
     handed (StopsBy why other) c.in_err-conforms.field-0.0 c.from_residual.result c.from_residual.ensures.1
     (StopsBy-weaker why why IsUnusable other (λ reason is. is) (λ stop is. inl is) c.in_err-conforms.field-0.0
     c.in_err-conforms.ensures.stopped)
+
+pub returns-in_err-conforms-clause-left : goal.returns-in_err-conforms-clause-left
+returns-in_err-conforms-clause-left g c = kept_leaves _ 4 _ c.from_residual.result
+
+pub returns-clause-left : goal.returns-clause-left
+returns-clause-left g c =
+    let holds = g.F.Files.holds c.args.files.now in
+    let old = g.W.Write.contents (device_of c.args.output.now) in
+    let new = g.W.Write.contents (device_of c.write_answer.new.output) in
+    answer_leaves (BytesOf (λ text. (b : Bool) × ConformsFiles holds c.args.asked b text))
+    ((c.in_ok-conforms.conforms ≡ false) × Appends old new c.deref.result.now) old new c.deref.result.now
+    c.write_answer.result
+    (
+      c.in_ok-conforms.text,
+      (c.in_ok-conforms.conforms, c.in_ok-conforms.ensures.told),
+      c.deref.ensures.value,
+    )
+    c.write_answer.ensures.stopped c.write_answer.ensures.part

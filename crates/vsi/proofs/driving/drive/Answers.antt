@@ -6,9 +6,13 @@ use Rattle.vsi_image.specs.Fields.{globals}
 use Rattle.vsi_store.specs.Text.{store_text_of}
 use Rattle.vsi.specs.Driven.{DrivesInput}
 use Rattle.vsi.specs.Holding.{Delivers}
+use Rattle.vsi.specs.Partly.{AnswersDrive, DrivenText, Partly}
 use Rattle.vsi.specs.Performed.{IsStoredAt}
 use Rattle.vsi.specs.Reasons.{LacksClassAt, WhyDrive}
 use Rattle.vsi.proofs.Driven.{control_is, written_back}
+use Rattle.vsi.proofs.Cut.{input_driven}
+use Rattle.vsi.proofs.Leaving.{driven_answers}
+use Rattle.vsi.proofs.Partly.{kept_leaf, kept_leaves, late_handed, late_leaves}
 use Rattle.vsi.proofs.Reasons.{late_stopped}
 use Rattle.vsi.proofs.Undriven.{controller_stops}
 use Rattle.vsi.proofs.Unrun.{handed_late, store_stopped, unseen_stopped}
@@ -86,3 +90,52 @@ returns-clause-stopped g c =
     let holds = g.F.Files.holds c.args.files.now in
     handed_late (WhyDrive holds c.args.driving) (LacksClassAt holds c.args.driving.lattice.now c.args.driving.class.now)
     c.save.result c.save.ensures.stop
+
+pub returns-in_err-classes-clause-left : goal.returns-in_err-classes-clause-left
+returns-in_err-classes-clause-left g c = kept_leaves _ 4 _ c.from_residual.result
+
+pub returns-in_err-words-clause-left : goal.returns-in_err-words-clause-left
+returns-in_err-words-clause-left g c = kept_leaves _ 4 _ c.from_residual-in_err-words.result
+
+pub returns-in-Err-clause-left : goal.returns-in-Err-clause-left
+returns-in-Err-clause-left g c = kept_leaf _ 4 _ c.faulty.result
+
+pub returns-in_err-drive_input-in-Ok-clause-left : goal.returns-in_err-drive_input-in-Ok-clause-left
+returns-in_err-drive_input-in-Ok-clause-left g c =
+    let holds = g.F.Files.holds c.args.files.now in
+    let given = g.R.Read.remaining (device_of c.args.input.now) in
+    let old = g.W.Write.contents (device_of c.args.output.now) in
+    let new = g.W.Write.contents (device_of c.drive_input.new.output) in
+    let drives = control c.in-Ok.controller in
+    let asked = c.args.driving.execution in
+    let words = c.in_ok-words.words.items in
+    let image = c.in_ok-classes.verified in
+    late_handed (AnswersDrive holds c.args.driving given) old new c.from_residual-in_err-drive_input-in-Ok.result
+    c.in_err-drive_input-in-Ok.field-0.0 c.from_residual-in_err-drive_input-in-Ok.ensures.1
+    c.in_err-drive_input-in-Ok.ensures.stop
+    (driven_answers holds c.args.driving given old new c.in_ok-classes.classes c.in_ok-classes.driver image words drives
+    c.in_ok-classes.ensures.looks c.in_ok-classes.ensures.held
+    (subst (λ h. IsStoredAt h asked.store image words) c.in_ok-classes.ensures.kept c.in_ok-words.ensures.stored)
+    (control_is drives c.in_ok-classes.classes c.in_ok-classes.driver image asked.budget c.in-Ok.ensures.known
+    c.in-Ok.ensures.order c.in-Ok.ensures.class c.in-Ok.ensures.image c.in-Ok.ensures.budget)
+    (subst (λ m. Partly (DrivenText drives m given) old new) c.deref_mut.ensures.value
+    c.in_err-drive_input-in-Ok.ensures.cut))
+
+pub returns-clause-left : goal.returns-clause-left
+returns-clause-left g c =
+    let holds = g.F.Files.holds c.args.files.now in
+    let given = g.R.Read.remaining (device_of c.args.input.now) in
+    let old = g.W.Write.contents (device_of c.args.output.now) in
+    let new = g.W.Write.contents (device_of c.drive_input.new.output) in
+    let drives = control c.in-Ok.controller in
+    let asked = c.args.driving.execution in
+    let words = c.in_ok-words.words.items in
+    let image = c.in_ok-classes.verified in
+    late_leaves (AnswersDrive holds c.args.driving given) old new c.save.result c.save.ensures.stop
+    (driven_answers holds c.args.driving given old new c.in_ok-classes.classes c.in_ok-classes.driver image words drives
+    c.in_ok-classes.ensures.looks c.in_ok-classes.ensures.held
+    (subst (λ h. IsStoredAt h asked.store image words) c.in_ok-classes.ensures.kept c.in_ok-words.ensures.stored)
+    (control_is drives c.in_ok-classes.classes c.in_ok-classes.driver image asked.budget c.in-Ok.ensures.known
+    c.in-Ok.ensures.order c.in-Ok.ensures.class c.in-Ok.ensures.image c.in-Ok.ensures.budget)
+    (subst (λ m. Partly (DrivenText drives m given) old new) c.deref_mut.ensures.value
+    (input_driven drives c.deref_mut.result.now _ given old new c.in_ok-drive_input-in-Ok.ensures.driven)))

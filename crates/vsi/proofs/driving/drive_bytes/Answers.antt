@@ -1,10 +1,13 @@
-use Rattle.std.proofs.Common.{◌≡◌, ◌+◌, ◌∙◌, ◌++◌, ◌∷◌, [], get_or, take, sym, ap, subst, arith}
+use Rattle.std.proofs.Common.{◌≡◌, ◌+◌, ◌∙◌, ◌++◌, ◌∷◌, [], get_or, take, drop, sym, ap, subst, arith, take-append-drop}
 use Rattle.std.proofs.lemmas.List.{take_more}
 use Rattle.std.specs.Io.KnownBytes.{Appends}
 use Rattle.vsi_devices.specs.Counted.{device_of}
 use Rattle.vsi_drive.specs.Control.{control}
 use Rattle.vsi_drive.specs.Cycles.{cycle}
+use Rattle.vsi.specs.Partly.{WritesPart}
+use Rattle.vsi.proofs.Cut.{at_byte, cut_line, cut_lines}
 use Rattle.vsi.proofs.Driven.{ended_begun, grown_begun, grown_long, grown_short, line_ended, line_goes_on}
+use Rattle.vsi.proofs.Partly.{any_stop}
 use Rattle.vsi.proofs.driving.drive_bytes.Goals as goal
 use Rattle.vsi.proofs.driving.drive_bytes.Goals.{then-byte-eq10+in_ok-drive_line, else-byte-eq10+then-len-le-LINE_LIMIT+in_ok-push, else-byte-eq10+else-len-le-LINE_LIMIT}
 
@@ -52,3 +55,29 @@ loop-byte-preserved g c =
             c.loop-byte.invariant.driven w.if-byte-eq10.false;
       })
     ]
+
+pub returns-in_err-drive_line-clause-cut : goal.returns-in_err-drive_line-clause-cut
+returns-in_err-drive_line-clause-cut g c =
+    let contents = g.W.Write.contents in
+    let drives = control c.args.controller.now in
+    let bytes = c.args.bytes.now in
+    let i = c.loop-byte.byte-index in
+    let between = contents (device_of c.loop-byte.output) in
+    let new = contents (device_of c.drive_line.new.output) in
+    any_stop _ c.from_residual.result
+    (cut_line drives c.args.store.now c.loop-byte.store c.args.line.now.items (take i bytes) (drop (i + 1) bytes) bytes
+    c.loop-byte.line.items (get_or bytes i 0) (contents (device_of c.args.output.now)) between new
+    c.loop-byte.invariant.driven c.loop-byte.invariant.line c.if-byte-eq10.true
+    (at_byte bytes i c.loop-byte-test.true)
+    (subst (λ l. WritesPart (cycle drives c.loop-byte.store l).line between new) c.deref.ensures.value
+    c.in_err-drive_line.ensures.part))
+
+pub returns-in_err-push-clause-cut : goal.returns-in_err-push-clause-cut
+returns-in_err-push-clause-cut g c =
+    let contents = g.W.Write.contents in
+    let bytes = c.args.bytes.now in
+    let i = c.loop-byte.byte-index in
+    any_stop _ c.from_residual-in_err-push.result
+    (cut_lines (control c.args.controller.now) c.args.store.now c.loop-byte.store c.args.line.now.items (take i bytes)
+    (drop i bytes) bytes (contents (device_of c.args.output.now)) (contents (device_of c.loop-byte.output))
+    c.loop-byte.invariant.driven (sym (take-append-drop i bytes)))

@@ -1,5 +1,6 @@
 use Rattle.std.proofs.Common.{◌∙◌, subst}
 use Rattle.vsi_devices.specs.Counted.{device_of}
+use Rattle.vsi.specs.Partly.{Answers, Leaves, cut_from}
 use Rattle.vsi.specs.Performed.{Performs}
 use Rattle.vsi.specs.Reasons.{Why}
 use Rattle.vsi.proofs.Obeyed.{early_told, explained_stops}
@@ -21,12 +22,14 @@ returns-clause-unfilled g c =
 pub returns-clause-stopped : goal.returns-clause-stopped
 returns-clause-stopped g c =
     let holds = g.F.Files.holds c.args.files.now in
+    let given = g.R.Read.remaining (device_of c.args.input.now) in
+    let asked = c.args.asked.request in
     let old = g.W.Write.contents (device_of c.args.output.now) in
     let new = g.W.Write.contents (device_of c.perform.new.output) in
-    explained_stops holds c.args.asked.request old new c.in-Err.stop c.explain_stop.result
+    explained_stops holds given asked old new c.in-Err.stop c.explain_stop.result
     (record {
-      why = subst (λ h. Why h c.args.asked.request old new c.in-Err.stop) c.explaining_of-explaining.ensures
-          c.in-Err.ensures.stopped;
-      silent = c.in-Err.ensures.silent;
+      why = subst (λ h. Why h asked old new c.in-Err.stop) c.explaining_of-explaining.ensures c.in-Err.ensures.stopped;
+      leaves = subst (λ h. Leaves (Answers h given asked) (cut_from asked) old new c.in-Err.stop)
+          c.explaining_of-explaining.ensures c.in-Err.ensures.left;
     })
     c.explain_stop.ensures.same

@@ -7,7 +7,8 @@ use Rattle.vsi.specs.Reasons.{AsksCanonical, AsksClasses, AsksFlows, HasNoText, 
 use Rattle.vsi.proofs.Filled.{alone}
 use Rattle.vsi.proofs.Obeyed.{put_stops}
 use Rattle.vsi.proofs.Unrun.{Unseen, fault_stopped}
-use Rattle.vsi.proofs.Written.{accept_performs, build_performs, put_alone, silent_fault, silent_kept}
+use Rattle.vsi.proofs.Partly.{accept_leaves, fault_leaves, kept_leaves, put_leaves}
+use Rattle.vsi.proofs.Written.{accept_performs, build_performs, put_alone}
 use Rattle.vsi.proofs.performing.perform.Goals as goal
 
 -- ---- what has been done.
@@ -98,11 +99,71 @@ returns-in-Explain-clause-performed g c = rw c.in-Explain.is
 
 -- ---- what is left of the output.
 
-pub returns-in-Build-clause-silent : goal.returns-in-Build-clause-silent
-returns-in-Build-clause-silent g c = silent_kept c.build.result _
+pub returns-in-Classes-clause-left : goal.returns-in-Classes-clause-left
+returns-in-Classes-clause-left g c = rw c.in-Classes.is
+    (put_leaves _ _ _ c.classes.result c.put.result c.classes.ensures.told c.put.ensures.left)
 
-pub returns-in-Explain-clause-silent : goal.returns-in-Explain-clause-silent
-returns-in-Explain-clause-silent g c = silent_fault c.write.result _ _ c.write.ensures.stop
+pub returns-in-Flows-clause-left : goal.returns-in-Flows-clause-left
+returns-in-Flows-clause-left g c = rw c.in-Flows.is
+    (put_leaves _ _ _ c.flows.result c.put-in-Flows.result c.flows.ensures.told c.put-in-Flows.ensures.left)
+
+pub returns-in-List-clause-left : goal.returns-in-List-clause-left
+returns-in-List-clause-left g c = rw c.in-List.is
+    (put_leaves _ _ _ c.list.result c.put-in-List.result c.list.ensures.told c.put-in-List.ensures.left)
+
+pub returns-in-Source-clause-left : goal.returns-in-Source-clause-left
+returns-in-Source-clause-left g c = rw c.in-Source.is
+    (put_leaves _ _ _ c.source.result c.put-in-Source.result c.source.ensures.told c.put-in-Source.ensures.left)
+
+pub returns-in-EmitC-clause-left : goal.returns-in-EmitC-clause-left
+returns-in-EmitC-clause-left g c = rw c.in-EmitC.is
+    (put_leaves _ _ _ c.emit.result c.put-in-EmitC.result c.emit.ensures.told c.put-in-EmitC.ensures.left)
+
+pub returns-in-Leak-clause-left : goal.returns-in-Leak-clause-left
+returns-in-Leak-clause-left g c = rw c.in-Leak.is
+    (put_leaves _ _ _ c.leak.result c.put-in-Leak.result c.leak.ensures.told c.put-in-Leak.ensures.left)
+
+pub returns-in-Report-clause-left : goal.returns-in-Report-clause-left
+returns-in-Report-clause-left g c = rw c.in-Report.is
+    (put_leaves _ _ _ c.report.result c.put-in-Report.result c.report.ensures.told c.put-in-Report.ensures.left)
+
+pub returns-in-Draw-clause-left : goal.returns-in-Draw-clause-left
+returns-in-Draw-clause-left g c = rw c.in-Draw.is
+    (put_leaves _ _ _ c.draw.result c.put-in-Draw.result c.draw.ensures.told c.put-in-Draw.ensures.left)
+
+pub returns-in-Format-clause-left : goal.returns-in-Format-clause-left
+returns-in-Format-clause-left g c = rw c.in-Format.is
+    (put_leaves _ _ _ c.format.result c.put-in-Format.result c.format.ensures.told c.put-in-Format.ensures.left)
+
+pub returns-in-Audit-clause-left : goal.returns-in-Audit-clause-left
+returns-in-Audit-clause-left g c = rw c.in-Audit.is
+    (accept_leaves _ _ _ _ c.audit.result c.accept.result c.audit.ensures.told c.accept.ensures.left)
+
+pub returns-in-Build-clause-left : goal.returns-in-Build-clause-left
+returns-in-Build-clause-left g c = rw c.in-Build.is (kept_leaves _ 4 _ c.build.result)
+
+pub returns-in-Explain-clause-left : goal.returns-in-Explain-clause-left
+returns-in-Explain-clause-left g c = rw c.in-Explain.is
+    (fault_leaves _ _ _ c.as_bytes.result.now c.write.result c.as_bytes.ensures.value c.write.ensures.stop
+    c.write.ensures.part)
+
+pub returns-in-Check-clause-left : goal.returns-in-Check-clause-left
+returns-in-Check-clause-left g c = rw c.in-Check.is c.put_check.ensures.left
+
+pub returns-in-Conform-clause-left : goal.returns-in-Conform-clause-left
+returns-in-Conform-clause-left g c = rw c.in-Conform.is c.conform.ensures.left
+
+pub returns-in-Compare-clause-left : goal.returns-in-Compare-clause-left
+returns-in-Compare-clause-left g c = rw c.in-Compare.is c.compare.ensures.left
+
+pub returns-in-Run-clause-left : goal.returns-in-Run-clause-left
+returns-in-Run-clause-left g c = rw c.in-Run.is c.run.ensures.left
+
+pub returns-in-View-clause-left : goal.returns-in-View-clause-left
+returns-in-View-clause-left g c = rw c.in-View.is c.view.ensures.left
+
+pub returns-in-Drive-clause-left : goal.returns-in-Drive-clause-left
+returns-in-Drive-clause-left g c = rw c.in-Drive.is c.drive.ensures.left
 
 -- ---- why it has stopped.
 

@@ -1,6 +1,7 @@
 use Rattle.vsi.specs.Reasons.{AsksCheck, NoOther, RefusesFiles}
 use Rattle.vsi.proofs.Written.{put_writes}
 use Rattle.vsi.proofs.Obeyed.{put_stops}
+use Rattle.vsi.proofs.Partly.{put_leaves}
 use Rattle.vsi.proofs.performing.put_check.Goals as goal
 
 pub returns-then-asked-clause-performed : goal.returns-then-asked-clause-performed
@@ -21,3 +22,11 @@ returns-else-asked-clause-stopped g c =
     (RefusesFiles (g.F.Files.holds c.args.files.now) c.args.asked.compilation
     (AsksCheck c.args.asked.is_steady c.args.asked.compilation.is_strict))
     NoOther c.check.result c.put.result c.check.ensures.stopped c.put.ensures.stopped)
+
+pub returns-then-asked-clause-left : goal.returns-then-asked-clause-left
+returns-then-asked-clause-left g c = rw c.if-asked.true c.check_as_json.ensures.left
+
+pub returns-else-asked-clause-left : goal.returns-else-asked-clause-left
+returns-else-asked-clause-left g c =
+    rw c.if-asked.false
+    (put_leaves _ _ _ c.check.result c.put.result c.check.ensures.told c.put.ensures.left)

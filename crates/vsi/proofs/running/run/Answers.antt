@@ -1,11 +1,14 @@
-use Rattle.std.proofs.Common.{inl, inr, refl, sym, subst}
+use Rattle.std.proofs.Common.{arith, inl, inr, refl, sym, subst}
 use Rattle.std.proofs.KnownBytes.{Appends-trans}
 use Rattle.std.proofs.lemmas.Result.{on_ok_weaker}
 use Rattle.std.specs.Io.KnownBytes.{Appends}
 use Rattle.vsi_devices.specs.Counted.{device_of}
+use Rattle.vsi.specs.Partly.{AnswersRun}
 use Rattle.vsi.specs.Performed.{BeginsAt, shown}
 use Rattle.vsi.specs.Reasons.{NoOther, WhyRun}
 use Rattle.vsi.proofs.Filled.{both_done, delivered_of}
+use Rattle.vsi.proofs.Leaving.{cut_part, device_leaf, shown_part, traced_part}
+use Rattle.vsi.proofs.Partly.{kept_leaves, memory_handed, spent_leaf, spent_leaves}
 use Rattle.vsi.proofs.Reasons.{stopped_by}
 use Rattle.vsi.proofs.Unrun.{Unstarted, ended_stops, handed_late, memory_stopped}
 use Rattle.vsi.proofs.running.run.Goals as goal
@@ -99,3 +102,69 @@ returns-clause-stopped g c =
     (g.W.Write.contents (device_of c.args.output.now)) (g.W.Write.contents (device_of c.run_words.new.writer)) in
     ended_stops why NoOther c.in-Err.error c.device_stop.result c.in-Err.ensures.only c.device_stop.ensures.write
     c.device_stop.ensures.memory
+
+pub returns-in_err-verified-clause-left : goal.returns-in_err-verified-clause-left
+returns-in_err-verified-clause-left g c = kept_leaves _ 3 _ c.from_residual.result
+
+pub returns-in-Ok-Some-clause-left : goal.returns-in-Ok-Some-clause-left
+returns-in-Ok-Some-clause-left g c =
+    let asked = c.args.asked.now in
+    let holds = g.F.Files.holds c.args.files.now in
+    let old = g.W.Write.contents (device_of c.args.output.now) in
+    let mid = g.W.Write.contents (device_of c.run_words.new.writer) in
+    let ran = rw c.in-Ok-Some.field-0-is at c.in-Ok-Some.ensures.ran in
+    spent_leaves (AnswersRun holds asked.execution asked.outset asked.has_trace) old
+    (g.W.Write.contents (device_of c.deliver.new.output)) c.deliver.result c.deliver.ensures.stop
+    (shown_part holds asked.execution asked.outset asked.has_trace c.in_ok-verified.verified c.deref.result.now _
+    c.in-Ok-Some.text.items c.deref-in-Ok-Some-2.result.now ran.0 old mid
+    (g.W.Write.contents (device_of c.deliver.new.output)) c.in_ok-verified.ensures.begins c.deref.ensures.value ran.1
+    ran.2 c.deref-in-Ok-Some-2.ensures.value c.deliver.ensures.part)
+
+pub returns-in_err-put_count-in-Ok-Some-clause-left : goal.returns-in_err-put_count-in-Ok-Some-clause-left
+returns-in_err-put_count-in-Ok-Some-clause-left g c =
+    let asked = c.args.asked.now in
+    let holds = g.F.Files.holds c.args.files.now in
+    let old = g.W.Write.contents (device_of c.args.output.now) in
+    let mid = g.W.Write.contents (device_of c.run_words.new.writer) in
+    let ran = rw c.in-Ok-Some.field-0-is at c.in-Ok-Some.ensures.ran in
+    memory_handed (AnswersRun holds asked.execution asked.outset asked.has_trace) old mid
+    c.from_residual-in_err-put_count-in-Ok-Some.result c.in_err-put_count-in-Ok-Some.field-0.0
+    c.from_residual-in_err-put_count-in-Ok-Some.ensures.1 c.in_err-put_count-in-Ok-Some.ensures
+    (traced_part holds asked.execution asked.outset asked.has_trace c.in_ok-verified.verified c.deref.result.now _ _
+    ran.0 old mid c.in_ok-verified.ensures.begins c.deref.ensures.value ran.1 ran.2)
+
+pub returns-in_err-put_count-in-Ok-None-clause-left : goal.returns-in_err-put_count-in-Ok-None-clause-left
+returns-in_err-put_count-in-Ok-None-clause-left g c =
+    let asked = c.args.asked.now in
+    let holds = g.F.Files.holds c.args.files.now in
+    let old = g.W.Write.contents (device_of c.args.output.now) in
+    let mid = g.W.Write.contents (device_of c.run_words.new.writer) in
+    let ran = rw c.in-Ok-None.field-0-is at c.in-Ok-None.ensures.ran in
+    memory_handed (AnswersRun holds asked.execution asked.outset asked.has_trace) old mid
+    c.from_residual-in_err-put_count-in-Ok-None.result c.in_err-put_count-in-Ok-None.field-0.0
+    c.from_residual-in_err-put_count-in-Ok-None.ensures.1 c.in_err-put_count-in-Ok-None.ensures
+    (traced_part holds asked.execution asked.outset asked.has_trace c.in_ok-verified.verified c.deref.result.now _ _
+    ran.0 old mid c.in_ok-verified.ensures.begins c.deref.ensures.value ran.1 ran.2)
+
+pub returns-in-Ok-None-clause-left : goal.returns-in-Ok-None-clause-left
+returns-in-Ok-None-clause-left g c =
+    let asked = c.args.asked.now in
+    let holds = g.F.Files.holds c.args.files.now in
+    let old = g.W.Write.contents (device_of c.args.output.now) in
+    let mid = g.W.Write.contents (device_of c.run_words.new.writer) in
+    let ran = rw c.in-Ok-None.field-0-is at c.in-Ok-None.ensures.ran in
+    spent_leaf (AnswersRun holds asked.execution asked.outset asked.has_trace) old mid _ (omega arith)
+    (traced_part holds asked.execution asked.outset asked.has_trace c.in_ok-verified.verified c.deref.result.now _ _
+    ran.0 old mid c.in_ok-verified.ensures.begins c.deref.ensures.value ran.1 ran.2)
+
+pub returns-clause-left : goal.returns-clause-left
+returns-clause-left g c =
+    let asked = c.args.asked.now in
+    let holds = g.F.Files.holds c.args.files.now in
+    let old = g.W.Write.contents (device_of c.args.output.now) in
+    let mid = g.W.Write.contents (device_of c.run_words.new.writer) in
+    device_leaf (AnswersRun holds asked.execution asked.outset asked.has_trace) c.in-Err.error old mid
+    c.device_stop.result c.in-Err.ensures.only c.device_stop.ensures.write c.device_stop.ensures.memory
+    (cut_part holds asked.execution asked.outset asked.has_trace c.in_ok-verified.verified c.deref.result.now _
+    c.in-Err.error old mid c.in_ok-verified.ensures.begins c.deref.ensures.value c.in-Err.ensures.only
+    c.in-Err.ensures.prefix c.in-Err.ensures.memory)

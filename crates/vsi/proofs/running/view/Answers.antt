@@ -1,13 +1,14 @@
-use Rattle.std.proofs.Common.{subst}
+use Rattle.std.proofs.Common.{ap, inr, subst}
 use Rattle.std.proofs.lemmas.Result.{on_ok_weaker}
 use Rattle.std.specs.Io.KnownBytes.{Appends}
 use Rattle.vsi_devices.specs.Counted.{device_of}
+use Rattle.vsi.specs.Partly.{AnswersView}
 use Rattle.vsi.specs.Performed.{shown}
 use Rattle.vsi.specs.Reasons.{LacksClassAt, StopsBy, WhyView}
 use Rattle.vsi.proofs.Filled.{both_done, delivered_of}
+use Rattle.vsi.proofs.Partly.{kept_leaves, late_leaves}
 use Rattle.vsi.proofs.Reasons.{handed}
 use Rattle.vsi.proofs.Unrun.{handed_late}
-use Rattle.vsi.proofs.Written.{silent_late}
 use Rattle.vsi.proofs.running.view.Goals as goal
 
 pub returns-clause-performed : goal.returns-clause-performed
@@ -27,9 +28,21 @@ returns-clause-performed g c =
     })
     (both_done _ _ c.deliver.result c.deliver.ensures.whole c.deliver.ensures.delivered)
 
-pub returns-clause-silent : goal.returns-clause-silent
-returns-clause-silent g c =
-    silent_late c.deliver.result _ _ c.deliver.ensures.stop
+pub returns-in_err-text-clause-left : goal.returns-in_err-text-clause-left
+returns-in_err-text-clause-left g c = kept_leaves _ 4 _ c.from_residual.result
+
+pub returns-clause-left : goal.returns-clause-left
+returns-clause-left g c =
+    let holds = g.F.Files.holds c.args.files.now in
+    let out = c.args.outset.now.out in
+    late_leaves (AnswersView holds c.args.lattice.now c.args.class.now c.args.execution c.args.outset.now)
+    (g.W.Write.contents (device_of c.args.output.now)) (g.W.Write.contents (device_of c.deliver.new.output))
+    c.deliver.result c.deliver.ensures.stop
+    (inr (
+      shown out c.deref.result.now,
+      (c.in_ok-text.text, c.in_ok-text.ensures.told, ap (shown out) c.deref.ensures.value),
+      c.deliver.ensures.part,
+    ))
 
 pub returns-in_err-text-clause-stopped : goal.returns-in_err-text-clause-stopped
 returns-in_err-text-clause-stopped g c =

@@ -1,0 +1,195 @@
+-- What the requests leave of the output where they stop.
+use Rattle.std.proofs.Common.{◌≡◌, ◌+◌, ◌-◌, ◌≤◌, ◌<◌, ◌⊎◌, ◌++◌, ◌∙◌, ℕ, ℤ, List, [], Bool, true, false, Option, Some, Result, Ok, Err, inl, inr, refl, sym, ap, subst, arith}
+use Rattle.std.specs.Prelude.{◌≢◌, IfOk, IfErr}
+use Rattle.std.specs.Global.{Vec}
+use Rattle.std.specs.Io.KnownBytes.{Appends}
+use Rattle.vsi_lattice.specs.declared.lattice.Lattice.{Lattice}
+use Rattle.vsi_image.specs.declared.instr.Image.{Image}
+use Rattle.vsi_image.specs.declared.instr.Instr.{Instr}
+use Rattle.vsi_image.specs.Meaning.{State, start}
+use Rattle.vsi_drive.specs.Control.{Control}
+use Rattle.vsi_devices.specs.Engine.{IsOfWriting}
+use Rattle.vsi_devices.specs.Running.{RunsApart, WrittenSteps, trace_of, trace_text}
+use Rattle.vsi_devices.specs.declared.error.EngineError.{EngineError}
+use Rattle.vsi_devices.specs.declared.error.EngineError.TheVariants as engine
+use Rattle.vsi_devices.proofs.Outputs.{longer_text, text_then}
+use Rattle.vsi_devices.proofs.Traces.{trace_rest}
+use Rattle.vsi_arguments.specs.declared.request.Driving.{Driving}
+use Rattle.vsi_arguments.specs.declared.request.Execution.{Execution}
+use Rattle.vsi_arguments.specs.declared.request.Judging.{Judging}
+use Rattle.vsi_arguments.specs.declared.request.Outset.{Outset}
+use Rattle.vsi_arguments.specs.declared.request.Request.{Request}
+use Rattle.vsi_arguments.specs.declared.request.Request.TheVariants as request
+use Rattle.vsi.specs.declared.stop.Stop.{Stop}
+use Rattle.vsi.specs.declared.stop.Stop.TheVariants.{Memory}
+use Rattle.vsi.specs.Holding.{Holding, IsImageAt}
+use Rattle.vsi.specs.Partly.{AnswersCheck, AnswersDrive, AnswersRun, DrivenText, Leaves, Partly, WritesPart, cut_from}
+use Rattle.vsi.specs.Performed.{BeginsAt, IsStoredAt, LooksAt, OfFiles, ToldJson, control_of, judgement_of, shown}
+use Rattle.vsi.specs.Reasons.{ToldRefusal}
+use Rattle.vsi.specs.Stops.{status_of}
+use Rattle.vsi.proofs.Partly.{Partly-weaker, spent_leaf, whole_part}
+
+-- The line of JSON of a text is an answer of `check --json`, whether it accepts the text or not.
+pub check_answer : (holds : Holding) (asked : Judging) (accepted : Bool) (line : Vec ℕ) →
+    (accepted ≡ true → OfFiles holds asked.compilation (ToldJson (judgement_of asked)) line) →
+    (accepted ≡ false → OfFiles holds asked.compilation (ToldRefusal (judgement_of asked)) line) →
+    AnswersCheck true holds asked line
+check_answer holds asked true line told refused = inl (told refl)
+check_answer holds asked false line told refused = inr (refused refl)
+
+-- No request writes a part of an answer at a lower status than that of a file fault, but for a run.
+pub cut_within : (asked : Request) → cut_from asked ≤ 4
+cut_within (request.Check asked) = omega arith
+cut_within (request.Conform asked) = omega arith
+cut_within (request.Classes c) = omega arith
+cut_within (request.Flows c has_walks) = omega arith
+cut_within (request.Build c image) = omega arith
+cut_within (request.List image) = omega arith
+cut_within (request.Audit asked) = omega arith
+cut_within (request.Source image) = omega arith
+cut_within (request.EmitC asked) = omega arith
+cut_within (request.Run e o has_trace has_count) = omega arith
+cut_within (request.View lattice class e o) = omega arith
+cut_within (request.Drive driving) = omega arith
+cut_within (request.Compare comparison) = omega arith
+cut_within (request.Leak search) = omega arith
+cut_within (request.Report c) = omega arith
+cut_within (request.Draw drawing) = omega arith
+cut_within (request.Format source) = omega arith
+cut_within (request.Explain page) = omega arith
+
+-- Where the explanation of a stop has found no memory, the same is left.
+pub leaves_memory : (Kind : List ℕ → Type 0) (asked : Request) (old new : Option (List ℕ)) →
+    Partly Kind old new → Leaves Kind (cut_from asked) old new Memory
+leaves_memory Kind asked old new part =
+    record { partly = part; silent = λ other below. absurd (omega (arith, below, cut_within asked)) }
+
+-- Of a status that isn't 0 what is left of the output where an answer stops is left.
+pub partly_at : {T : Type 0} (A : Type 0) (answer : Result T Stop) (status : ℕ) → IfErr answer (λ stop. A) →
+    IfOk answer (λ x. status ≡ 0) → status ≢ 0 → A
+partly_at A (Ok x) status so done some = absurd (some done)
+partly_at A (Err stop) status so done some = so
+
+-- ---- runs.
+
+-- The trace of the first steps is a part of the whole trace.
+steps_text : (code : List Instr) (k budget : ℕ) (s : State) (old new : Option (List ℕ)) → k ≤ budget →
+    Appends old new (trace_text code k s) → WritesPart (trace_text code budget s) old new
+steps_text code k budget s old new within written =
+    let rest = trace_rest code k (budget - k) s in
+    subst (λ t. WritesPart t old new)
+    (sym rest.1 ∙ ap (λ n. trace_text code n s) (let same : k + (budget - k) ≡ budget = omega (arith, within) in same))
+    (longer_text old new (trace_text code k s) rest.0 (whole_part (trace_text code k s) old new written))
+
+-- The same where a trace may be asked for or not.
+steps_part : (traced : Bool) (code : List Instr) (budget : ℕ) (s : State) (old new : Option (List ℕ)) →
+    WrittenSteps (λ k. trace_of traced code k s) budget old new → WritesPart (trace_of traced code budget s) old new
+steps_part true code budget s old new (k, within, written) = steps_text code k budget s old new within written
+steps_part false code budget s old new (k, within, written) = whole_part [] old new written
+
+-- A run that has ended has written its trace.
+pub traced_part : (holds : Holding) (e : Execution) (o : Outset) (traced : Bool) (image : Image) (words given : List ℤ)
+    (told : Option (List ℕ)) (trace : List ℕ) (old new : Option (List ℕ)) → BeginsAt holds e o image given →
+    words ≡ given → RunsApart traced image words e.budget told trace → Appends old new trace →
+    Partly (AnswersRun holds e o traced) old new
+traced_part holds e o traced image words given told trace old new begins same ran written =
+    inr (
+      trace,
+      inl (record {
+        image = image;
+        words = words;
+        begins = subst (BeginsAt holds e o image) (sym same) begins;
+        is = ran.written;
+      }),
+      whole_part trace old new written,
+    )
+
+-- Where it has halted, a part of the text of the store has been written after it.
+pub shown_part : (holds : Holding) (e : Execution) (o : Outset) (traced : Bool) (image : Image) (words given : List ℤ)
+    (text delivered trace : List ℕ) (old mid new : Option (List ℕ)) → BeginsAt holds e o image given →
+    words ≡ given → RunsApart traced image words e.budget (Some text) trace → Appends old mid trace →
+    delivered ≡ text → WritesPart (shown o.out delivered) mid new → Partly (AnswersRun holds e o traced) old new
+shown_part holds e o traced image words given text delivered trace old mid new begins same ran written is part =
+    inr (
+      trace ++ shown o.out text,
+      inr (record {
+        trace = trace;
+        text = text;
+        ran = record {
+          image = image;
+          words = words;
+          begins = subst (BeginsAt holds e o image) (sym same) begins;
+          ran = ran;
+        };
+        is = refl;
+      }),
+      text_then old mid new trace (shown o.out text) written
+      (subst (λ t. WritesPart (shown o.out t) mid new) is part),
+    )
+
+-- A run that is cut short has written a part of its trace.
+pub cut_part : (holds : Holding) (e : Execution) (o : Outset) (traced : Bool) (image : Image) (words given : List ℤ)
+    (error : EngineError) (old new : Option (List ℕ)) → BeginsAt holds e o image given → words ≡ given →
+    IsOfWriting error →
+    (error ≡ engine.WriteFault → WritesPart (trace_of traced image.code.items e.budget (start image words)) old new) →
+    (error ≡ engine.Memory →
+    WrittenSteps (λ k. trace_of traced image.code.items k (start image words)) e.budget old new) →
+    Partly (AnswersRun holds e o traced) old new
+cut_part holds e o traced image words given error old new begins same only write memory =
+    let trace = trace_of traced image.code.items e.budget (start image words) in
+    let part : (w : EngineError) → IsOfWriting w → error ≡ w → WritesPart trace old new =
+    λ w of_writing is. elim w as (λ v. IsOfWriting v → error ≡ v → WritesPart trace old new) [
+      | engine.ReadFault ↦ λ none at. absurd none
+      | engine.WriteFault ↦ λ some at. write at
+      | engine.Compile x ↦ λ none at. absurd none
+      | engine.Decode x ↦ λ none at. absurd none
+      | engine.Verify x ↦ λ none at. absurd none
+      | engine.Store x ↦ λ none at. absurd none
+      | engine.Memory ↦ λ some at.
+          steps_part traced image.code.items e.budget (start image words) old new (memory at)
+    ] of_writing is in
+    inr (
+      trace,
+      inl (record {
+        image = image;
+        words = words;
+        begins = subst (BeginsAt holds e o image) (sym same) begins;
+        is = refl;
+      }),
+      part error only refl,
+    )
+
+-- A call that only writes stops no earlier than with a fault.
+pub device_leaf : (Kind : List ℕ → Type 0) (error : EngineError) (old new : Option (List ℕ)) (stop : Stop) →
+    IsOfWriting error → (error ≡ engine.WriteFault → status_of stop ≡ 4) → (error ≡ engine.Memory → stop ≡ Memory) →
+    Partly Kind old new → Leaves Kind 3 old new stop
+device_leaf Kind engine.ReadFault old new stop only write memory part = absurd only
+device_leaf Kind engine.WriteFault old new stop only write memory part =
+    let four = write refl in spent_leaf Kind old new stop (omega (arith, four)) part
+device_leaf Kind (engine.Compile e) old new stop only write memory part = absurd only
+device_leaf Kind (engine.Decode e) old new stop only write memory part = absurd only
+device_leaf Kind (engine.Verify e) old new stop only write memory part = absurd only
+device_leaf Kind (engine.Store e) old new stop only write memory part = absurd only
+device_leaf Kind engine.Memory old new stop only write memory part =
+    subst (Leaves Kind 3 old new) (sym (memory refl)) (spent_leaf Kind old new Memory (omega arith) part)
+
+-- ---- controllers.
+
+-- What a controller has written of its input is a part of the answer of `drive`.
+pub driven_answers : (holds : Holding) (d : Driving) (given old new : Option (List ℕ)) (l : Lattice) (driver : ℕ)
+    (image : Image) (first : List ℤ) (k : Control) → LooksAt holds d.lattice.now d.class.now l driver →
+    IsImageAt holds d.execution.image.now image → IsStoredAt holds d.execution.store image first →
+    k ≡ control_of l driver image d.execution.budget → Partly (DrivenText k first given) old new →
+    Partly (AnswersDrive holds d given) old new
+driven_answers holds d given old new l driver image first k looks held stored same =
+    Partly-weaker (DrivenText k first given) (AnswersDrive holds d given) old new
+    (λ text is. record {
+      lattice = l;
+      driver = driver;
+      looks = looks;
+      image = image;
+      held = held;
+      first = first;
+      stored = stored;
+      driven = subst (λ c. DrivenText c first given text) same is;
+    })

@@ -1,0 +1,141 @@
+-- Parts of answers, and what a stop leaves of the output.
+use Rattle.std.proofs.Common.{◌≡◌, ◌<◌, ◌⊎◌, ◌++◌, ℕ, List, [], Bool, true, false, Option, Result, Ok, Err, inl, inr, length, take, refl, sym, subst, arith}
+use Rattle.std.specs.Prelude.{IfOk, IfErr, IsErrAnd, IsOkAnd, OnOk}
+use Rattle.std.specs.Global.{Vec}
+use Rattle.std.specs.Io.KnownBytes.{Appends, Keeps}
+use Rattle.std.proofs.KnownBytes.{Appends-nil, Keeps-refl}
+use Rattle.std.proofs.lemmas.List.{take_all}
+use Rattle.vsi.specs.declared.stop.Stop.{Stop}
+use Rattle.vsi.specs.declared.stop.Stop.TheVariants.{Differs, Memory}
+use Rattle.vsi.specs.Partly.{BytesOf, Leaves, Partly, WritesPart}
+use Rattle.vsi.specs.Stops.{status_of}
+use Rattle.vsi.proofs.Reasons.{handed}
+
+-- Nothing of a text has been written.
+pub no_part : (text : List ℕ) (old : Option (List ℕ)) → WritesPart text old old
+no_part text old = (0, Appends-nil old)
+
+-- All of it has been.
+pub whole_part : (text : List ℕ) (old new : Option (List ℕ)) → Appends old new text → WritesPart text old new
+whole_part text old new written =
+    (length text, subst (Appends old new) (sym (take_all (length text) text (omega arith))) written)
+
+-- A part of a text of one kind is a part of one of a wider kind.
+pub Partly-weaker : (Kind Wider : List ℕ → Type 0) (old new : Option (List ℕ)) →
+    ((text : List ℕ) → Kind text → Wider text) → Partly Kind old new → Partly Wider old new
+Partly-weaker Kind Wider old new f (inl kept) = inl kept
+Partly-weaker Kind Wider old new f (inr (text, is, part)) = inr (text, f text is, part)
+
+-- Where nothing is written, it is nothing of an answer.
+pub kept_partly : (Kind : List ℕ → Type 0) (old : Option (List ℕ)) → Partly Kind old old
+kept_partly Kind old = inl (Keeps-refl old)
+
+-- What is so whatever the stop is so of the stop that an answer is.
+pub any_stop : {T : Type 0} (A : Type 0) (result : Result T Stop) → A → IfErr result (λ stop. A)
+any_stop A (Ok x) a = tt
+any_stop A (Err stop) a = a
+
+-- A stop that comes before anything is written leaves the output.
+pub kept_leaf : (Kind : List ℕ → Type 0) (from : ℕ) (old : Option (List ℕ)) (stop : Stop) →
+    Leaves Kind from old old stop
+kept_leaf Kind from old stop = record { partly = inl (Keeps-refl old); silent = λ other below. Keeps-refl old }
+
+-- So does the answer that such a stop is.
+pub kept_leaves : {T : Type 0} (Kind : List ℕ → Type 0) (from : ℕ) (old : Option (List ℕ)) (result : Result T Stop) →
+    IfErr result (Leaves Kind from old old)
+kept_leaves Kind from old (Ok x) = tt
+kept_leaves Kind from old (Err stop) = kept_leaf Kind from old stop
+
+-- A fault, or want of memory, leaves a part of an answer.
+pub late_leaf : (Kind : List ℕ → Type 0) (old new : Option (List ℕ)) (stop : Stop) → 3 < status_of stop →
+    Partly Kind old new → Leaves Kind 4 old new stop
+late_leaf Kind old new stop late part = record { partly = part; silent = λ other below. absurd (omega arith) }
+
+-- So does the answer that it is.
+pub late_leaves : {T : Type 0} (Kind : List ℕ → Type 0) (old new : Option (List ℕ)) (result : Result T Stop) →
+    IfErr result (λ stop. 3 < status_of stop) → Partly Kind old new → IfErr result (Leaves Kind 4 old new)
+late_leaves Kind old new (Ok x) late part = tt
+late_leaves Kind old new (Err stop) late part = late_leaf Kind old new stop late part
+
+-- And a late stop that is passed on.
+pub late_handed : {T : Type 0} (Kind : List ℕ → Type 0) (old new : Option (List ℕ)) (result : Result T Stop)
+    (stop : Stop) → IsErrAnd result (λ s. s ≡ stop) → 3 < status_of stop → Partly Kind old new →
+    IfErr result (Leaves Kind 4 old new)
+late_handed Kind old new result stop is late part =
+    handed (Leaves Kind 4 old new) stop result is (late_leaf Kind old new stop late part)
+
+-- A run that is out of budget, or stops later, leaves a part of an answer.
+pub spent_leaf : (Kind : List ℕ → Type 0) (old new : Option (List ℕ)) (stop : Stop) → 2 < status_of stop →
+    Partly Kind old new → Leaves Kind 3 old new stop
+spent_leaf Kind old new stop late part = record { partly = part; silent = λ other below. absurd (omega arith) }
+
+-- So does the answer that it is.
+pub spent_leaves : {T : Type 0} (Kind : List ℕ → Type 0) (old new : Option (List ℕ)) (result : Result T Stop) →
+    IfErr result (λ stop. 3 < status_of stop) → Partly Kind old new → IfErr result (Leaves Kind 3 old new)
+spent_leaves Kind old new (Ok x) late part = tt
+spent_leaves Kind old new (Err stop) late part = spent_leaf Kind old new stop (omega (arith, late)) part
+
+-- And want of memory that is passed on.
+pub memory_handed : {T : Type 0} (Kind : List ℕ → Type 0) (old new : Option (List ℕ)) (result : Result T Stop)
+    (stop : Stop) → IsErrAnd result (λ s. s ≡ stop) → stop ≡ Memory → Partly Kind old new →
+    IfErr result (Leaves Kind 3 old new)
+memory_handed Kind old new result stop is wants part =
+    handed (Leaves Kind 3 old new) stop result is
+    (subst (Leaves Kind 3 old new) (sym wants) (spent_leaf Kind old new Memory (omega arith) part))
+
+-- A fault of the output leaves a part of what was to be written.
+pub fault_leaves : {T : Type 0} (Kind : List ℕ → Type 0) (old new : Option (List ℕ)) (text : List ℕ)
+    (result : Result T Stop) → Kind text → IfErr result (λ stop. status_of stop ≡ 4) → WritesPart text old new →
+    IfErr result (Leaves Kind 4 old new)
+fault_leaves Kind old new text (Ok x) is fault part = tt
+fault_leaves Kind old new text (Err stop) is fault part =
+    late_leaf Kind old new stop (omega arith) (inr (text, is, part))
+
+-- What is left of an answer that may be a difference.
+pub answer_leaves : {T : Type 0} (Kind : List ℕ → Type 0) (told : Type 0) (old new : Option (List ℕ)) (text : List ℕ)
+    (result : Result T Stop) → Kind text →
+    IfErr result (λ stop. ((stop ≡ Differs) × told) ⊎ (status_of stop ≡ 4)) → WritesPart text old new →
+    IfErr result (Leaves Kind 4 old new)
+answer_leaves Kind told old new text (Ok x) is stopped part = tt
+answer_leaves Kind told old new text (Err stop) is (inl differs) part =
+    record { partly = inr (text, is, part); silent = λ other below. absurd (other differs.0) }
+answer_leaves Kind told old new text (Err stop) is (inr fault) part =
+    late_leaf Kind old new stop (omega arith) (inr (text, is, part))
+
+-- What is left where an answer is put out.
+pub put_leaves : {T : Type 0} (Kind : Vec ℕ → Type 0) (old new : Option (List ℕ)) (answer : Result (Vec ℕ) Stop)
+    (result : Result T Stop) → IfOk answer Kind →
+    IfErr result (λ stop. Keeps old new
+    ⊎ ((status_of stop ≡ 4) × IsOkAnd answer (λ text. WritesPart text.items old new))) →
+    IfErr result (Leaves (BytesOf Kind) 4 old new)
+put_leaves Kind old new answer (Ok x) is left = tt
+put_leaves Kind old new answer (Err stop) is (inl kept) = record { partly = inl kept; silent = λ other below. kept }
+put_leaves Kind old new (Ok text) (Err stop) is (inr (four, part)) =
+    late_leaf (BytesOf Kind) old new stop (omega (arith, four)) (inr (text.items, (text, is, refl), part))
+put_leaves Kind old new (Err other) (Err stop) is (inr (four, part)) = absurd part
+
+-- The same of one text, which is written where something is so.
+pub accept_leaves : {T U : Type 0} (A : Type 0) (word : List ℕ) (old new : Option (List ℕ)) (answer : Result U Stop)
+    (result : Result T Stop) → OnOk answer A →
+    IfErr result (λ stop. Keeps old new
+    ⊎ ((status_of stop ≡ 4) × IsOkAnd answer (λ x. WritesPart word old new))) →
+    IfErr result (Leaves (λ bytes. A × (bytes ≡ word)) 4 old new)
+accept_leaves A word old new answer (Ok x) is left = tt
+accept_leaves A word old new answer (Err stop) is (inl kept) =
+    record { partly = inl kept; silent = λ other below. kept }
+accept_leaves A word old new (Ok y) (Err stop) is (inr (four, part)) =
+    late_leaf (λ bytes. A × (bytes ≡ word)) old new stop (omega (arith, four)) (inr (word, (is, refl), part))
+accept_leaves A word old new (Err other) (Err stop) is (inr (four, part)) = absurd part
+
+-- Where the writing of an answer has failed, a part of it has been written.
+pub put_left : {T U : Type 0} (answer : Result U Stop) (part : U → Type 0) (kept : Type 0) (x : U)
+    (result : Result T Stop) → answer ≡ Ok x → IfErr result (λ stop. status_of stop ≡ 4) → part x →
+    IfErr result (λ stop. kept ⊎ ((status_of stop ≡ 4) × IsOkAnd answer part))
+put_left answer part kept x (Ok y) is fault so = tt
+put_left answer part kept x (Err stop) is fault so = inr (fault, subst (λ a. IsOkAnd a part) (sym is) so)
+
+-- Where there is none, the output is as it was.
+pub put_kept : {T : Type 0} (late : Stop → Type 0) (old : Option (List ℕ)) (result : Result T Stop) →
+    IfErr result (λ stop. Keeps old old ⊎ late stop)
+put_kept late old (Ok x) = tt
+put_kept late old (Err stop) = inl (Keeps-refl old)

@@ -1,0 +1,129 @@
+-- What a request that has stopped leaves of the output: nothing new, or an answer of it from its beginning on.
+use Rattle.std.specs.Prelude.{◌≡◌, ◌≢◌, ◌<◌, ◌⊎◌, ℕ, ◌++◌, ℤ, Bool, true, false, List, Option, IfSome, codes, take}
+use Rattle.std.specs.Global.{Vec}
+use Rattle.std.specs.Io.KnownBytes.{Appends, Keeps}
+use Rattle.vsi_lattice.specs.declared.lattice.Lattice.{Lattice}
+use Rattle.vsi_image.specs.declared.instr.Image.{Image}
+use Rattle.vsi_image.specs.Meaning.{start}
+use Rattle.vsi_store.specs.declared.comparison.Comparison as found
+use Rattle.vsi_drive.specs.Control.{Control}
+use Rattle.vsi_drive.specs.Cycles.{text_of}
+use Rattle.vsi_devices.specs.Running.{trace_of}
+use Rattle.vsi_arguments.specs.declared.request.Comparison.{Comparison}
+use Rattle.vsi_arguments.specs.declared.request.Driving.{Driving}
+use Rattle.vsi_arguments.specs.declared.request.Execution.{Execution}
+use Rattle.vsi_arguments.specs.declared.request.Judging.{Judging}
+use Rattle.vsi_arguments.specs.declared.request.Outset.{Outset}
+use Rattle.vsi_arguments.specs.declared.request.Request.{Request}
+use Rattle.vsi_arguments.specs.declared.request.Request.TheVariants as request
+use Rattle.vsi.specs.declared.stop.Stop.{Stop}
+use Rattle.vsi.specs.declared.stop.Stop.TheVariants.{Differs}
+use Rattle.vsi.specs.Driven.{lines_of}
+use Rattle.vsi.specs.Holding.{Holding, IsImageAt}
+use Rattle.vsi.specs.Performed.{AuditsFiles, BeginsAt, ComparesFiles, ConformsFiles, DrawsFiles, EmitsFile, IsStoredAt, LooksAt, OfFile, OfFiles, RunsFiles, SearchesFiles, SourceOfFile, ToldAccepted, ToldCanonical, ToldClasses, ToldFlows, ToldJson, ToldListing, ToldPage, ViewsFiles, control_of, judgement_of, shown}
+use Rattle.vsi.specs.Reasons.{ToldRefusal}
+use Rattle.vsi.specs.Stops.{status_of}
+
+-- ---- a part of an answer.
+
+-- Some first bytes of a text have been written, none or all of them among others.
+abbrev pub WritesPart : List ℕ → Option (List ℕ) → Option (List ℕ) → Type 0
+WritesPart text old new = (n : ℕ) × Appends old new (take n text)
+
+-- The output is as it was, or some first bytes of a text of this kind have been written.
+abbrev pub Partly : (List ℕ → Type 0) → Option (List ℕ) → Option (List ℕ) → Type 0
+Partly Kind old new = Keeps old new ⊎ ((text : List ℕ) × Kind text × WritesPart text old new)
+
+-- The bytes of a text of this kind.
+abbrev pub BytesOf : (Vec ℕ → Type 0) → List ℕ → Type 0
+BytesOf Kind bytes = (text : Vec ℕ) × Kind text × (bytes ≡ text.items)
+
+-- ---- the answers of each request, of what its files hold.
+
+-- `check`: the text is accepted; with `--json` a refusal is an answer too.
+abbrev pub AnswersCheck : Bool → Holding → Judging → Vec ℕ → Type 0
+AnswersCheck true holds asked text =
+    OfFiles holds asked.compilation (ToldJson (judgement_of asked)) text
+    ⊎ OfFiles holds asked.compilation (ToldRefusal (judgement_of asked)) text
+AnswersCheck false holds asked text =
+    OfFiles holds asked.compilation (ToldAccepted asked.is_steady asked.compilation.is_strict) text
+
+-- `run`: the whole trace of the run, and nothing without `--trace`.
+pub record TracesRun (holds : Holding) (e : Execution) (o : Outset) (traced : Bool) (bytes : List ℕ) : Type 0 where
+  pub image : Image
+  pub words : List ℤ
+  pub begins : BeginsAt holds e o image words
+  pub is : bytes ≡ trace_of traced image.code.items e.budget (start image words)
+
+-- `run`: the trace of a run that halts, and after it the text of the store.
+pub record ShowsRun (holds : Holding) (e : Execution) (o : Outset) (traced : Bool) (bytes : List ℕ) : Type 0 where
+  pub trace : List ℕ
+  pub text : List ℕ
+  pub ran : RunsFiles holds e o traced trace text
+  pub is : bytes ≡ trace ++ shown o.out text
+
+-- `run`: that trace, and where the run halts the text of the store after it.
+abbrev pub AnswersRun : Holding → Execution → Outset → Bool → List ℕ → Type 0
+AnswersRun holds e o traced bytes = TracesRun holds e o traced bytes ⊎ ShowsRun holds e o traced bytes
+
+-- `view`: the lines that the class sees, and nothing where they go to a file.
+abbrev pub AnswersView : Holding → List ℕ → List ℕ → Execution → Outset → List ℕ → Type 0
+AnswersView holds path class e o bytes =
+    (text : Vec ℕ) × ViewsFiles holds path class e o text × (bytes ≡ shown o.out text.items)
+
+-- What a controller writes of all lines of an input.
+pub record DrivenText (c : Control) (m : List ℤ) (remaining : Option (List ℕ)) (text : List ℕ) : Type 0 where
+  pub bytes : List ℕ
+  pub whole : IfSome remaining (λ all. bytes ≡ all)
+  pub is : text ≡ text_of c m (lines_of bytes)
+
+-- `drive`: what the cycles of all lines of the input write.
+pub record AnswersDrive (holds : Holding) (d : Driving) (given : Option (List ℕ)) (text : List ℕ) : Type 0 where
+  pub lattice : Lattice
+  pub driver : ℕ
+  pub looks : LooksAt holds d.lattice.now d.class.now lattice driver
+  pub image : Image
+  pub held : IsImageAt holds d.execution.image.now image
+  pub first : List ℤ
+  pub stored : IsStoredAt holds d.execution.store image first
+  pub driven : DrivenText (control_of lattice driver image d.execution.budget) first given text
+
+-- `compare`: what the class sees of both runs, the same or not.
+abbrev pub AnswersCompare : Holding → Comparison → List ℕ → Type 0
+AnswersCompare holds c bytes = (told : found.Comparison) × ComparesFiles holds c told × (bytes ≡ told.text.items)
+
+-- The answers of a request. `build` writes nothing to the output.
+abbrev pub Answers : Holding → Option (List ℕ) → Request → List ℕ → Type 0
+Answers holds given (request.Check asked) = BytesOf (AnswersCheck asked.is_json holds asked)
+Answers holds given (request.Conform asked) =
+    BytesOf (λ text. (conforms : Bool) × ConformsFiles holds asked conforms text)
+Answers holds given (request.Classes c) = BytesOf (OfFiles holds c (ToldClasses c.is_strict))
+Answers holds given (request.Flows c has_walks) = BytesOf (OfFiles holds c (ToldFlows has_walks c.is_strict))
+Answers holds given (request.Build c image) = λ bytes. ⊥
+Answers holds given (request.List image) = BytesOf (OfFile holds image.now ToldListing)
+Answers holds given (request.Audit asked) = λ bytes. AuditsFiles holds asked × (bytes ≡ codes "accepted\n")
+Answers holds given (request.Source image) = BytesOf (SourceOfFile holds image.now)
+Answers holds given (request.EmitC asked) = BytesOf (EmitsFile holds asked)
+Answers holds given (request.Run e o has_trace has_count) = AnswersRun holds e o has_trace
+Answers holds given (request.View lattice class e o) = AnswersView holds lattice.now class.now e o
+Answers holds given (request.Drive driving) = AnswersDrive holds driving given
+Answers holds given (request.Compare comparison) = AnswersCompare holds comparison
+Answers holds given (request.Leak search) = BytesOf (SearchesFiles holds search)
+Answers holds given (request.Report c) = BytesOf (OfFiles holds c ToldPage)
+Answers holds given (request.Draw drawing) = BytesOf (DrawsFiles holds drawing)
+Answers holds given (request.Format source) = BytesOf (OfFile holds source.now ToldCanonical)
+Answers holds given (request.Explain page) = λ bytes. bytes ≡ page.now
+
+-- ---- what a stop leaves.
+
+-- The least status at which a request may have written a part of an answer: a run that is out of budget has written its
+-- trace, and any other request is cut short by a fault, or for want of memory.
+abbrev pub cut_from : Request → ℕ
+cut_from (request.Run e o has_trace has_count) = 3
+cut_from asked = 4
+
+-- What a stop leaves of the output: nothing but first bytes of an answer of this kind, and below this status nothing at
+-- all, unless the stop is a difference, which is the answer itself.
+pub record Leaves (Kind : List ℕ → Type 0) (from : ℕ) (old new : Option (List ℕ)) (stop : Stop) : Type 0 where
+  pub partly : Partly Kind old new
+  pub silent : stop ≢ Differs → status_of stop < from → Keeps old new
