@@ -84,7 +84,7 @@ input_cut c m bytes (Some all) (Some left) old new read part =
       text_of c m (lines_of all),
       record { bytes = all; whole = refl; is = refl },
       subst (λ ls. WritesPart (text_of c m ls) old new) (sym split)
-      (more_lines c m (whole_lines [] bytes) more old new part),
+          (more_lines c m (whole_lines [] bytes) more old new part),
     )
 
 -- The same, with a part of what the lines of one more piece write.
@@ -114,7 +114,7 @@ end_cut c m mid bytes cur line first rest last old between new before none ends 
         is = refl;
       },
       then_lines c m mid (whole_lines [] bytes) (last_line (begun [] bytes)) old between new driven
-      (subst (λ l. WritesPart (text_of c mid (last_line l)) between new) (same ∙ is) part),
+          (subst (λ l. WritesPart (text_of c mid (last_line l)) between new) (same ∙ is) part),
     )
 
 -- A controller that was driven by its whole input has written all of it.

@@ -124,8 +124,20 @@ shown_part holds e o traced image words given text delivered trace old mid new b
         is = refl;
       }),
       text_then old mid new trace (shown o.out text) written
-      (subst (λ t. WritesPart (shown o.out t) mid new) is part),
+          (subst (λ t. WritesPart (shown o.out t) mid new) is part),
     )
+
+-- What a call that only writes has written where it has stopped.
+written_part : (text : List ℕ) (old new : Option (List ℕ)) (Steps : Type 0) (error : EngineError) →
+    IsOfWriting error → (error ≡ engine.WriteFault → WritesPart text old new) → (error ≡ engine.Memory → Steps) →
+    (Steps → WritesPart text old new) → WritesPart text old new
+written_part text old new Steps engine.ReadFault only write memory f = absurd only
+written_part text old new Steps engine.WriteFault only write memory f = write refl
+written_part text old new Steps (engine.Compile e) only write memory f = absurd only
+written_part text old new Steps (engine.Decode e) only write memory f = absurd only
+written_part text old new Steps (engine.Verify e) only write memory f = absurd only
+written_part text old new Steps (engine.Store e) only write memory f = absurd only
+written_part text old new Steps engine.Memory only write memory f = f (memory refl)
 
 -- A run that is cut short has written a part of its trace.
 pub cut_part : (holds : Holding) (e : Execution) (o : Outset) (traced : Bool) (image : Image) (words given : List ℤ)
@@ -136,27 +148,17 @@ pub cut_part : (holds : Holding) (e : Execution) (o : Outset) (traced : Bool) (i
     WrittenSteps (λ k. trace_of traced image.code.items k (start image words)) e.budget old new) →
     Partly (AnswersRun holds e o traced) old new
 cut_part holds e o traced image words given error old new begins same only write memory =
-    let trace = trace_of traced image.code.items e.budget (start image words) in
-    let part : (w : EngineError) → IsOfWriting w → error ≡ w → WritesPart trace old new =
-    λ w of_writing is. elim w as (λ v. IsOfWriting v → error ≡ v → WritesPart trace old new) [
-      | engine.ReadFault ↦ λ none at. absurd none
-      | engine.WriteFault ↦ λ some at. write at
-      | engine.Compile x ↦ λ none at. absurd none
-      | engine.Decode x ↦ λ none at. absurd none
-      | engine.Verify x ↦ λ none at. absurd none
-      | engine.Store x ↦ λ none at. absurd none
-      | engine.Memory ↦ λ some at.
-          steps_part traced image.code.items e.budget (start image words) old new (memory at)
-    ] of_writing is in
     inr (
-      trace,
+      trace_of traced image.code.items e.budget (start image words),
       inl (record {
         image = image;
         words = words;
         begins = subst (BeginsAt holds e o image) (sym same) begins;
         is = refl;
       }),
-      part error only refl,
+      written_part (trace_of traced image.code.items e.budget (start image words)) old new
+          (WrittenSteps (λ k. trace_of traced image.code.items k (start image words)) e.budget old new) error only write
+          memory (steps_part traced image.code.items e.budget (start image words) old new),
     )
 
 -- A call that only writes stops no earlier than with a fault.

@@ -42,11 +42,11 @@ BytesOf Kind bytes = (text : Vec ℕ) × Kind text × (bytes ≡ text.items)
 
 -- `check`: the text is accepted; with `--json` a refusal is an answer too.
 abbrev pub AnswersCheck : Bool → Holding → Judging → Vec ℕ → Type 0
-AnswersCheck true holds asked text =
+AnswersCheck true holds asked = λ text.
     OfFiles holds asked.compilation (ToldJson (judgement_of asked)) text
     ⊎ OfFiles holds asked.compilation (ToldRefusal (judgement_of asked)) text
-AnswersCheck false holds asked text =
-    OfFiles holds asked.compilation (ToldAccepted asked.is_steady asked.compilation.is_strict) text
+AnswersCheck false holds asked =
+    OfFiles holds asked.compilation (ToldAccepted asked.is_steady asked.compilation.is_strict)
 
 -- `run`: the whole trace of the run, and nothing without `--trace`.
 pub record TracesRun (holds : Holding) (e : Execution) (o : Outset) (traced : Bool) (bytes : List ℕ) : Type 0 where

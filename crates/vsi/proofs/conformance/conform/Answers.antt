@@ -60,8 +60,7 @@ returns-clause-left g c =
     let new = g.W.Write.contents (device_of c.write_answer.new.output) in
     answer_leaves (BytesOf (λ text. (b : Bool) × ConformsFiles holds c.args.asked b text))
     ((c.in_ok-conforms.conforms ≡ false) × Appends old new c.deref.result.now) old new c.deref.result.now
-    c.write_answer.result
-    (
+    c.write_answer.result (
       c.in_ok-conforms.text,
       (c.in_ok-conforms.conforms, c.in_ok-conforms.ensures.told),
       c.deref.ensures.value,

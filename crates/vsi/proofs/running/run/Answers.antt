@@ -1,4 +1,4 @@
-use Rattle.std.proofs.Common.{arith, inl, inr, refl, sym, subst}
+use Rattle.std.proofs.Common.{Err, ap, arith, inl, inr, refl, sym, subst}
 use Rattle.std.proofs.KnownBytes.{Appends-trans}
 use Rattle.std.proofs.lemmas.Result.{on_ok_weaker}
 use Rattle.std.specs.Io.KnownBytes.{Appends}
@@ -167,4 +167,4 @@ returns-clause-left g c =
     c.device_stop.result c.in-Err.ensures.only c.device_stop.ensures.write c.device_stop.ensures.memory
     (cut_part holds asked.execution asked.outset asked.has_trace c.in_ok-verified.verified c.deref.result.now _
     c.in-Err.error old mid c.in_ok-verified.ensures.begins c.deref.ensures.value c.in-Err.ensures.only
-    c.in-Err.ensures.prefix c.in-Err.ensures.memory)
+    (λ e. c.in-Err.ensures.prefix (ap Err e)) (λ e. c.in-Err.ensures.memory (ap Err e)))

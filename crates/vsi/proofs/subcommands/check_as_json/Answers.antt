@@ -51,11 +51,10 @@ returns-clause-left g c =
     let checked = c.in_ok-checked.checked in
     answer_leaves (BytesOf (AnswersCheck true holds c.args.asked))
     ((checked.is_accepted ≡ false) × Appends old new c.deref.result.now) old new c.deref.result.now
-    c.write_answer.result
-    (
+    c.write_answer.result (
       checked.line,
       check_answer holds c.args.asked checked.is_accepted checked.line c.in_ok-checked.ensures.told
-      c.in_ok-checked.ensures.refused,
+          c.in_ok-checked.ensures.refused,
       c.deref.ensures.value,
     )
     c.write_answer.ensures.stopped c.write_answer.ensures.part
