@@ -15,3 +15,4 @@ pub mod Short
 pub mod Declared
 pub mod Once
 pub mod Left
+pub mod Loading

@@ -3,6 +3,7 @@ pub mod Silent
 pub mod Input
 pub mod Words
 pub mod Holding
+pub mod Loading
 pub mod Driven
 pub mod Naming
 pub mod Performed
