@@ -18,3 +18,4 @@ pub mod Short
 pub mod Declared
 pub mod Once
 pub mod Left
+pub mod Loading

@@ -2,6 +2,7 @@ pub mod Stops
 pub mod Input
 pub mod Words
 pub mod Holding
+pub mod Loading
 pub mod Driven
 pub mod Naming
 pub mod Performed

@@ -12,7 +12,7 @@ use crate::files::Files;
 use crate::stop::{Stop, write};
 use std::alloc::Global;
 use std::io::Write;
-use vsi_devices::{Counted, write_out};
+use vsi_devices::Counted;
 
 /// Makes or empties a file, and fills it with these bytes.
 pub(crate) fn fill<'a, F: Files>(bytes: &[u8], path: &'a str, files: &mut F) -> Result<(), Stop<'a>>
@@ -20,13 +20,10 @@ pub(crate) fn fill<'a, F: Files>(bytes: &[u8], path: &'a str, files: &mut F) -> 
     ensures filled { OnOk result
         (Fills path.now bytes.now (F.holds files.old) (F.holds files.new)) }
 {
-    let Some(file) = files.create_file(path) else {
-        return Err(Stop::FileFault(path));
-    };
-    let mut writer = Counted::new(file);
-    let answer = write_out(bytes, &mut writer);
-    files.close_file(writer.into_inner());
-    answer.map_err(|_| Stop::FileFault(path))
+    match files.fill_file(path, bytes) {
+        Some(()) => Ok(()),
+        None => Err(Stop::FileFault(path)),
+    }
 }
 
 /// Writes a text to a file, as a whole: to one beside it first, whose name has `.new` behind it.

@@ -26,7 +26,9 @@ mod files;
 mod filling;
 pub mod laws;
 mod leaking;
+mod loaded;
 mod obeying;
+mod paths;
 mod performing;
 mod reading;
 mod running;
@@ -36,6 +38,7 @@ mod telling;
 
 pub use command_line::command;
 pub use files::Files;
+pub use loaded::{Loaded, Opened, load};
 pub use vsi_audit::AuditError;
 pub use vsi_audit::audit_in;
 pub use vsi_audit::audit_text;

@@ -95,7 +95,11 @@ pub(crate) fn faulty<'a>(alloc: Global, fault: Fault) -> Stop<'a>
 }
 
 /// A whole file, or its first `READ_LIMIT` bytes.
-fn whole_in<'a, F: Files>(alloc: Global, path: &'a str, files: &mut F) -> Result<Vec<u8>, Stop<'a>>
+pub(crate) fn whole_in<'a, F: Files>(
+    alloc: Global,
+    path: &'a str,
+    files: &mut F,
+) -> Result<Vec<u8>, Stop<'a>>
     ensures kept { F.holds files.new ≡ F.holds files.old }
     ensures read { IfOk result
         (λ bytes. IsReadAt (F.holds files.old) path.now bytes.items) }

@@ -1,7 +1,7 @@
 -- What the files of the tests hold.
 use Rattle.std.specs.Prelude.{ℕ, Bool, false, List, Option, Some, None, bytes_eq, codes, if◌then◌else◌}
 use Rattle.vsi_command_tests.specs.declared.devices.Page.{Page}
-use Rattle.vsi_command_tests.specs.declared.devices.Page.TheVariants.{Blank, Open, Filled}
+use Rattle.vsi_command_tests.specs.declared.devices.Page.TheVariants.{Blank, Filled}
 
 -- The lattice of one class below another.
 abbrev pub two : List ℕ
@@ -19,17 +19,9 @@ stored path =
 -- The file at the path has been written.
 abbrev pub is_written : Page → List ℕ → Bool
 is_written Blank path = false
-is_written (Open at) path = false
 is_written (Filled at page) path = bytes_eq at.items path
 
 -- The bytes of the file at each path: what has been written, or else what was stored.
 abbrev pub held : Page → List ℕ → Option (List ℕ)
 held Blank path = stored path
-held (Open at) path = stored path
-held (Filled at page) path = if bytes_eq at.items path then Some page.bytes.items else stored path
-
--- The path of the file that is open.
-abbrev pub filled : Page → Option (List ℕ)
-filled Blank = None
-filled (Open at) = Some at.items
-filled (Filled at page) = None
+held (Filled at page) path = if bytes_eq at.items path then Some page.items else stored path

@@ -5,20 +5,20 @@ ghost use Rattle.vsi_devices.specs.Counted.{faults_of};
 
 use std::alloc::{AllocError, Global};
 use std::io::{ErrorKind, Read, Write};
-use std::{io, mem};
+use std::io;
 use vsi::{Counted, Files, command};
 
 /// The text that is read from standard input.
 pub(super) const SUM: &[u8] = b"var x : L; x := 1 + 2";
 
-const TWO: &[u8] = b"classes = [\"L\", \"H\"]\nbelow = [[\"L\", \"H\"]]\n";
+pub(super) const TWO: &[u8] = b"classes = [\"L\", \"H\"]\nbelow = [[\"L\", \"H\"]]\n";
 
 /// The image of the sum.
 const IMAGE: &[u8] = b"VSI\x02\x00\x01\x00\x01\x00\x01\x00\x00\x00\x03\x01x\x01L\
     \x01\x00\x00\x00\x00\x00\x00\x00\x03\x03\x00\x00\x0a";
 
 /// A text whose flow is refused.
-const LEAK: &[u8] = b"var h : H; var l : L; l := h";
+pub(super) const LEAK: &[u8] = b"var h : H; var l : L; l := h";
 
 /// Gives one byte a call, and fails at one call, counted from 1.
 #[derive(Drop)]
@@ -29,7 +29,7 @@ pub(super) struct Drip<'a> {
 }
 
 impl<'a> Drip<'a> {
-    fn new(bytes: &'a [u8], fails_at: u64) -> Drip<'a>
+    pub(super) fn new(bytes: &'a [u8], fails_at: u64) -> Drip<'a>
         ensures { result.bytes.now ≡ bytes.now }
     {
         Drip {
@@ -61,13 +61,18 @@ pub(super) struct Scant {
 }
 
 impl Scant {
-    fn new(alloc: Global, room: usize) -> Scant
+    pub(super) fn new(alloc: Global, room: usize) -> Scant
         ensures { result.bytes.items ≡ [] }
     {
         Scant {
             bytes: Vec::new(alloc),
             room,
         }
+    }
+
+    /// The bytes that it took.
+    pub(super) fn taken(self) -> Vec<u8> {
+        self.bytes
     }
 }
 
@@ -90,38 +95,39 @@ impl Write for Scant {
     }
 }
 
-/// The one file that can be written: none yet, the path of the one that is open, or what it took.
+/// The one file that can be written: nothing yet, or its path and the bytes that it took.
 #[derive(Drop)]
-enum Page {
+pub(super) enum Page {
     Blank,
-    Open(Vec<u8>),
-    Filled(Vec<u8>, Scant),
+    Filled(Vec<u8>, Vec<u8>),
 }
 
 impl Page {
-    /// What it took.
+    /// The bytes that it took.
     fn taken(self, alloc: Global) -> Vec<u8> {
         match self {
-            Page::Filled(_path, page) => page.bytes,
-            Page::Open(_path) => Vec::new(alloc),
+            Page::Filled(_path, bytes) => bytes,
             Page::Blank => Vec::new(alloc),
         }
     }
 }
 
 /// The files that can be read, of which `torn` fails at its ninth byte, and one that can be
-/// written, with how many were opened to write and how many closed.
+/// written.
 #[derive(Drop)]
-struct Shelf {
+pub(super) struct Shelf {
     alloc: Global,
     room: usize,
-    opened: u64,
-    closed: u64,
     page: Page,
 }
 
 impl Shelf {
     ghost use Rattle.vsi_command_tests.specs.Shelf.{is_written};
+
+    /// The files, one of which takes so many bytes.
+    pub(super) fn new(alloc: Global, room: usize, page: Page) -> Shelf {
+        Shelf { alloc, room, page }
+    }
 
     /// Whether the file at the path has been written.
     fn has_written(&self, path: &[u8]) -> bool
@@ -135,15 +141,11 @@ impl Shelf {
 }
 
 impl Files for Shelf {
-    ghost use Rattle.vsi_command_tests.specs.Shelf.{filled, held};
+    ghost use Rattle.vsi_command_tests.specs.Shelf.{held};
 
     type Input = Drip<'static>;
 
-    type Output = Scant;
-
     ghost holds = { λ shelf. held shelf.page };
-
-    ghost filling = { λ shelf. filled shelf.page };
 
     fn open_file(&mut self, path: &str) -> Option<Drip<'static>> {
         if self.has_written(path.as_bytes()) {
@@ -159,21 +161,14 @@ impl Files for Shelf {
         }
     }
 
-    fn create_file(&mut self, path: &str) -> Option<Scant> {
+    fn fill_file(&mut self, path: &str, bytes: &[u8]) -> Option<()> {
         let Page::Blank = self.page else {
             return None;
         };
-        self.page = Page::Open(Vec::from_slice(self.alloc, path.as_bytes()).ok()?);
-        self.opened = self.opened.saturating_add(1);
-        Some(Scant::new(self.alloc, self.room))
-    }
-
-    fn close_file(&mut self, output: Scant) {
-        self.closed = self.closed.saturating_add(1);
-        match mem::replace(&mut self.page, Page::Blank) {
-            Page::Open(path) => self.page = Page::Filled(path, output),
-            other => self.page = other,
-        }
+        let most = bytes.len().min(self.room);
+        let taken = Vec::from_slice(self.alloc, &bytes[..most]).ok()?;
+        self.page = Page::Filled(Vec::from_slice(self.alloc, path.as_bytes()).ok()?, taken);
+        if most < bytes.len() { None } else { Some(()) }
     }
 }
 
@@ -227,8 +222,6 @@ pub(super) struct Shown {
     pub output: Vec<u8>,
     pub error: Vec<u8>,
     pub image: Vec<u8>,
-    /// Whether each file that was opened to write was closed once.
-    pub is_closed: bool,
 }
 
 impl Shown {
@@ -244,13 +237,7 @@ impl Shown {
 
 /// Calls `command` with these words, this input and this room.
 fn call(alloc: Global, words: &[String], drip: Drip<'_>, room: Room) -> Shown {
-    let mut files = Shelf {
-        alloc,
-        room: room.image,
-        opened: 0,
-        closed: 0,
-        page: Page::Blank,
-    };
+    let mut files = Shelf::new(alloc, room.image, Page::Blank);
     let mut input = Counted::new(drip);
     let mut output = Counted::new(Scant::new(alloc, room.output));
     let mut error = Counted::new(Scant::new(alloc, room.error));
@@ -266,7 +253,6 @@ fn call(alloc: Global, words: &[String], drip: Drip<'_>, room: Room) -> Shown {
         status,
         output: output.into_inner().bytes,
         error: error.into_inner().bytes,
-        is_closed: files.opened == files.closed,
         image: files.page.taken(alloc),
     }
 }

@@ -6,4 +6,6 @@
 mod cuts;
 mod devices;
 #[cfg(test)]
+mod loads;
+#[cfg(test)]
 mod messages;

@@ -1,0 +1,34 @@
+-- Texts that were read at paths.
+use Rattle.std.proofs.Common.{◌≡◌, ℕ, List, [], ◌∷◌, ◌++◌, Option, Some, None, Bool, true, false, refl, subst, IfSome}
+use Rattle.std.specs.Str.{bytes_eq}
+use Rattle.std.proofs.lemmas.Slice.Eq.{bytes_eq-Decides}
+use Rattle.std.specs.Prelude.{if◌then◌else◌}
+use Rattle.vsi.specs.Holding.{Holding, IsReadAt}
+use Rattle.vsi.specs.Loading.{held, AreRead}
+use Rattle.vsi.specs.declared.loaded.Text.{Text}
+
+-- What holds of a text if it is chosen holds of the one that is found, if any.
+only : (P : List ℕ → Type 0) (x : List ℕ) (b : Bool) → (b ≡ true → P x) → IfSome (if b then Some x else None) P
+only P x true one = one refl
+only P x false one = search
+
+-- A text that comes first is found as before, and another one in the rest.
+first : (P : List ℕ → Type 0) (x : List ℕ) (old new : Option (List ℕ)) (b : Bool) →
+    IfSome (if b then Some x else old) P → (IfSome old P → IfSome new P) → IfSome (if b then Some x else new) P
+first P x old new true found step = found
+first P x old new false found step = step found
+
+-- What holds of the text found among some, and of one more if it is at the path, holds of the one found among all.
+held_more : (P : List ℕ → Type 0) (texts : List Text) (t : Text) (path : List ℕ) → IfSome (held texts path) P →
+    (bytes_eq t.path.items path ≡ true → P t.bytes.items) → IfSome (held (texts ++ t ∷ []) path) P
+held_more P [] t path found one = only P t.bytes.items (bytes_eq t.path.items path) one
+held_more P (u ∷ us) t path found one =
+    first P u.bytes.items (held us path) (held (us ++ t ∷ []) path) (bytes_eq u.path.items path) found
+    (λ rest. held_more P us t path rest one)
+
+-- One more text that was read leaves texts that were read.
+pub read_more : (holds : Holding) (texts : List Text) (t : Text) → AreRead holds texts →
+    IsReadAt holds t.path.items t.bytes.items → AreRead holds (texts ++ t ∷ [])
+read_more holds texts t all one path =
+    held_more (IsReadAt holds path) texts t path (all path)
+    (λ same. subst (λ at. IsReadAt holds at t.bytes.items) ((bytes_eq-Decides t.path.items path).0 same) one)

@@ -1,0 +1,12 @@
+use Rattle.std.proofs.Common.{◌≡◌, subst, sym}
+use Rattle.vsi.specs.Loading.{AreRead}
+use Rattle.vsi.proofs.Loading.{read_more}
+use Rattle.vsi.proofs.loaded.Loaded.take.Goals as goal
+
+-- src/loaded.rt:95:5
+pub returns-clause-told : goal.returns-clause-told
+returns-clause-told g c = λ all.
+    let holds = g.F.Files.holds c.args.self.now.system in
+    subst (AreRead holds) (sym c.in_ok-push.ensures.items)
+    (read_more holds c.args.self.now.texts.items
+    (record { path = c.in_ok-path.path; bytes = c.in-Ok.bytes; }) all ?)

@@ -1,0 +1,195 @@
+//! Files that are read once, before a request is carried out.
+
+ghost use Rattle.std.specs.Prelude.{◌≡◌, false, IfOk, IfSome, Some, None};
+ghost use Rattle.std.specs.Io.{ReadsAtMost};
+ghost use Rattle.std.specs.Io.KnownBytes.{ReadConsumes};
+ghost use Rattle.vsi.specs.Loading.{AreRead, held, left_of};
+
+use crate::files::Files;
+use crate::paths::{is_state, paths_of};
+use crate::reading::whole_in;
+use crate::stop::Stop;
+use std::alloc::{AllocError, Global};
+use std::io;
+use std::io::{Cursor, Read};
+use vsi_arguments::{ArgumentsError, request_of};
+
+/// What `trouble` says of a file that this request would write over.
+const SPARED: &str = "this request reads the file, so it doesn't write over it.";
+
+/// The bytes that were read of the file at a path.
+#[derive(Drop)]
+pub(crate) struct Text {
+    pub(crate) path: Vec<u8>,
+    pub(crate) bytes: Vec<u8>,
+}
+
+/// The files of a system, of which those that a request names were read once: whatever the request
+/// reads of them later is in memory, and it writes over none of them.
+#[derive(Drop)]
+pub struct Loaded<F> {
+    alloc: Global,
+    texts: Vec<Text>,
+    /// The path of the first file that couldn't be read, and isn't read again.
+    lost: Option<Vec<u8>>,
+    is_spared: bool,
+    system: F,
+}
+
+/// The reader of a file: of bytes in memory, or of the system.
+#[derive(Drop)]
+pub enum Opened<R> {
+    Memory(Cursor<Vec<u8>>),
+    System(R),
+}
+
+impl<R: Read> Read for Opened<R> {
+    ghost remaining = { left_of R.remaining };
+
+    fn read(&mut self, buf: &mut [u8]) -> io::Result<usize>
+        ensures bound { ReadsAtMost result buf.new }
+        ensures bytes { ReadConsumes (left_of R.remaining self.old) (left_of R.remaining self.new)
+            result buf.new }
+    {
+        match self {
+            Opened::Memory(bytes) => bytes.read(buf),
+            Opened::System(reader) => reader.read(buf),
+        }
+    }
+}
+
+/// The first text that was read at the path.
+fn found<'a>(texts: &'a [Text], path: &[u8]) -> Option<&'a Text>
+    ensures text { IfSome result (λ text. held texts.now path.now ≡ Some text.now.bytes.items) }
+    ensures none { result ≡ None → held texts.now path.now ≡ None }
+{
+    for text in texts {
+        if text.path.as_slice() == path {
+            return Some(text);
+        }
+    }
+    None
+}
+
+/// Whether this is the path.
+fn is_path(lost: &Option<Vec<u8>>, path: &[u8]) -> bool {
+    match lost {
+        Some(lost) => lost.as_slice() == path,
+        None => false,
+    }
+}
+
+impl<F> Loaded<F> {
+    /// Whether the file at the path was read, so that nothing is written over it.
+    fn spares(&mut self, path: &str) -> bool
+        ensures kept { self.new.texts ≡ self.old.texts }
+        ensures read { result ≡ false → held self.old.texts.items path.now ≡ None }
+    {
+        let is_read = found(self.texts.as_slice(), path.as_bytes()).is_some();
+        self.is_spared = self.is_spared || is_read;
+        is_read
+    }
+}
+
+impl<F: Files> Loaded<F> {
+    /// Reads the file at the path, and answers whether that was possible.
+    fn take(&mut self, path: &str) -> Result<bool, AllocError>
+        ensures kept { F.holds self.new.system ≡ F.holds self.old.system }
+        ensures told { AreRead (F.holds self.old.system) self.old.texts.items
+            → AreRead (F.holds self.old.system) self.new.texts.items }
+    {
+        let bytes = match whole_in(self.alloc, path, &mut self.system) {
+            Ok(bytes) => bytes,
+            Err(Stop::Memory) => return Err(AllocError),
+            Err(_) => return Ok(false),
+        };
+        let path = Vec::from_slice(self.alloc, path.as_bytes())?;
+        self.texts.push(Text { path, bytes })?;
+        Ok(true)
+    }
+}
+
+/// Reads each file that the arguments name and the request reads, in the order in which it does, and
+/// none after the first one that can't be read. A store that the request replaces is left out.
+///
+/// # Errors
+///
+/// Out of memory.
+pub fn load<F: Files + Drop>(
+    alloc: Global,
+    arguments: &[String],
+    system: F,
+) -> Result<Loaded<F>, AllocError>
+    ensures told { IfOk result (λ loaded. AreRead (F.holds system) loaded.texts.items) }
+{
+    let mut loaded = Loaded {
+        alloc,
+        texts: Vec::new(alloc),
+        lost: None,
+        is_spared: false,
+        system,
+    };
+    let asked = match request_of(alloc, arguments) {
+        Ok(asked) => asked,
+        Err(ArgumentsError::Memory) => return Err(AllocError),
+        Err(ArgumentsError::Help(_) | ArgumentsError::Mistake(_)) => return Ok(loaded),
+    };
+    for path in &paths_of(&asked.request) {
+        let Some(path) = *path else {
+            continue;
+        };
+        if !is_state(&asked.request, path) && !loaded.take(path)? {
+            loaded.lost = Some(Vec::from_slice(alloc, path.as_bytes())?);
+            break;
+        }
+    }
+    Ok(loaded)
+}
+
+impl<F: Files> Files for Loaded<F> {
+    type Input = Opened<F::Input>;
+
+    ghost holds = { λ loaded. held loaded.texts.items };
+
+    fn open_file(&mut self, path: &str) -> Option<Opened<F::Input>> {
+        if is_path(&self.lost, path.as_bytes()) {
+            return None;
+        }
+        match found(self.texts.as_slice(), path.as_bytes()) {
+            Some(text) => {
+                let bytes = Vec::from_slice(self.alloc, text.bytes.as_slice()).ok()?;
+                Some(Opened::Memory(Cursor::new(bytes)))
+            }
+            None => Some(Opened::System(self.system.open_file(path)?)),
+        }
+    }
+
+    fn fill_file(&mut self, path: &str, bytes: &[u8]) -> Option<()> {
+        if self.spares(path) {
+            return None;
+        }
+        self.system.fill_file(path, bytes)
+    }
+
+    fn replace_file(&mut self, path: &str, fresh: &str, bytes: &[u8]) -> Option<()> {
+        if self.spares(path) {
+            return None;
+        }
+        self.system.replace_file(path, fresh, bytes)
+    }
+
+    fn trouble(&mut self, path: &str) -> Option<&'static str> {
+        if self.is_spared {
+            return Some(SPARED);
+        }
+        self.system.trouble(path)
+    }
+
+    fn wants_colour(&mut self) -> bool {
+        self.system.wants_colour()
+    }
+
+    fn reads_terminal(&mut self) -> bool {
+        self.system.reads_terminal()
+    }
+}

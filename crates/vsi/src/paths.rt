@@ -1,0 +1,68 @@
+//! The paths of the files that a request reads.
+
+use vsi_arguments::Request;
+
+/// The most files that a request names to read.
+pub(crate) const MOST_READ: usize = 4;
+
+/// The paths of the files that a request reads, in the order in which it does. The lattice file that
+/// an interface names isn't among them.
+pub(crate) fn paths_of<'a>(request: &Request<'a>) -> [Option<&'a str>; MOST_READ] {
+    match request {
+        Request::Check(judging) => {
+            two(judging.compilation.lattice, judging.compilation.source)
+        }
+        Request::Classes(compilation)
+        | Request::Report(compilation)
+        | Request::Build(compilation, _)
+        | Request::Flows { compilation, .. } => two(compilation.lattice, compilation.source),
+        Request::Conform(asked) => two(asked.interface, asked.source),
+        Request::List(image) | Request::Source(image) => one(image),
+        Request::Format(source) => one(source),
+        Request::Audit(asked) => two(asked.lattice, asked.image),
+        Request::EmitC(asked) => [asked.lattice, Some(asked.file), None, None],
+        Request::Run { execution, .. } => [execution.store, Some(execution.image), None, None],
+        Request::View {
+            lattice, execution, ..
+        } => [Some(*lattice), Some(execution.image), execution.store, None],
+        Request::Drive(asked) => [
+            Some(asked.lattice),
+            Some(asked.execution.image),
+            asked.execution.store,
+            None,
+        ],
+        Request::Compare(asked) => [
+            Some(asked.lattice),
+            Some(asked.image),
+            Some(asked.stores.0),
+            Some(asked.stores.1),
+        ],
+        Request::Leak(asked) => two(asked.lattice, asked.source),
+        Request::Draw(asked) => [Some(asked.lattice), asked.source, None, None],
+        Request::Explain(_) => [None; MOST_READ],
+    }
+}
+
+/// Whether the file at the path is the store that a request begins with, and that it replaces.
+pub(crate) fn is_state(request: &Request<'_>, path: &str) -> bool {
+    match request {
+        Request::Run {
+            execution, outset, ..
+        }
+        | Request::View {
+            execution, outset, ..
+        } => execution.store == Some(path) && outset.out == Some(path),
+        Request::Drive(asked) => asked.execution.store == Some(path) && asked.save == Some(path),
+        _ => false,
+    }
+}
+
+/// One path.
+fn one<'a>(path: &'a str) -> [Option<&'a str>; MOST_READ] {
+    [Some(path), None, None, None]
+}
+
+/// Two paths.
+fn two<'a>(first: &'a str, second: &'a str) -> [Option<&'a str>; MOST_READ] {
+    [Some(first), Some(second), None, None]
+}

@@ -1,0 +1,207 @@
+//! The files of the system: what is read is opened, and what is replaced is replaced as a whole.
+
+use std::fs::{File, OpenOptions, Permissions};
+use std::io::{ErrorKind, Write};
+use std::os::unix::fs::{MetadataExt, OpenOptionsExt, PermissionsExt, fchown};
+use std::{env, fs, io};
+use vsi::Files;
+
+/// From how many bytes on a lattice file, a store file or an interface is too long.
+const LIMIT: u64 = 1_048_577;
+
+/// The mode of a store file where there was none: a store may hold secrets, so its owner alone may
+/// read it.
+const OWNER_ALONE: u32 = 0o600;
+
+/// The mode of an image where there was none, from which the system takes what its user doesn't
+/// give to others.
+const OPEN_TO_ALL: u32 = 0o666;
+
+/// The bits of a file's mode that say who may read, write and run it.
+const RIGHTS: u32 = 0o777;
+
+/// How many names are tried for the file beside the one that is to be replaced.
+const MOST_NAMES: u8 = 16;
+
+/// A file's device and its number there, by which it is known under each of its names.
+#[derive(Clone, Copy, PartialEq, Eq, Drop)]
+struct Identity {
+    device: u64,
+    number: u64,
+}
+
+/// The files of the system.
+#[derive(Drop)]
+pub(crate) struct Disk<'a> {
+    rt: &'a HostRuntime,
+    /// The files that this request has opened to read.
+    read: Vec<Identity>,
+    /// Whether a file wasn't written because this request has read it.
+    is_spared: bool,
+}
+
+impl<'a> Disk<'a> {
+    /// The files of the system, of which none has been read.
+    pub(crate) fn new(rt: &'a HostRuntime) -> Disk<'a> {
+        Disk {
+            rt,
+            read: Vec::new(rt.alloc()),
+            is_spared: false,
+        }
+    }
+
+    /// Whether this request has read the file at the path, under whatever name.
+    fn has_read(&self, path: &str) -> bool {
+        match fs::metadata(self.rt, path) {
+            Ok(found) => self.read.contains(&identity(found.dev(), found.ino())),
+            Err(_) => false,
+        }
+    }
+
+    /// Whether the stream of this number, by its link under /proc, is a terminal.
+    fn is_terminal(&self, link: &str) -> bool {
+        match fs::read_link(self.rt, link) {
+            Ok(device) => device.starts_with("/dev/pts") || device.starts_with("/dev/tty"),
+            Err(_) => false,
+        }
+    }
+
+    /// Makes a file of a new name beside the one to be replaced: never one that is there already, nor
+    /// one that a link leads to.
+    fn create_beside(&self, fresh: &str, mode: u32) -> io::Result<(File, String)> {
+        let mut name = String::from_str(self.rt.alloc(), fresh)?;
+        for number in 1..=MOST_NAMES {
+            let made = OpenOptions::new()
+                .write(true)
+                .create_new(true)
+                .mode(mode)
+                .open(self.rt, name.as_str());
+            match made {
+                Ok(file) => return Ok((file, name)),
+                Err(error) if error.kind() == ErrorKind::AlreadyExists => {
+                    name = format!(in self.rt.alloc(); "{fresh}{number}")?;
+                }
+                Err(error) => return Err(error),
+            }
+        }
+        Err(io::Error::from(ErrorKind::AlreadyExists))
+    }
+
+    /// Fills a new file with the bytes, gives it the rights and the owner of the one at the path, if
+    /// there is one, and puts it in its place once it is on the disk.
+    fn replace(&self, path: &str, made: (File, String), bytes: &[u8]) -> io::Result<()> {
+        let (file, name) = made;
+        let filled = self.fill(file, path, bytes);
+        let done = match filled {
+            Ok(()) => fs::rename(self.rt, name.as_str(), path),
+            Err(error) => Err(error),
+        };
+        if done.is_err() {
+            let _ = fs::remove_file(self.rt, name.as_str());
+        }
+        done
+    }
+
+    /// Gives the file the owner and the rights of the one at the path, if there is one, and the bytes,
+    /// which are on the disk afterwards.
+    fn fill(&self, mut file: File, path: &str, bytes: &[u8]) -> io::Result<()> {
+        match fs::symlink_metadata(self.rt, path) {
+            Ok(old) if !old.is_file() => return Err(io::Error::from(ErrorKind::InvalidInput)),
+            Ok(old) => {
+                let made = file.metadata()?;
+                if made.uid() != old.uid() || made.gid() != old.gid() {
+                    fchown(&file, Some(old.uid()), Some(old.gid()))?;
+                }
+                file.set_permissions(Permissions::from_mode(old.mode() & RIGHTS))?;
+            }
+            Err(error) if error.kind() == ErrorKind::NotFound => {}
+            Err(error) => return Err(error),
+        }
+        file.write_all(bytes)?;
+        file.sync_all()
+    }
+
+    /// Whether a new file may take the place of what is at the path: nothing, or a file of its own
+    /// that this user may write.
+    fn may_replace(&self, path: &str) -> bool {
+        match fs::symlink_metadata(self.rt, path) {
+            Ok(found) => {
+                found.is_file()
+                    && OpenOptions::new()
+                        .write(true)
+                        .open(self.rt, path)
+                        .is_ok()
+            }
+            Err(error) => error.kind() == ErrorKind::NotFound,
+        }
+    }
+
+    /// Fills the file at the path as a whole, by a new one beside it. A device, a pipe, the target of
+    /// a link and a file in a folder that can't be written to are filled where they are.
+    fn fill_whole(&self, path: &str, bytes: &[u8]) -> io::Result<()> {
+        if self.may_replace(path) {
+            let fresh = format!(in self.rt.alloc(); "{path}.new")?;
+            if let Ok(made) = self.create_beside(fresh.as_str(), OPEN_TO_ALL) {
+                return self.replace(path, made, bytes);
+            }
+        }
+        File::create(self.rt, path)?.write_all(bytes)
+    }
+}
+
+/// The identity with these two numbers.
+fn identity(device: u64, number: u64) -> Identity {
+    Identity { device, number }
+}
+
+impl Files for Disk<'_> {
+    type Input = File;
+
+    fn open_file(&mut self, path: &str) -> Option<File> {
+        let file = File::open(self.rt, path).ok()?;
+        let found = file.metadata().ok()?;
+        self.read.push(identity(found.dev(), found.ino())).ok()?;
+        Some(file)
+    }
+
+    fn fill_file(&mut self, path: &str, bytes: &[u8]) -> Option<()> {
+        if self.has_read(path) {
+            self.is_spared = true;
+            return None;
+        }
+        self.fill_whole(path, bytes).ok()
+    }
+
+    fn replace_file(&mut self, path: &str, fresh: &str, bytes: &[u8]) -> Option<()> {
+        let made = self.create_beside(fresh, OWNER_ALONE).ok()?;
+        self.replace(path, made, bytes).ok()
+    }
+
+    fn trouble(&mut self, path: &str) -> Option<&'static str> {
+        match fs::metadata(self.rt, path) {
+            Ok(found) if found.is_dir() => Some("this is a folder."),
+            Ok(found) if found.len() >= LIMIT => {
+                Some("the file has more than 1048576 bytes, or may not be read or written.")
+            }
+            Ok(_) if self.is_spared => {
+                Some("this request reads the file, so it doesn't write over it.")
+            }
+            Ok(_) => Some("the file may not be read or written."),
+            Err(error) if error.kind() == ErrorKind::NotFound => {
+                Some("there is no file at this path.")
+            }
+            Err(error) if error.kind() == ErrorKind::PermissionDenied => {
+                Some("a folder on the way to this path may not be looked into.")
+            }
+            Err(_) => Some("this path leads nowhere."),
+        }
+    }
+
+    fn wants_colour(&mut self) -> bool {
+        env::var(self.rt, "NO_COLOR").is_err() && self.is_terminal("/proc/self/fd/2")
+    }
+
+    fn reads_terminal(&mut self) -> bool {
+        self.is_terminal("/proc/self/fd/0")
+    }
+}
