@@ -7,8 +7,8 @@
 //! file is refused. `command` does what the words of a command line ask for. What an error holds,
 //! as a `LexError` or a `Walk` of `Step`s, stands here beside it.
 //!
-//! To be believed: of `specs/` `Words`, `Holding`, `Driven`, `Performed`, `Reasons`, `Done`,
-//! `Input` and `Laws`, and of `Stops` all but `StopsFor`; `Silent` and `Diagnosing` are stepping
+//! To be believed: of `specs/` `Words`, `Holding`, `Driven`, `Tried`, `Shaping`, `Performed`,
+//! `Reasons`, `Done`, `Input` and `Laws`, and of `Stops` all but `StopsFor`; `Silent` and `Diagnosing` are stepping
 //! stones of proofs.
 #![tactic(auto)]
 
@@ -30,9 +30,11 @@ mod obeying;
 mod performing;
 mod reading;
 mod running;
+mod shaping;
 mod stop;
 mod subcommands;
 mod telling;
+mod trying;
 
 pub use command_line::command;
 pub use files::Files;

@@ -18,9 +18,11 @@ use crate::emitting::emit;
 use crate::files::Files;
 use crate::leaking::leak;
 use crate::running::{Running, run, view};
+use crate::shaping::lattice;
 use crate::stop::{Stop, write};
 use crate::subcommands::{build, check, check_as_json, classes, flows, format, list};
 use crate::telling::Told;
+use crate::trying::try_source;
 use std::alloc::Global;
 use std::io::{Read, Write};
 use vsi_arguments::{Judging, Request};
@@ -112,6 +114,7 @@ pub(crate) fn perform<'a, F: Files, R: Read, W: Write>(
         (W.contents (device_of output.old)) (W.contents (device_of output.new))) }
 {
     match request {
+        Request::Try(attempt) => put(try_source(desk, &attempt, files), output),
         Request::Check(asked) => put_check(desk, asked, files, output),
         Request::Conform(asked) => conform(desk, asked, files, output),
         Request::Classes(compilation) => put(classes(desk, compilation, files), output),
@@ -150,6 +153,7 @@ pub(crate) fn perform<'a, F: Files, R: Read, W: Write>(
         Request::Report(compilation) => put(report(desk, compilation, files), output),
         Request::Draw(drawing) => put(draw(desk, drawing, files), output),
         Request::Format(source) => put(format(desk, source, files), output),
+        Request::Lattice(arguments) => put(lattice(desk.alloc, arguments.as_slice()), output),
         Request::Explain(page) => write(page.as_bytes(), output),
     }
 }
