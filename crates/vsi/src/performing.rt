@@ -114,7 +114,6 @@ pub(crate) fn perform<'a, F: Files, R: Read, W: Write>(
         (W.contents (device_of output.old)) (W.contents (device_of output.new))) }
 {
     match request {
-        Request::Try(attempt) => put(try_source(desk, &attempt, files), output),
         Request::Check(asked) => put_check(desk, asked, files, output),
         Request::Conform(asked) => conform(desk, asked, files, output),
         Request::Classes(compilation) => put(classes(desk, compilation, files), output),
@@ -153,6 +152,7 @@ pub(crate) fn perform<'a, F: Files, R: Read, W: Write>(
         Request::Report(compilation) => put(report(desk, compilation, files), output),
         Request::Draw(drawing) => put(draw(desk, drawing, files), output),
         Request::Format(source) => put(format(desk, source, files), output),
+        Request::Try(attempt) => put(try_source(desk, &attempt, files), output),
         Request::Lattice(arguments) => put(lattice(desk.alloc, arguments.as_slice()), output),
         Request::Explain(page) => write(page.as_bytes(), output),
     }

@@ -1,8 +1,9 @@
 //! What `try` answers: what the run of a source text shows, or why it shows nothing.
 
 ghost use Rattle.std.specs.Prelude.{◌≡◌, IfErr, IfOk, IfSome, Ok, Err, length};
-ghost use Rattle.vsi.specs.Reasons.{LacksGiven, LacksTried, NoOther, RefusesNamed, RefusesRun, RefusesUnder, StopsBy, WhyTry};
-ghost use Rattle.vsi.specs.Tried.{BeginsSet, IsMade, IsNamedLattice, IsTriedUnder, Looks, RunsMade, ShowsTo, TriesFile};
+ghost use Rattle.vsi.specs.Reasons.{LacksGiven, LacksTried, NoOther, RefusesLattice, RefusesNamed, RefusesRun, RefusesUnder, StopsBy, WhyTry};
+ghost use Rattle.vsi.specs.Tried.{BeginsSet, IsMade, IsNamedLattice, IsTriedUnder, Looks, RunsMade, ShowsTo, TriesFile, policy_path};
+ghost use Rattle.vsi.specs.Holding.{IsLatticeAt};
 ghost use Rattle.vsi_answers.specs.Requests.{BuildsTo};
 ghost use Rattle.vsi_lattice.specs.LatticeView.{order};
 ghost use Rattle.vsi_lattice.specs.Order.{IsClass};
@@ -23,6 +24,23 @@ use vsi_lattice::{Class, Lattice};
 use vsi_policy::named_policy;
 use vsi_types::Profile;
 
+/// The lattice of a file that is named beside a source text.
+fn lattice_beside<'a, F: Files>(
+    desk: &mut Desk,
+    source: &str,
+    path: &[u8],
+    files: &mut F,
+) -> Result<Lattice, Stop<'a>>
+    ensures kept { F.holds files.new ≡ F.holds files.old }
+    ensures read { IfOk result
+        (IsLatticeAt (F.holds files.old) (policy_path source.now path.now)) }
+    ensures stopped { IfErr result (StopsBy
+        (RefusesLattice (F.holds files.old) (policy_path source.now path.now)) NoOther) }
+{
+    let bytes = named_bytes(desk, source, path, files)?;
+    declared_lattice(desk.alloc, bytes.as_slice())
+}
+
 /// The lattice of the file that a text names, or where it names none `L` below `H`.
 fn own_lattice<'a, F: Files>(
     desk: &mut Desk,
@@ -37,10 +55,7 @@ fn own_lattice<'a, F: Files>(
         (RefusesNamed (F.holds files.old) source.now (named.named_policy text.now)) NoOther) }
 {
     match named_policy(text) {
-        Some(path) => {
-            let bytes = named_bytes(desk, source, path, files)?;
-            declared_lattice(desk.alloc, &bytes)
-        }
+        Some(path) => lattice_beside(desk, source, path, files),
         None => two_classes(desk.alloc),
     }
 }

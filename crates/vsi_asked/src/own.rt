@@ -127,7 +127,6 @@ pub(crate) fn has_own_alone(words: &[String], request: &Request<'_>) -> bool
         (spec.dashed_in false (spec.texts words.now)) }
 {
     match request {
-        Request::Try(_) => are_own(words, NO_FLAGS.as_slice(), TRY_OPTIONS.as_slice()),
         Request::Check(_) => are_own(words, CHECK.as_slice(), NO_OPTIONS.as_slice()),
         Request::Conform(_) => are_own(words, CONFORM.as_slice(), NO_OPTIONS.as_slice()),
         Request::Classes(_) => are_own(words, STRICT.as_slice(), NO_OPTIONS.as_slice()),
@@ -145,6 +144,7 @@ pub(crate) fn has_own_alone(words: &[String], request: &Request<'_>) -> bool
         Request::Drive(_) => are_own(words, NO_FLAGS.as_slice(), DRIVE_OPTIONS.as_slice()),
         Request::Compare(_) => are_own(words, NO_FLAGS.as_slice(), COMPARE_OPTIONS.as_slice()),
         Request::Leak(_) => are_own(words, LEAK.as_slice(), LEAK_OPTIONS.as_slice()),
+        Request::Try(_) => are_own(words, NO_FLAGS.as_slice(), TRY_OPTIONS.as_slice()),
         Request::Lattice(_) | Request::Explain(_) => are_own(words, &[], &[]),
     }
 }

@@ -1,5 +1,5 @@
 -- The lattice file that a source text names in its first comment.
-use Rattle.std.specs.Prelude.{ℕ, ◌==◌, Bool, ◌||◌, List, [], ◌∷◌, Option, Some, None, option_map, codes, if◌then◌else◌}
+use Rattle.std.specs.Prelude.{ℕ, suc, ◌==◌, Bool, ◌||◌, List, [], ◌∷◌, Option, Some, None, option_map, codes, take, if◌then◌else◌}
 use Rattle.std.specs.Option.{option_and_then}
 
 -- What follows the first `#`, which begins a comment wherever it is.
@@ -13,10 +13,14 @@ behind [] text = Some text
 behind (wanted ∷ more) [] = None
 behind (wanted ∷ more) (byte ∷ rest) = if byte == wanted then behind more rest else None
 
--- The bytes before the first line feed or carriage return.
+-- How many bytes come before the first line feed or carriage return.
+abbrev pub line_length : List ℕ → ℕ
+line_length [] = 0
+line_length (byte ∷ rest) = if byte == 10 || byte == 13 then 0 else suc (line_length rest)
+
+-- Those bytes.
 abbrev pub first_line : List ℕ → List ℕ
-first_line [] = []
-first_line (byte ∷ rest) = if byte == 10 || byte == 13 then [] else byte ∷ first_line rest
+first_line text = take (line_length text) text
 
 -- The path of the lattice file: what follows `# policy: ` on its line, if the first comment begins so.
 abbrev pub named_policy : List ℕ → Option (List ℕ)

@@ -1,5 +1,5 @@
 -- Lattices of usual shapes, by the names that they are given.
-use Rattle.std.specs.Prelude.{◌≡◌, ℕ, zero, suc, ◌<◌, ◌/◌, ◌%◌, ◌==◌, ◌++◌, Bool, true, ◌&&◌, ◌||◌, nat_le, List, [], ◌∷◌, length, get_or, Option, Some, None, codes, if◌then◌else◌}
+use Rattle.std.specs.Prelude.{◌≡◌, ℕ, zero, suc, ◌<◌, ◌/◌, ◌%◌, ◌^◌, ◌==◌, ◌++◌, Bool, true, ◌&&◌, ◌||◌, nat_le, List, [], ◌∷◌, length, get_or, Option, Some, None, codes, if◌then◌else◌}
 use Rattle.vsi_lattice.specs.FileFaults.{IsRead}
 use Rattle.vsi_lattice.specs.LatticeView.{class_named, names, order}
 use Rattle.vsi_lattice.specs.Order.{Lattice as Order, IsClass}
@@ -20,15 +20,9 @@ shape_name Powerset = codes "powerset"
 abbrev pub only : Bool → ℕ → Option ℕ
 only holds count = if holds then Some count else None
 
--- How many sets of names there are, of 1 to 6 names.
+-- How many sets of so many names there are, of 1 to 6 names.
 abbrev pub set_count : ℕ → Option ℕ
-set_count 1 = Some 2
-set_count 2 = Some 4
-set_count 3 = Some 8
-set_count 4 = Some 16
-set_count 5 = Some 32
-set_count 6 = Some 64
-set_count names = None
+set_count names = only (nat_le 1 names && nat_le names 6) (2 ^ names)
 
 -- How many classes a shape has with so many names, where it takes so many.
 abbrev pub count_of : Shape → ℕ → Option ℕ

@@ -1,6 +1,6 @@
 //! The lattice file that a source text names.
 
-ghost use Rattle.std.specs.Prelude.{◌≡◌, ◌≤◌, option_map, length, take, drop};
+ghost use Rattle.std.specs.Prelude.{◌≡◌, ◌≤◌, option_map, length};
 ghost use Rattle.vsi_policy.specs.Named as spec;
 
 /// How a comment begins that names a lattice file.
@@ -57,7 +57,7 @@ fn first_line(text: &[u8]) -> &[u8]
 
 /// How many bytes come before the first line feed or carriage return.
 fn line_length(text: &[u8]) -> usize
-    ensures line { take result text.now ≡ spec.first_line text.now }
+    ensures count { result ≡ spec.line_length text.now }
     ensures within { result ≤ length text.now }
 {
     let mut count = 0;

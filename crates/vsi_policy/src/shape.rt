@@ -1,6 +1,6 @@
 //! The shapes of lattices, and how their classes are named.
 
-ghost use Rattle.std.specs.Prelude.{◌≡◌, IfSome, IfOk, length, OnOk};
+ghost use Rattle.std.specs.Prelude.{◌≡◌, [], IfSome, IfOk, OnOk};
 ghost use Rattle.vsi_lattice.specs.NamePlaces.{texts};
 ghost use Rattle.vsi_policy.specs.Shapes as spec;
 
