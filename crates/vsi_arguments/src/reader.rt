@@ -8,7 +8,7 @@ use crate::usage::program;
 use clap::error::ErrorKind;
 use clap::{ArgMatches, Command, Error};
 use std::alloc::{AllocError, Global};
-use vsi_emit::is_function_name;
+use vsi_c_names::is_function_name;
 use vsi_explain::{page, subject_page};
 
 /// Reads the arguments after the program's name.
