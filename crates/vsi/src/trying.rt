@@ -104,8 +104,9 @@ fn made_image<'a>(
         (StopsBy (λ reason. BuildsTo lattice.now Base text.now (Err reason)) NoOther) }
 {
     let bytes = answered(vsi_answers::build(desk.alloc, Profile::Base, lattice, text))?;
-    desk.keep(Kind::Image, source, &bytes)?;
-    match judged_image(desk.alloc, &bytes) {
+    let image = bytes.as_slice();
+    desk.keep(Kind::Image, source, image)?;
+    match judged_image(desk.alloc, image) {
         Ok(verified) => Ok(verified),
         // The bytes that are built are an image's, so only memory can be wanting.
         Err(_) => Err(Stop::Memory),
@@ -168,7 +169,15 @@ fn ran<'a>(
 {
     let verified = made_image(desk, lattice, attempt.source, text)?;
     let words = words_set(desk, &verified, attempt.settings.as_slice())?;
-    shown(desk.alloc, lattice, viewer, &verified, &words, attempt.budget)
+    let budget = attempt.budget;
+    shown(
+        desk.alloc,
+        lattice,
+        viewer,
+        &verified,
+        words.as_slice(),
+        budget,
+    )
 }
 
 /// What the run of the source text shows.
@@ -182,8 +191,9 @@ pub(crate) fn try_source<'a, F: Files>(
     ensures stopped { IfErr result (StopsBy (WhyTry (F.holds files.old) attempt.now)
         (LacksTried (F.holds files.old) attempt.now)) }
 {
-    let text = bytes_in(desk, Kind::Source, attempt.source, files)?;
-    let lattice = lattice_for(desk, attempt.lattice, attempt.source, &text, files)?;
+    let bytes = bytes_in(desk, Kind::Source, attempt.source, files)?;
+    let text = bytes.as_slice();
+    let lattice = lattice_for(desk, attempt.lattice, attempt.source, text, files)?;
     let viewer = viewer_of(&lattice, attempt.class)?;
-    ran(desk, attempt, &lattice, viewer, &text)
+    ran(desk, attempt, &lattice, viewer, text)
 }

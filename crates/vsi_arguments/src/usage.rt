@@ -2,8 +2,7 @@
 
 use crate::argument::Argument;
 use crate::arguments::*;
-use crate::help;
-use crate::run_help;
+use crate::{help, run_help};
 use clap::{Arg, Command};
 use std::alloc::{AllocError, Global};
 

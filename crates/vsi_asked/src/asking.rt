@@ -9,8 +9,8 @@ use crate::numbers::{has_number, number_in, only_operand};
 use crate::own::has_own_alone;
 use crate::reading::{has_flag, has_operands, has_values};
 use vsi_arguments::{
-    Attempt, Audit, Comparison, Compilation, Conformance, Drawing, Driving, Emission, Execution, Judging,
-    Outset, Request, SEARCH, Search, TRY_BUDGET,
+    Attempt, Audit, Comparison, Compilation, Conformance, Drawing, Driving, Emission, Execution,
+    Judging, Outset, Request, SEARCH, Search, TRY_BUDGET,
 };
 use vsi_explain::{page, subject_page};
 

@@ -106,10 +106,7 @@ fn is_direct(shape: Shape, names: usize, count: usize, low: usize, high: usize) 
     }
     for middle in 0..count {
         let is_other = middle != low && middle != high;
-        if is_other
-            && is_below(shape, names, low, middle)
-            && is_below(shape, names, middle, high)
-        {
+        if is_other && is_below(shape, names, low, middle) && is_below(shape, names, middle, high) {
             return false;
         }
     }

@@ -1,4 +1,5 @@
-use Rattle.std.proofs.Common.{refl}
+use Rattle.std.proofs.Common.{refl, arith}
+use Rattle.std.proofs.lemmas.Bool.Decides.{nat_tests}
 use Rattle.vsi_policy.proofs.shape.set_count.Goals as goal
 
 pub returns-in-1 : goal.returns-in-1
@@ -20,4 +21,4 @@ pub returns-in-6 : goal.returns-in-6
 returns-in-6 c = rw c.in-6.is refl
 
 pub returns-in_default : goal.returns-in_default
-returns-in_default c = grind arith
+returns-in_default c = grind (arith, nat_tests, c.in_default)
