@@ -87,7 +87,10 @@ fn viewer_of<'a>(lattice: &Lattice, name: Option<&'a str>) -> Result<Option<Clas
     ensures stopped { IfErr result (StopsBy (λ reason. ⊥) (LacksGiven lattice.now name.entry)) }
 {
     match name {
-        Some(name) => Ok(Some(class_in(lattice, name)?)),
+        Some(name) => {
+            let class = class_in(lattice, name)?;
+            Ok(Some(class))
+        }
         None => Ok(None),
     }
 }

@@ -34,7 +34,7 @@ pub(crate) const TRIED: Argument = Argument {
 pub(crate) const TRIED_LATTICE: Argument = Argument {
     name: "lattice",
     form: Form::Value("LATTICE"),
-    line: "The lattice file; without it the one that the text names",
+    line: "The lattice file; else the one that the text names",
     whole: word_help::TRIED_LATTICE,
 };
 
@@ -48,7 +48,7 @@ pub(crate) const TRIED_CLASS: Argument = Argument {
 pub(crate) const TRIED_BUDGET: Argument = Argument {
     name: "budget",
     form: Form::Number("N"),
-    line: "The most instructions that are done, 1000000 if not given",
+    line: "The most instructions that are done, else 1000000",
     whole: word_help::TRIED_BUDGET,
 };
 

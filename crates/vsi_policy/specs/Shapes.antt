@@ -41,12 +41,12 @@ level_name class = get_or (codes "L" ∷ codes "H" ∷ []) class []
 abbrev pub given_name : List (List ℕ) → ℕ → List ℕ
 given_name given class = get_or given class []
 
--- A name behind others, with `_` between.
+-- A name after others, with `_` between.
 abbrev pub joined : List ℕ → List ℕ → List ℕ
 joined [] name = name
 joined (byte ∷ front) name = (byte ∷ front) ++ 95 ∷ name
 
--- The names that belong to a set, joined behind those in front. The first of the names belongs to it where the lowest
+-- The names that belong to a set, joined after those before them. The first of the names belongs to it where the lowest
 -- binary digit of the set's number is 1, the second by the next digit, and so on.
 abbrev pub members : List ℕ → List (List ℕ) → ℕ → List ℕ
 members front [] set = front
