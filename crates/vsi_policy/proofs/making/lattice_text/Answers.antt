@@ -20,8 +20,8 @@ returns-in-Some c =
             given = given;
             named = first_texts c.args.arguments.now _ _ c.in-len1-up.len_at_least c.in-Some.ensures;
             lattice = has.0;
-            read = has.1.0;
-            shaped = has.1.1;
+            read = has.1;
+            shaped = has.2;
           })
           c.shaped_text.ensures;
     }
