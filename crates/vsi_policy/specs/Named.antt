@@ -1,5 +1,5 @@
 -- The lattice file that a source text names in its first comment.
-use Rattle.std.specs.Prelude.{ℕ, suc, ◌==◌, Bool, ◌||◌, List, [], ◌∷◌, Option, Some, None, option_map, codes, take, if◌then◌else◌}
+use Rattle.std.specs.Prelude.{ℕ, suc, ◌==◌, ◌||◌, List, [], ◌∷◌, Option, Some, None, option_map, codes, take, if◌then◌else◌}
 use Rattle.std.specs.Option.{option_and_then}
 
 -- What follows the first `#`, which begins a comment wherever it is.

@@ -1,5 +1,5 @@
 -- Lattices of usual shapes, by the names that they are given.
-use Rattle.std.specs.Prelude.{◌≡◌, ℕ, zero, suc, ◌<◌, ◌/◌, ◌%◌, ◌^◌, ◌==◌, ◌++◌, Bool, true, ◌&&◌, ◌||◌, nat_le, List, [], ◌∷◌, length, get_or, Option, Some, None, codes, if◌then◌else◌}
+use Rattle.std.specs.Prelude.{◌≡◌, ℕ, zero, suc, ◌/◌, ◌%◌, ◌^◌, ◌==◌, ◌++◌, Bool, true, ◌&&◌, ◌||◌, nat_le, List, [], ◌∷◌, length, get_or, Option, Some, None, codes, if◌then◌else◌}
 use Rattle.vsi_lattice.specs.FileFaults.{IsRead}
 use Rattle.vsi_lattice.specs.LatticeView.{class_named, names, order}
 use Rattle.vsi_lattice.specs.Order.{Lattice as Order, IsClass}
