@@ -5,6 +5,8 @@ pub mod Holding
 pub mod Loading
 pub mod Driven
 pub mod Naming
+pub mod Tried
+pub mod Shaping
 pub mod Performed
 pub mod Reasons
 pub mod Partly

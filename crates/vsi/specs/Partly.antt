@@ -22,7 +22,9 @@ use Rattle.vsi.specs.Driven.{lines_of}
 use Rattle.vsi.specs.Holding.{Holding, IsImageAt}
 use Rattle.vsi.specs.Performed.{AuditsFiles, BeginsAt, ComparesFiles, ConformsFiles, DrawsFiles, EmitsFile, IsStoredAt, LooksAt, OfFile, OfFiles, RunsFiles, SearchesFiles, SourceOfFile, ToldAccepted, ToldCanonical, ToldClasses, ToldFlows, ToldJson, ToldListing, ToldPage, ViewsFiles, control_of, judgement_of, shown}
 use Rattle.vsi.specs.Reasons.{ToldRefusal}
+use Rattle.vsi.specs.Shaping.{ShapedText}
 use Rattle.vsi.specs.Stops.{status_of}
+use Rattle.vsi.specs.Tried.{TriesFile}
 
 -- ---- a part of an answer.
 
@@ -94,6 +96,7 @@ AnswersCompare holds c bytes = (told : found.Comparison) × ComparesFiles holds 
 
 -- The answers of a request. `build` writes nothing to the output.
 abbrev pub Answers : Holding → Option (List ℕ) → Request → List ℕ → Type 0
+Answers holds given (request.Try attempt) = BytesOf (TriesFile holds attempt)
 Answers holds given (request.Check asked) = BytesOf (AnswersCheck asked.is_json holds asked)
 Answers holds given (request.Conform asked) =
     BytesOf (λ text. (conforms : Bool) × ConformsFiles holds asked conforms text)
@@ -112,6 +115,7 @@ Answers holds given (request.Leak search) = BytesOf (SearchesFiles holds search)
 Answers holds given (request.Report c) = BytesOf (OfFiles holds c ToldPage)
 Answers holds given (request.Draw drawing) = BytesOf (DrawsFiles holds drawing)
 Answers holds given (request.Format source) = BytesOf (OfFile holds source.now ToldCanonical)
+Answers holds given (request.Lattice arguments) = BytesOf (ShapedText arguments.items)
 Answers holds given (request.Explain page) = λ bytes. bytes ≡ page.now
 
 -- ---- what a stop leaves.

@@ -61,6 +61,8 @@ use Rattle.vsi_arguments.specs.declared.request.Request.TheVariants as request
 use Rattle.vsi.specs.Driven.{DrivesInput}
 use Rattle.vsi.specs.Holding.{Delivers, Fills, Holding, IsImageAt, IsLatticeAt, IsReadAt, IsStoreAt}
 use Rattle.vsi.specs.Naming.{function_name}
+use Rattle.vsi.specs.Shaping.{ShapedText}
+use Rattle.vsi.specs.Tried.{TriesFile}
 
 -- ---- what is written.
 
@@ -397,6 +399,7 @@ Alone Does holds left old new = (left ≡ holds) × Does old new
 -- What a request that is done to its end has done: what it has written, of what its files hold and the input gives, and
 -- what the files hold then.
 abbrev pub Performs : Holding → Option (List ℕ) → Request → Holding → Option (List ℕ) → Option (List ℕ) → Type 0
+Performs holds given (request.Try attempt) left = Alone (Writes (TriesFile holds attempt)) holds left
 Performs holds given (request.Check asked) left = Alone (PerformsCheck asked.is_json holds asked) holds left
 Performs holds given (request.Conform asked) left = Alone (Writes (ConformsFiles holds asked true)) holds left
 Performs holds given (request.Classes c) left = Alone (Writes (OfFiles holds c (ToldClasses c.is_strict))) holds left
@@ -415,4 +418,5 @@ Performs holds given (request.Leak search) left = Alone (Writes (SearchesFiles h
 Performs holds given (request.Report c) left = Alone (Writes (OfFiles holds c ToldPage)) holds left
 Performs holds given (request.Draw drawing) left = Alone (Writes (DrawsFiles holds drawing)) holds left
 Performs holds given (request.Format source) left = Alone (Writes (OfFile holds source.now ToldCanonical)) holds left
+Performs holds given (request.Lattice arguments) left = Alone (Writes (ShapedText arguments.items)) holds left
 Performs holds given (request.Explain page) left = Alone (λ old new. Appends old new page.now) holds left

@@ -36,6 +36,9 @@ use Rattle.vsi_answers.specs.Judged.{Declares, IsProgramFault, IsStoreFault, IsV
 use Rattle.vsi_answers.specs.Requests.{Answer, BeginsWith, BuildsTo, ChecksSteadyTo, ChecksTo, ClassesTo, ComparesTo, FlowsTo, FormatsTo, ListsTo, ReadsImage, ReadsLattice, ViewsTo, WalksTo}
 use Rattle.vsi_answers.specs.declared.unanswered.Unanswered.{Unanswered}
 use Rattle.vsi_answers.specs.declared.unanswered.Unanswered.TheVariants as unanswered
+use Rattle.vsi_types.specs.declared.rules.Profile.TheVariants.{Base}
+use Rattle.vsi_policy.specs.Named.{named_policy}
+use Rattle.vsi_arguments.specs.declared.request.Attempt.{Attempt}
 use Rattle.vsi_arguments.specs.declared.request.Audit.{Audit}
 use Rattle.vsi_arguments.specs.declared.request.Comparison.{Comparison}
 use Rattle.vsi_arguments.specs.declared.request.Compilation.{Compilation}
@@ -51,6 +54,7 @@ use Rattle.vsi.specs.declared.stop.Stop.{Stop}
 use Rattle.vsi.specs.declared.stop.Stop.TheVariants as stops
 use Rattle.vsi.specs.Holding.{Holding, IsImageAt, IsLatticeAt, IsReadAt, IsStoreAt}
 use Rattle.vsi.specs.Input.{two_classes}
+use Rattle.vsi.specs.Tried.{AreTried, BeginsSet, IsMade, IsTriedUnder, RunsMade, policy_path}
 use Rattle.vsi.specs.Performed.{AreFiles, BeginsAt, ComparesFiles, ConformsFiles, IsAskedAt, LooksAt, OfFiles, Writes, compilation_of, judgement_of, named_path, profile_of}
 
 -- ---- what a stop tells.
@@ -355,8 +359,61 @@ WhyDrive holds d reason =
     RefusesLattice holds d.lattice.now reason ⊎ RefusesImage holds d.execution.image.now reason
     ⊎ RefusesStore holds d.execution.image.now d.execution.store reason ⊎ RefusesController holds d reason
 
+-- `try`: the file of the lattice that a text names is refused.
+abbrev pub RefusesNamed : Holding → List ℕ → Option (List ℕ) → Unanswered → Type 0
+RefusesNamed holds source (Some path) reason = RefusesLattice holds (policy_path source path) reason
+RefusesNamed holds source None reason = ⊥
+
+-- `try`: the file of the lattice that a text is tried under is refused.
+abbrev pub RefusesUnder : Holding → Option (Bor (List ℕ)) → List ℕ → List ℕ → Unanswered → Type 0
+RefusesUnder holds (Some path) source text reason = RefusesLattice holds path.now reason
+RefusesUnder holds None source text reason = RefusesNamed holds source (named_policy text) reason
+
+-- `try`: the image that is made of a text doesn't begin, by a fault of what is set.
+pub record RefusesBegin (l : Lattice) (a : Attempt) (text : List ℕ) (reason : Unanswered) : Type 0 where
+  pub image : Image
+  pub made : IsMade l text image
+  pub is : BeginsSet image a.settings.items (Err reason)
+
+-- `try`: the text is refused, or what is set, or the run has no answer.
+abbrev pub RefusesRun : Lattice → Option ℕ → Attempt → List ℕ → Unanswered → Type 0
+RefusesRun l viewer a text reason =
+    BuildsTo l Base text (Err reason) ⊎ RefusesBegin l a text reason ⊎ RunsMade l viewer a text (Err reason)
+
+-- `try`: the lattice file of a source text is refused.
+pub record RefusesTriedLattice (holds : Holding) (a : Attempt) (reason : Unanswered) : Type 0 where
+  pub text : List ℕ
+  pub read : IsReadAt holds a.source.now text
+  pub is : RefusesUnder holds a.lattice a.source.now text reason
+
+-- `try`: a source text is refused, or its run has no answer.
+pub record RefusesTriedText (holds : Holding) (a : Attempt) (reason : Unanswered) : Type 0 where
+  pub text : List ℕ
+  pub lattice : Lattice
+  pub viewer : Option ℕ
+  pub tried : AreTried holds a lattice viewer text
+  pub is : RefusesRun lattice viewer a text reason
+
+-- `try`: the lattice file is refused, or the source text.
+abbrev pub WhyTry : Holding → Attempt → Unanswered → Type 0
+WhyTry holds a reason = RefusesTriedLattice holds a reason ⊎ RefusesTriedText holds a reason
+
+-- A lattice has no class of the name, if one is given.
+abbrev pub LacksGiven : Lattice → Option (Bor (List ℕ)) → Stop → Type 0
+LacksGiven l None stop = ⊥
+LacksGiven l (Some name) stop = LacksClass l name.now stop
+
+-- `try`: the lattice of a source text has no class of the name that is given.
+pub record LacksTried (holds : Holding) (a : Attempt) (stop : Stop) : Type 0 where
+  pub text : List ℕ
+  pub read : IsReadAt holds a.source.now text
+  pub lattice : Lattice
+  pub under : IsTriedUnder holds a.lattice a.source.now text lattice
+  pub lacks : LacksGiven lattice a.class stop
+
 -- Why a request has stopped.
 abbrev pub Why : Holding → Request → Option (List ℕ) → Option (List ℕ) → Stop → Type 0
+Why holds (request.Try attempt) old new = StopsBy (WhyTry holds attempt) (LacksTried holds attempt)
 Why holds (request.Check asked) old new = WhyCheck asked.is_json holds asked old new
 Why holds (request.Conform asked) old new =
     StopsBy (RefusesAsked holds asked.interface.now) (DiffersConform holds asked old new)
@@ -385,4 +442,5 @@ Why holds (request.Leak search) old new =
 Why holds (request.Report c) old new = StopsBy (RefusesLattice holds c.lattice.now) NoOther
 Why holds (request.Draw drawing) old new = StopsBy (WhyDraw holds drawing.lattice.now drawing.source) NoOther
 Why holds (request.Format source) old new = StopsBy (RefusesFile holds source.now AsksCanonical) NoOther
+Why holds (request.Lattice arguments) old new = StopsBy (λ reason. ⊥) NoOther
 Why holds (request.Explain page) old new = StopsBy (λ reason. ⊥) NoOther

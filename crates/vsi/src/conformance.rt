@@ -38,8 +38,8 @@ fn unusable<'a>(alloc: Global, error: InterfaceError) -> Stop<'a>
     }
 }
 
-/// The bytes of a lattice file that an interface names.
-fn named_bytes<'a, F: Files>(
+/// The bytes of a lattice file that an interface or a source text names.
+pub(crate) fn named_bytes<'a, F: Files>(
     desk: &mut Desk,
     interface: &str,
     path: &[u8],

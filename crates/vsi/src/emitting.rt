@@ -14,7 +14,8 @@ use crate::subcommands::built;
 use std::alloc::Global;
 use vsi_answers::judged_image;
 use vsi_arguments::{Compilation, Emission};
-use vsi_emit::{emit_c, emit_header, is_function_name};
+use vsi_c_names::is_function_name;
+use vsi_emit::{emit_c, emit_header};
 use vsi_image::Verified;
 
 /// The name of C where neither the name that is given nor that of the file serves.

@@ -7,9 +7,9 @@
 //! file is refused. `command` does what the words of a command line ask for. What an error holds,
 //! as a `LexError` or a `Walk` of `Step`s, stands here beside it.
 //!
-//! To be believed: of `specs/` `Words`, `Holding`, `Driven`, `Performed`, `Reasons`, `Partly`,
-//! `Done`, `Input` and `Laws`, and of `Stops` all but `StopsFor`; `Diagnosing` is a stepping stone
-//! of proofs.
+//! To be believed: of `specs/` `Words`, `Holding`, `Loading`, `Driven`, `Tried`, `Shaping`,
+//! `Performed`, `Reasons`, `Partly`, `Done`, `Input` and `Laws`, and of `Stops` all but `StopsFor`;
+//! `Diagnosing` is a stepping stone of proofs.
 #![tactic(auto)]
 
 mod auditing;
@@ -32,9 +32,11 @@ mod paths;
 mod performing;
 mod reading;
 mod running;
+mod shaping;
 mod stop;
 mod subcommands;
 mod telling;
+mod trying;
 
 pub use command_line::command;
 pub use files::Files;

@@ -18,9 +18,11 @@ use crate::emitting::emit;
 use crate::files::Files;
 use crate::leaking::leak;
 use crate::running::{Running, run, view};
+use crate::shaping::lattice;
 use crate::stop::{Stop, write};
 use crate::subcommands::{build, check, check_as_json, classes, flows, format, list};
 use crate::telling::Told;
+use crate::trying::try_source;
 use std::alloc::Global;
 use std::io::{Read, Write};
 use vsi_arguments::{Judging, Request};
@@ -156,6 +158,8 @@ pub(crate) fn perform<'a, F: Files, R: Read, W: Write>(
         Request::Report(compilation) => put(report(desk, compilation, files), output),
         Request::Draw(drawing) => put(draw(desk, drawing, files), output),
         Request::Format(source) => put(format(desk, source, files), output),
+        Request::Try(attempt) => put(try_source(desk, &attempt, files), output),
+        Request::Lattice(arguments) => put(lattice(desk.alloc, arguments.as_slice()), output),
         Request::Explain(page) => write(page.as_bytes(), output),
     }
 }

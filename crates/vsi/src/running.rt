@@ -27,10 +27,10 @@ use vsi_machine::{Outcome, count_text, counted, stop_text};
 const SETTING: &str = "--set";
 
 /// Keeps each setting for an explanation.
-fn keep_settings<'a>(desk: &mut Desk, outset: &Outset<'a>) -> Result<(), Stop<'a>>
+pub(crate) fn keep_settings<'a>(desk: &mut Desk, settings: &[&[u8]]) -> Result<(), Stop<'a>>
     ensures { IfErr result (λ stop. stop ≡ Memory) }
 {
-    for setting in &outset.settings {
+    for setting in settings {
         desk.keep(Kind::Setting, SETTING, setting)?;
     }
     Ok(())
@@ -50,8 +50,8 @@ fn words_in<'a>(
     ensures stopped { IfErr result (StopsBy (λ reason. BeginsWith verified.now file.now
         (texts outset.now.settings.items) outset.now.is_full (Err reason)) NoOther) }
 {
-    keep_settings(desk, outset)?;
     let settings = outset.settings.as_slice();
+    keep_settings(desk, settings)?;
     Ok(start_words(desk.alloc, verified, file, settings, outset.is_full)?)
 }
 

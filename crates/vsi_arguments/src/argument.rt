@@ -13,6 +13,8 @@ pub(crate) enum Form {
     Place,
     /// By its place, or left out.
     FreePlace,
+    /// By its place and those after it, once at least.
+    Places,
     /// `--NAME`, there or not.
     Flag,
     /// `--NAME VALUE`, or left out.
@@ -50,6 +52,7 @@ impl Argument {
         match self.form {
             Form::Place => told.required(true),
             Form::FreePlace => told,
+            Form::Places => told.required(true).action(ArgAction::Append).num_args(1..),
             Form::Flag => told.long(self.name).action(ArgAction::SetTrue),
             Form::Value(value) => told.long(self.name).value_name(value),
             Form::NeededValue(value) => told.long(self.name).value_name(value).required(true),

@@ -24,6 +24,48 @@ pub(crate) const DRAWN_SOURCE: Argument = Argument {
     whole: word_help::SOURCE,
 };
 
+pub(crate) const TRIED: Argument = Argument {
+    name: "SOURCE",
+    form: Form::Place,
+    line: "The source text, which may name its lattice file",
+    whole: word_help::TRIED,
+};
+
+pub(crate) const TRIED_LATTICE: Argument = Argument {
+    name: "lattice",
+    form: Form::Value("LATTICE"),
+    line: "The lattice file; else the one that the text names",
+    whole: word_help::TRIED_LATTICE,
+};
+
+pub(crate) const TRIED_CLASS: Argument = Argument {
+    name: "class",
+    form: Form::Value("C"),
+    line: "Prints only the globals that this class may see",
+    whole: word_help::TRIED_CLASS,
+};
+
+pub(crate) const TRIED_BUDGET: Argument = Argument {
+    name: "budget",
+    form: Form::Number("N"),
+    line: "The most instructions that are done, else 1000000",
+    whole: word_help::TRIED_BUDGET,
+};
+
+pub(crate) const TRIED_SET: Argument = Argument {
+    name: "set",
+    form: Form::Values("NAME=NUMBER"),
+    line: "Sets a global before the run; can be repeated",
+    whole: word_help::TRIED_SET,
+};
+
+pub(crate) const SHAPE: Argument = Argument {
+    name: "SHAPE",
+    form: Form::Places,
+    line: "The shape, then the names that it takes",
+    whole: word_help::SHAPE,
+};
+
 pub(crate) const INTERFACE: Argument = Argument {
     name: "INTERFACE",
     form: Form::Place,

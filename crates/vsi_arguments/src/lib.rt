@@ -7,13 +7,16 @@ mod arguments;
 mod error;
 mod help;
 mod numbers;
+mod reader;
 mod request;
+mod run_help;
 mod tips;
 mod usage;
 mod word_help;
 
 pub use error::ArgumentsError;
+pub use reader::request_of;
 pub use request::{
-    Asked, Audit, Colour, Comparison, Compilation, Conformance, Drawing, Driving, Emission,
-    Execution, Judging, Manner, Outset, Request, SEARCH, Search, request_of,
+    Asked, Attempt, Audit, Colour, Comparison, Compilation, Conformance, Drawing, Driving,
+    Emission, Execution, Judging, Manner, Outset, Request, SEARCH, Search, TRY_BUDGET,
 };

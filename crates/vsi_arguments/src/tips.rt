@@ -3,17 +3,28 @@
 use std::alloc::{AllocError, Global};
 
 /// Each option that only some subcommands have, as a mistake quotes it, and those that have it.
-const OWNERS: [(&str, &str); 17] = [
-    ("'--budget'", "run, view, drive, compare and leak"),
-    ("'--class'", "view, drive, compare and leak"),
+const OWNERS: [(&str, &str); 22] = [
+    ("'--budget'", "try, run, view, drive, compare and leak"),
+    ("'--class'", "try, view, drive, compare and leak"),
+    (
+        "'--color'",
+        "each subcommand but lattice and explain, which it follows",
+    ),
     ("'--count'", "run"),
     ("'--endings'", "leak"),
+    (
+        "'--explain'",
+        "each subcommand but lattice and explain, which it follows, as in `vsi try a.vsi --explain`",
+    ),
     ("'--full-store'", "run and view"),
+    ("'--header'", "emit-c"),
     ("'--json'", "check and conform"),
+    ("'--lattice'", "try and emit-c"),
+    ("'--name'", "emit-c"),
     ("'--out'", "run and view"),
     ("'--save'", "drive"),
     ("'--seed'", "leak"),
-    ("'--set'", "run and view"),
+    ("'--set'", "try, run and view"),
     ("'--steady'", "check and audit"),
     ("'--steps'", "leak"),
     ("'--store'", "run, view, drive and compare"),
@@ -48,6 +59,9 @@ const GAP: &str = "\n\n";
 /// How a tip begins.
 const TIP: &str = "  tip: ";
 
+/// How a mistake begins in the place of a subcommand, before the word in quotes.
+const UNRECOGNIZED: &str = "error: unrecognized subcommand '";
+
 /// How a tip begins that asks for a `--` in front of a word: no word of the program wants one.
 const DASHES: &str = "  tip: to pass ";
 
@@ -62,6 +76,7 @@ pub(crate) fn retold(alloc: Global, text: &str) -> Result<String, AllocError> {
     };
     told.push_str(mistake)?;
     push_tips(&mut told, mistake)?;
+    push_attempt(&mut told, mistake)?;
     let is_owned = push_owners(&mut told, mistake)?;
     let Some((tip, behind)) = tip_of(rest) else {
         push_paragraph(&mut told, rest)?;
@@ -107,6 +122,21 @@ fn push_owners(told: &mut String, mistake: &str) -> Result<bool, AllocError> {
         }
     }
     Ok(false)
+}
+
+/// Puts a tip that shows `try` where the path of a source text is in the place of a subcommand.
+fn push_attempt(told: &mut String, mistake: &str) -> Result<(), AllocError> {
+    let Some(rest) = mistake.strip_prefix(UNRECOGNIZED) else {
+        return Ok(());
+    };
+    let path = rest.strip_suffix("'").unwrap_or(rest);
+    if !path.contains(".") && !path.contains("/") {
+        return Ok(());
+    }
+    push_paragraph(told, TIP)?;
+    told.push_str("`vsi try ")?;
+    told.push_str(path)?;
+    told.push_str("` judges a source text and runs it")
 }
 
 /// Puts the tips for words that are missing, or aren't numbers.

@@ -2,7 +2,7 @@
 
 use crate::argument::Argument;
 use crate::arguments::*;
-use crate::help;
+use crate::{help, run_help};
 use clap::{Arg, Command};
 use std::alloc::{AllocError, Global};
 
@@ -19,7 +19,14 @@ struct Subcommand {
 }
 
 /// The subcommands whose refusals can be explained, in the order of the help.
-const SUBCOMMANDS: [Subcommand; 17] = [
+const SUBCOMMANDS: [Subcommand; 18] = [
+    Subcommand {
+        name: "try",
+        line: "Judges a source text and runs it",
+        whole: run_help::TRY,
+        example: run_help::TRY_EXAMPLE,
+        arguments: &[TRIED, TRIED_LATTICE, TRIED_CLASS, TRIED_BUDGET, TRIED_SET],
+    },
     Subcommand {
         name: "check",
         line: "Says whether a source text is accepted",
@@ -86,36 +93,36 @@ const SUBCOMMANDS: [Subcommand; 17] = [
     Subcommand {
         name: "run",
         line: "Runs an image and prints the store in which it halts",
-        whole: help::RUN,
-        example: help::RUN_EXAMPLE,
+        whole: run_help::RUN,
+        example: run_help::RUN_EXAMPLE,
         arguments: &[IMAGE, BUDGET, STORE, SET, FULL_STORE, OUT, TRACE, COUNT],
     },
     Subcommand {
         name: "view",
         line: "Runs an image and prints what a class may see",
-        whole: help::VIEW,
-        example: help::VIEW_EXAMPLE,
+        whole: run_help::VIEW,
+        example: run_help::VIEW_EXAMPLE,
         arguments: &[LATTICE, CLASS, IMAGE, BUDGET, STORE, SET, FULL_STORE, OUT],
     },
     Subcommand {
         name: "drive",
         line: "Runs an image once for each line of standard input",
-        whole: help::DRIVE,
-        example: help::DRIVE_EXAMPLE,
+        whole: run_help::DRIVE,
+        example: run_help::DRIVE_EXAMPLE,
         arguments: &[IMAGE, BUDGET, STORE, LATTICE, CLASS, SAVE],
     },
     Subcommand {
         name: "compare",
         line: "Runs an image from two stores and tells what a class sees of both",
-        whole: help::COMPARE,
-        example: help::COMPARE_EXAMPLE,
+        whole: run_help::COMPARE,
+        example: run_help::COMPARE_EXAMPLE,
         arguments: &[LATTICE, IMAGE, CLASS, BUDGET, STORES],
     },
     Subcommand {
         name: "leak",
         line: "Searches a source text for a leak, and shows it",
-        whole: help::LEAK,
-        example: help::LEAK_EXAMPLE,
+        whole: run_help::LEAK,
+        example: run_help::LEAK_EXAMPLE,
         arguments: &[
             LATTICE, SOURCE, LOOKING, RUN_BUDGET, TRIES, SEED, ENDINGS, STEPS,
         ],
@@ -143,14 +150,23 @@ const SUBCOMMANDS: [Subcommand; 17] = [
     },
 ];
 
-/// The subcommand that explains a refusal.
-const EXPLAINING: Subcommand = Subcommand {
-    name: "explain",
-    line: "Explains a refusal by its number, or the language and its files",
-    whole: help::EXPLAIN,
-    example: help::EXPLAIN_EXAMPLE,
-    arguments: &[EXPLAINED],
-};
+/// The subcommands that read no file, so that nothing of theirs is refused and explained.
+const UNREFUSED: [Subcommand; 2] = [
+    Subcommand {
+        name: "lattice",
+        line: "Prints a lattice file: two classes, levels, a diamond or a power set",
+        whole: help::LATTICE,
+        example: help::LATTICE_EXAMPLE,
+        arguments: &[SHAPE],
+    },
+    Subcommand {
+        name: "explain",
+        line: "Explains a refusal by its number, or the language and its files",
+        whole: help::EXPLAIN,
+        example: help::EXPLAIN_EXAMPLE,
+        arguments: &[EXPLAINED],
+    },
+];
 
 /// How a refusal is told.
 const MANNER: [Argument; 2] = [EXPLAIN, COLOR];
@@ -203,5 +219,8 @@ pub(crate) fn program<'a>(alloc: Global) -> Result<Command<'a>, AllocError> {
         let command = subcommand.made(alloc)?;
         program = program.subcommand(taking(alloc, command, &MANNER)?)?;
     }
-    program.subcommand(EXPLAINING.made(alloc)?)
+    for subcommand in &UNREFUSED {
+        program = program.subcommand(subcommand.made(alloc)?)?;
+    }
+    Ok(program)
 }

@@ -11,6 +11,39 @@ least class above both and a greatest class below both.";
 pub(crate) const SOURCE: &str = "\
 The path of the source text, of at most 1048576 bytes.";
 
+/// What a source text is that is tried.
+pub(crate) const TRIED: &str = "\
+The path of the source text, of at most 1048576 bytes. If its first
+comment is `# policy: FILE`, FILE is the path of its lattice file,
+relative to the folder of SOURCE.";
+
+/// What the lattice file is of a text that is tried.
+pub(crate) const TRIED_LATTICE: &str = "\
+The path of the lattice file, in place of the one that the text names.
+`vsi explain lattice` shows one, `vsi lattice` prints some.";
+
+/// What the class is that a text is tried for.
+pub(crate) const TRIED_CLASS: &str = "\
+The name of a class of the lattice. Only the globals at or below it
+are printed.";
+
+/// What the budget of an attempt is.
+pub(crate) const TRIED_BUDGET: &str = "\
+The most instructions that are done, the halt included: a whole number
+from 0 to 18446744073709551615, in digits alone. Without it 1000000.";
+
+/// What a setting of an attempt is.
+pub(crate) const TRIED_SET: &str = "\
+Sets a global, of whatever class, before the run: its name, `=` and a
+number from -9223372036854775808 to 9223372036854775807. Of two
+settings of one global the second counts.";
+
+/// What the shape of a lattice is.
+pub(crate) const SHAPE: &str = "\
+One of two, levels, diamond and powerset, then the names that it
+takes: none, 1 to 64, 4, and 1 to 6. A name begins with a letter, has
+at most 32 letters, digits and underscores, and is no keyword.";
+
 /// What an image is that is read.
 pub(crate) const IMAGE: &str = "\
 The path of the image, the bytes that `vsi build` writes. Any bytes

@@ -4,12 +4,13 @@ use Rattle.std.specs.List.{list_all}
 use Rattle.std.specs.Option.{option_and_then, option_or}
 use Rattle.std.specs.declared.alloc.Global.{Global}
 use Rattle.std.specs.Borrow.{Bor}
+use Rattle.vsi_arguments.specs.declared.request.Attempt.{Attempt}
 use Rattle.vsi_arguments.specs.declared.request.Compilation.{Compilation}
 use Rattle.vsi_arguments.specs.declared.request.Execution.{Execution}
 use Rattle.vsi_arguments.specs.declared.request.Outset.{Outset}
 use Rattle.vsi_arguments.specs.declared.request.Request.{Request}
-use Rattle.vsi_arguments.specs.declared.request.Request.TheVariants.{Check, Conform, Classes, Flows, Build, List as Listing, Audit, Source, EmitC, Run, View, Drive, Compare, Leak, Report, Draw, Format, Explain}
-use Rattle.vsi_arguments.specs.declared.request.TheConstants.{SEARCH}
+use Rattle.vsi_arguments.specs.declared.request.Request.TheVariants.{Try, Check, Conform, Classes, Flows, Build, List as Listing, Audit, Source, EmitC, Run, View, Drive, Compare, Leak, Report, Draw, Format, Lattice as Shaped, Explain}
+use Rattle.vsi_arguments.specs.declared.request.TheConstants.{SEARCH, TRY_BUDGET}
 use Rattle.vsi_explain.specs.Pages.{page_of}
 use Rattle.vsi_explain.specs.Subjects.{subject_page}
 use Rattle.vsi_asked.specs.Numbers.{Gives, number_in}
@@ -17,6 +18,7 @@ use Rattle.vsi_asked.specs.Words.{dashed_in, has_flag, is_own, operands_in, show
 
 -- The word of the subcommand.
 abbrev pub name_of : Request → List ℕ
+name_of (Try attempt) = codes "try"
 name_of (Check judging) = codes "check"
 name_of (Conform conformance) = codes "conform"
 name_of (Classes compilation) = codes "classes"
@@ -34,6 +36,7 @@ name_of (Leak search) = codes "leak"
 name_of (Report compilation) = codes "report"
 name_of (Draw drawing) = codes "draw"
 name_of (Format source) = codes "fmt"
+name_of (Shaped arguments) = codes "lattice"
 name_of (Explain page) = codes "explain"
 
 -- A path that may be left out.
@@ -44,9 +47,10 @@ given path = option_to_list (option_map (λ p. p.now) path)
 abbrev pub compiled : Compilation → List (List ℕ)
 compiled compilation = compilation.lattice.now ∷ compilation.source.now ∷ []
 
--- The paths of a request that stand among the words as operands, in their order; what stands behind `explain` is told
--- by `AsksPage`.
+-- The operands of a request, in their order: paths, and of `lattice` a shape and names. `AsksPage` has the operand of
+-- `explain`.
 abbrev pub operands_of : Request → List (List ℕ)
+operands_of (Try attempt) = attempt.source.now ∷ []
 operands_of (Check judging) = compiled judging.compilation
 operands_of (Conform conformance) = conformance.interface.now ∷ conformance.source.now ∷ []
 operands_of (Classes compilation) = compiled compilation
@@ -64,10 +68,12 @@ operands_of (Leak search) = search.lattice.now ∷ search.source.now ∷ []
 operands_of (Report compilation) = compiled compilation
 operands_of (Draw drawing) = drawing.lattice.now ∷ given drawing.source
 operands_of (Format source) = source.now ∷ []
+operands_of (Shaped arguments) = shown arguments.items
 operands_of (Explain page) = []
 
 -- The flags of a request, each with whether it is set.
 abbrev pub flags_of : Request → List (List ℕ × Bool)
+flags_of (Try attempt) = []
 flags_of (Check judging) =
     (codes "--strict", judging.compilation.is_strict) ∷ (codes "--steady", judging.is_steady)
     ∷ (codes "--json", judging.is_json) ∷ []
@@ -89,6 +95,7 @@ flags_of (Leak search) = (codes "--endings", search.has_endings) ∷ (codes "--s
 flags_of (Report compilation) = (codes "--strict", compilation.is_strict) ∷ []
 flags_of (Draw drawing) = (codes "--strict", drawing.is_strict) ∷ []
 flags_of (Format source) = []
+flags_of (Shaped arguments) = []
 flags_of (Explain page) = []
 
 -- The options of a run's beginning and end, each with what is given for it.
@@ -99,6 +106,9 @@ starting execution outset =
 
 -- The options of a request, each with what is given for it; those of numbers are in `numbers_of`.
 abbrev pub options_of : Request → List (List ℕ × List (List ℕ))
+options_of (Try attempt) =
+    (codes "--lattice", given attempt.lattice) ∷ (codes "--class", given attempt.class)
+    ∷ (codes "--set", shown attempt.settings.items) ∷ []
 options_of (EmitC emission) =
     (codes "--lattice", given emission.lattice) ∷ (codes "--name", given emission.name) ∷ []
 options_of (Run execution outset has_trace has_count) = starting execution outset
@@ -118,6 +128,7 @@ budgeted budget = (codes "--budget", None, budget) ∷ []
 
 -- The options of a request that give numbers, each with the number that counts where none is given, and the request's.
 abbrev pub numbers_of : Request → List (List ℕ × Option ℕ × ℕ)
+numbers_of (Try attempt) = (codes "--budget", Some TRY_BUDGET, attempt.budget) ∷ []
 numbers_of (Run execution outset has_trace has_count) = budgeted execution.budget
 numbers_of (View lattice class execution outset) = budgeted execution.budget
 numbers_of (Drive driving) = budgeted driving.execution.budget
@@ -171,8 +182,9 @@ Spells words (Explain page) = AsksPage words page.now
 Spells words request =
     Asks words (name_of request) (operands_of request) (flags_of request) (options_of request) (numbers_of request)
 
--- Each refusal but that of `explain` can be explained: the flag, and the option, that say how it is written.
+-- The refusals of each subcommand that reads a file can be explained: the flag, and the option, that say how.
 abbrev pub manner_of : Request → List (List ℕ) × List (List ℕ)
+manner_of (Shaped arguments) = ([], [])
 manner_of (Explain page) = ([], [])
 manner_of request = (codes "--explain" ∷ [], codes "--color" ∷ [])
 

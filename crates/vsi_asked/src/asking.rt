@@ -9,8 +9,8 @@ use crate::numbers::{has_number, number_in, only_operand};
 use crate::own::has_own_alone;
 use crate::reading::{has_flag, has_operands, has_values};
 use vsi_arguments::{
-    Audit, Comparison, Compilation, Conformance, Drawing, Driving, Emission, Execution, Judging,
-    Outset, Request, SEARCH, Search,
+    Attempt, Audit, Comparison, Compilation, Conformance, Drawing, Driving, Emission, Execution,
+    Judging, Outset, Request, SEARCH, Search, TRY_BUDGET,
 };
 use vsi_explain::{page, subject_page};
 
@@ -106,6 +106,20 @@ fn has_outset(words: &[String], execution: &Execution<'_>, outset: &Outset<'_>) 
     has_value(words, "--store", execution.store)
         && has_value(words, "--out", outset.out)
         && has_values(words, b"--set", outset.settings.as_slice())
+}
+
+/// Whether words ask to try a text.
+fn asks_try(words: &[String], attempt: &Attempt<'_>) -> bool
+    ensures { result ≡ true → spec.Spells words.now (request.Try attempt.now) }
+{
+    let operands = [attempt.source.as_bytes()];
+    let Some(rest) = behind(words, "try", operands.as_slice(), &[]) else {
+        return false;
+    };
+    has_value(rest, "--lattice", attempt.lattice)
+        && has_value(rest, "--class", attempt.class)
+        && has_values(rest, b"--set", attempt.settings.as_slice())
+        && has_number(rest, "--budget", Some(TRY_BUDGET), attempt.budget)
 }
 
 /// Whether words ask for a run.
@@ -334,6 +348,7 @@ fn spells(words: &[String], request: &Request<'_>) -> bool
     ensures { result ≡ true → spec.Spells words.now request.now }
 {
     match request {
+        Request::Try(attempt) => asks_try(words, attempt),
         Request::Check(judging) => asks_check(words, judging),
         Request::Conform(conformance) => asks_conform(words, conformance),
         Request::Classes(compilation) => asks_judged(words, "classes", compilation),
@@ -364,6 +379,7 @@ fn spells(words: &[String], request: &Request<'_>) -> bool
         Request::Report(compilation) => asks_judged(words, "report", compilation),
         Request::Draw(drawing) => asks_draw(words, drawing),
         Request::Format(source) => asks_file(words, "fmt", source),
+        Request::Lattice(arguments) => asks(words, "lattice", arguments.as_slice(), &[]),
         Request::Explain(text) => asks_page(words, text),
     }
 }

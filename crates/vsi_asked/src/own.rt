@@ -14,6 +14,9 @@ const NO_OPTIONS: [&[u8]; 1] = [b"--color"];
 /// The flags of a subcommand that has none but for whether a refusal is explained.
 const NO_FLAGS: [&[u8]; 1] = [b"--explain"];
 
+/// The options of `try`.
+const TRY_OPTIONS: [&[u8]; 5] = [b"--lattice", b"--class", b"--set", b"--budget", b"--color"];
+
 /// The flags of a subcommand that judges by a profile.
 const STRICT: [&[u8]; 2] = [b"--strict", b"--explain"];
 
@@ -141,6 +144,7 @@ pub(crate) fn has_own_alone(words: &[String], request: &Request<'_>) -> bool
         Request::Drive(_) => are_own(words, NO_FLAGS.as_slice(), DRIVE_OPTIONS.as_slice()),
         Request::Compare(_) => are_own(words, NO_FLAGS.as_slice(), COMPARE_OPTIONS.as_slice()),
         Request::Leak(_) => are_own(words, LEAK.as_slice(), LEAK_OPTIONS.as_slice()),
-        Request::Explain(_) => are_own(words, &[], &[]),
+        Request::Try(_) => are_own(words, NO_FLAGS.as_slice(), TRY_OPTIONS.as_slice()),
+        Request::Lattice(_) | Request::Explain(_) => are_own(words, &[], &[]),
     }
 }

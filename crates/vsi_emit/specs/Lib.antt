@@ -9,4 +9,3 @@ pub mod Laws
 pub mod Closed
 pub mod Depths
 pub mod Translation
-pub mod Names

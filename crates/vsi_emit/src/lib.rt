@@ -11,8 +11,8 @@
 //! steady ones.
 //!
 //! To be believed: `specs/Apart`, `specs/Emitted`, `specs/Emulation`, `specs/Jumps`, `specs/Laws`,
-//! `specs/Names`, `specs/SmallC`, `specs/Whole` and `specs/Writing`; the other files of `specs/` are
-//! stepping stones of proofs.
+//! `specs/SmallC`, `specs/Whole` and `specs/Writing`, and `specs/Names` of `vsi_c_names`; the other
+//! files of `specs/` are stepping stones of proofs.
 #![tactic(auto)]
 
 mod blocks;
@@ -22,11 +22,10 @@ mod error;
 mod frame;
 pub mod laws;
 mod marks;
-mod names;
 mod operands;
 mod pieces;
 mod statements;
 
 pub use emit::{emit_c, emit_header};
 pub use error::EmitError;
-pub use names::is_function_name;
+pub use vsi_c_names::is_function_name;

@@ -93,8 +93,8 @@ one above both:
   ]
 
 Every two classes need a least class above both (their join), for a value made
-from both, and a greatest class below both (their meet). `vsi draw` makes a
-picture of a lattice.
+from both, and a greatest class below both (their meet). `vsi lattice` prints
+lattice files of usual shapes, and `vsi draw` makes a picture of a lattice.
 
   $ printf 'classes = [\"L\", \"H\"]\\nbelow = [[\"L\", \"H\"]]\\n' > two.toml
   $ printf 'var h : H; var l : L; h := l' > up.vsi

@@ -1,9 +1,10 @@
 use Rattle.std.proofs.Common.{◌⊎◌, refl, subst}
-use Rattle.std.specs.Prelude.{OnOk}
+use Rattle.std.specs.Prelude.{IfOk, OnOk}
 use Rattle.std.specs.Io.KnownBytes.{Appends}
 use Rattle.vsi_devices.specs.Counted.{device_of}
 use Rattle.vsi_answers.specs.Requests.{ListsTo}
-use Rattle.vsi.specs.Reasons.{AsksCanonical, AsksClasses, AsksFlows, HasNoText, NoOther, OtherLeak, RefusesAudit, RefusesFile, RefusesFiles, RefusesImage, RefusesLattice, RefusesSource, WhyDraw, WhyEmit}
+use Rattle.vsi.specs.Shaping.{ShapedText}
+use Rattle.vsi.specs.Reasons.{AsksCanonical, AsksClasses, AsksFlows, HasNoText, LacksTried, NoOther, OtherLeak, RefusesAudit, RefusesFile, RefusesFiles, RefusesImage, RefusesLattice, RefusesSource, WhyDraw, WhyEmit, WhyTry}
 use Rattle.vsi.proofs.Filled.{alone}
 use Rattle.vsi.proofs.Obeyed.{put_stops}
 use Rattle.vsi.proofs.Unrun.{Unseen, fault_stopped}
@@ -88,6 +89,17 @@ returns-in-Drive-clause-performed g c = rw c.in-Drive.is c.drive.ensures.perform
 pub returns-in-View-clause-performed : goal.returns-in-View-clause-performed
 returns-in-View-clause-performed g c = rw c.in-View.is c.view.ensures.performed
 
+pub returns-in-Try-clause-performed : goal.returns-in-Try-clause-performed
+returns-in-Try-clause-performed g c = rw c.in-Try.is
+    (put_alone _ _ _ _ _ c.try_source.result c.put-in-Try.result c.try_source.ensures.kept c.try_source.ensures.told
+    c.put-in-Try.ensures.done)
+
+pub returns-in-Lattice-clause-performed : goal.returns-in-Lattice-clause-performed
+returns-in-Lattice-clause-performed g c = rw c.in-Lattice.is
+    (put_alone (ShapedText c.in-Lattice.arguments.items) _ _ _ _ c.lattice.result c.put-in-Lattice.result refl
+    (subst (λ a. IfOk c.lattice.result (ShapedText a)) c.as_slice-arguments.ensures.value c.lattice.ensures.told)
+    c.put-in-Lattice.ensures.done)
+
 pub returns-in-Explain-clause-performed : goal.returns-in-Explain-clause-performed
 returns-in-Explain-clause-performed g c = rw c.in-Explain.is
     (alone _ c.write.result _ _ refl
@@ -134,6 +146,16 @@ returns-in-Draw-clause-left g c = rw c.in-Draw.is
 pub returns-in-Format-clause-left : goal.returns-in-Format-clause-left
 returns-in-Format-clause-left g c = rw c.in-Format.is
     (put_leaves _ _ _ c.format.result c.put-in-Format.result c.format.ensures.told c.put-in-Format.ensures.left)
+
+pub returns-in-Try-clause-left : goal.returns-in-Try-clause-left
+returns-in-Try-clause-left g c = rw c.in-Try.is
+    (put_leaves _ _ _ c.try_source.result c.put-in-Try.result c.try_source.ensures.told c.put-in-Try.ensures.left)
+
+pub returns-in-Lattice-clause-left : goal.returns-in-Lattice-clause-left
+returns-in-Lattice-clause-left g c = rw c.in-Lattice.is
+    (put_leaves (ShapedText c.in-Lattice.arguments.items) _ _ c.lattice.result c.put-in-Lattice.result
+    (subst (λ a. IfOk c.lattice.result (ShapedText a)) c.as_slice-arguments.ensures.value c.lattice.ensures.told)
+    c.put-in-Lattice.ensures.left)
 
 pub returns-in-Audit-clause-left : goal.returns-in-Audit-clause-left
 returns-in-Audit-clause-left g c = rw c.in-Audit.is
@@ -223,6 +245,17 @@ returns-in-Audit-clause-stopped g c = rw c.in-Audit.is
     (put_stops (Unseen (g.F.Files.holds c.args.files.now) c.in-Audit.asked.lattice.now c.in-Audit.asked.image.now)
     (RefusesAudit (g.F.Files.holds c.args.files.now) c.in-Audit.asked)
     c.audit.result c.accept.result c.audit.ensures.stopped c.accept.ensures.stopped)
+
+pub returns-in-Try-clause-stopped : goal.returns-in-Try-clause-stopped
+returns-in-Try-clause-stopped g c = rw c.in-Try.is
+    (put_stops (WhyTry (g.F.Files.holds c.args.files.now) c.in-Try.attempt)
+    (LacksTried (g.F.Files.holds c.args.files.now) c.in-Try.attempt)
+    c.try_source.result c.put-in-Try.result c.try_source.ensures.stopped c.put-in-Try.ensures.stopped)
+
+pub returns-in-Lattice-clause-stopped : goal.returns-in-Lattice-clause-stopped
+returns-in-Lattice-clause-stopped g c = rw c.in-Lattice.is
+    (put_stops (λ reason. ⊥) NoOther c.lattice.result c.put-in-Lattice.result c.lattice.ensures.stopped
+    c.put-in-Lattice.ensures.stopped)
 
 pub returns-in-Check-clause-stopped : goal.returns-in-Check-clause-stopped
 returns-in-Check-clause-stopped g c = rw c.in-Check.is c.put_check.ensures.stopped

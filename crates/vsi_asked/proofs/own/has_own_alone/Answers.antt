@@ -59,3 +59,7 @@ returns-in-Drive c =
 pub returns-in-Compare : goal.returns-in-Compare
 returns-in-Compare c =
     rw c.in-Compare.is (rw (c.as_slice-in-Compare.ensures, c.as_slice-in-Compare-2.ensures) at c.are_own-in-Compare.ensures)
+
+pub returns-in-Try : goal.returns-in-Try
+returns-in-Try c =
+    rw c.in-Try.is (rw (c.as_slice-in-Try.ensures, c.as_slice-in-Try-2.ensures) at c.are_own-in-Try.ensures)

@@ -1,8 +1,7 @@
 //! Which names a function may have.
 
 ghost use Rattle.std.specs.Prelude.{◌≡◌, bytes_eq};
-ghost use Rattle.vsi_emit.specs.Names as spec;
-ghost use Rattle.vsi_syntax.specs.Words as words;
+ghost use Rattle.vsi_c_names.specs.Names as spec;
 
 /// The keywords of C up to C23 and of C++ up to C++23, with those of C++ for operators.
 const KEYWORDS: [&[u8]; 97] = [
@@ -107,21 +106,21 @@ const KEYWORDS: [&[u8]; 97] = [
 
 /// Whether the byte is a letter.
 fn is_letter(byte: u8) -> bool
-    ensures { result ≡ words.is_letter byte }
+    ensures { result ≡ spec.is_letter byte }
 {
     (b'A' <= byte && byte <= b'Z') || (b'a' <= byte && byte <= b'z')
 }
 
 /// Whether the byte may be in a name.
 fn is_name_byte(byte: u8) -> bool
-    ensures { result ≡ words.is_word_byte byte }
+    ensures { result ≡ spec.is_name_byte byte }
 {
     is_letter(byte) || (b'0' <= byte && byte <= b'9') || byte == b'_'
 }
 
 /// Whether each byte may be in a name.
 fn all_name_bytes(name: &[u8]) -> bool
-    ensures { result ≡ words.every words.is_word_byte name.now }
+    ensures { result ≡ spec.are_name_bytes name.now }
 {
     let mut rest = name;
     while let [byte, after @ ..] = rest {

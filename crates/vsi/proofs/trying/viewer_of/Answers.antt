@@ -1,0 +1,17 @@
+use Rattle.std.proofs.Common.{refl}
+use Rattle.vsi.specs.Reasons.{LacksGiven, StopsBy}
+use Rattle.vsi.proofs.Reasons.{handed}
+use Rattle.vsi.proofs.trying.viewer_of.Goals as goal
+
+pub returns-in-Some-clause-looks : goal.returns-in-Some-clause-looks
+returns-in-Some-clause-looks c = rw c.in-Some.is
+    (c.in_ok-class-in-Some.class, c.in_ok-class-in-Some.ensures.named, refl)
+
+pub returns-in-None-clause-looks : goal.returns-in-None-clause-looks
+returns-in-None-clause-looks c = rw c.in-None.is refl
+
+pub returns-in_err-class-in-Some-clause-stopped : goal.returns-in_err-class-in-Some-clause-stopped
+returns-in_err-class-in-Some-clause-stopped c = rw c.in-Some.is
+    (handed (StopsBy (λ reason. ⊥) (LacksGiven c.args.lattice.now (Some c.in-Some.name)))
+    c.in_err-class-in-Some.field-0.0 c.from_residual.result c.from_residual.ensures.1
+    c.in_err-class-in-Some.ensures.stopped)

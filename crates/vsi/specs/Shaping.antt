@@ -1,0 +1,10 @@
+-- What `lattice` prints.
+use Rattle.std.specs.Prelude.{ℕ, List}
+use Rattle.std.specs.Borrow.{Bor}
+use Rattle.std.specs.Global.{Vec}
+use Rattle.vsi_lattice.specs.NamePlaces.{texts}
+use Rattle.vsi_policy.specs.Shapes.{IsShapedText}
+
+-- The text is the lattice file of the shape and the names that the arguments are.
+abbrev pub ShapedText : List (Bor (List ℕ)) → Vec ℕ → Type 0
+ShapedText arguments text = IsShapedText (texts arguments) text.items

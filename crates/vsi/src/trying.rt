@@ -1,0 +1,202 @@
+//! What `try` answers: what the run of a source text shows, or why it shows nothing.
+
+ghost use Rattle.std.specs.Prelude.{◌≡◌, IfErr, IfOk, IfSome, Ok, Err, length};
+ghost use Rattle.vsi.specs.Reasons.{LacksGiven, LacksTried, NoOther, RefusesLattice, RefusesNamed, RefusesRun, RefusesUnder, StopsBy, WhyTry};
+ghost use Rattle.vsi.specs.Tried.{BeginsSet, IsMade, IsNamedLattice, IsTriedUnder, Looks, RunsMade, ShowsTo, TriesFile, policy_path};
+ghost use Rattle.vsi.specs.Holding.{IsLatticeAt};
+ghost use Rattle.vsi_answers.specs.Requests.{BuildsTo};
+ghost use Rattle.vsi_lattice.specs.LatticeView.{order};
+ghost use Rattle.vsi_lattice.specs.Order.{IsClass};
+ghost use Rattle.vsi_policy.specs.Named as named;
+ghost use Rattle.vsi_types.specs.declared.rules.Profile.TheVariants.{Base};
+
+use crate::conformance::named_bytes;
+use crate::desk::{Desk, Kind};
+use crate::files::Files;
+use crate::reading::{answered, bytes_in, class_in, declared_lattice, lattice_in, two_classes};
+use crate::running::keep_settings;
+use crate::stop::Stop;
+use std::alloc::Global;
+use vsi_answers::{judged_image, start_words};
+use vsi_arguments::Attempt;
+use vsi_image::Verified;
+use vsi_lattice::{Class, Lattice};
+use vsi_policy::named_policy;
+use vsi_types::Profile;
+
+/// The lattice of a file that is named beside a source text.
+fn lattice_beside<'a, F: Files>(
+    desk: &mut Desk,
+    source: &str,
+    path: &[u8],
+    files: &mut F,
+) -> Result<Lattice, Stop<'a>>
+    ensures kept { F.holds files.new ≡ F.holds files.old }
+    ensures read { IfOk result
+        (IsLatticeAt (F.holds files.old) (policy_path source.now path.now)) }
+    ensures stopped { IfErr result (StopsBy
+        (RefusesLattice (F.holds files.old) (policy_path source.now path.now)) NoOther) }
+{
+    let bytes = named_bytes(desk, source, path, files)?;
+    declared_lattice(desk.alloc, bytes.as_slice())
+}
+
+/// The lattice of the file that a text names, or where it names none `L` below `H`.
+fn own_lattice<'a, F: Files>(
+    desk: &mut Desk,
+    source: &str,
+    text: &[u8],
+    files: &mut F,
+) -> Result<Lattice, Stop<'a>>
+    ensures kept { F.holds files.new ≡ F.holds files.old }
+    ensures declared { IfOk result
+        (IsNamedLattice (F.holds files.old) source.now (named.named_policy text.now)) }
+    ensures stopped { IfErr result (StopsBy
+        (RefusesNamed (F.holds files.old) source.now (named.named_policy text.now)) NoOther) }
+{
+    match named_policy(text) {
+        Some(path) => lattice_beside(desk, source, path, files),
+        None => two_classes(desk.alloc),
+    }
+}
+
+/// The lattice that a text is tried under: that of the file that is given, or else the text's own.
+fn lattice_for<'a, F: Files>(
+    desk: &mut Desk,
+    lattice: Option<&'a str>,
+    source: &str,
+    text: &[u8],
+    files: &mut F,
+) -> Result<Lattice, Stop<'a>>
+    ensures kept { F.holds files.new ≡ F.holds files.old }
+    ensures declared { IfOk result
+        (IsTriedUnder (F.holds files.old) lattice.entry source.now text.now) }
+    ensures stopped { IfErr result (StopsBy
+        (RefusesUnder (F.holds files.old) lattice.entry source.now text.now) NoOther) }
+{
+    match lattice {
+        Some(path) => lattice_in(desk, path, files),
+        None => own_lattice(desk, source, text, files),
+    }
+}
+
+/// The class that looks, where one is given.
+fn viewer_of<'a>(lattice: &Lattice, name: Option<&'a str>) -> Result<Option<Class>, Stop<'a>>
+    ensures within { IfOk result (λ viewer. IfSome viewer (IsClass (order lattice.now))) }
+    ensures looks { IfOk result (Looks lattice.now name.entry) }
+    ensures stopped { IfErr result (StopsBy (λ reason. ⊥) (LacksGiven lattice.now name.entry)) }
+{
+    match name {
+        Some(name) => {
+            let class = class_in(lattice, name)?;
+            Ok(Some(class))
+        }
+        None => Ok(None),
+    }
+}
+
+/// The image that is made of a text, whose bytes are kept for an explanation.
+fn made_image<'a>(
+    desk: &mut Desk,
+    lattice: &Lattice,
+    source: &str,
+    text: &[u8],
+) -> Result<Verified, Stop<'a>>
+    ensures made { IfOk result (IsMade lattice.now text.now) }
+    ensures stopped { IfErr result
+        (StopsBy (λ reason. BuildsTo lattice.now Base text.now (Err reason)) NoOther) }
+{
+    let bytes = answered(vsi_answers::build(desk.alloc, Profile::Base, lattice, text))?;
+    let image = bytes.as_slice();
+    desk.keep(Kind::Image, source, image)?;
+    match judged_image(desk.alloc, image) {
+        Ok(verified) => Ok(verified),
+        // The bytes that are built are an image's, so only memory can be wanting.
+        Err(_) => Err(Stop::Memory),
+    }
+}
+
+/// The words that an image begins with, of what is set.
+fn words_set<'a>(
+    desk: &mut Desk,
+    verified: &Verified,
+    settings: &[&[u8]],
+) -> Result<Vec<i64>, Stop<'a>>
+    ensures len { IfOk result (λ words. length words.items ≡ length verified.now.globals.items) }
+    ensures begins { IfOk result (λ words. BeginsSet verified.now settings.now (Ok words)) }
+    ensures stopped { IfErr result
+        (StopsBy (λ reason. BeginsSet verified.now settings.now (Err reason)) NoOther) }
+{
+    keep_settings(desk, settings)?;
+    Ok(start_words(desk.alloc, verified, b"", settings, false)?)
+}
+
+/// What the run of an image shows: each global, or those that a class may see.
+fn shown<'a>(
+    alloc: Global,
+    lattice: &Lattice,
+    viewer: Option<Class>,
+    verified: &Verified,
+    words: &[i64],
+    budget: u64,
+) -> Result<Vec<u8>, Stop<'a>>
+    requires viewer { IfSome viewer (IsClass (order lattice.now)) }
+    requires words { length words.now ≡ length verified.now.globals.items }
+    ensures shows { IfOk result
+        (λ lines. ShowsTo lattice.now viewer verified.now words.now budget (Ok lines)) }
+    ensures stopped { IfErr result (StopsBy
+        (λ reason. ShowsTo lattice.now viewer verified.now words.now budget (Err reason)) NoOther) }
+{
+    match viewer {
+        Some(class) => {
+            let lines = vsi_answers::view(alloc, lattice, verified, class, words, budget);
+            answered(lines)
+        }
+        None => answered(vsi_answers::run(alloc, verified, words, budget)),
+    }
+}
+
+/// What the run of the image shows that is made of a text.
+fn ran<'a>(
+    desk: &mut Desk,
+    attempt: &Attempt<'a>,
+    lattice: &Lattice,
+    viewer: Option<Class>,
+    text: &[u8],
+) -> Result<Vec<u8>, Stop<'a>>
+    requires viewer { IfSome viewer (IsClass (order lattice.now)) }
+    ensures runs { IfOk result
+        (λ lines. RunsMade lattice.now viewer attempt.now text.now (Ok lines)) }
+    ensures stopped { IfErr result
+        (StopsBy (RefusesRun lattice.now viewer attempt.now text.now) NoOther) }
+{
+    let verified = made_image(desk, lattice, attempt.source, text)?;
+    let words = words_set(desk, &verified, attempt.settings.as_slice())?;
+    let budget = attempt.budget;
+    shown(
+        desk.alloc,
+        lattice,
+        viewer,
+        &verified,
+        words.as_slice(),
+        budget,
+    )
+}
+
+/// What the run of the source text shows.
+pub(crate) fn try_source<'a, F: Files>(
+    desk: &mut Desk,
+    attempt: &Attempt<'a>,
+    files: &mut F,
+) -> Result<Vec<u8>, Stop<'a>>
+    ensures kept { F.holds files.new ≡ F.holds files.old }
+    ensures told { IfOk result (TriesFile (F.holds files.old) attempt.now) }
+    ensures stopped { IfErr result (StopsBy (WhyTry (F.holds files.old) attempt.now)
+        (LacksTried (F.holds files.old) attempt.now)) }
+{
+    let bytes = bytes_in(desk, Kind::Source, attempt.source, files)?;
+    let text = bytes.as_slice();
+    let lattice = lattice_for(desk, attempt.lattice, attempt.source, text, files)?;
+    let viewer = viewer_of(&lattice, attempt.class)?;
+    ran(desk, attempt, &lattice, viewer, text)
+}

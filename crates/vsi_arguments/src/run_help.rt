@@ -1,0 +1,152 @@
+//! The longer texts of help for the subcommands that run a program.
+
+/// What `try` does.
+pub(crate) const TRY: &str = "\
+Judges a source text and runs it.
+
+Reads the source text, then the lattice file that --lattice gives, or the one
+that the text names in its first comment, `# policy: FILE`, beside the text.
+Without either the classes are L and H, L below H. Judges both, compiles the
+text, sets globals, all others being 0, and runs the image. If it halts, a line
+`NAME = NUMBER` is printed for each global, with --class for those at or below
+the class. No file is written.
+
+Statuses: 0 halted, 1 refused, 2 usage or no such class, 3 out of budget,
+4 file fault, 5 out of memory.";
+
+/// An example of `try`.
+pub(crate) const TRY_EXAMPLE: &str = "\
+Example:
+  $ cat add.vsi
+  var h : H; var l : L; l := l + 1; h := l
+  $ vsi try add.vsi --set l=4
+  h = 5
+  l = 5
+  $ vsi try add.vsi --set l=4 --class L
+  l = 5";
+
+/// What `run` does.
+pub(crate) const RUN: &str = "\
+Runs an image and prints the store in which it halts.
+
+Reads the store file where there is one, then the image, verifies the image,
+judges the store file, sets globals, and runs the image until it halts or its
+budget is spent. Where it halts a line `NAME = NUMBER` is printed for each
+global, or written to a file, which may be the store file itself.
+
+Statuses: 0 halted, 1 refused, 2 usage, 3 out of budget, 4 file fault,
+5 out of memory.";
+
+/// An example of `run`.
+pub(crate) const RUN_EXAMPLE: &str = "\
+Example:
+  $ vsi run sum.image --budget 3 --trace
+  0: PUSH 3 |
+  1: STORE 0 | 3
+  2: HALT |
+  x = 3";
+
+/// What `view` does.
+pub(crate) const VIEW: &str = "\
+Runs an image and prints what a class may see.
+
+Reads the lattice file, looks for the class in it, reads and verifies the image,
+reads the store file where there is one, sets globals, and runs the image. Where
+it halts within its budget a line `NAME = NUMBER` is printed for each global
+whose class is at or below the one that looks, or written to a file; else
+nothing is.
+
+Statuses: 0 halted, 1 refused, 2 usage or no such class, 3 out of budget,
+4 file fault, 5 out of memory.";
+
+/// An example of `view`.
+pub(crate) const VIEW_EXAMPLE: &str = "\
+Example:
+  $ cat add.vsi
+  var h : H; var l : L; l := l + 1; h := l
+  $ cat start.toml
+  h = 5
+  l = 1
+  $ vsi build two.toml add.vsi add.image
+  $ vsi view two.toml add.image --class L --budget 7 --store start.toml
+  l = 2";
+
+/// What `drive` does.
+pub(crate) const DRIVE: &str = "\
+Runs an image once for each line of standard input.
+
+Reads the lattice file, looks for the class in it, reads and verifies the image,
+and reads the store file where there is one. Then each line of standard input
+sets globals at or below the class, the image runs, and what the class sees is
+written as one line of the same form; the store stays for the next line. A
+faulty line, or a run that is out of budget, is told in its place, and leaves
+the store as it was. Behind the last line the store is written to a file, where
+one is asked for.
+
+Statuses: 0 standard input has ended, 1 refused, 2 usage or no such class,
+4 file fault, 5 out of memory.";
+
+/// An example of `drive`.
+pub(crate) const DRIVE_EXAMPLE: &str = "\
+Example:
+  $ printf 'l = 4\\n\\nh = 1\\n' > lines
+  $ vsi drive add.image two.toml --class L --budget 7 < lines
+  l = 5
+  l = 6
+  refused: 47 AboveClass 0";
+
+/// What `compare` does.
+pub(crate) const COMPARE: &str = "\
+Runs an image from two stores and prints what a class sees of both.
+
+Reads the lattice file, looks for the class in it, reads and verifies the image,
+reads and judges both store files, and runs the image from each. Prints a row
+for each global whose class is at or below the one that looks, before the runs
+and, where both halt, after them, and one for how they end. Behind a star both
+sides of a row are told, the first run's first; else they are equal. The class
+sees the same where both runs halt and no row after them has a star, but for the
+one of how they end; and where neither halts.
+
+Statuses: 0 the class sees the same after both runs, 1 it doesn't, or refused,
+2 usage or no such class, 4 file fault, 5 out of memory.";
+
+/// An example of `compare`.
+pub(crate) const COMPARE_EXAMPLE: &str = "\
+Example:
+  $ printf 'h = 5\\nl = 1\\n' > a
+  $ printf 'h = 9\\nl = 1\\n' > b
+  $ vsi compare two.toml add.image --class H --budget 7 --store a --store b
+  H sees before
+  * h = 5 | h = 9
+    l = 1
+  H sees after
+    h = 2
+    l = 2
+    after 7 instructions";
+
+/// What `leak` does.
+pub(crate) const LEAK: &str = "\
+Searches a source text for a leak, and shows it.
+
+Reads the lattice file, looks for the class in it, reads the source text, and
+runs it, accepted or not, from pairs of stores that agree in each global whose
+class is at or below the one that looks. Where the ends of two runs differ in
+such a global, both stores and what the class sees of both ends are told on
+standard error. Else `no leak in N pairs of runs` is printed, which says nothing
+of other pairs. Equal words give equal answers.
+
+Statuses: 0 none found, 1 refused or a leak, 2 usage or no such class,
+4 file fault, 5 out of memory.";
+
+/// An example of `leak`.
+pub(crate) const LEAK_EXAMPLE: &str = "\
+Example:
+  $ cat lamp.vsi
+  var h : H; var l : L; if h then l := 1 else l := 0
+  $ vsi leak two.toml lamp.vsi
+  leak at L
+  * h = 0                 h = 1
+    l = 0                 l = 0
+  L sees
+  * l = 0                 l = 1
+  * after 5 instructions  after 6 instructions";

@@ -1,0 +1,19 @@
+//! Policies: the lattice file that a source text names, and lattice files of usual shapes.
+//!
+//! `named_policy` answers the path in the first comment of a text, `# policy: FILE`. `lattice_text`
+//! takes a shape and names and answers a lattice file, which `read_lattice` has read: it declares
+//! exactly the classes and the order of the shape (clause `shaped`).
+//!
+//! To be believed: all files of `specs/`.
+#![tactic(auto)]
+
+mod fault;
+mod making;
+mod naming;
+mod order;
+mod shape;
+
+pub use fault::ShapeError;
+pub use making::lattice_text;
+pub use naming::named_policy;
+pub use shape::Shape;

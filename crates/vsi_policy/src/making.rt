@@ -1,0 +1,171 @@
+//! Makes lattice files. The text is proposed, and the reader of lattice files says what it declares.
+
+ghost use Rattle.std.specs.Prelude.{IfOk, IsTrue, length};
+ghost use Rattle.vsi_lattice.specs.FileFaults.{IsRead};
+ghost use Rattle.vsi_lattice.specs.LatticeView.{names, order};
+ghost use Rattle.vsi_lattice.specs.NamePlaces.{texts};
+ghost use Rattle.vsi_policy.specs.Shapes.{HasClasses, HasOrder, IsShaped, IsShapedText};
+
+use crate::fault::ShapeError;
+use crate::order::{has_classes, has_order, is_below};
+use crate::shape::Shape;
+use std::alloc::{AllocError, Global};
+use vsi_lattice::{Classes, Lattice, LatticeError, read_lattice};
+use vsi_syntax::is_name;
+
+/// The text of the lattice file that has the shape which the first argument names, with the names
+/// that the others are.
+///
+/// # Errors
+///
+/// `NoShape` and `WrongCount` where the arguments aren't those of a shape, `NoName` and `Twice`
+/// where they aren't names of different classes, `Memory`.
+pub fn lattice_text(alloc: Global, arguments: &[&[u8]]) -> Result<Vec<u8>, ShapeError>
+    ensures shaped { IfOk result (λ text. IsShapedText (texts arguments.now) text.items) }
+{
+    let [first, given @ ..] = arguments else {
+        return Err(ShapeError::NoShape);
+    };
+    match Shape::named(first) {
+        Some(shape) => shaped_text(alloc, shape, given),
+        None => Err(ShapeError::NoShape),
+    }
+}
+
+/// The text of the lattice file of a shape with these names.
+fn shaped_text(alloc: Global, shape: Shape, given: &[&[u8]]) -> Result<Vec<u8>, ShapeError>
+    ensures { IfOk result (λ text. (l : Lattice) × IsRead text.items (names l) (order l)
+        × IsShaped shape (texts given.now) l) }
+{
+    let Some(count) = shape.count(given.len()) else {
+        return Err(ShapeError::WrongCount(shape));
+    };
+    let classes = class_names(alloc, shape, given, count)?;
+    let text = proposed(alloc, shape, given.len(), &classes)?;
+    let lattice = match read_lattice(alloc, &text) {
+        Ok(lattice) => lattice,
+        Err(error) => return Err(fault_of(classes, error)),
+    };
+    if lattice.count() == count && is_shaped(alloc, shape, given, &lattice)? {
+        Ok(text)
+    } else {
+        Err(ShapeError::Memory)
+    }
+}
+
+/// Whether a lattice has the classes and the order of the shape with these names.
+fn is_shaped(
+    alloc: Global,
+    shape: Shape,
+    given: &[&[u8]],
+    lattice: &Lattice,
+) -> Result<bool, AllocError>
+    ensures { IfOk result (λ is. IsTrue is → HasClasses shape (texts given.now) lattice.now
+        × HasOrder shape (length given.now) (order lattice.now)) }
+{
+    if !has_order(shape, given.len(), lattice) {
+        return Ok(false);
+    }
+    has_classes(alloc, shape, given, lattice)
+}
+
+/// The names of the classes, which are names.
+fn class_names(
+    alloc: Global,
+    shape: Shape,
+    given: &[&[u8]],
+    count: usize,
+) -> Result<Vec<Vec<u8>>, ShapeError> {
+    let mut classes = Vec::new(alloc);
+    for class in 0..count {
+        let name = shape.class_name(alloc, given, class)?;
+        if !is_name(&name) {
+            return Err(ShapeError::NoName(name));
+        }
+        classes.push(name)?;
+    }
+    Ok(classes)
+}
+
+/// What the refusal of the proposed text means: two classes of one name, or want of memory.
+fn fault_of(classes: Vec<Vec<u8>>, error: LatticeError) -> ShapeError {
+    let LatticeError::DuplicateName(place) = error else {
+        return ShapeError::Memory;
+    };
+    match classes.into_iter().nth(place) {
+        Some(name) => ShapeError::Twice(name),
+        None => ShapeError::Memory,
+    }
+}
+
+/// Whether a class of a shape is directly below another: at or below it, not the same, and with
+/// none between.
+fn is_direct(shape: Shape, names: usize, count: usize, low: usize, high: usize) -> bool {
+    if low == high || !is_below(shape, names, low, high) {
+        return false;
+    }
+    for middle in 0..count {
+        let is_other = middle != low && middle != high;
+        if is_other && is_below(shape, names, low, middle) && is_below(shape, names, middle, high) {
+            return false;
+        }
+    }
+    true
+}
+
+/// A text that should be the lattice file of a shape with classes of these names.
+fn proposed(
+    alloc: Global,
+    shape: Shape,
+    names: usize,
+    classes: &[Vec<u8>],
+) -> Result<Vec<u8>, AllocError> {
+    let mut text = Vec::from_slice(alloc, b"classes = [")?;
+    let mut between: &[u8] = b"";
+    for name in classes {
+        text.extend_from_slice(between)?;
+        put_quoted(&mut text, name)?;
+        between = b", ";
+    }
+    text.extend_from_slice(b"]\nbelow = [\n")?;
+    for low in 0..classes.len() {
+        put_pairs(&mut text, shape, names, classes, low)?;
+    }
+    text.extend_from_slice(b"]\n")?;
+    Ok(text)
+}
+
+/// Adds the lines of the pairs of a class and those directly above it.
+fn put_pairs(
+    text: &mut Vec<u8>,
+    shape: Shape,
+    names: usize,
+    classes: &[Vec<u8>],
+    low: usize,
+) -> Result<(), AllocError> {
+    for high in 0..classes.len() {
+        if is_direct(shape, names, classes.len(), low, high) {
+            text.extend_from_slice(b"  [")?;
+            put_named(text, classes, low)?;
+            text.extend_from_slice(b", ")?;
+            put_named(text, classes, high)?;
+            text.extend_from_slice(b"],\n")?;
+        }
+    }
+    Ok(())
+}
+
+/// Adds the name of a class in quotes.
+fn put_named(text: &mut Vec<u8>, classes: &[Vec<u8>], class: usize) -> Result<(), AllocError> {
+    match classes.get(class) {
+        Some(name) => put_quoted(text, name),
+        None => Ok(()),
+    }
+}
+
+/// Adds a name in quotes.
+fn put_quoted(text: &mut Vec<u8>, name: &[u8]) -> Result<(), AllocError> {
+    text.extend_from_slice(b"\"")?;
+    text.extend_from_slice(name)?;
+    text.extend_from_slice(b"\"")
+}
