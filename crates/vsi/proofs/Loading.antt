@@ -1,5 +1,5 @@
 -- Texts that were read at paths.
-use Rattle.std.proofs.Common.{◌≡◌, ℕ, List, [], ◌∷◌, ◌++◌, Option, Some, None, Bool, true, false, refl, subst, IfSome}
+use Rattle.std.proofs.Common.{◌≡◌, ◌∙◌, ℕ, List, [], ◌∷◌, ◌++◌, Option, Some, None, Bool, true, false, refl, subst, sym, IfSome}
 use Rattle.std.specs.Str.{bytes_eq}
 use Rattle.std.proofs.lemmas.Slice.Eq.{bytes_eq-Decides}
 use Rattle.std.specs.Prelude.{if◌then◌else◌}
@@ -32,3 +32,10 @@ pub read_more : (holds : Holding) (texts : List Text) (t : Text) → AreRead hol
 read_more holds texts t all one path =
     held_more (IsReadAt holds path) texts t path (all path)
     (λ same. subst (λ at. IsReadAt holds at t.bytes.items) ((bytes_eq-Decides t.path.items path).0 same) one)
+
+-- What was read before a file is taken is read of the files as they were first, and so is what is there after it.
+pub go_on : (first old new : Holding) (before after : List Text) → (old ≡ first) × AreRead first before → new ≡ old →
+    (AreRead old before → AreRead old after) → (new ≡ first) × AreRead first after
+go_on first old new before after read kept told =
+    (kept ∙ read.0,
+    subst (λ h. AreRead h after) read.0 (told (subst (λ h. AreRead h before) (sym read.0) read.1)))

@@ -12,7 +12,7 @@ use crate::stop::Stop;
 use std::alloc::{AllocError, Global};
 use std::io;
 use std::io::{Cursor, Read};
-use vsi_arguments::{ArgumentsError, request_of};
+use vsi_arguments::{ArgumentsError, Request, request_of};
 
 /// What `trouble` says of a file that this request would write over.
 const SPARED: &str = "this request reads the file, so it doesn't write over it.";
@@ -107,6 +107,23 @@ impl<F: Files> Loaded<F> {
         self.texts.push(Text { path, bytes })?;
         Ok(true)
     }
+
+    /// Reads the file at the path, unless it is a store that the request replaces. It answers whether
+    /// nothing is lost.
+    fn take_unless_state(&mut self, request: &Request<'_>, path: &str) -> Result<bool, AllocError>
+        ensures kept { F.holds self.new.system ≡ F.holds self.old.system }
+        ensures told { AreRead (F.holds self.old.system) self.old.texts.items
+            → AreRead (F.holds self.old.system) self.new.texts.items }
+    {
+        if is_state(request, path) {
+            return Ok(true);
+        }
+        if self.take(path)? {
+            return Ok(true);
+        }
+        self.lost = Some(Vec::from_slice(self.alloc, path.as_bytes())?);
+        Ok(false)
+    }
 }
 
 /// Reads each file that the arguments name and the request reads, in the order in which it does, and
@@ -138,9 +155,8 @@ pub fn load<F: Files + Drop>(
         let Some(path) = *path else {
             continue;
         };
-        if !is_state(&asked.request, path) && !loaded.take(path)? {
-            loaded.lost = Some(Vec::from_slice(alloc, path.as_bytes())?);
-            break;
+        if !loaded.take_unless_state(&asked.request, path)? {
+            return Ok(loaded);
         }
     }
     Ok(loaded)
