@@ -180,7 +180,7 @@ fn put_all_arrows(page: &mut Page, facts: &Facts, picture: &Banded) -> Result<()
 fn band_name<'a>(order: &'a Order, band: Band) -> &'a [u8] {
     match band.class {
         Some(class) => name_of(order, class),
-        None => b"no class fits",
+        None => b"not inferred",
     }
 }
 

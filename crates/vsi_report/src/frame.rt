@@ -90,8 +90,9 @@ fn put_refusal(page: &mut Page, profile: Profile, text: &[u8]) -> Result<(), All
 }
 
 /// What is said of the classes in the panel of the source text.
-const HINT: &[u8] = b"\n<p class=\"hint\">Behind each name stands its class; a star marks a class \
-that was inferred, a question mark a variable that no class fits.</p>\n</section>\n";
+const HINT: &[u8] = b"\n<p class=\"hint\">After each name is its class. A star marks a class \
+that was inferred, a question mark a class that wasn't: none is inferred for a refused text.</p>\n\
+</section>\n";
 
 /// Adds what stands behind the panel of the source text.
 pub(crate) fn put_behind_source(page: &mut Page, has_classes: bool) -> Result<(), AllocError> {

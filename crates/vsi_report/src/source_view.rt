@@ -24,8 +24,8 @@ fn colour(class: Option<usize>) -> &'static [u8] {
     }
 }
 
-/// The label of a variable's class: its name, behind it a star where it was inferred, or a question
-/// mark where no class fits.
+/// The label of a variable's class: its name, with a star after it if it was inferred, or a question
+/// mark if it wasn't.
 fn class_label(
     alloc: Global,
     order: &Order,
