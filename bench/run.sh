@@ -37,7 +37,7 @@ for program in counting nested straight; do
   "$vsi" emit-c "$work/$program.vsi" > "$work/$program.c"
   "$vsi" emit-c "$work/$program.vsi" --header > "$work/$program.h"
 done
-gcc -O2 -Wall -I "$here" -I "$work" -o "$work/emitted" "$here/emitted.c" "$work"/{by_hand,counting,nested,straight}.c
+gcc -O2 -Wa,-mbranches-within-32B-boundaries -Wall -I "$here" -I "$work" -o "$work/emitted" "$here/emitted.c" "$work"/{by_hand,counting,nested,straight}.c
 
 # One line per run: program, who ran it, outcome, instructions, nanoseconds, globals.
 for ((round = 0; round < repeats; round++)); do
