@@ -1,12 +1,12 @@
 #!/usr/bin/env python3
 """Uses the playground in a browser, as a student would, and looks at its pages.
 
-usage: tools/playground_browser.py PROGRAM [--short] [--unproved] [--pictures FOLDER]
+usage: tools/playground_browser.py PROGRAM [--short] [--width N] [--scheme NAME] [--unproved] [--pictures FOLDER]
 
 PROGRAM is the built program; `playground/serve` serves it on a free port. Chromium types a text, sees the refusal,
 takes the quick fix, runs it, finds a leak, solves exercise 02 and level 3, shares a link and opens it again: at widths
 of 360, 800 and 1,600, light and dark. No page may be wider than its window, each control has a name, text has a contrast
-of at least 4.5 to 1, and the console shows no error. --short goes through one width; --unproved takes the limits of
+of at least 4.5 to 1, and the console shows no error. --short goes through one width, --width and --scheme name the one to go through; --unproved takes the limits of
 memory and time from the server, for a program that `tools/build` has made; --pictures writes the pages as pictures.
 Silent where all is well. It needs chromium, chromium-driver and python3-selenium of Debian; where one of them is
 missing, it says so in one line and ends with status 0.
@@ -95,7 +95,7 @@ class Student:
         self.driver = webdriver.Chrome(service=Service(shutil.which("chromedriver")), options=options)
         self.address, self.size, self.scheme, self.pictures = address, size, scheme, pictures
         self.device("Emulation.setDeviceMetricsOverride", width=size[0], height=size[1], deviceScaleFactor=1,
-                    mobile=size[0] < 500)
+                    mobile=False)
         self.device("Emulation.setEmulatedMedia", features=[{"name": "prefers-color-scheme", "value": scheme}])
 
     def device(self, command: str, **values: Any) -> Any:
@@ -119,7 +119,7 @@ class Student:
         self.js("document.getElementById(arguments[0]).scrollIntoView({block: 'center'})", identifier)
         self.at(identifier).click()
 
-    def wait(self, what: str, happens: Callable[[], Any], seconds: float = 60) -> bool:
+    def wait(self, what: str, happens: Callable[[], Any], seconds: float = 20) -> bool:
         """Waits until something happens; complains if it doesn't."""
         end = time.monotonic() + seconds
         while time.monotonic() < end:
@@ -154,10 +154,10 @@ class Student:
             os.makedirs(self.pictures, exist_ok=True)
             height = self.js("return document.documentElement.scrollHeight")
             self.device("Emulation.setDeviceMetricsOverride", width=self.size[0], height=min(height, 3500),
-                        deviceScaleFactor=1, mobile=self.size[0] < 500)
+                        deviceScaleFactor=1, mobile=False)
             self.driver.save_screenshot(os.path.join(self.pictures, f"{what}-{self.size[0]}-{self.scheme}.png"))
             self.device("Emulation.setDeviceMetricsOverride", width=self.size[0], height=self.size[1],
-                        deviceScaleFactor=1, mobile=self.size[0] < 500)
+                        deviceScaleFactor=1, mobile=False)
 
     def verdict(self, begins: str) -> None:
         self.wait(f"the verdict {begins}", lambda: self.text("verdict-title").startswith(begins))
@@ -246,30 +246,38 @@ class Student:
         self.driver.quit()
 
 
+DEBIAN_PYTHON = "/usr/bin/python3"
+
+
+def has_selenium(python: str) -> bool:
+    """Whether a Python has the package that drives the browser."""
+    return os.path.exists(python) and subprocess.run([python, "-c", "import selenium"], capture_output=True).returncode == 0
+
+
 def missing() -> "list[str]":
     """What of Debian's packages is not here."""
     lacking = [name for name in ("chromium", "chromedriver") if not shutil.which(name)]
-    try:
-        import selenium  # noqa: F401
-    except ImportError:
-        lacking.append("python3-selenium")
-    return lacking
+    return lacking + ([] if has_selenium(sys.executable) or has_selenium(DEBIAN_PYTHON) else ["python3-selenium"])
 
 
 def main() -> None:
     parser = argparse.ArgumentParser(description=(__doc__ or "").split("\n")[0])
     parser.add_argument("program")
     parser.add_argument("--short", action="store_true")
+    parser.add_argument("--width", type=int)
+    parser.add_argument("--scheme", choices=("light", "dark"))
     parser.add_argument("--unproved", action="store_true")
     parser.add_argument("--pictures")
     options = parser.parse_args()
     if missing():
         print("the playground was not opened in a browser; missing:", ", ".join(missing()))
         return
+    if not has_selenium(sys.executable):
+        os.execv(DEBIAN_PYTHON, [DEBIAN_PYTHON, "-B", *sys.argv])
     server, address = serve(os.path.abspath(options.program), options.unproved)
     try:
-        for size in SIZES[1:2] if options.short else SIZES:
-            for scheme in ("light",) if options.short else ("light", "dark"):
+        for size in SIZES[1:2] if options.short else [size for size in SIZES if options.width in (None, size[0])]:
+            for scheme in ("light",) if options.short else [options.scheme] if options.scheme else ("light", "dark"):
                 student = Student(address, size, scheme, options.pictures)
                 try:
                     for part in (student.fix, student.panes, student.share, student.exercise, student.level):
