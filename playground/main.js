@@ -115,10 +115,11 @@ class App {
 
   /** Shows a text with everything that belongs to it, and forgets the results of the one before. */
   show({ text, lattice, files = {}, profile = "base", isFixed = false, isLatticeFixed = false, stores = null,
-    observer = "", budget = "10000", tab = "run" }) {
+    observer = "", budget = "10000", tab = "run", base = "" }) {
     this.program.text = text;
     this.latticeEditor.text = lattice;
     this.program.isFixed = isFixed;
+    this.isFixed = isFixed;
     this.latticeEditor.isFixed = isLatticeFixed;
     at("ready").disabled = isLatticeFixed;
     at("tidy").disabled = isFixed;
@@ -130,7 +131,7 @@ class App {
     (stores ?? []).forEach((store, index) => this.panes.pair.take(index, store));
     for (const name of ["run", "flows", "leak", "pair", "machine", "cycles"]) fill(at(`${name}-result`));
     at("steps").hidden = true;
-    this.panes.offer(files);
+    this.panes.offer(files, base);
     this.policy.look(observer);
     this.panes.refresh();
     this.open(tab);
@@ -138,7 +139,8 @@ class App {
   }
 
   showReady() {
-    const index = READY.findIndex(([, text]) => text.trim() === this.lattice.trim());
+    const plain = this.lattice.replace(/^#.*\n/gm, "").trim();
+    const index = READY.findIndex(([, text]) => text.trim() === plain);
     at("ready").value = index < 0 ? "" : String(index);
   }
 
@@ -225,7 +227,7 @@ function readExamples(folders) {
     const lattices = Object.values(files).filter(isLattice);
     const fitting = (text) => lattices.find((lattice) => globals(text).every((one) => lattice.includes(`"${one.class}"`)));
     return Object.keys(files).filter((file) => file.endsWith(".vsi") && fitting(files[file])).map((file) => ({
-      folder: name, file, shown: { text: files[file], lattice: fitting(files[file]), files } }));
+      folder: name, file, shown: { text: files[file], lattice: fitting(files[file]), files, base: file.slice(0, -4) } }));
   });
 }
 

@@ -28,11 +28,11 @@ export class Panes {
     this.app = app;
     this.store = new Stores(at("run-store"), ["Before the run"]);
     this.pair = new Stores(at("pair-stores"), ["First store", "Second store"]);
-    at("run").append(button("Run", () => this.run(), { class: "main", id: "run-button" }),
+    at("run").prepend(button("Run", () => this.run(), { class: "main", id: "run-button" }),
       button("Go on from the end", () => this.goOn()));
     at("flows").prepend(button("List the flows", () => this.flows(), { class: "main", id: "flows-button" }));
     at("leak-form").append(button("Look for a leak", () => this.leak(), { class: "main", id: "leak-button" }));
-    at("pair").append(button("Compare", () => this.compare(), { class: "main", id: "pair-button" }));
+    at("pair-stores").after(button("Compare", () => this.compare(), { class: "main", id: "pair-button" }));
     at("cycles-form").append(button("Drive", () => this.drive(), { class: "main", id: "cycles-button" }));
     at("files").addEventListener("change", (event) => this.takeFile(event.target.value));
   }
@@ -53,15 +53,14 @@ export class Panes {
     this.pair.show(list, this.app.policy);
   }
 
-  /** Offers the store files that belong to the text. */
-  offer(files) {
+  /** Offers the store files that belong to the text; `base` is the name of its file without its end. */
+  offer(files, base) {
     this.files = files;
     const names = Object.keys(files).filter((name) => name.endsWith(".toml") && !isLattice(files[name])
       && !name.includes("interface"));
     at("files-row").hidden = names.length === 0;
     fill(at("files"), h("option", { value: "" }, "choose a file"), names.map((name) => h("option", { value: name }, name)));
-    const lines = Object.keys(files).find((name) => name.endsWith("day.txt"));
-    at("cycles-lines").value = lines ? files[lines] : "";
+    at("cycles-lines").value = files[`${base}_day.txt`] ?? files["day.txt"] ?? "";
   }
 
   takeFile(name) {

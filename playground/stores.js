@@ -23,7 +23,7 @@ export class Stores {
     const shown = JSON.stringify([globals, policy.observer, this.results && [...this.results]]);
     if (shown === this.shown) return;
     this.shown = shown;
-    const heads = ["Variable", "Class", ...this.titles, ...(this.results ? ["After the run"] : []),
+    const heads = ["Variable", ...this.titles, ...(this.results ? ["After the run"] : []),
       policy.observer ? `Seen by ${policy.observer}` : "Seen"];
     this.place.replaceChildren(globals.length ? h("div", { class: "scroll" }, h("table", { class: "stores" },
       h("thead", {}, h("tr", {}, heads.map((head) => h("th", { scope: "col" }, head)))),
@@ -34,7 +34,7 @@ export class Stores {
   row({ name, class: kind }, policy) {
     const isSeen = policy.seen.has(kind);
     return h("tr", { class: isSeen ? "seen" : "unseen" },
-      h("th", { scope: "row" }, name), h("td", {}, policy.number(kind) >= 0 ? policy.chip(kind) : kind),
+      h("th", { scope: "row" }, name, " ", policy.number(kind) >= 0 ? policy.chip(kind) : kind),
       this.titles.map((title, index) => h("td", {}, h("input", { inputmode: "numeric", size: "8", maxlength: "30",
         value: this.kept[index].get(name) ?? "0", "aria-label": `${name}, ${title.toLowerCase()}`, name: `${name}-${index}`,
         on: { input: (event) => this.kept[index].set(name, event.target.value.trim()) } }))),

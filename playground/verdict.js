@@ -37,6 +37,7 @@ export class Verdict {
     this.isBusy = false;
     this.isStale = false;
     this.accepted = null;
+    this.isOpen = matchMedia("(min-width: 62rem)").matches;
   }
 
   later() {
@@ -97,7 +98,8 @@ export class Verdict {
     if (json.line && !walk.length && !isOfLattice) marks.set(`${json.line}:${json.column}`, "wrong");
     this.app.program.infer(new Map());
     this.app.program.mark(marks);
-    this.show("bad", `Refused: ${json.number} ${json.name}`, this.places(json, walk), this.fixes(explained),
+    const title = json.name === "Refused" ? `Refused: number ${json.number}` : `Refused: ${json.number} ${json.name}`;
+    this.show("bad", title, this.places(json, walk), this.fixes(explained),
       this.explanation(explained, json.text), button(`About refusal ${json.number}`, () =>
         this.app.explain(String(json.number)), { class: "plain" }));
   }
@@ -117,13 +119,16 @@ export class Verdict {
 
   fixes(explained) {
     const found = fixes(this.app.text, explained);
-    return found.length ? h("p", { class: "fixes" }, found.map((fix) => button(fix.label, () =>
+    return found.length && !this.app.isFixed ? h("p", { class: "fixes" }, found.map((fix) => button(fix.label, () =>
       this.app.change(fix.apply())))) : null;
   }
 
   explanation(explained, fixed) {
     const text = explained.startsWith(fixed) ? explained.slice(fixed.length).replace(/^\n/, "") : explained;
-    return text.trim() ? h("details", { open: true }, h("summary", {}, "Explanation"),
+    const fold = { toggle: (event) => {
+      this.isOpen = event.target.open;
+    } };
+    return text.trim() ? h("details", { open: this.isOpen, on: fold }, h("summary", {}, "Explanation"),
       h("pre", { class: "prose", tabindex: "0", "aria-label": "Explanation" }, text.trimEnd())) : null;
   }
 

@@ -166,7 +166,7 @@ class Student:
         """Types a text that leaks, finds the leak, and takes the quick fix."""
         self.go(self.address)
         self.write(LEAK)
-        self.verdict("Refused: 25")
+        self.verdict("Refused: number 25")
         self.look("refused")
         self.press("tab-leak")
         self.press("leak-button")
@@ -215,7 +215,7 @@ class Student:
     def exercise(self) -> None:
         """Solves exercise 02."""
         self.go(self.address + "#02-direct-flow")
-        self.verdict("Refused: 25")
+        self.verdict("Refused: number 25")
         self.press("mark-button")
         self.wait("a mark", lambda: "Not right yet" in self.text("task-result"))
         self.look("exercise")
