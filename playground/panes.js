@@ -111,7 +111,7 @@ export class Panes {
     const pairs = flowPairs(answer.output);
     const chip = (name) => this.app.policy.chip(name);
     fill(at("flows-result"), pairs.length ? table("The flows", ["From", "To", "Verdict", "Steps"], pairs.map((pair) =>
-      Object.assign([[pair.from, " ", chip(pair.fromClass)], [pair.to, " ", chip(pair.toClass)],
+      Object.assign([[pair.from, " ", chip(pair.fromClass)], [h("code", {}, pair.to), " ", chip(pair.toClass)],
         h("span", { class: pair.verdict === "allowed" ? "yes" : "no" }, pair.verdict), this.walk(pair)],
       { mark: pair.verdict === "refused" ? "differs" : "" })))
       : h("p", {}, "No flow joins two declared variables."));

@@ -2,12 +2,14 @@
 """Uses the playground in a browser, as a student would, and looks at its pages.
 
 usage: tools/playground_browser.py PROGRAM [--short] [--width N] [--scheme NAME] [--unproved] [--pictures FOLDER]
+       tools/playground_browser.py PROGRAM --readme FOLDER
 
 PROGRAM is the built program; `playground/serve` serves it on a free port. Chromium types a text, sees the refusal,
 takes the quick fix, runs it, finds a leak, solves exercise 02 and level 3, shares a link and opens it again: at widths
 of 360, 800 and 1,600, light and dark. No page may be wider than its window, each control has a name, text has a contrast
 of at least 4.5 to 1, and the console shows no error. --short goes through one width, --width and --scheme name the one to go through; --unproved takes the limits of
 memory and time from the server, for a program that `tools/build` has made; --pictures writes the pages as pictures.
+--readme writes the two pictures of README instead, as playground-light.png and playground-dark.png.
 Silent where all is well. It needs chromium, chromium-driver and python3-selenium of Debian; where one of them is
 missing, it says so in one line and ends with status 0.
 """
@@ -238,6 +240,24 @@ class Student:
         self.wait("the level", lambda: "Right" in self.text("task-result"))
         self.look("level")
 
+    def portrait(self, folder: str) -> None:
+        """Takes the picture of README: a leak of Bob's bid, as Alice sees it, 1,000 wide at twice the resolution."""
+        self.go(self.address + "#two-parties/told.vsi")
+        self.verdict("Refused: number 25")
+        self.press("tab-leak")
+        self.press("leak-button")
+        self.wait("a leak", lambda: "A leak at A" in self.text("leak-result"))
+        self.js("""const observer = document.getElementById("observer");
+            observer.value = "1";
+            observer.dispatchEvent(new Event("input"));
+            document.querySelector("#verdict details").open = false;
+            document.activeElement.blur();
+            scrollTo(0, 0);""")
+        height = self.js("return document.querySelector('#lattice-picture').getBoundingClientRect().bottom")
+        self.device("Emulation.setDeviceMetricsOverride", width=1000, height=int(height) + 16, deviceScaleFactor=2,
+                    mobile=False)
+        self.driver.save_screenshot(os.path.join(folder, f"playground-{self.scheme}.png"))
+
     def end(self) -> None:
         """Complains of errors in the console, and closes the browser."""
         for entry in self.driver.get_log("browser"):
@@ -260,6 +280,16 @@ def missing() -> "list[str]":
     return lacking + ([] if has_selenium(sys.executable) or has_selenium(DEBIAN_PYTHON) else ["python3-selenium"])
 
 
+def visits(options: argparse.Namespace) -> "list[tuple[tuple[int, int], str]]":
+    """The widths and colour schemes to go through."""
+    if options.readme:
+        return [((1000, 900), scheme) for scheme in ("light", "dark")]
+    if options.short:
+        return [(SIZES[1], "light")]
+    return [(size, scheme) for size in SIZES if options.width in (None, size[0])
+            for scheme in ("light", "dark") if options.scheme in (None, scheme)]
+
+
 def main() -> None:
     parser = argparse.ArgumentParser(description=(__doc__ or "").split("\n")[0])
     parser.add_argument("program")
@@ -268,6 +298,7 @@ def main() -> None:
     parser.add_argument("--scheme", choices=("light", "dark"))
     parser.add_argument("--unproved", action="store_true")
     parser.add_argument("--pictures")
+    parser.add_argument("--readme")
     options = parser.parse_args()
     if missing():
         print("the playground was not opened in a browser; missing:", ", ".join(missing()))
@@ -276,14 +307,16 @@ def main() -> None:
         os.execv(DEBIAN_PYTHON, [DEBIAN_PYTHON, "-B", *sys.argv])
     server, address = serve(os.path.abspath(options.program), options.unproved)
     try:
-        for size in SIZES[1:2] if options.short else [size for size in SIZES if options.width in (None, size[0])]:
-            for scheme in ("light",) if options.short else [options.scheme] if options.scheme else ("light", "dark"):
-                student = Student(address, size, scheme, options.pictures)
-                try:
+        for size, scheme in visits(options):
+            student = Student(address, size, scheme, options.pictures)
+            try:
+                if options.readme:
+                    student.portrait(options.readme)
+                else:
                     for part in (student.fix, student.panes, student.share, student.exercise, student.level):
                         part()
-                finally:
-                    student.end()
+            finally:
+                student.end()
     finally:
         server.terminate()
         server.wait()
