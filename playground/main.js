@@ -49,10 +49,7 @@ class App {
     at("share").addEventListener("click", () => this.share());
     at("print").addEventListener("click", () => print());
     at("tidy").addEventListener("click", () => this.tidy());
-    at("about").addEventListener("change", (event) => {
-      if (event.target.value) this.explain(event.target.value);
-      event.target.value = "";
-    });
+    at("explain").addEventListener("click", () => this.explain(at("about").value));
     at("dialog-close").addEventListener("click", () => at("dialog").close());
     at("report-form").addEventListener("submit", () => this.fillReport());
     addEventListener("hashchange", () => this.openAddress());
@@ -195,9 +192,9 @@ class App {
     at("link").select();
     try {
       await navigator.clipboard.writeText(address);
-      at("shared-note").textContent = "The link is copied. It holds the text and the lattice; the server stores nothing.";
+      at("shared-note").textContent = "The link is copied. It holds the text and the lattice.";
     } catch {
-      at("shared-note").textContent = "Copy this link. It holds the text and the lattice; the server stores nothing.";
+      at("shared-note").textContent = "Copy this link. It holds the text and the lattice.";
     }
   }
 
@@ -225,9 +222,11 @@ class App {
 function readExamples(folders) {
   return folders.flatMap(({ name, files }) => {
     const lattices = Object.values(files).filter(isLattice);
-    const fitting = (text) => lattices.find((lattice) => globals(text).every((one) => lattice.includes(`"${one.class}"`)));
+    const fits = (lattice, text) => globals(text).every((one) => lattice.includes(`"${one.class}"`));
+    const fitting = (text) => lattices.find((lattice) => fits(lattice, text));
     return Object.keys(files).filter((file) => file.endsWith(".vsi") && fitting(files[file])).map((file) => ({
-      folder: name, file, shown: { text: files[file], lattice: fitting(files[file]), files, base: file.slice(0, -4) } }));
+      folder: name, file,
+      shown: { text: files[file], lattice: fitting(files[file]), files, base: file.slice(0, -4) } }));
   });
 }
 

@@ -1,7 +1,7 @@
 // The panes: a run, the flows, the search for a leak, two runs, the cycles of a controller and the report.
 import { ask, trouble } from "./api.js";
 import { at, button, fill, h, table } from "./dom.js";
-import { flowPairs, globals, isLattice, twoRuns } from "./reading.js";
+import { flowPairs, globals, isLattice, twoRuns, words } from "./reading.js";
 import { Stores } from "./stores.js";
 
 /** What the program has written where it did not answer as a pane expects. */
@@ -59,7 +59,8 @@ export class Panes {
     const names = Object.keys(files).filter((name) => name.endsWith(".toml") && !isLattice(files[name])
       && !name.includes("interface"));
     at("files-row").hidden = names.length === 0;
-    fill(at("files"), h("option", { value: "" }, "choose a file"), names.map((name) => h("option", { value: name }, name)));
+    fill(at("files"), h("option", { value: "" }, "choose a file"),
+      names.map((name) => h("option", { value: name }, name)));
     at("cycles-lines").value = files[`${base}_day.txt`] ?? files["day.txt"] ?? "";
   }
 
@@ -78,7 +79,7 @@ export class Panes {
       fill(at("run-result"), complaint(answer));
       return;
     }
-    this.store.results = new Map([...answer.output.matchAll(/^(\w+) = (-?\d+)$/gm)].map((found) => [found[1], found[2]]));
+    this.store.results = words(answer.output);
     this.refresh();
     const count = /instructions: (\d+)/.exec(answer.errors);
     fill(at("run-result"), h("p", {}, `The run halted${count ? ` after ${count[1]} instructions` : ""}.`));
@@ -126,8 +127,8 @@ export class Panes {
   async leak() {
     fill(at("leak-result"), h("p", {}, "The search runs."));
     const only = at("leak-only").checked ? { class: this.app.policy.observer } : {};
-    const answer = await ask("leak", { ...this.body, ...only, budget: this.budget, tries: Number(at("leak-tries").value),
-      endings: at("leak-endings").checked, steps: at("leak-steps").checked });
+    const answer = await ask("leak", { ...this.body, ...only, budget: this.budget,
+      tries: Number(at("leak-tries").value), endings: at("leak-endings").checked, steps: at("leak-steps").checked });
     if (answer.status === 0 && !trouble(answer)) {
       fill(at("leak-result"), h("p", { class: "yes" }, `${answer.output.trim()}.`),
         h("p", { class: "hint" }, "Finding none says nothing about other pairs."));
@@ -155,15 +156,16 @@ export class Panes {
   /** Compares two runs; answers the rows, or nothing. */
   async compare() {
     const observer = this.app.policy.observer;
-    const answer = await ask("compare", { ...this.body, store: this.pair.text(0), other: this.pair.text(1), class: observer,
-      budget: this.budget });
+    const answer = await ask("compare", { ...this.body, store: this.pair.text(0), other: this.pair.text(1),
+      class: observer, budget: this.budget });
     if (!/ sees before$/m.test(answer.output ?? "")) {
       fill(at("pair-result"), complaint(answer));
       return null;
     }
     const runs = twoRuns(answer.output);
-    fill(at("pair-result"), h("p", { class: answer.status === 0 ? "yes" : "no" }, answer.status === 0
-      ? `${observer} sees the same after both runs.` : `${observer} doesn't see the same after both runs.`), runsTable(runs));
+    const sees = answer.status === 0 ? "sees" : "doesn't see";
+    fill(at("pair-result"), h("p", { class: answer.status === 0 ? "yes" : "no" },
+      `${observer} ${sees} the same after both runs.`), runsTable(runs));
     if (this.app.tasks) this.app.tasks.judge(runs, answer);
     return runs;
   }
@@ -177,8 +179,8 @@ export class Panes {
       return;
     }
     const given = lines.replace(/\n$/, "").split("\n");
-    fill(at("cycles-result"), table("The cycles", ["Line", "Answer"], answer.output.split("\n").filter((line, index) =>
-      line || index < given.length).slice(0, given.length).map((line, index) => [h("code", {}, given[index] || "(none)"),
-      h("code", {}, line)])));
+    const answers = answer.output.split("\n").slice(0, given.length);
+    fill(at("cycles-result"), table("The cycles", ["Line", "Answer"], answers.map((line, index) =>
+      [h("code", {}, given[index] || "(none)"), h("code", {}, line)])));
   }
 }

@@ -36,7 +36,8 @@ export class Stores {
     return h("tr", { class: isSeen ? "seen" : "unseen" },
       h("th", { scope: "row" }, name, " ", policy.number(kind) >= 0 ? policy.chip(kind) : kind),
       this.titles.map((title, index) => h("td", {}, h("input", { inputmode: "numeric", size: "8", maxlength: "30",
-        value: this.kept[index].get(name) ?? "0", "aria-label": `${name}, ${title.toLowerCase()}`, name: `${name}-${index}`,
+        value: this.kept[index].get(name) ?? "0", name: `${name}-${index}`,
+        "aria-label": `${name}, ${title.toLowerCase()}`,
         on: { input: (event) => this.kept[index].set(name, event.target.value.trim()) } }))),
       this.results ? h("td", { class: "word" }, this.results.get(name) ?? "") : null,
       h("td", {}, isSeen ? "yes" : "no"));

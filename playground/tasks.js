@@ -36,7 +36,8 @@ function command(app, line) {
   ].find(([pattern]) => pattern.test(line));
   const note = /^cp /.test(line) ? "Not needed: the editor holds the copy."
     : /^vsi build/.test(line) ? "Not needed: the server builds the image." : "";
-  return h("li", {}, h("code", {}, line), " ", does ? button(does[1], does[2], { class: "plain" }) : h("small", {}, note));
+  return h("li", {}, h("code", {}, line), " ",
+    does ? button(does[1], does[2], { class: "plain" }) : h("small", {}, note));
 }
 
 /** The task that is open, an exercise or a level. */
@@ -74,11 +75,13 @@ export class Tasks {
     const draft = kept("drafts", {})[exercise.name];
     const text = files["start.vsi"] ?? files["broken.vsi"] ?? files["accepted_round.vsi"];
     const lattice = kind === "policy" ? files["start.toml"] : files[exercise.lattice];
-    this.app.show({ text: kind === "text" && draft ? draft : text, lattice: kind === "policy" && draft ? draft : lattice,
-      files, profile: /profile = "(\w+)"/.exec(files["interface.toml"] ?? "")?.[1] ?? "base",
-      isFixed: kind === "leak", isLatticeFixed: kind !== "policy",
+    const profile = /profile = "(\w+)"/.exec(files["interface.toml"] ?? "")?.[1] ?? "base";
+    this.app.show({ text: kind === "text" && draft ? draft : text,
+      lattice: kind === "policy" && draft ? draft : lattice, files, profile,
+      observer: kind === "leak" ? "L" : "", isFixed: kind === "leak", isLatticeFixed: kind !== "policy",
       stores: kind === "leak" ? [files["start_one.toml"], files["start_other.toml"]] : null,
-      budget: (files["budget.txt"] ?? files["start_budget.txt"] ?? "10000").trim(), tab: kind === "leak" ? "pair" : "run" });
+      budget: (files["budget.txt"] ?? files["start_budget.txt"] ?? "10000").trim(),
+      tab: kind === "leak" ? "pair" : "run" });
     fill(at("task-body"), h("p", { class: "note" }, "Here the program on this page is your answer. "
       + "You type no command: the verdict is below the text, and the panes do the rest."),
     markdown(exercise.task, { level: 1, command: (line) => command(this.app, line) }));
@@ -166,7 +169,7 @@ export class Tasks {
   /** Judges a level by the rows that `compare` has printed. */
   judge(runs) {
     if (!this.open || this.open.kind) return;
-    if (reaches(this.open.goal, runs)) this.result(true, `Shown: ${this.open.shown}`);
+    if (runs.observer === this.open.observer && reaches(this.open.goal, runs)) this.result(true, `Shown: ${this.open.shown}`);
     else if (runs.before.some((row) => row.differs)) {
       this.result(false, "The stores must look the same to the observer before the runs.");
     } else this.result(false, "Not yet: these two runs don't show it.");

@@ -13,8 +13,8 @@ export function fixes(text, explained) {
   const raise = /declare `(\w+)` as (\w+)\b/i.exec(prose);
   const target = raise && declared.find((one) => one.name === raise[1] && one.classPlace);
   if (target && target.class !== raise[2]) {
-    found.push({ label: `Declare ${raise[1]} as ${raise[2]}`, apply: () => replaced(text, target.classPlace, target.class,
-      raise[2]) });
+    found.push({ label: `Declare ${raise[1]} as ${raise[2]}`,
+      apply: () => replaced(text, target.classPlace, target.class, raise[2]) });
   }
   const add = /by `(var \w+ : \w+;)`/.exec(prose);
   if (add) found.push({ label: `Add ${add[1]}`, apply: () => `${add[1]}\n${text}` });

@@ -6,10 +6,11 @@ usage: tools/playground_browser.py PROGRAM [--short] [--width N] [--scheme NAME]
 
 PROGRAM is the built program; `playground/serve` serves it on a free port. Chromium types a text, sees the refusal,
 takes the quick fix, runs it, finds a leak, solves exercise 02 and level 3, shares a link and opens it again: at widths
-of 360, 800 and 1,600, light and dark. No page may be wider than its window, each control has a name, text has a contrast
-of at least 4.5 to 1, and the console shows no error. --short goes through one width, --width and --scheme name the one to go through; --unproved takes the limits of
-memory and time from the server, for a program that `tools/build` has made; --pictures writes the pages as pictures.
---readme writes the two pictures of README instead, as playground-light.png and playground-dark.png.
+of 360, 800 and 1,600, light and dark. No page may be wider than its window, each control has a name, text has a
+contrast of at least 4.5 to 1, and the console shows no error. --short goes through one width; --width and --scheme
+name the one to go through; --unproved takes the limits of memory and time from the server, for a program that
+`tools/build` has made; --pictures writes the pages as pictures. --readme writes the two pictures of README instead, as
+playground-light.png and playground-dark.png.
 Silent where all is well. It needs chromium, chromium-driver and python3-selenium of Debian; where one of them is
 missing, it says so in one line and ends with status 0.
 """
@@ -46,23 +47,27 @@ const poor = [];
 for (const element of document.querySelectorAll("body *")) {
   const own = [...element.childNodes].some((node) => node.nodeType === 3 && node.textContent.trim());
   const box = element.getBoundingClientRect(), style = getComputedStyle(element);
-  if (!own || !box.width || style.visibility === "hidden" || element.closest("svg, textarea, option, :disabled")) continue;
+  if (!own || !box.width || style.visibility === "hidden") continue;
+  if (element.closest("svg, textarea, option, :disabled")) continue;
   const one = luminance(rgb(style.color)), other = luminance(ground(element));
   const ratio = (Math.max(one, other) + 0.05) / (Math.min(one, other) + 0.05);
   const large = parseFloat(style.fontSize) >= 24;
-  if (ratio < (large ? 3 : 4.5)) poor.push(`${element.tagName} ${element.className} ${ratio.toFixed(2)}: ${element.textContent.slice(0, 30)}`);
+  const name = `${element.tagName} ${element.className} ${ratio.toFixed(2)}`;
+  if (ratio < (large ? 3 : 4.5)) poor.push(`${name}: ${element.textContent.slice(0, 30)}`);
 }
 return poor;
 """
 NAMELESS = """
 return [...document.querySelectorAll("button, input, select, textarea, iframe")].filter((element) =>
   element.offsetParent && element.type !== "hidden" && !element.textContent.trim() && !element.title &&
-  !element.getAttribute("aria-label") && !(element.labels && element.labels.length)).map((element) => element.outerHTML.slice(0, 80));
+  !element.getAttribute("aria-label") && !(element.labels && element.labels.length))
+  .map((element) => element.outerHTML.slice(0, 80));
 """
 WIDE = """
 const page = document.documentElement;
 return page.scrollWidth <= window.innerWidth ? [] : [...document.querySelectorAll("body *")].filter((element) =>
-  element.getBoundingClientRect().right > window.innerWidth + 1).map((element) => `${element.tagName}#${element.id}.${element.className}`).slice(0, 8);
+  element.getBoundingClientRect().right > window.innerWidth + 1)
+  .map((element) => `${element.tagName}#${element.id}.${element.className}`).slice(0, 8);
 """
 faults = 0
 
@@ -77,8 +82,8 @@ def complain(*parts: object) -> None:
 def serve(program: str, is_unproved: bool) -> "tuple[subprocess.Popen[str], str]":
     """Starts the server on a free port; answers it with its address."""
     more = ["--memory", "0", "--seconds", "20"] if is_unproved else []
-    server = subprocess.Popen([sys.executable, os.path.join(ROOT, "playground", "serve"), "--port", "0", "--vsi", program,
-                               *more], stdout=subprocess.PIPE, text=True)
+    words = [sys.executable, os.path.join(ROOT, "playground", "serve"), "--port", "0", "--vsi", program, *more]
+    server = subprocess.Popen(words, stdout=subprocess.PIPE, text=True)
     assert server.stdout
     return server, server.stdout.readline().split(" at ")[1].strip()
 
@@ -149,7 +154,8 @@ class Student:
 
     def look(self, what: str) -> None:
         """Looks at the page as it is: its width, its names, its contrast; and takes a picture."""
-        for kind, code in (("wider than its window", WIDE), ("without a name", NAMELESS), ("of poor contrast", CONTRAST)):
+        looks = (("wider than its window", WIDE), ("without a name", NAMELESS), ("of poor contrast", CONTRAST))
+        for kind, code in looks:
             for found in self.js(code):
                 complain(f"{self.size[0]} {self.scheme}, {what}: {kind}: {found}")
         if self.pictures:
@@ -204,6 +210,24 @@ class Student:
         time.sleep(1)
         self.look("report")
 
+    def keys(self) -> None:
+        """Goes to a pane and moves the observer by the keyboard alone."""
+        from selenium.webdriver.common.keys import Keys
+        self.go(self.address)
+        self.wait("an observer", lambda: self.text("observed") == "L sees L")
+        self.js("document.getElementById('tab-run').focus()")
+        self.driver.switch_to.active_element.send_keys(Keys.ARROW_RIGHT, Keys.ARROW_RIGHT)
+        self.driver.switch_to.active_element.send_keys(Keys.HOME, Keys.ARROW_LEFT)
+        if self.js("return document.activeElement.id") != "tab-report" or not self.at("report").is_displayed():
+            complain("the arrows don't move between the panes")
+        self.js("document.getElementById('observer').focus()")
+        self.driver.switch_to.active_element.send_keys(Keys.ARROW_RIGHT)
+        self.wait("a higher observer", lambda: self.text("observed") == "H sees L H")
+        self.press("explain")
+        self.wait("a page of the language", lambda: "letvar" in self.text("dialog-text"))
+        self.driver.switch_to.active_element.send_keys(Keys.ESCAPE)
+        self.wait("a closed page", lambda: not self.js("return document.getElementById('dialog').open"))
+
     def share(self) -> None:
         """Shares the text and opens the link."""
         before = self.js("return document.getElementById('text').value")
@@ -254,7 +278,7 @@ class Student:
             document.activeElement.blur();
             scrollTo(0, 0);""")
         height = self.js("return document.querySelector('#lattice-picture').getBoundingClientRect().bottom")
-        self.device("Emulation.setDeviceMetricsOverride", width=1000, height=int(height) + 16, deviceScaleFactor=2,
+        self.device("Emulation.setDeviceMetricsOverride", width=1000, height=int(height) + 4, deviceScaleFactor=2,
                     mobile=False)
         self.driver.save_screenshot(os.path.join(folder, f"playground-{self.scheme}.png"))
 
@@ -271,7 +295,8 @@ DEBIAN_PYTHON = "/usr/bin/python3"
 
 def has_selenium(python: str) -> bool:
     """Whether a Python has the package that drives the browser."""
-    return os.path.exists(python) and subprocess.run([python, "-c", "import selenium"], capture_output=True).returncode == 0
+    words = [python, "-c", "import selenium"]
+    return os.path.exists(python) and subprocess.run(words, capture_output=True).returncode == 0
 
 
 def missing() -> "list[str]":
@@ -313,7 +338,8 @@ def main() -> None:
                 if options.readme:
                     student.portrait(options.readme)
                 else:
-                    for part in (student.fix, student.panes, student.share, student.exercise, student.level):
+                    for part in (student.fix, student.panes, student.share, student.keys, student.exercise,
+                                 student.level):
                         part()
             finally:
                 student.end()

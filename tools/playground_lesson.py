@@ -3,9 +3,9 @@
 
 usage: tools/playground_lesson.py PROGRAM [--unproved]
 
-PROGRAM is the built program. Each step of the table opens an example, or types a text or a lattice, and does on the page
-what the course does at a shell; what the page then shows must have the words of the course. The argument and the board
-(parts 4 and 9) need no program. Silent where all is well; it needs what tools/playground_browser.py needs.
+PROGRAM is the built program. Each step of the table opens an example, or types a text or a lattice, and does on the
+page what the course does at a shell; what the page then shows must have the words of the course. The argument and the
+board (parts 4 and 9) need no program. Silent where all is well; it needs what tools/playground_browser.py needs.
 """
 
 from __future__ import annotations
@@ -19,6 +19,8 @@ sys.dont_write_bytecode = True
 import playground_browser as browser  # noqa: E402
 
 LOW_HIGH = "var h : H;\nvar l : L;\n\n"
+GLOWS = "temperature = 17 target = 20 heater = 1|refused: 47 AboveClass 0"
+HIGHER = "class H sees|salary = 9100|report = 13"
 
 
 class Step(NamedTuple):
@@ -45,7 +47,7 @@ STEPS = (
     Step(2, "direct-flow/repaired.vsi", "verdict", "Accepted"),
     Step(2, "direct-flow/repaired.vsi", "run", "class L sees|report = 13|staff = 12", store="march.toml"),
     Step(2, "direct-flow/repaired.vsi", "run", "class L sees|report = 13|staff = 12", store="april.toml"),
-    Step(2, "direct-flow/repaired.vsi", "run", "class H sees|salary = 9100|report = 13", observer=1, store="april.toml"),
+    Step(2, "direct-flow/repaired.vsi", "run", HIGHER, observer=1, store="april.toml"),
     Step(3, "implicit-flow/lamp.vsi", "verdict", "Refused: number 25"),
     Step(3, "implicit-flow/lamp.vsi", "leak", "lamp | 0 | 1 | ✱ differs"),
     Step(3, "", "verdict", "line 4, column 4", LOW_HIGH + "if h then l := 1\nelse h := h\n"),
@@ -87,8 +89,8 @@ STEPS = (
     Step(11, "controller/service.vsi", "leak", "A leak at"),
     Step(11, "controller/service.vsi", "flows", "key Secret | heater Public | refused"),
     Step(11, "controller/heater.vsi", "flows", "key Secret | seal Secret | allowed"),
-    Step(11, "controller/heater.vsi", "drive", "temperature = 17 target = 20 heater = 1|refused: 47 AboveClass 0", store="morning.toml"),
-    Step(11, "controller/heater.vsi", "drive", "temperature = 17 target = 20 heater = 1|refused: 47 AboveClass 0", store="other_key.toml"),
+    Step(11, "controller/heater.vsi", "drive", GLOWS, store="morning.toml"),
+    Step(11, "controller/heater.vsi", "drive", GLOWS, store="other_key.toml"),
     Step(11, "controller/heater.vsi", "audit", "accepted", profile="strict"),
     Step(11, "controller/heater.vsi", "source", "letvar t1 := target - temperature in"),
     Step(12, "integrity/endorsed.vsi", "verdict", "network : Tainted may not flow to limit : Trusted"),
