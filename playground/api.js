@@ -1,14 +1,19 @@
 // The requests of the page to its server.
 
+async function send(request, body) {
+  const response = await fetch(`api/${request}`, {
+    method: "POST",
+    headers: { "Content-Type": "application/json" },
+    body: JSON.stringify(body),
+  });
+  return response.json();
+}
+
 /** Sends a request; answers the run of the program, or a run with `refused` if the server has none. */
 export async function ask(request, body) {
   try {
-    const response = await fetch(`api/${request}`, {
-      method: "POST",
-      headers: { "Content-Type": "application/json" },
-      body: JSON.stringify(body),
-    });
-    return await response.json();
+    // A connection that was idle may just have been closed; a request changes nothing, so it can be sent again.
+    return await send(request, body).catch(() => send(request, body));
   } catch {
     return { status: -1, refused: "the server doesn't answer" };
   }

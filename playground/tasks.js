@@ -12,6 +12,12 @@ const GOALS = {
   steps: "Find two stores that look the same to the observer, and whose runs take different numbers of instructions.",
 };
 
+const HERE = {
+  text: "Your answer is the program on this page.",
+  policy: "Your answer is the lattice on this page.",
+  leak: "Your answer is the two stores of the pane Two runs.",
+};
+
 /** Whether two runs reach a goal. Their stores look the same to the observer if no row before them differs. */
 export function reaches(goal, runs) {
   if (runs.before.some((row) => row.differs)) return false;
@@ -82,8 +88,8 @@ export class Tasks {
       stores: kind === "leak" ? [files["start_one.toml"], files["start_other.toml"]] : null,
       budget: (files["budget.txt"] ?? files["start_budget.txt"] ?? "10000").trim(),
       tab: kind === "leak" ? "pair" : "run" });
-    fill(at("task-body"), h("p", { class: "note" }, "Here the program on this page is your answer. "
-      + "You type no command: the verdict is below the text, and the panes do the rest."),
+    fill(at("task-body"), h("p", { class: "note" }, `${HERE[kind]} Type no command: the verdict is below the text, `
+      + "and the panes do the rest."),
     markdown(exercise.task, { level: 1, command: (line) => command(this.app, line) }));
     fill(at("task-buttons"), button("Mark my answer", () => this.mark(), { class: "main", id: "mark-button" }),
       button("Begin again", () => this.again()), this.next());
@@ -130,7 +136,7 @@ export class Tasks {
     if (answer.refused || answer.stopped) this.result(false, complaint(answer));
     else if (exercise.kind === "text") this.markText(answer);
     else if (exercise.kind === "policy") this.markPolicy(answer);
-    else this.markLeak(answer, exercise);
+    else this.markLeak(answer);
   }
 
   markText(answer) {
@@ -151,7 +157,8 @@ export class Tasks {
       : "Each text is accepted or refused as the rules require.");
   }
 
-  markLeak(answer, exercise) {
+  /** Two runs that L can tell apart, from stores that look the same to it. */
+  markLeak(answer) {
     const runs = twoRuns(answer.output);
     if (!runs.after.length) {
       this.result(false, complaint(answer));
@@ -163,14 +170,14 @@ export class Tasks {
       : "L sees before the runs that the stores differ.");
     this.app.panes.compare();
     this.app.open("pair");
-    return exercise;
   }
 
   /** Judges a level by the rows that `compare` has printed. */
   judge(runs) {
     if (!this.open || this.open.kind) return;
-    if (runs.observer === this.open.observer && reaches(this.open.goal, runs)) this.result(true, `Shown: ${this.open.shown}`);
-    else if (runs.before.some((row) => row.differs)) {
+    if (runs.observer === this.open.observer && reaches(this.open.goal, runs)) {
+      this.result(true, `Shown: ${this.open.shown}`);
+    } else if (runs.before.some((row) => row.differs)) {
       this.result(false, "The stores must look the same to the observer before the runs.");
     } else this.result(false, "Not yet: these two runs don't show it.");
   }
