@@ -14,7 +14,7 @@ export function complaint(answer) {
 /** Two runs side by side, a star in each row that differs. */
 export function runsTable(runs) {
   const rows = (list) => list.map((row) => Object.assign([row.name || "the end", row.left, row.right,
-    row.differs ? "✱ differs" : ""], { mark: row.differs ? "differs" : "" }));
+    row.differs ? ["✱", h("span", { class: "worded" }, " differs")] : ""], { mark: row.differs ? "differs" : "" }));
   const heads = (what) => [what, "First run", "Second run", ""];
   const before = runs.before.length ? [h("h3", {}, "Before the runs"),
     table("Before the runs", heads("Variable"), rows(runs.before))] : [];
