@@ -140,8 +140,8 @@ export class Tasks {
   }
 
   markText(answer) {
-    if (answer.status === 0 && answer.plain === "conforms\n") this.result(true, "It conforms.");
-    else this.result(false, h("pre", { class: "prose", tabindex: "0" }, (answer.plain || answer.errors).trimEnd()));
+    if (answer.status === 0 && answer.output === "conforms\n") this.result(true, "It conforms.");
+    else this.result(false, h("pre", { class: "prose", tabindex: "0" }, (answer.output || answer.errors).trimEnd()));
   }
 
   /** A policy accepts the texts of `accepted`, and refuses those of `refused` for their flows. */
