@@ -1,0 +1,45 @@
+// What stays in the browser: progress and drafts in its storage, a shared text in the address.
+
+const KEY = "vsi-playground.";
+
+/** A kept value, or `otherwise` where there is none or the browser keeps nothing. */
+export function kept(name, otherwise) {
+  try {
+    const text = localStorage.getItem(KEY + name);
+    return text === null ? otherwise : JSON.parse(text);
+  } catch {
+    return otherwise;
+  }
+}
+
+/** Keeps a value, if the browser lets the page. */
+export function keep(name, value) {
+  try {
+    localStorage.setItem(KEY + name, JSON.stringify(value));
+  } catch {
+    // Private windows keep nothing; the page works without.
+  }
+}
+
+/** The fragment of an address that holds a text, its lattice and its profile. */
+export function packed(value) {
+  const bytes = new TextEncoder().encode(JSON.stringify(value));
+  const letters = Array.from(bytes, (byte) => String.fromCharCode(byte)).join("");
+  return `#t=${btoa(letters).replace(/\+/g, "-").replace(/\//g, "_").replace(/=+$/, "")}`;
+}
+
+/** What a fragment holds, or nothing where it holds no shared text. */
+export function unpacked(fragment) {
+  const found = /^#t=([A-Za-z0-9_-]+)$/.exec(fragment);
+  if (!found) return null;
+  try {
+    const letters = atob(found[1].replace(/-/g, "+").replace(/_/g, "/"));
+    const value = JSON.parse(new TextDecoder("utf-8", { fatal: true })
+      .decode(Uint8Array.from(letters, (letter) => letter.charCodeAt(0))));
+    const isText = (text) => typeof text === "string" && text.length <= 1048576;
+    return value && isText(value.text) && isText(value.lattice)
+      ? { text: value.text, lattice: value.lattice, profile: String(value.profile ?? "base") } : null;
+  } catch {
+    return null;
+  }
+}

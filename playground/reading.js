@@ -1,0 +1,146 @@
+// Reads the texts that the program prints, and cuts source texts into tokens for their colours. It judges nothing.
+
+const KEYWORDS = new Set(["var", "letvar", "in", "if", "then", "else", "while", "do"]);
+const TOKEN = /(#[^\n]*)|([A-Za-z0-9_]+)|(:=|[:;+\-*=<(){}])|([ \t\r\n]+)|([^])/g;
+
+/** The tokens of a text: kind, text, and the line and column of the first byte. */
+export function tokens(text) {
+  const found = [];
+  let line = 1, column = 1;
+  for (const match of text.matchAll(TOKEN)) {
+    const [word, comment, name, symbol, blank] = match;
+    const kind = comment !== undefined ? "comment"
+      : name !== undefined ? (KEYWORDS.has(name) ? "keyword" : /^\d+$/.test(name) ? "number" : "name")
+        : symbol !== undefined ? "symbol" : blank !== undefined ? "blank" : "fault";
+    found.push({ kind, text: word, line, column });
+    const parts = word.split("\n");
+    line += parts.length - 1;
+    column = (parts.length > 1 ? 1 : column) + new TextEncoder().encode(parts[parts.length - 1]).length;
+  }
+  return found;
+}
+
+/** The declarations of a text as it is written: name, class or null, position of the name and of the class. */
+export function declarations(list) {
+  const parts = list.filter((token) => token.kind !== "blank" && token.kind !== "comment");
+  const found = [];
+  parts.forEach((token, index) => {
+    if (token.text !== "var" && token.text !== "letvar") return;
+    const [name, colon, kind] = parts.slice(index + 1, index + 4);
+    if (name?.kind !== "name") return;
+    const declared = colon?.text === ":" && kind?.kind === "name" ? kind : null;
+    found.push({ name: name.text, isGlobal: token.text === "var", class: declared?.text ?? null, place: name,
+      classPlace: declared });
+  });
+  return found;
+}
+
+/** The globals of a text, in their order, each name once. */
+export function globals(text) {
+  const seen = new Map();
+  for (const found of declarations(tokens(text))) {
+    if (found.isGlobal && !seen.has(found.name)) seen.set(found.name, found.class);
+  }
+  return [...seen].map(([name, kind]) => ({ name, class: kind }));
+}
+
+/** The steps of a refusal: positions and names from its lines. */
+export function steps(text) {
+  return text.split("\n").map((line) => /^(\d+):(\d+) (\S+) flows to (\S+) by (\w+) at (\d+):(\d+)$/.exec(line))
+    .filter(Boolean).map((found) => ({ from: found[3], to: found[4], rule: found[5],
+      read: { line: +found[1], column: +found[2] }, written: { line: +found[6], column: +found[7] } }));
+}
+
+/** The lines of `classes`: position, name and class. */
+export function classLines(output) {
+  return output.split("\n").map((line) => /^(\d+):(\d+) (\w+) : (\w+)$/.exec(line)).filter(Boolean)
+    .map((found) => ({ line: +found[1], column: +found[2], name: found[3], class: found[4] }));
+}
+
+/** The pairs of `flows --walks`, each with the lines of its walk. */
+export function flowPairs(output) {
+  const pairs = [];
+  for (const line of output.split("\n").filter(Boolean)) {
+    const found = /^(\S+) : (\w+) flows to (\S+) : (\w+) (allowed|refused) (\d+)$/.exec(line);
+    if (found) {
+      pairs.push({ from: found[1], fromClass: found[2], to: found[3], toClass: found[4], verdict: found[5],
+        count: +found[6], walk: [] });
+    } else if (pairs.length) {
+      pairs[pairs.length - 1].walk.push(...steps(line));
+    }
+  }
+  return pairs;
+}
+
+/** A lattice from the graph of `draw`: the classes in their order, and the pairs that are directly above each other. */
+export function lattice(output) {
+  const classes = [...output.matchAll(/^ {2}"(\w+)";$/gm)].map((found) => found[1]);
+  const covers = [...output.matchAll(/^ {2}"(\w+)" -> "(\w+)";$/gm)].map((found) => [found[1], found[2]]);
+  const below = new Map(classes.map((name) => [name, new Set([name])]));
+  for (let round = 0; round < classes.length; round += 1) {
+    for (const [low, high] of covers) for (const name of below.get(low)) below.get(high).add(name);
+  }
+  const height = (name) => Math.max(0, ...covers.filter(([, high]) => high === name).map(([low]) => height(low) + 1));
+  const level = new Map(classes.map((name) => [name, height(name)]));
+  const upwards = [...classes].sort((one, other) => level.get(one) - level.get(other));
+  return { classes, covers, below, level, upwards };
+}
+
+const side = (text) => {
+  const found = /^(\w+) = (-?\d+)$/.exec(text);
+  return found ? { name: found[1], word: found[2] } : { name: "", word: text };
+};
+
+/** The rows of `leak` or of `compare`: the observer, the rows before and those after, each with both sides. */
+export function twoRuns(text) {
+  const result = { observer: "", before: [], after: [] };
+  let rows = result.before;
+  for (const line of text.split("\n").filter(Boolean)) {
+    const head = /^(\w+) sees( before| after)?$/.exec(line) || /^leak at (\w+)$/.exec(line);
+    if (head) {
+      result.observer = head[1];
+      if (head[2] !== " before" && line.includes(" sees")) rows = result.after;
+    } else if (/^[ *] /.test(line)) {
+      const cut = line.slice(2).split(line.includes(" | ") ? " | " : / {2,}/);
+      const left = side(cut[0]), right = side(cut[1] ?? cut[0]);
+      rows.push({ name: left.name, left: left.word, right: right.word, differs: line[0] === "*" });
+    }
+  }
+  return result;
+}
+
+/** The steps of a trace, and the lines of the store after them. */
+export function trace(output) {
+  const found = [], rest = [];
+  for (const line of output.split("\n").filter(Boolean)) {
+    const step = /^(\d+): ([A-Z]+)(?: (-?\d+))? \|(.*)$/.exec(line);
+    if (step) {
+      found.push({ at: +step[1], name: step[2], operand: step[3] ?? "", stack: step[4].split(" ").filter(Boolean) });
+    } else {
+      rest.push(line);
+    }
+  }
+  return { steps: found, rest };
+}
+
+/** A listing: its globals with their classes, its slots and its instructions. */
+export function listing(output) {
+  const lines = output.split("\n").filter(Boolean);
+  const count = (name) => +(lines.find((line) => line.startsWith(`${name} `)) ?? "").slice(name.length + 1);
+  return {
+    slots: count("slots"),
+    globals: lines.map((line) => /^(\w+) : (\w+)$/.exec(line)).filter(Boolean).map((found) => found[1]),
+    instructions: lines.map((line) => /^\d+: (.*)$/.exec(line)).filter(Boolean).map((found) => found[1]),
+  };
+}
+
+/** The words of a store text or of a simple store file, by their names. */
+export function words(text) {
+  return new Map([...text.matchAll(/^\s*(\w+)\s*=\s*([+-]?\d+)\s*(?:#.*)?$/gm)].map((found) => [found[1], found[2]]));
+}
+
+/** Whether a TOML text has the key of a lattice file. */
+export const isLattice = (text) => /^\s*classes\s*=/m.test(text) && /^\s*below\s*=/m.test(text);
+
+/** The program's prose on one line each: blanks and line ends in quoted parts are made one blank. */
+export const joined = (text) => text.replace(/\s+/g, " ");
