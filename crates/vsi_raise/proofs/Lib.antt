@@ -1,0 +1,4 @@
+pub mod UnderLemmas
+pub mod PolicyLemmas
+pub mod RowLemmas
+pub mod ChangeLemmas
