@@ -1,0 +1,6 @@
+pub mod Slots
+pub mod Running
+pub mod Turning
+pub mod Operands
+pub mod CountingUp
+pub mod Ending
