@@ -77,6 +77,21 @@ always_halts image cost valid ends words e =
       few = f.few;
     }
 
+-- The same of an image by another name.
+pub always_halts_as : (image held : Image) (cost : Cost) → held ≡ image → IsValid image
+    → Ends held.code.items held.slots cost → AlwaysHalts image cost.least cost.most
+always_halts_as image held cost e valid ends =
+    always_halts image cost valid (subst (λ (i : Image). Ends i.code.items i.slots cost) e ends)
+
+-- The same of a stretch by other names.
+pub ends_as : (code held : List Instr) (slots halt : ℕ) (facts given left : List Known) (cost whole : Cost)
+    → AreSame slots facts → Leads held given 0 halt cost left → slice_get held halt ≡ Some Halt
+    → whole.least ≡ cost.least + 1 → whole.most ≡ cost.most + 1 → held ≡ code → given ≡ facts
+    → Ends code slots whole
+ends_as code held slots halt facts given left cost whole same leads is p q e g =
+    subst (λ c. Ends c slots whole) e
+    (ends_at held slots halt facts left cost whole same (subst (λ f. Leads held f 0 halt cost left) g leads) is p q)
+
 -- With a budget no smaller than the bound every run halts.
 pub enough_budget : EnoughBudget
 enough_budget image least most budget words always le e =

@@ -4,3 +4,6 @@ pub mod Turning
 pub mod Operands
 pub mod CountingUp
 pub mod Ending
+pub mod Updating
+pub mod Commands
+pub mod Knowing

@@ -1,5 +1,5 @@
 -- What is known of the operands of an expression.
-use Rattle.std.proofs.Common.{◌≡◌, ℕ, zero, suc, ◌+◌, ◌<◌, ◌≤◌, ℤ, pos, List, [], ◌∷◌, ◌++◌, length, reverse, Option, Some, None, refl, sym, ap, ◌∙◌, subst, arith}
+use Rattle.std.proofs.Common.{◌≡◌, ℕ, zero, suc, ◌+◌, ◌<◌, ◌≤◌, ℤ, pos, List, [], ◌∷◌, ◌++◌, length, reverse, Option, Some, None, Result, Ok, Err, OnOk, refl, sym, ap, ◌∙◌, subst, arith}
 use Rattle.std.specs.Prelude.{slice_get}
 use Rattle.std.specs.Option.{option_map}
 use Rattle.std.proofs.lemmas.List.{reverse-append}
@@ -54,17 +54,26 @@ acts_operator i op facts held left is does m now s pc h mean =
     }
 
 -- A number.
-pub acts_push : (n : ℤ) (facts held left : List Known) → left ≡ held ++ Number n ∷ [] → Acts (Push n) facts held left
-acts_push n facts held left e m now s pc h mean = record {
+pub acts_push : (n given : ℤ) (facts held left : List Known) → left ≡ held ++ Number given ∷ [] → given ≡ n
+    → Acts (Push n) facts held left
+acts_push n given facts held left e g m now s pc h mean = record {
   operands = n ∷ s;
   acts = refl;
-  mean = subst (λ fs. AllMean m fs (n ∷ s)) (sym (ap reverse e ∙ last_first held (Number n))) (refl, mean);
+  mean = subst (λ fs. AllMean m fs (n ∷ s)) (sym (ap reverse e ∙ last_first held (Number given))) (sym g, mean);
 }
 
+-- An instruction that is a push of the same number.
+pub push_as : {E : Type 0} (r : Result (Unit {0}) E) (i : Instr) (n given : ℤ) (facts held left : List Known)
+    → i ≡ Push n → given ≡ n → OnOk r ((fs : List Known) → Acts (Push given) fs held left)
+    → OnOk r (Acts i facts held left)
+push_as (Ok u) i n given facts held left e g h =
+    subst (λ (x : Instr). Acts x facts held left) (ap Push g ∙ sym e) (h facts)
+push_as (Err x) i n given facts held left e g h = tt
+
 -- A word from a slot.
-pub acts_load : (k : ℕ) (f : Known) (facts held left : List Known) → slice_get facts k ≡ Some f → k < length facts
-    → left ≡ held ++ f ∷ [] → Acts (Load k) facts held left
-acts_load k f facts held left known lt e m now s pc h mean =
+pub acts_load : (k : ℕ) (f : Known) (facts held left : List Known) → left ≡ held ++ f ∷ [] → slice_get facts k ≡ Some f
+    → k < length facts → Acts (Load k) facts held left
+acts_load k f facts held left e known lt m now s pc h mean =
     let within : k < length now = omega (arith, lt, h.count) in
     record {
       operands = word now k ∷ s;
@@ -98,9 +107,9 @@ computes_start code facts from held e m now h = record {
 
 -- One instruction more.
 pub computes_more : (code : List Instr) (facts : List Known) (from to : ℕ) (held left : List Known) (i : Instr)
-    → Computes code facts from to held → slice_get code to ≡ Some i → Acts i facts held left
+    → Computes code facts from to held → Acts i facts held left → slice_get code to ≡ Some i
     → Computes code facts from (to + 1) left
-computes_more code facts from to held left i c is acts m now h =
+computes_more code facts from to held left i c acts is m now h =
     let d = c m now h in
     let a = acts m now d.operands to h d.mean in
     record {

@@ -31,11 +31,11 @@ pub one_run : (code : List Instr) (pc : ℕ) (s m : List ℤ) (i : Instr) (t : S
 one_run code pc s m i t e a = ap (option_and_then (after code 0)) (ap (option_and_then (λ i. acted i pc s m)) e ∙ a)
 
 -- A stretch with a run before it.
-pub run_before : (code : List Instr) (m now then : List ℤ) (start from to n : ℕ) (cost whole : Cost)
-    (facts : List Known) → after code n (going start [] now) ≡ Some (going from [] then)
-    → Comes code m then from to cost facts → whole.least ≡ n + cost.least → whole.most ≡ n + cost.most
+pub run_before : (code : List Instr) (m now middle : List ℤ) (start from to n : ℕ) (cost whole : Cost)
+    (facts : List Known) → after code n (going start [] now) ≡ Some (going from [] middle)
+    → Comes code m middle from to cost facts → whole.least ≡ n + cost.least → whole.most ≡ n + cost.most
     → Comes code m now start to whole facts
-run_before code m now then start from to n cost whole facts e c p q = record {
+run_before code m now middle start from to n cost whole facts e c p q = record {
   steps = n + c.steps;
   enough = omega (arith, p, c.enough);
   few = omega (arith, q, c.few);

@@ -22,3 +22,9 @@ pub there : {X : Type 0} (xs : List X) (k : ℕ) → k < length xs → (x : X) �
 there [] k lt = absurd (omega (arith, lt))
 there (x ∷ xs) zero lt = (x, refl)
 there (x ∷ xs) (suc k) lt = there xs k (omega (arith, lt))
+
+-- A list of one element.
+pub single : {X : Type 0} (xs : List X) (d : X) → length xs ≡ 1 → xs ≡ get_or xs 0 d ∷ []
+single [] d e = absurd (omega (arith, e))
+single (x ∷ []) d e = refl
+single (x ∷ y ∷ xs) d e = absurd (omega (arith, e))

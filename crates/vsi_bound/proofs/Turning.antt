@@ -23,6 +23,18 @@ valued : (up : Bool) (slot : ℕ) (limit : ℤ) (guard : Known) (m : List ℤ) (
 valued true slot limit guard m v e h = subst (λ (g : Known). Means m g v) e h
 valued false slot limit guard m v e h = subst (λ (g : Known). Means m g v) e h
 
+-- What all turns of a loop do to these slots.
+record Turned (code : List Instr) (entry turned : List Known) (start target tested : ℕ) (body : Cost) (slot : ℕ)
+    (now : List ℤ) (turns : ℕ) (last : ℤ) : Type 0 where
+  steps : ℕ
+  enough : turns * (body.least + (tested + 1)) + tested ≤ steps
+  few : steps ≤ turns * (body.most + (tested + 1)) + tested
+  end : List ℤ
+  reached : after code steps (going start [] now) ≡ Some (going target [] end)
+  long : length end ≡ length now
+  word_is : word end slot ≡ last
+  same : (k : ℕ) (f : Known) → slice_get entry k ≡ Some f → slice_get turned k ≡ Some f → word end k ≡ word now k
+
 module _ (code : List Instr) (facts entry turned : List Known) (start place target jump : ℕ) (guard : Known)
     (body : Cost) (slot tested : ℕ) (up : Bool) (limit step : ℤ)
     (ev : Evaluates code entry start place guard)
@@ -54,17 +66,6 @@ module _ (code : List Instr) (facts entry turned : List Known) (start place targ
   kept now last k (Above j n) e h g = absurd e
   kept now last k Any e h g = absurd e
 
-  -- What all turns of the loop do to these slots.
-  record Turned (now : List ℤ) (turns : ℕ) (last : ℤ) : Type 0 where
-    steps : ℕ
-    enough : turns * (body.least + (tested + 1)) + tested ≤ steps
-    few : steps ≤ turns * (body.most + (tested + 1)) + tested
-    end : List ℤ
-    reached : after code steps (going start [] now) ≡ Some (going target [] end)
-    long : length end ≡ length now
-    word_is : word end slot ≡ last
-    same : (k : ℕ) (f : Known) → slice_get entry k ≡ Some f → slice_get turned k ≡ Some f → word end k ≡ word now k
-
   -- The facts of the start of a turn hold after it.
   again : (now last : List ℤ) → Hold now entry now → Hold now turned last → length entry ≡ length turned
       → Hold last entry last
@@ -76,7 +77,7 @@ module _ (code : List Instr) (facts entry turned : List Known) (start place targ
 
   -- So many turns.
   turning : length entry ≡ length turned → (turns : ℕ) (now : List ℤ) (last : ℤ) → Hold now entry now
-      → Counts (guard_value up limit) step turns (word now slot) last → Turned now turns last
+      → Counts (guard_value up limit) step turns (word now slot) last → Turned code entry turned start target tested body slot now turns last
   turning same zero now last h c =
       let g = ev now now h in
       let long : g.steps + 1 ≡ tested = omega (arith, g.count, count) in
@@ -170,3 +171,17 @@ loop_leads code facts entry turned left start place target jump tested guard bod
       reached = t.reached;
       hold = remain_holds facts entry turned left f.slot f.last m now t.end e.count h t.long t.word_is t.same f.remain;
     }
+
+-- The same of facts by other names.
+pub loop_leads_as : (code : List Instr) (facts entry first second turned left : List Known)
+    (start place target jump end tested : ℕ) (guard : Known) (body cost : Cost) → IsEntry facts entry
+    → Evaluates code first start place guard → Leads code second (place + 1) jump body turned
+    → Finished facts entry guard turned tested body cost left → slice_get code place ≡ Some (Jz target)
+    → slice_get code jump ≡ Some (Jmp end) → end ≡ start → start + tested ≡ place + 1 → first ≡ entry
+    → second ≡ entry → length turned ≡ length entry → Leads code facts start target cost left
+loop_leads_as code facts entry first second turned left start place target jump end tested guard body cost e ev leads f jz
+    jmp back count p q same =
+    loop_leads code facts entry turned left start place target jump tested guard body cost
+    (subst (λ x. Evaluates code x start place guard) p ev) jz
+    (subst (λ n. slice_get code jump ≡ Some (Jmp n)) back jmp) count
+    (subst (λ x. Leads code x (place + 1) jump body turned) q leads) e same f

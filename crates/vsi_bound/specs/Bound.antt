@@ -1,5 +1,7 @@
 -- What a bound says of an image's runs.
-use Rattle.std.specs.Prelude.{◌≡◌, ℕ, ◌≤◌, ℤ, List, length}
+use Rattle.std.specs.Prelude.{◌≡◌, ℕ, ◌+◌, ◌≤◌, ℤ, List, length, slice_get, Some}
+use Rattle.vsi_image.specs.declared.instr.Instr.{Instr}
+use Rattle.vsi_image.specs.declared.instr.Instr.TheVariants.{Jz, Jmp}
 use Rattle.vsi_image.specs.declared.instr.Image.{Image}
 use Rattle.vsi_machine.specs.Counting.{HaltsIn}
 use Rattle.vsi_bound.specs.declared.bound.Bound.{Bound}
@@ -17,9 +19,19 @@ abbrev pub AlwaysHalts : Image → ℕ → ℕ → Type 0
 AlwaysHalts image least most =
     (words : List ℤ) → length words ≡ length image.globals.items → HaltsBetween image words least most
 
--- An answer with two numbers says that the image always halts within them.
+-- The instruction at this place tests the guard of a loop: a jump before its target leads back to it or before it.
+pub record IsLoop (code : List Instr) (test : ℕ) : Type 0 where
+  pub target : ℕ
+  pub jump : ℕ
+  pub start : ℕ
+  pub tests : slice_get code test ≡ Some (Jz target)
+  pub jumps : slice_get code jump ≡ Some (Jmp start)
+  pub next : jump + 1 ≡ target
+  pub back : start ≤ test
+
+-- An answer with two numbers says that the image always halts within them, and one with a loop names one.
 abbrev pub Answers : Image → Bound → Type 0
 Answers image (Halts least most) = AlwaysHalts image least most
-Answers image (Endless test reason) = Unit {0}
+Answers image (Endless test reason) = IsLoop image.code.items test
 Answers image (Unstructured place) = Unit {0}
 Answers image TooLarge = Unit {0}

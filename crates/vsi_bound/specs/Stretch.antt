@@ -1,5 +1,5 @@
 -- Stretches of code, with what they take and what is known after them.
-use Rattle.std.specs.Prelude.{◌≡◌, ℕ, ◌+◌, ◌<◌, ◌≤◌, ℤ, List, [], ◌∷◌, length, slice_get, slice_set, Some}
+use Rattle.std.specs.Prelude.{◌≡◌, ℕ, ◌+◌, ◌^◌, ◌<◌, ◌≤◌, ℤ, List, [], ◌∷◌, length, slice_get, slice_set, Some}
 use Rattle.vsi_image.specs.declared.instr.Instr.{Instr}
 use Rattle.vsi_image.specs.declared.instr.Instr.TheVariants.{Jz, Jmp, Halt}
 use Rattle.vsi_bound.specs.declared.finishing.Test.{Test}
@@ -39,6 +39,8 @@ pub record IsTest (code : List Instr) (t : Test) : Type 0 where
   pub jumps : slice_get code t.jump ≡ Some (Jmp t.end)
   pub next : t.jump + 1 ≡ t.target
   pub within : t.place < t.jump
+  pub order : t.start ≤ t.place
+  pub short : t.target < 2 ^ 32
 
 -- A slot has this fact now, and the others have theirs.
 abbrev pub Stores : ℕ → Known → List Known → List Known → Type 0

@@ -1,6 +1,6 @@
 //! How often a loop that counts turns.
 
-ghost use Rattle.std.specs.Prelude.{◌≡◌, ◌+◌, ◌*◌, ◌<◌, ◌≤◌, IfSome};
+ghost use Rattle.std.specs.Prelude.{◌≡◌, ◌+◌, ◌*◌, ◌^◌, ◌<◌, ◌≤◌, IfSome};
 ghost use Rattle.vsi_syntax.specs.Operators.{less_of};
 ghost use Rattle.vsi_bound.specs.Counting.{Counts};
 
@@ -19,6 +19,7 @@ fn cover(gap: u64, size: u64) -> Option<(u64, u64)>
     ensures enough { IfSome result (λ r. gap ≤ r.1) }
     ensures fewest { IfSome result (λ r. r.1 < gap + size) }
     ensures some { IfSome result (λ r. 0 < r.0) }
+    ensures small { IfSome result (λ r. r.1 < 2 ^ 64) }
 {
     let turns = ((gap - 1) / size).checked_add(1)?;
     let way = turns.checked_mul(size)?;

@@ -1,36 +1,50 @@
 //! What is known of the slots at the turns of a loop and after it.
 
-ghost use Rattle.std.specs.Prelude.{◌≡◌, ◌≤◌, IfOk, List, true, length};
+ghost use Rattle.std.specs.Prelude.{◌≡◌, ◌≤◌, ◌⊎◌, ℤ, IfOk, List, Some, length, slice_get, true};
+ghost use Rattle.vsi_bound.specs.Loops.{Enters, IsEntry, Keeps, Remain};
+ghost use Rattle.vsi_bound.specs.declared.known.Known.TheVariants.{Any, Number};
 ghost use Rattle.vsi_bound.specs.declared.known.Known.{Known};
-ghost use Rattle.vsi_bound.specs.Loops.{IsEntry, Keeps, Remain};
 
 use crate::known::Known;
 use std::alloc::{AllocError, Global};
 use vsi_image::Instr;
 
-/// Leaves nothing but the numbers: of each other slot the word is the one to compare with.
+/// A number, or that the word of the slot is the one to compare with.
+fn number_or_same(known: Known, slot: u16) -> Known
+    ensures { (facts : List Known) → slice_get facts slot ≡ Some known → Enters facts slot result }
+{
+    match known {
+        Known::Number(n) => Known::Number(n),
+        _ => Known::Same(slot),
+    }
+}
+
+/// Leaves the numbers; of each other slot the word is the one to compare with.
 fn compare_with(entry: &mut [Known])
     requires { length entry.old ≤ 65535 }
     ensures { IsEntry entry.old entry.new }
 {
     for slot in 0..entry.len() {
-        match entry[slot] {
-            Known::Number(_) => {}
-            _ => entry[slot] = Known::Same(slot as u16),
-        }
+        entry[slot] = number_or_same(entry[slot], slot as u16);
+    }
+}
+
+/// Forgets the number of a slot.
+fn forget(entry: &mut [Known], slot: u16)
+    ensures { (facts : List Known) → IsEntry facts entry.old → IsEntry facts entry.new }
+{
+    if (slot as usize) < entry.len() {
+        entry[slot as usize] = Known::Same(slot);
     }
 }
 
 /// Forgets the numbers of slots that the code stores into.
 fn forget_stored(entry: &mut [Known], code: &[Instr])
-    requires { length entry.old ≤ 65535 }
     ensures { (facts : List Known) → IsEntry facts entry.old → IsEntry facts entry.new }
 {
     for instr in code {
         if let Instr::Store(slot) = instr {
-            if (*slot as usize) < entry.len() {
-                entry[*slot as usize] = Known::Same(*slot);
-            }
+            forget(entry, *slot);
         }
     }
 }
@@ -51,22 +65,49 @@ pub(crate) fn entry_of(
     Ok(entry)
 }
 
+/// Whether what is known after a turn is no less than a number at its start.
+fn is_kept(entry: Known, turned: Known) -> bool
+    ensures { result ≡ true → (n : ℤ) → entry ≡ Number n → turned ≡ Number n }
+{
+    match entry {
+        Known::Number(_) => turned == entry,
+        _ => true,
+    }
+}
+
 /// Whether a turn keeps each number.
 pub(crate) fn keeps(entry: &[Known], turned: &[Known]) -> bool
     requires { length turned.now ≡ length entry.now }
     ensures { result ≡ true → Keeps entry.now turned.now }
 {
     for slot in 0..entry.len() {
-        match entry[slot] {
-            Known::Number(_) => {
-                if turned[slot] != entry[slot] {
-                    return false;
-                }
-            }
-            _ => {}
+        if !is_kept(entry[slot], turned[slot]) {
+            return false;
         }
     }
     true
+}
+
+/// Whether two facts are the same.
+fn are_same(first: Known, second: Known) -> bool
+    ensures { result ≡ true → first ≡ second }
+{
+    first == second
+}
+
+/// What is known of a slot after a loop: of the loop's variable its last word, of another slot what
+/// was known before where no turn changes it, and else nothing.
+fn left(before: Known, is_same: bool, k: usize, slot: u16, last: i64) -> Known
+    ensures { (result ≡ Any) ⊎ (((k ≡ slot) × (result ≡ Number last))
+        ⊎ ((is_same ≡ true) × (result ≡ before))) }
+{
+    if k == slot as usize {
+        Known::Number(last)
+    } else if is_same {
+        before
+    } else {
+        Known::Any
+    }
 }
 
 /// What is known after a loop whose variable has this last word.
@@ -76,10 +117,7 @@ pub(crate) fn leave(facts: &mut [Known], entry: &[Known], turned: &[Known], slot
     ensures { Remain facts.old entry.now turned.now slot last facts.new }
 {
     for k in 0..facts.len() {
-        if k == slot as usize {
-            facts[k] = Known::Number(last);
-        } else if entry[k] != turned[k] {
-            facts[k] = Known::Any;
-        }
+        let is_same = are_same(entry[k], turned[k]);
+        facts[k] = left(facts[k], is_same, k, slot, last);
     }
 }

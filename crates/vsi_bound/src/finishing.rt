@@ -1,6 +1,7 @@
 //! The cost of a loop, from that of one turn.
 
-ghost use Rattle.std.specs.Prelude.{◌≡◌, ◌+◌, ◌-◌, ◌*◌, ◌^◌, ◌<◌, ◌≤◌, IfOk, length};
+ghost use Rattle.std.specs.Prelude.{◌≡◌, ◌+◌, ◌-◌, ◌*◌, ◌^◌, ◌<◌, ◌≤◌, IfOk, OnOk, length};
+ghost use Rattle.vsi_bound.specs.Loops.{Keeps};
 ghost use Rattle.vsi_bound.specs.Looping.{Finished, IsCounter};
 ghost use Rattle.vsi_bound.specs.Stretch.{Evaluates};
 
@@ -51,6 +52,18 @@ fn counter(facts: &[Known], test: Test, guard: Known, turned: &[Known]) -> Resul
     }
 }
 
+/// Looks whether a turn keeps each number.
+fn check_kept(entry: &[Known], turned: &[Known], place: usize) -> Result<(), Stop>
+    requires { length turned.now ≡ length entry.now }
+    ensures { OnOk result (Keeps entry.now turned.now) }
+{
+    if keeps(entry, turned) {
+        Ok(())
+    } else {
+        Err(Stop::Endless(place, Reason::Step))
+    }
+}
+
 /// The cost of so many turns, each of which tests the guard, does its body and jumps back, and of the
 /// last test.
 fn whole(turns: u64, tested: u64, body: Cost) -> Result<Cost, Stop>
@@ -80,9 +93,7 @@ pub(crate) fn finish(
         (test.place - test.start + 1) body cost facts.new) }
 {
     let counter = counter(facts, test, guard, turned)?;
-    if !keeps(entry, turned) {
-        return Err(Stop::Endless(test.place, Reason::Step));
-    }
+    check_kept(entry, turned, test.place)?;
     let tested = (test.place - test.start + 1) as u64;
     let cost = whole(counter.turns, tested, body)?;
     leave(facts, entry, turned, counter.slot, counter.last);

@@ -1,9 +1,17 @@
 //! What is known where two branches meet.
 
-ghost use Rattle.std.specs.Prelude.{◌≡◌, length};
+ghost use Rattle.std.specs.Prelude.{◌≡◌, ◌⊎◌, length};
 ghost use Rattle.vsi_bound.specs.Loops.{Joined};
+ghost use Rattle.vsi_bound.specs.declared.known.Known.TheVariants.{Any};
 
 use crate::known::Known;
+
+/// What is known of a word after either of two branches.
+fn met(first: Known, second: Known) -> Known
+    ensures { (result ≡ Any) ⊎ ((result ≡ first) × (result ≡ second)) }
+{
+    if first == second { first } else { Known::Any }
+}
 
 /// Leaves the facts that hold after both branches.
 pub(crate) fn join(facts: &mut [Known], other: &[Known])
@@ -11,8 +19,6 @@ pub(crate) fn join(facts: &mut [Known], other: &[Known])
     ensures { Joined facts.old other.now facts.new }
 {
     for slot in 0..facts.len() {
-        if facts[slot] != other[slot] {
-            facts[slot] = Known::Any;
-        }
+        facts[slot] = met(facts[slot], other[slot]);
     }
 }

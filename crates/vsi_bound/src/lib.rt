@@ -22,6 +22,8 @@ mod known;
 pub mod laws;
 mod loops;
 mod stretches;
+#[cfg(test)]
+mod tests;
 mod values;
 
 pub use bound::{Bound, bound_of};

@@ -56,15 +56,21 @@ fn reason_of(start: i64, step: i64, limit: i64, up: bool) -> Reason {
 }
 
 /// The turns of a loop that goes up or down to a limit.
-fn turns_of(start: i64, step: i64, limit: i64, up: bool) -> Result<Turns, Reason>
-    ensures { IfOk result (λ t. Counts (guard_value up limit) step t.turns start t.last) }
+fn counted(start: i64, step: i64, limit: i64, up: bool) -> Option<Turns>
+    ensures { IfSome result (λ t. Counts (guard_value up limit) step t.turns start t.last) }
 {
-    let turns = if up {
+    if up {
         turns_up(start, step, limit)
     } else {
         turns_down(start, step, limit)
-    };
-    match turns {
+    }
+}
+
+/// The same, or the reason for which there are none.
+fn turns_of(start: i64, step: i64, limit: i64, up: bool) -> Result<Turns, Reason>
+    ensures { IfOk result (λ t. Counts (guard_value up limit) step t.turns start t.last) }
+{
+    match counted(start, step, limit, up) {
         Some(turns) => Ok(turns),
         None => Err(reason_of(start, step, limit, up)),
     }

@@ -24,8 +24,21 @@ pub(crate) fn is_at(code: &[Instr], place: usize, instr: Instr) -> bool
     code[place] == instr
 }
 
+/// The target of the test at a place.
+pub(crate) fn target_at(code: &[Instr], place: usize) -> Option<usize>
+    ensures { IfSome result (λ target. slice_get code.now place ≡ Some (instr.Jz target)) }
+{
+    if place >= code.len() {
+        return None;
+    }
+    match code[place] {
+        Instr::Jz(target) => Some(target as usize),
+        _ => None,
+    }
+}
+
 /// The target of the jump at a place.
-fn jump_at(code: &[Instr], place: usize) -> Option<usize>
+pub(crate) fn jump_at(code: &[Instr], place: usize) -> Option<usize>
     ensures { IfSome result (λ end. slice_get code.now place ≡ Some (instr.Jmp end)) }
 {
     if place >= code.len() {
@@ -39,6 +52,7 @@ fn jump_at(code: &[Instr], place: usize) -> Option<usize>
 
 /// The test at a place, whose guard begins at the start, and which leads to the target.
 fn test_at(code: &[Instr], start: usize, place: usize, target: u32) -> Result<Test, Stop>
+    requires { start ≤ place }
     ensures test { IfOk result (λ t. IsTest code.now t) }
     ensures start { IfOk result (λ t. t.start ≡ start) }
     ensures place { IfOk result (λ t. t.place ≡ place) }
@@ -125,11 +139,11 @@ fn command(
                 return Err(Stop::Unread(place));
             }
             if test.end == start {
-                let cost = turns(alloc, code, facts, test, room - 1)?;
-                return Ok((test.target, cost));
+                let rounds = turns(alloc, code, facts, test, room - 1)?;
+                return Ok((test.target, rounds));
             }
-            let cost = branches(alloc, code, facts, test, room - 1)?;
-            let whole = sum(taken, cost)?;
+            let ways = branches(alloc, code, facts, test, room - 1)?;
+            let whole = sum(taken, ways)?;
             Ok((test.end, whole))
         }
         _ => Err(Stop::Unread(place)),
@@ -152,10 +166,10 @@ fn branches(
 {
     let mut other = facts.to_vec(alloc)?;
     let first = stretch(alloc, code, facts, test.place + 1, test.jump, room)?;
-    let first = sum(first, exactly(1))?;
+    let more = sum(first, exactly(1))?;
     let second = stretch(alloc, code, &mut other, test.target, test.end, room)?;
     join(facts, &other);
-    Ok(either(first, second))
+    Ok(either(more, second))
 }
 
 /// All turns of a loop.
@@ -176,5 +190,6 @@ fn turns(
     let guard = guard_at(alloc, code, &entry, test)?;
     let mut turned = entry.as_slice().to_vec(alloc)?;
     let body = stretch(alloc, code, &mut turned, test.place + 1, test.jump, room)?;
-    finish(facts, test, &entry, guard, &turned, body)
+    let cost = finish(facts, test, &entry, guard, &turned, body)?;
+    Ok(cost)
 }

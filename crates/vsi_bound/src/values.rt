@@ -1,6 +1,8 @@
 //! What is known of the value of an expression's code.
 
-ghost use Rattle.std.specs.Prelude.{◌≡◌, ◌<◌, ◌≤◌, [], ◌∷◌, IfOk, IfSome, OnOk, length};
+ghost use Rattle.std.specs.Prelude.{◌≡◌, ◌<◌, ◌≤◌, [], ◌∷◌, IfOk, IfSome, List, OnOk, length};
+ghost use Rattle.vsi_image.specs.declared.instr.Instr.TheVariants as spec;
+ghost use Rattle.vsi_bound.specs.declared.known.Known.{Known};
 ghost use Rattle.vsi_bound.specs.Stretch.{Evaluates};
 ghost use Rattle.vsi_bound.specs.Values.{Acts, IsOperator, Operates};
 
@@ -38,24 +40,47 @@ fn operate(operands: &mut Vec<Known>, op: Op, place: usize) -> Result<(), Stop>
     Ok(())
 }
 
+/// A number on top.
+fn put_number(operands: &mut Vec<Known>, n: i64) -> Result<(), Stop>
+    ensures { OnOk result
+        ((facts : List Known) → Acts (spec.Push n) facts operands.old.items operands.new.items) }
+{
+    operands.push(Known::Number(n))?;
+    Ok(())
+}
+
+/// A slot's word on top.
+fn put_word(operands: &mut Vec<Known>, facts: &[Known], slot: u16, place: usize) -> Result<(), Stop>
+    ensures { OnOk result
+        (Acts (spec.Load slot) facts.now operands.old.items operands.new.items) }
+{
+    if slot as usize >= facts.len() {
+        return Err(Stop::Unread(place));
+    }
+    operands.push(facts[slot as usize])?;
+    Ok(())
+}
+
+/// An operator's word on top.
+fn put_operator(operands: &mut Vec<Known>, instr: Instr, place: usize) -> Result<(), Stop>
+    ensures { OnOk result
+        ((facts : List Known) → Acts instr facts operands.old.items operands.new.items) }
+{
+    match operator_of(instr) {
+        Some(op) => operate(operands, op, place),
+        None => Err(Stop::Unread(place)),
+    }
+}
+
 /// One instruction of an expression.
 fn put(operands: &mut Vec<Known>, facts: &[Known], instr: Instr, place: usize) -> Result<(), Stop>
     ensures { OnOk result (Acts instr facts.now operands.old.items operands.new.items) }
 {
     match instr {
-        Instr::Push(n) => operands.push(Known::Number(n))?,
-        Instr::Load(slot) => {
-            if slot as usize >= facts.len() {
-                return Err(Stop::Unread(place));
-            }
-            operands.push(facts[slot as usize])?;
-        }
-        _ => match operator_of(instr) {
-            Some(op) => operate(operands, op, place)?,
-            None => return Err(Stop::Unread(place)),
-        },
+        Instr::Push(n) => put_number(operands, n),
+        Instr::Load(slot) => put_word(operands, facts, slot, place),
+        _ => put_operator(operands, instr, place),
     }
-    Ok(())
 }
 
 /// Whether an instruction ends an expression.
@@ -67,18 +92,13 @@ fn is_end(instr: Instr) -> bool {
 }
 
 /// The one fact that is there.
-fn only(mut operands: Vec<Known>, place: usize) -> Result<Known, Stop>
-    ensures { IfOk result (λ known. operands.items ≡ known ∷ []) }
+fn only(operands: &[Known], place: usize) -> Result<Known, Stop>
+    ensures { IfOk result (λ known. operands.now ≡ known ∷ []) }
 {
-    match operands.pop() {
-        Some(known) => {
-            if operands.is_empty() {
-                Ok(known)
-            } else {
-                Err(Stop::Unread(place))
-            }
-        }
-        None => Err(Stop::Unread(place)),
+    if operands.len() == 1 {
+        Ok(operands[0])
+    } else {
+        Err(Stop::Unread(place))
     }
 }
 
@@ -98,7 +118,7 @@ pub(crate) fn evaluate(
     for place in start..code.len() {
         let instr = code[place];
         if is_end(instr) {
-            let value = only(operands, place)?;
+            let value = only(&operands, place)?;
             return Ok((place, value));
         }
         put(&mut operands, facts, instr, place)?;
