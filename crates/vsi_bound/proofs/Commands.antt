@@ -114,3 +114,12 @@ pub second_leads : (code : List Instr) (facts one two left : List Known) (from e
 second_leads code facts one two left from end more second whole a j long r t =
     leads_less code facts two left from end second whole a
     (j.count ∙ sym long) (λ k f s. joined_right (j.each k f s)) (omega (arith, r)) (omega (arith, t))
+
+-- The second branch, where its facts have other names.
+pub second_leads_as : (code : List Instr) (facts given one two new left : List Known) (from end : ℕ)
+    (more second whole : Cost) → Leads code given from end second new → Joined one two left
+    → whole.least ≡ min more.least second.least → whole.most ≡ max more.most second.most → given ≡ facts → new ≡ two
+    → length two ≡ length one → Leads code facts from end whole left
+second_leads_as code facts given one two new left from end more second whole a j r t g n long =
+    second_leads code facts one two left from end more second whole
+    (subst (λ x. Leads code facts from end second x) n (subst (λ x. Leads code x from end second new) g a)) j long r t

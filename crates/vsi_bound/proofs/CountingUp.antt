@@ -1,10 +1,12 @@
 -- Loops that count up or down.
-use Rattle.std.proofs.Common.{◌≡◌, ◌≢◌, ℕ, zero, suc, ◌+◌, ◌*◌, ◌<◌, ◌≤◌, ℤ, pos, negsuc, ◌+ℤ◌, ◌<ℤ◌, ◌≤ℤ◌, Bool, true, false, if◌then◌else◌, refl, sym, ap, ◌∙◌, subst, arith, lit<, w64, SFits}
+use Rattle.std.proofs.Common.{◌≡◌, ◌≢◌, ℕ, zero, suc, ◌+◌, ◌*◌, ◌<◌, ◌≤◌, ℤ, pos, negsuc, ◌+ℤ◌, ◌<ℤ◌, ◌≤ℤ◌, Bool, true, false, if◌then◌else◌, refl, sym, ap, ◌∙◌, subst, arith, lit<, Option, IfSome, w64, SFits}
 use Rattle.std.specs.Prelude.{int_lt}
 use Rattle.std.specs.Int.{int_wrap}
 use Rattle.std.proofs.lemmas.Int.{ints, int_wrap_fits}
 use Rattle.vsi_syntax.specs.Operators.{sum_of, less_of}
+use Rattle.vsi_bound.specs.declared.counting.Turns.{Turns}
 use Rattle.vsi_bound.specs.Counting.{Counts}
+use Rattle.vsi_bound.specs.Looping.{guard_value}
 
 -- A word below another compares as 1.
 below : (a b : ℤ) → a <ℤ b → less_of a b ≢ pos 0
@@ -138,3 +140,23 @@ down_turns turns size way gap start step limit last e enough fewest fits g s l l
     let under : last ≤ℤ limit = omega (arith, ints, l, g, enough) in
     counts_down turns size start last limit step fits s (ap (λ w. last +ℤ pos w) (sym e) ∙ l)
     (between _ last start least_fits fits low high) under (above_before turns size way gap start limit e fewest g)
+
+-- What is so of turns up to a limit is so of a guard that compares so.
+pub counted_up : (r : Option Turns) (up : Bool) (limit limit' step step' start start' : ℤ)
+    → IfSome r (λ t. Counts (λ n. less_of n limit') step' t.turns start' t.last) → up ≡ true → limit' ≡ limit
+    → step' ≡ step → start' ≡ start → IfSome r (λ t. Counts (guard_value up limit) step t.turns start t.last)
+counted_up r up limit limit' step step' start start' h e p q w =
+    subst (λ (b : Bool). IfSome r (λ t. Counts (guard_value b limit) step t.turns start t.last)) (sym e)
+    (subst (λ (x : ℤ). IfSome r (λ t. Counts (λ n. less_of n x) step t.turns start t.last)) p
+    (subst (λ (x : ℤ). IfSome r (λ t. Counts (λ n. less_of n limit') x t.turns start t.last)) q
+    (subst (λ (x : ℤ). IfSome r (λ t. Counts (λ n. less_of n limit') step' t.turns x t.last)) w h)))
+
+-- The same of turns down to a limit.
+pub counted_down : (r : Option Turns) (up : Bool) (limit limit' step step' start start' : ℤ)
+    → IfSome r (λ t. Counts (λ n. less_of limit' n) step' t.turns start' t.last) → up ≡ false → limit' ≡ limit
+    → step' ≡ step → start' ≡ start → IfSome r (λ t. Counts (guard_value up limit) step t.turns start t.last)
+counted_down r up limit limit' step step' start start' h e p q w =
+    subst (λ (b : Bool). IfSome r (λ t. Counts (guard_value b limit) step t.turns start t.last)) (sym e)
+    (subst (λ (x : ℤ). IfSome r (λ t. Counts (λ n. less_of x n) step t.turns start t.last)) p
+    (subst (λ (x : ℤ). IfSome r (λ t. Counts (λ n. less_of limit' n) x t.turns start t.last)) q
+    (subst (λ (x : ℤ). IfSome r (λ t. Counts (λ n. less_of limit' n) step' t.turns x t.last)) w h)))

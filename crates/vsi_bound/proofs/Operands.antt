@@ -64,11 +64,11 @@ acts_push n given facts held left e g m now s pc h mean = record {
 
 -- An instruction that is a push of the same number.
 pub push_as : {E : Type 0} (r : Result (Unit {0}) E) (i : Instr) (n given : ℤ) (facts held left : List Known)
-    → i ≡ Push n → given ≡ n → OnOk r ((fs : List Known) → Acts (Push given) fs held left)
+    → i ≡ Push n → OnOk r ((fs : List Known) → Acts (Push given) fs held left) → given ≡ n
     → OnOk r (Acts i facts held left)
-push_as (Ok u) i n given facts held left e g h =
+push_as (Ok u) i n given facts held left e h g =
     subst (λ (x : Instr). Acts x facts held left) (ap Push g ∙ sym e) (h facts)
-push_as (Err x) i n given facts held left e g h = tt
+push_as (Err x) i n given facts held left e h g = tt
 
 -- A word from a slot.
 pub acts_load : (k : ℕ) (f : Known) (facts held left : List Known) → left ≡ held ++ f ∷ [] → slice_get facts k ≡ Some f

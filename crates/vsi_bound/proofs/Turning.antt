@@ -173,15 +173,16 @@ loop_leads code facts entry turned left start place target jump tested guard bod
     }
 
 -- The same of facts by other names.
-pub loop_leads_as : (code : List Instr) (facts entry first second turned left : List Known)
-    (start place target jump end tested : ℕ) (guard : Known) (body cost : Cost) → IsEntry facts entry
-    → Evaluates code first start place guard → Leads code second (place + 1) jump body turned
+pub loop_leads_as : (code : List Instr) (facts e₀ e₁ e₂ entry u turned left : List Known)
+    (start place target jump end tested : ℕ) (guard : Known) (body cost : Cost) → IsEntry facts e₀
+    → Evaluates code e₁ start place guard → Leads code e₂ (place + 1) jump body u
     → Finished facts entry guard turned tested body cost left → slice_get code place ≡ Some (Jz target)
-    → slice_get code jump ≡ Some (Jmp end) → end ≡ start → start + tested ≡ place + 1 → first ≡ entry
-    → second ≡ entry → length turned ≡ length entry → Leads code facts start target cost left
-loop_leads_as code facts entry first second turned left start place target jump end tested guard body cost e ev leads f jz
-    jmp back count p q same =
+    → slice_get code jump ≡ Some (Jmp end) → end ≡ start → start + tested ≡ place + 1 → e₀ ≡ entry → e₁ ≡ entry
+    → e₂ ≡ entry → u ≡ turned → length turned ≡ length entry → Leads code facts start target cost left
+loop_leads_as code facts e₀ e₁ e₂ entry u turned left start place target jump end tested guard body cost e ev leads f jz
+    jmp back count p q r s same =
     loop_leads code facts entry turned left start place target jump tested guard body cost
-    (subst (λ x. Evaluates code x start place guard) p ev) jz
+    (subst (λ x. Evaluates code x start place guard) q ev) jz
     (subst (λ n. slice_get code jump ≡ Some (Jmp n)) back jmp) count
-    (subst (λ x. Leads code x (place + 1) jump body turned) q leads) e same f
+    (subst (λ x. Leads code entry (place + 1) jump body x) s (subst (λ x. Leads code x (place + 1) jump body u) r leads))
+    (subst (IsEntry facts) p e) same f

@@ -103,14 +103,14 @@ keeps_all entry turned i h le k n s = h k n (omega (arith, slice_get_within entr
 
 -- A slot after a loop.
 pub remains_as : (facts entry turned : List Known) (slot k : ℕ) (last given : ℤ) (before d result : Known)
-    (is_same : Bool) → given ≡ last
+    (is_same : Bool)
     → (result ≡ Any) ⊎ (((k ≡ slot) × (result ≡ Number given)) ⊎ ((is_same ≡ true) × (result ≡ before)))
     → slice_get facts k ≡ Some before → (is_same ≡ true → get_or entry k d ≡ get_or turned k d) → k < length entry
-    → k < length turned → Remains facts entry turned slot last k result
-remains_as facts entry turned slot k last given before d result is_same g (inl any) at s lt lt' = inl any
-remains_as facts entry turned slot k last given before d result is_same g (inr (inl p)) at s lt lt' =
+    → k < length turned → given ≡ last → Remains facts entry turned slot last k result
+remains_as facts entry turned slot k last given before d result is_same (inl any) at s lt lt' g = inl any
+remains_as facts entry turned slot k last given before d result is_same (inr (inl p)) at s lt lt' g =
     inr (inl (p.0, p.1 ∙ ap Number g))
-remains_as facts entry turned slot k last given before d result is_same g (inr (inr p)) at s lt lt' =
+remains_as facts entry turned slot k last given before d result is_same (inr (inr p)) at s lt lt' g =
     inr (inr (
       at ∙ ap Some (sym p.1),
       slice_get-get_or entry k d lt ∙ ap Some (s p.0) ∙ sym (slice_get-get_or turned k d lt'),

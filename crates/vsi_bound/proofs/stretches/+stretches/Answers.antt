@@ -1,9 +1,10 @@
 use Rattle.std.proofs.Common.{rules, arith, ◌≡◌, ◌+◌, ◌-◌, Some, ap, sym, subst, ◌∙◌, refl}
 use Rattle.std.specs.Prelude.{slice_get}
 use Rattle.std.proofs.lemmas.Option.{slice_get-get_or}
+use Rattle.std.proofs.lemmas.Grind.{common_steps}
 use Rattle.vsi_bound.specs.Stretch.{Evaluates, Leads}
 use Rattle.vsi_bound.proofs.Running.{leads_both, leads_nowhere, choice_leads}
-use Rattle.vsi_bound.proofs.Commands.{store_leads, first_leads, second_leads}
+use Rattle.vsi_bound.proofs.Commands.{store_leads, first_leads, second_leads_as}
 use Rattle.vsi_bound.proofs.Turning.{loop_leads_as}
 use Rattle.vsi_bound.proofs.stretches.+stretches.Goals as goal
 
@@ -34,10 +35,18 @@ command-returns-in_ok-whole-in-Jz t c =
     (omega (arith, c.in_ok-whole-in-Jz.ensures.most, c.exactly-taken.ensures.most))
 
 pub branches-returns-clause-first : goal.branches-returns-clause-first
-branches-returns-clause-first t c = ?
+branches-returns-clause-first t c =
+    first_leads _ _ _ _ _ _ _ _ _ _ _ _ c.in_ok-first.ensures c.requires.test.jumps c.join.ensures
+    (omega (arith, c.in_ok-more.ensures.least, c.exactly.ensures.least))
+    (omega (arith, c.in_ok-more.ensures.most, c.exactly.ensures.most)) c.either.ensures.least c.either.ensures.most
 
 pub branches-returns-clause-second : goal.branches-returns-clause-second
-branches-returns-clause-second t c = ?
+branches-returns-clause-second t c =
+    second_leads_as _ _ _ _ _ _ _ _ _ _ _ _ c.in_ok-second.ensures c.join.ensures c.either.ensures.least
+    c.either.ensures.most (first_of (search rules, grind (arith, common_steps))) (first_of (search rules, grind (arith, common_steps))) (first_of (search rules, grind (arith, common_steps)))
 
 pub turns-returns : goal.turns-returns
-turns-returns t c = ?
+turns-returns t c =
+    loop_leads_as _ _ _ _ _ _ _ _ _ _ _ _ _ _ _ _ _ _ c.in_ok-entry.ensures c.in_ok-guard.ensures
+    c.in_ok-body.ensures c.in_ok-cost.ensures c.requires.test.tests c.requires.test.jumps c.requires.back
+    (omega (arith, c.requires.test.order)) (first_of (search rules, grind (arith, common_steps))) (first_of (search rules, grind (arith, common_steps))) (first_of (search rules, grind (arith, common_steps))) (first_of (search rules, grind (arith, common_steps))) (first_of (search rules, grind (arith, common_steps)))
