@@ -62,8 +62,8 @@ counts_up (suc turns) size now last limit step fits s l f enough b =
     let short : now <ℤ limit = omega (arith, ints, b) in
     let rest : last ≡ sum_of now step +ℤ pos (turns * size) = omega (arith, ints, l, on) in (
       below now limit short,
-      counts_up turns size (sum_of now step) last limit step (subst (SFits w64) (sym on) (between now _ last fits f low high)) s rest f
-          enough (below_next turns size now (sum_of now step) limit on b),
+      counts_up turns size (sum_of now step) last limit step
+          (subst (SFits w64) (sym on) (between now _ last fits f low high)) s rest f enough (below_next turns size now (sum_of now step) limit on b),
     )
 
 -- Before the last turn the variable was above the limit.
@@ -92,8 +92,8 @@ counts_down (suc turns) size now last limit step fits s l f enough b =
     let rest : last +ℤ pos (turns * size) ≡ sum_of now step = omega (arith, ints, l, on, s) in
     let before : sum_of now step +ℤ pos size ≡ now = omega (arith, ints, on, s) in (
       below limit now short,
-      counts_down turns size (sum_of now step) last limit step (subst (SFits w64) (sym on) (between last _ now f fits low high)) s rest f
-          enough (above_next turns size now (sum_of now step) limit before b),
+      counts_down turns size (sum_of now step) last limit step
+          (subst (SFits w64) (sym on) (between last _ now f fits low high)) s rest f enough (above_next turns size now (sum_of now step) limit before b),
     )
 
 -- The greatest word fits.

@@ -77,7 +77,8 @@ module _ (code : List Instr) (facts entry turned : List Known) (start place targ
 
   -- So many turns.
   turning : length entry ≡ length turned → (turns : ℕ) (now : List ℤ) (last : ℤ) → Hold now entry now
-      → Counts (guard_value up limit) step turns (word now slot) last → Turned code entry turned start target tested body slot now turns last
+      → Counts (guard_value up limit) step turns (word now slot) last
+      → Turned code entry turned start target tested body slot now turns last
   turning same zero now last h c =
       let g = ev now now h in
       let long : g.steps + 1 ≡ tested = omega (arith, g.count, count) in

@@ -1,4 +1,4 @@
--- What is known at the start of a code.
+-- The facts at the start of a code.
 use Rattle.std.specs.Prelude.{◌≡◌, ℕ, List, length, slice_get, Some}
 use Rattle.vsi_bound.specs.declared.known.Known.{Known}
 use Rattle.vsi_bound.specs.declared.known.Known.TheVariants.{Same}

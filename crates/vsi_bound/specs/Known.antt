@@ -1,4 +1,4 @@
--- What is known of words.
+-- The meaning of facts about words.
 use Rattle.std.specs.Prelude.{◌≡◌, ℕ, ℤ, pos, List, [], ◌∷◌, length, slice_get, slice_index_or, Some}
 use Rattle.vsi_syntax.specs.Operators.{sum_of, less_of}
 use Rattle.vsi_bound.specs.declared.known.Known.{Known}
@@ -8,7 +8,7 @@ use Rattle.vsi_bound.specs.declared.known.Known.TheVariants.{Number, Same, Moved
 abbrev pub word : List ℤ → ℕ → ℤ
 word m k = slice_index_or m k (pos 0)
 
--- What is known of a word holds of it, where an earlier store had these words in its slots.
+-- A fact holds of a word, where an earlier store had these words in its slots.
 abbrev pub Means : List ℤ → Known → ℤ → Type 0
 Means m (Number n) v = v ≡ n
 Means m (Same k) v = v ≡ word m k
@@ -17,7 +17,7 @@ Means m (Below k n) v = v ≡ less_of (word m k) n
 Means m (Above k n) v = v ≡ less_of n (word m k)
 Means m Any v = Unit {0}
 
--- What is known of each word of a list holds of it.
+-- Each fact of a list holds of the word at its place.
 abbrev pub AllMean : List ℤ → List Known → List ℤ → Type 0
 AllMean m [] [] = Unit {0}
 AllMean m [] (v ∷ vs) = ⊥

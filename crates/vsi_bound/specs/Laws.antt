@@ -1,4 +1,4 @@
--- What a bound says of budgets.
+-- The laws of bounds.
 use Rattle.std.specs.Prelude.{◌≡◌, ℕ, ◌≤◌, ℤ, List, length}
 use Rattle.vsi_image.specs.declared.instr.Image.{Image}
 use Rattle.vsi_machine.specs.Counting.{Halts, HaltsIn}

@@ -7,7 +7,7 @@ use Rattle.vsi_bound.specs.declared.cost.Cost.{Cost}
 use Rattle.vsi_bound.specs.Counting.{Counts}
 use Rattle.vsi_bound.specs.Loops.{Keeps, Remain}
 
--- What is known of a guard that says whether the slot's word is below the limit, or above it.
+-- The fact about a guard that compares the slot's word with the limit: that it is below the limit, or above it.
 abbrev pub guard_of : Bool → ℕ → ℤ → Known
 guard_of up slot limit = if up then Below slot limit else Above slot limit
 
@@ -28,8 +28,8 @@ pub record IsCounter (facts : List Known) (guard : Known) (turned : List Known) 
   pub moves : slice_get turned slot ≡ Some (Moved slot step)
   pub counts : Counts (guard_value up limit) step turns start last
 
--- A loop with such a counter, whose turns keep each number that is known at their start: what it costs, where a test
--- takes so many instructions, and what is known after it.
+-- A loop with such a counter, whose turns keep each number that is known at their start: its cost, if a test takes so
+-- many instructions, and the facts after it.
 pub record Finished (facts entry : List Known) (guard : Known) (turned : List Known) (tested : ℕ) (body cost : Cost)
     (left : List Known) : Type 0 where
   pub slot : ℕ

@@ -1,4 +1,4 @@
--- What is known at each turn of a loop, and after it.
+-- The facts at each turn of a loop, and after it.
 use Rattle.std.specs.Prelude.{◌≡◌, ℕ, ◌⊎◌, ℤ, List, length, slice_get, Some}
 use Rattle.vsi_bound.specs.declared.known.Known.{Known}
 use Rattle.vsi_bound.specs.declared.known.Known.TheVariants.{Number, Same, Moved, Below, Above, Any}

@@ -1,4 +1,4 @@
--- Stretches of code, with what they take and what is known after them.
+-- Stretches of code, with their cost and the facts after them.
 use Rattle.std.specs.Prelude.{◌≡◌, ℕ, ◌+◌, ◌^◌, ◌<◌, ◌≤◌, ℤ, List, [], ◌∷◌, length, slice_get, slice_set, Some}
 use Rattle.vsi_image.specs.declared.instr.Instr.{Instr}
 use Rattle.vsi_image.specs.declared.instr.Instr.TheVariants.{Jz, Jmp, Halt}

@@ -1,4 +1,4 @@
--- What the instructions of an expression do to what is known of the operands.
+-- The effect of an expression's instructions on the facts about the operands.
 use Rattle.std.specs.Prelude.{◌≡◌, ℕ, ◌+◌, ℤ, List, ◌∷◌, Some, reverse}
 use Rattle.vsi_image.specs.declared.instr.Instr.{Instr}
 use Rattle.vsi_image.specs.Meaning.{acted, going}
@@ -12,8 +12,8 @@ abbrev pub IsOperator : Instr → Op → Type 0
 IsOperator i op =
     (pc : ℕ) (a b : ℤ) (s m : List ℤ) → acted i pc (b ∷ a ∷ s) m ≡ Some (going (pc + 1) (apply op a b ∷ s) m)
 
--- Where these facts hold of the operands, the last one's of the top, two are there, and those facts hold of what is left
--- with the operator's word on top.
+-- If the facts hold of the operands, of which the last fact is about the top, there are two operands, and the facts
+-- left hold of the rest with the operator's word on top.
 pub record Operated (m : List ℤ) (op : Op) (s : List ℤ) (left : List Known) : Type 0 where
   pub a : ℤ
   pub b : ℤ

@@ -39,7 +39,7 @@ fn fresh(alloc: Global, slots: u16) -> Result<Vec<Known>, AllocError>
     Ok(facts)
 }
 
-/// Looks whether there is a HALT at this place.
+/// Checks that there is a HALT at this place.
 fn check_halt(code: &[Instr], place: usize) -> Result<(), Stop>
     ensures { OnOk result (slice_get code.now place ≡ Some instr.Halt) }
 {

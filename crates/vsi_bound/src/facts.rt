@@ -1,4 +1,4 @@
-//! What is known of the slots at the turns of a loop and after it.
+//! The facts about the slots at the turns of a loop and after it.
 
 ghost use Rattle.std.specs.Prelude.{◌≡◌, ◌≤◌, ◌⊎◌, ℤ, IfOk, List, Some, length, slice_get, true};
 ghost use Rattle.vsi_bound.specs.Loops.{Enters, IsEntry, Keeps, Remain};
@@ -19,7 +19,7 @@ fn number_or_same(known: Known, slot: u16) -> Known
     }
 }
 
-/// Leaves the numbers; of each other slot the word is the one to compare with.
+/// Leaves the numbers; the fact about each other slot is that it has its own word.
 fn compare_with(entry: &mut [Known])
     requires { length entry.old ≤ 65535 }
     ensures { IsEntry entry.old entry.new }
@@ -49,8 +49,7 @@ fn forget_stored(entry: &mut [Known], code: &[Instr])
     }
 }
 
-/// What is known at the start of each turn of a loop with this body, where these facts hold before
-/// it.
+/// The facts at the start of each turn of a loop with this body, if these facts hold before it.
 pub(crate) fn entry_of(
     alloc: Global,
     facts: &[Known],
@@ -65,7 +64,7 @@ pub(crate) fn entry_of(
     Ok(entry)
 }
 
-/// Whether what is known after a turn is no less than a number at its start.
+/// Whether a turn keeps the number of a slot, if it has one.
 fn is_kept(entry: Known, turned: Known) -> bool
     ensures { result ≡ true → (n : ℤ) → entry ≡ Number n → turned ≡ Number n }
 {
@@ -95,8 +94,8 @@ fn are_same(first: Known, second: Known) -> bool
     first == second
 }
 
-/// What is known of a slot after a loop: of the loop's variable its last word, of another slot what
-/// was known before where no turn changes it, and else nothing.
+/// The fact about a slot after a loop: the last word for the loop's variable, the fact from before
+/// the loop for a slot that no turn changes, and nothing for others.
 fn left(before: Known, is_same: bool, k: usize, slot: u16, last: i64) -> Known
     ensures { (result ≡ Any) ⊎ (((k ≡ slot) × (result ≡ Number last))
         ⊎ ((is_same ≡ true) × (result ≡ before))) }
@@ -110,7 +109,7 @@ fn left(before: Known, is_same: bool, k: usize, slot: u16, last: i64) -> Known
     }
 }
 
-/// What is known after a loop whose variable has this last word.
+/// Leaves the facts that hold after a loop whose variable has this last word.
 pub(crate) fn leave(facts: &mut [Known], entry: &[Known], turned: &[Known], slot: u16, last: i64)
     requires entry { length entry.now ≡ length facts.old }
     requires turned { length turned.now ≡ length facts.old }

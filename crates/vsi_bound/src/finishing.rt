@@ -25,7 +25,7 @@ pub(crate) struct Test {
     pub end: usize,
 }
 
-/// What is known of the guard of a loop, where these facts hold at the start of a turn.
+/// The fact about the guard of a loop, if these facts hold at the start of a turn.
 pub(crate) fn guard_at(
     alloc: Global,
     code: &[Instr],
@@ -52,7 +52,7 @@ fn counter(facts: &[Known], test: Test, guard: Known, turned: &[Known]) -> Resul
     }
 }
 
-/// Looks whether a turn keeps each number.
+/// Checks that a turn keeps each number.
 fn check_kept(entry: &[Known], turned: &[Known], place: usize) -> Result<(), Stop>
     requires { length turned.now ≡ length entry.now }
     ensures { OnOk result (Keeps entry.now turned.now) }
@@ -64,19 +64,21 @@ fn check_kept(entry: &[Known], turned: &[Known], place: usize) -> Result<(), Sto
     }
 }
 
-/// The cost of so many turns, each of which tests the guard, does its body and jumps back, and of the
-/// last test.
+/// The cost of so many turns, each of which tests the guard, does its body and jumps back, and of
+/// the last test.
 fn whole(turns: u64, tested: u64, body: Cost) -> Result<Cost, Stop>
     requires { tested < 2 ^ 63 }
-    ensures least { IfOk result (λ cost. cost.least ≡ turns * (body.least + (tested + 1)) + tested) }
-    ensures most { IfOk result (λ cost. cost.most ≡ turns * (body.most + (tested + 1)) + tested) }
+    ensures least { IfOk result
+        (λ cost. cost.least ≡ turns * (body.least + (tested + 1)) + tested) }
+    ensures most { IfOk result
+        (λ cost. cost.most ≡ turns * (body.most + (tested + 1)) + tested) }
 {
     let turn = sum(body, exactly(tested + 1))?;
     let all = times(turns, turn)?;
     sum(all, exactly(tested))
 }
 
-/// The cost of a loop; leaves what is known after it.
+/// The cost of a loop; leaves the facts that hold after it.
 pub(crate) fn finish(
     facts: &mut [Known],
     test: Test,

@@ -1,4 +1,4 @@
-//! What is known where two branches meet.
+//! The facts that hold where two branches meet.
 
 ghost use Rattle.std.specs.Prelude.{◌≡◌, ◌⊎◌, length};
 ghost use Rattle.vsi_bound.specs.Loops.{Joined};
@@ -6,7 +6,7 @@ ghost use Rattle.vsi_bound.specs.declared.known.Known.TheVariants.{Any};
 
 use crate::known::Known;
 
-/// What is known of a word after either of two branches.
+/// The fact about a word after either of two branches.
 fn met(first: Known, second: Known) -> Known
     ensures { (result ≡ Any) ⊎ ((result ≡ first) × (result ≡ second)) }
 {

@@ -1,4 +1,4 @@
-//! What is known of a word.
+//! Facts about words.
 
 ghost use Rattle.std.specs.Prelude.{◌≡◌, ℤ, List};
 ghost use Rattle.vsi_syntax.specs.Operators.{apply};
@@ -7,7 +7,7 @@ ghost use Rattle.vsi_bound.specs.Known.{Means};
 
 use vsi_syntax::Op;
 
-/// What is known of a word, in terms of the slots at an earlier place.
+/// A fact about a word, in terms of the slots at an earlier place.
 #[derive(Clone, Copy, PartialEq, Eq)]
 pub(crate) enum Known {
     /// It is this number.
@@ -24,7 +24,7 @@ pub(crate) enum Known {
     Any,
 }
 
-/// What is known of a sum.
+/// The fact about a sum.
 fn sum(left: Known, right: Known) -> Known
     ensures { (m : List ℤ) (a b : ℤ) → Means m left a → Means m right b
         → Means m result (apply Add a b) }
@@ -36,7 +36,7 @@ fn sum(left: Known, right: Known) -> Known
     }
 }
 
-/// What is known of a difference.
+/// The fact about a difference.
 fn difference(left: Known, right: Known) -> Known
     ensures { (m : List ℤ) (a b : ℤ) → Means m left a → Means m right b
         → Means m result (apply Sub a b) }
@@ -53,7 +53,7 @@ fn difference(left: Known, right: Known) -> Known
     }
 }
 
-/// What is known of a comparison.
+/// The fact about a comparison.
 fn less(left: Known, right: Known) -> Known
     ensures { (m : List ℤ) (a b : ℤ) → Means m left a → Means m right b
         → Means m result (apply Lt a b) }
@@ -65,7 +65,7 @@ fn less(left: Known, right: Known) -> Known
     }
 }
 
-/// What is known of the word that an operator gives.
+/// The fact about the word that an operator gives.
 pub(crate) fn applied(op: Op, left: Known, right: Known) -> Known
     ensures { (m : List ℤ) (a b : ℤ) → Means m left a → Means m right b
         → Means m result (apply op a b) }

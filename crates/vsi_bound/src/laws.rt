@@ -7,7 +7,8 @@ pub fn enough_budget()
     ensures { EnoughBudget }
 {}
 
-/// Where the least and the greatest number of instructions are the same, every run has just so many.
+/// Where the least and the greatest number of instructions are the same, every run has just so
+/// many.
 pub fn exact_count()
     ensures { ExactCount }
 {}

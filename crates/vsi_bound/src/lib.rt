@@ -4,11 +4,12 @@
 //! `bound_of` reads the commands and loops back from a verified image's code and adds up the
 //! instructions of every way through it: code without loops takes its shortest and its longest
 //! path, and a loop that counts in equal steps from a known number to a known limit takes its
-//! turns, each as long as its body. Clause `halts` says that the image halts from every store, after
-//! no fewer and no more instructions than answered. `laws` says what follows for budgets.
+//! turns, each as long as its body. Its clause says that the image halts from every store, after no
+//! fewer and no more instructions than answered, or that the answer names a loop. `laws` says what
+//! follows for budgets.
 //!
-//! To be believed: `specs/Bound` and `specs/Laws`; the other files of `specs/` are stepping stones of
-//! proofs.
+//! To be believed: `specs/Bound` and `specs/Laws`; the other files of `specs/` are stepping stones
+//! of proofs.
 #![tactic(auto)]
 
 mod bound;

@@ -87,8 +87,8 @@ fn guard_of(guard: Known) -> Option<(u16, i64, bool)>
     }
 }
 
-/// The variable by which a loop counts, where these facts hold before it, those of its guard, and
-/// those after each turn.
+/// The variable by which a loop counts, from the facts before the loop, about its guard, and after
+/// each turn.
 pub(crate) fn counter_of(facts: &[Known], guard: Known, turned: &[Known]) -> Result<Counter, Reason>
     ensures { IfOk result (λ c. IsCounter facts.now guard turned.now c.slot c.turns c.last) }
 {

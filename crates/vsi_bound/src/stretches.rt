@@ -1,4 +1,4 @@
-//! Stretches of code: their cost, and what is known after them.
+//! Stretches of code: their cost, and the facts after them.
 
 ghost use Rattle.std.specs.Prelude.{◌≡◌, ◌+◌, ◌≤◌, IfOk, IfSome, OnOk, Some, length, slice_get, true};
 ghost use Rattle.vsi_image.specs.declared.instr.Instr.TheVariants as instr;
@@ -73,7 +73,7 @@ fn test_at(code: &[Instr], start: usize, place: usize, target: u32) -> Result<Te
     })
 }
 
-/// Writes what is known of a word to a slot.
+/// Writes the fact about a word to a slot.
 fn store(facts: &mut [Known], slot: u16, value: Known, place: usize) -> Result<(), Stop>
     ensures { OnOk result (Stores slot value facts.old facts.new) }
 {
@@ -161,8 +161,10 @@ fn branches(
 ) -> Result<Cost, Stop>
     requires small { length facts.old ≤ 65535 }
     requires test { IsTest code.now test }
-    ensures first { IfOk result (λ cost. Leads code.now facts.old (test.place + 1) test.end cost facts.new) }
-    ensures second { IfOk result (λ cost. Leads code.now facts.old test.target test.end cost facts.new) }
+    ensures first { IfOk result
+        (λ cost. Leads code.now facts.old (test.place + 1) test.end cost facts.new) }
+    ensures second { IfOk result
+        (λ cost. Leads code.now facts.old test.target test.end cost facts.new) }
 {
     let mut other = facts.to_vec(alloc)?;
     let first = stretch(alloc, code, facts, test.place + 1, test.jump, room)?;

@@ -1,4 +1,4 @@
-//! What is known of the value of an expression's code.
+//! The fact about the value of an expression's code.
 
 ghost use Rattle.std.specs.Prelude.{◌≡◌, ◌<◌, ◌≤◌, [], ◌∷◌, IfOk, IfSome, List, OnOk, length};
 ghost use Rattle.vsi_image.specs.declared.instr.Instr.TheVariants as spec;
@@ -102,8 +102,7 @@ fn only(operands: &[Known], place: usize) -> Result<Known, Stop>
     }
 }
 
-/// The end of an expression's code, and what is known of its value, where these facts hold at its
-/// start.
+/// The end of an expression's code, and the fact about its value, if these facts hold at its start.
 pub(crate) fn evaluate(
     alloc: Global,
     code: &[Instr],
