@@ -1,16 +1,16 @@
 -- What commands lead to.
-use Rattle.std.proofs.Common.{◌≡◌, ◌≢◌, ℕ, zero, suc, ◌+◌, ◌<◌, ◌≤◌, ◌⊎◌, inl, inr, min, max, ℤ, pos, List, [], ◌∷◌, length, Option, Some, None, true, false, if◌then◌else◌, refl, sym, ap, ◌∙◌, subst, arith, length-set, get_or-set_same, get_or-set_other}
+use Rattle.std.proofs.Common.{◌≡◌, ◌≢◌, ℕ, ◌+◌, ◌<◌, ◌≤◌, ◌⊎◌, inl, inr, min, max, ℤ, pos, List, [], ◌∷◌, length, Some, None, if◌then◌else◌, sym, ap, ◌∙◌, subst, arith, length-set, get_or-set_same, get_or-set_other}
 use Rattle.std.specs.Prelude.{slice_get, slice_set}
 use Rattle.std.proofs.lemmas.Bool.{cases_lt, lt-ltb}
 use Rattle.vsi_image.specs.declared.instr.Instr.{Instr}
 use Rattle.vsi_image.specs.declared.instr.Instr.TheVariants.{Store, Jmp}
-use Rattle.vsi_image.specs.Meaning.{acted, after, going}
+use Rattle.vsi_image.specs.Meaning.{going}
 use Rattle.vsi_bound.specs.declared.cost.Cost.{Cost}
 use Rattle.vsi_bound.specs.declared.known.Known.{Known}
 use Rattle.vsi_bound.specs.declared.known.Known.TheVariants.{Any}
 use Rattle.vsi_bound.specs.Known.{Means, Hold, word}
 use Rattle.vsi_bound.specs.Loops.{Joined}
-use Rattle.vsi_bound.specs.Stretch.{Comes, Leads, Gives, Evaluates, Stores}
+use Rattle.vsi_bound.specs.Stretch.{Leads, Evaluates, Stores}
 use Rattle.vsi_bound.proofs.Slots.{set_same, set_other}
 use Rattle.vsi_bound.proofs.Running.{next_run, one_run, leads_jump}
 

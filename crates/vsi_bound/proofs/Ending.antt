@@ -1,24 +1,23 @@
 -- Whole runs within a bound.
-use Rattle.std.proofs.Common.{◌≡◌, ℕ, zero, suc, ◌+◌, ◌-◌, ◌<◌, ◌≤◌, ℤ, pos, List, [], ◌∷◌, ◌++◌, length, replicate, Option, Some, None, true, false, refl, sym, ap, ◌∙◌, subst, arith, length-append, option_and_then, inl, inr}
+use Rattle.std.proofs.Common.{◌≡◌, ℕ, ◌+◌, ◌-◌, ℤ, pos, List, [], ◌++◌, length, replicate, Some, true, refl, sym, ◌∙◌, subst, arith, length-append, inl, inr}
 use Rattle.std.specs.Prelude.{slice_get}
 use Rattle.std.proofs.lemmas.List.{length-replicate, length-map}
 use Rattle.vsi_image.specs.declared.instr.Instr.{Instr}
 use Rattle.vsi_image.specs.declared.instr.Instr.TheVariants.{Halt}
 use Rattle.vsi_image.specs.declared.instr.Image.{Image}
 use Rattle.vsi_image.specs.Fields.{global}
-use Rattle.vsi_image.specs.Meaning.{State, acted, after, going, start, ended}
+use Rattle.vsi_image.specs.Meaning.{going, start, ended}
 use Rattle.vsi_image.specs.Valid.{IsValid}
-use Rattle.vsi_machine.specs.Counting.{Halts, GoesOn, HaltsIn}
+use Rattle.vsi_machine.specs.Counting.{GoesOn, HaltsIn}
 use Rattle.vsi_machine.specs.Runs.{run_of}
-use Rattle.vsi_machine.proofs.Counts.{went_on, goes_on, halts, count_is, halts_longer, one_count}
+use Rattle.vsi_machine.proofs.Counts.{went_on, goes_on, halts, count_is, halts_longer}
 use Rattle.std.proofs.lemmas.Bool.{cases_lt}
 use Rattle.vsi_bound.specs.declared.cost.Cost.{Cost}
 use Rattle.vsi_bound.specs.declared.known.Known.{Known}
-use Rattle.vsi_bound.specs.declared.known.Known.TheVariants.{Same}
-use Rattle.vsi_bound.specs.Known.{Means, Hold, word}
+use Rattle.vsi_bound.specs.Known.{Means, word}
 use Rattle.vsi_bound.specs.Facts.{AreSame}
-use Rattle.vsi_bound.specs.Stretch.{Comes, Leads, Finishes, Ends}
-use Rattle.vsi_bound.specs.Bound.{HaltsBetween, AlwaysHalts}
+use Rattle.vsi_bound.specs.Stretch.{Leads, Ends}
+use Rattle.vsi_bound.specs.Bound.{AlwaysHalts}
 use Rattle.vsi_bound.specs.Laws.{EnoughBudget, ExactCount}
 use Rattle.vsi_bound.proofs.Running.{next_run, one_run}
 

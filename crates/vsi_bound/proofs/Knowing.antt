@@ -1,5 +1,5 @@
 -- What is known of what operators give.
-use Rattle.std.proofs.Common.{◌≡◌, ◌≢◌, ℤ, pos, ◌+ℤ◌, ◌-ℤ◌, neg_ℤ, List, refl, sym, ap, ◌∙◌, w64}
+use Rattle.std.proofs.Common.{◌≡◌, ℤ, neg_ℤ, sym, ap, ◌∙◌, w64}
 use Rattle.std.specs.Int.{int_wrap}
 use Rattle.std.proofs.Math.IntN.{+ℤ_comm}
 use Rattle.vsi_syntax.specs.Operators.{sum_of, difference_of, less_of}

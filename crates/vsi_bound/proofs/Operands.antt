@@ -1,5 +1,5 @@
 -- What is known of the operands of an expression.
-use Rattle.std.proofs.Common.{◌≡◌, ℕ, zero, suc, ◌+◌, ◌<◌, ◌≤◌, ℤ, pos, List, [], ◌∷◌, ◌++◌, length, reverse, Option, Some, None, Result, Ok, Err, OnOk, refl, sym, ap, ◌∙◌, subst, arith}
+use Rattle.std.proofs.Common.{◌≡◌, ℕ, ◌+◌, ◌<◌, ℤ, pos, List, [], ◌∷◌, ◌++◌, length, reverse, Some, Result, Ok, Err, OnOk, refl, sym, ap, ◌∙◌, subst, arith}
 use Rattle.std.specs.Prelude.{slice_get}
 use Rattle.std.specs.Option.{option_map}
 use Rattle.std.proofs.lemmas.List.{reverse-append}
@@ -13,7 +13,7 @@ use Rattle.vsi_bound.specs.declared.known.Known.{Known}
 use Rattle.vsi_bound.specs.declared.known.Known.TheVariants.{Number}
 use Rattle.vsi_bound.specs.Known.{Means, AllMean, Hold, word}
 use Rattle.vsi_bound.specs.Stretch.{Evaluates, Gives}
-use Rattle.vsi_bound.specs.Values.{IsOperator, Operated, Operates, Acted, Acts}
+use Rattle.vsi_bound.specs.Values.{IsOperator, Operated, Operates, Acts}
 use Rattle.vsi_bound.proofs.Running.{next_run, one_run}
 
 -- The last one comes first in the other order.

@@ -1,5 +1,5 @@
 -- Runs of the machine, one after another, and tests.
-use Rattle.std.proofs.Common.{◌≡◌, ◌≢◌, ℕ, zero, suc, ◌+◌, ◌<◌, ◌≤◌, ℤ, pos, List, [], ◌∷◌, length, Option, Some, None, Bool, true, false, if◌then◌else◌, refl, sym, ap, ◌∙◌, subst, arith, option_and_then}
+use Rattle.std.proofs.Common.{◌≡◌, ◌≢◌, ℕ, ◌+◌, ℤ, pos, List, [], ◌∷◌, Some, Bool, true, false, if◌then◌else◌, refl, sym, ap, ◌∙◌, arith, option_and_then}
 use Rattle.std.specs.Prelude.{slice_get}
 use Rattle.std.specs.Ordering.{int_eq}
 use Rattle.std.proofs.lemmas.Bool.Decides.{Decides-int_eq}
@@ -9,7 +9,6 @@ use Rattle.vsi_image.specs.Meaning.{State, acted, after, going}
 use Rattle.vsi_machine.proofs.Counts.{go_on}
 use Rattle.vsi_bound.specs.declared.cost.Cost.{Cost}
 use Rattle.vsi_bound.specs.declared.known.Known.{Known}
-use Rattle.vsi_bound.specs.Known.{Hold}
 use Rattle.vsi_bound.specs.Stretch.{Comes, Leads, Gives, Evaluates}
 
 -- A word that isn't 0 isn't equal to 0 as the machine tests it.

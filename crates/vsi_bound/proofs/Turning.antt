@@ -1,19 +1,19 @@
 -- The turns of a loop.
-use Rattle.std.proofs.Common.{◌≡◌, ◌≢◌, ℕ, zero, suc, ◌+◌, ◌*◌, ◌<◌, ◌≤◌, ◌⊎◌, inl, inr, ℤ, pos, List, [], ◌∷◌, length, Option, Some, None, Bool, true, false, if◌then◌else◌, refl, sym, ap, ◌∙◌, subst, arith}
+use Rattle.std.proofs.Common.{◌≡◌, ℕ, zero, suc, ◌+◌, ◌*◌, ◌<◌, ◌≤◌, inl, inr, ℤ, List, [], length, Some, Bool, true, false, refl, sym, ap, ◌∙◌, subst, arith}
 use Rattle.std.specs.Prelude.{slice_get}
 use Rattle.std.proofs.lemmas.Option.{slice_get_within}
-use Rattle.vsi_syntax.specs.Operators.{sum_of, less_of}
+use Rattle.vsi_syntax.specs.Operators.{sum_of}
 use Rattle.vsi_image.specs.declared.instr.Instr.{Instr}
 use Rattle.vsi_image.specs.declared.instr.Instr.TheVariants.{Jz, Jmp}
-use Rattle.vsi_image.specs.Meaning.{State, acted, after, going}
+use Rattle.vsi_image.specs.Meaning.{after, going}
 use Rattle.vsi_bound.specs.declared.cost.Cost.{Cost}
 use Rattle.vsi_bound.specs.declared.known.Known.{Known}
 use Rattle.vsi_bound.specs.declared.known.Known.TheVariants.{Number, Same, Moved, Below, Above, Any}
 use Rattle.vsi_bound.specs.Known.{Means, Hold, word}
 use Rattle.vsi_bound.specs.Counting.{Counts}
 use Rattle.vsi_bound.specs.Loops.{Enters, IsEntry, Keeps, Remains, Remain}
-use Rattle.vsi_bound.specs.Looping.{IsCounter, Finished, guard_of, guard_value}
-use Rattle.vsi_bound.specs.Stretch.{Comes, Leads, Gives, Evaluates}
+use Rattle.vsi_bound.specs.Looping.{Finished, guard_of, guard_value}
+use Rattle.vsi_bound.specs.Stretch.{Leads, Evaluates}
 use Rattle.vsi_bound.proofs.Slots.{there}
 use Rattle.vsi_bound.proofs.Running.{next_run, one_run, test_zero, test_other}
 

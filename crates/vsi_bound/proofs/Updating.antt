@@ -1,12 +1,12 @@
 -- Lists that are written from their start to their end.
-use Rattle.std.proofs.Common.{◌≡◌, ◌≢◌, ℕ, zero, suc, ◌+◌, ◌<◌, ◌≤◌, ◌⊎◌, inl, inr, ℤ, List, [], ◌∷◌, length, get_or, Some, None, Bool, true, false, refl, sym, ap, ◌∙◌, subst, arith, length-set, length-append, ◌++◌}
+use Rattle.std.proofs.Common.{◌≡◌, ◌≢◌, ℕ, zero, suc, ◌+◌, ◌<◌, ◌≤◌, ◌⊎◌, inl, inr, ℤ, List, [], ◌∷◌, length, get_or, Some, Bool, true, refl, sym, ap, ◌∙◌, subst, arith, length-set, length-append, ◌++◌}
 use Rattle.std.specs.Prelude.{slice_get, slice_set}
 use Rattle.std.proofs.lemmas.Option.{slice_get-get_or, slice_get_within, get_or_from_slice_get}
 use Rattle.std.proofs.lemmas.Bool.{cases_lt}
 use Rattle.vsi_bound.specs.declared.known.Known.{Known}
 use Rattle.vsi_bound.specs.declared.known.Known.TheVariants.{Number, Same, Any}
 use Rattle.vsi_bound.specs.Facts.{AreSame}
-use Rattle.vsi_bound.specs.Loops.{Enters, IsEntry, Keeps, Remains, Joined}
+use Rattle.vsi_bound.specs.Loops.{Enters, IsEntry, Keeps, Remains}
 use Rattle.vsi_bound.proofs.Slots.{set_same, set_other}
 
 -- The first facts of a list are so, and the others as they were.

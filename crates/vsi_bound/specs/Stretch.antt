@@ -6,7 +6,7 @@ use Rattle.vsi_bound.specs.declared.finishing.Test.{Test}
 use Rattle.vsi_image.specs.Meaning.{after, going}
 use Rattle.vsi_bound.specs.declared.known.Known.{Known}
 use Rattle.vsi_bound.specs.declared.cost.Cost.{Cost}
-use Rattle.vsi_bound.specs.Known.{Means, AllMean, Hold}
+use Rattle.vsi_bound.specs.Known.{Means, Hold}
 
 -- From these slots at a place the code comes to another place within the cost, where the facts hold.
 pub record Comes (code : List Instr) (m now : List ℤ) (from to : ℕ) (cost : Cost) (facts : List Known) : Type 0 where

@@ -1,8 +1,7 @@
-use Rattle.std.proofs.Common.{rules, arith, ◌≡◌, ◌+◌, ◌-◌, Some, ap, sym, subst, ◌∙◌, refl}
-use Rattle.std.specs.Prelude.{slice_get}
+use Rattle.std.proofs.Common.{rules, arith, ◌+◌, ◌-◌, Some, ap, sym, subst, ◌∙◌, refl}
 use Rattle.std.proofs.lemmas.Option.{slice_get-get_or}
 use Rattle.std.proofs.lemmas.Grind.{common_steps}
-use Rattle.vsi_bound.specs.Stretch.{Evaluates, Leads}
+use Rattle.vsi_bound.specs.Stretch.{Evaluates}
 use Rattle.vsi_bound.proofs.Running.{leads_both, leads_nowhere, choice_leads}
 use Rattle.vsi_bound.proofs.Commands.{store_leads, first_leads, second_leads_as}
 use Rattle.vsi_bound.proofs.Turning.{loop_leads_as}

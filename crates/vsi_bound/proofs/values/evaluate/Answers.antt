@@ -1,4 +1,4 @@
-use Rattle.std.proofs.Common.{rules, arith, sym, ◌∙◌}
+use Rattle.std.proofs.Common.{sym, ◌∙◌}
 use Rattle.std.proofs.lemmas.Option.{slice_get-get_or}
 use Rattle.vsi_bound.proofs.Operands.{computes_end, computes_more}
 use Rattle.vsi_bound.proofs.values.evaluate.Goals as goal
