@@ -6,4 +6,3 @@ pub mod CountingUp
 pub mod Ending
 pub mod Updating
 pub mod Commands
-pub mod Knowing

@@ -81,8 +81,8 @@ fn is_loop(code: &[Instr], test: usize) -> bool
     }
 }
 
-/// How many instructions an image can run. The code is read once, and each loop's guard twice, so
-/// the time is linear in the code times the number of slots.
+/// How many instructions an image can run. Time is linear in the code, times the depth to which
+/// loops nest, and each loop and each conditional goes over the slots.
 ///
 /// # Errors
 ///
