@@ -1,0 +1,5 @@
+use Rattle.vsi_bound.proofs.Updating.{Updated, Meets}
+use Rattle.vsi_bound.proofs.joining.join.Given as goal
+
+abbrev pub invariant-loop-slot : goal.invariant-loop-slot
+invariant-loop-slot l = Updated (Meets l.fn.facts l.other) l.fn.facts l.facts l.slot

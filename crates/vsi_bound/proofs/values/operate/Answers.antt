@@ -1,0 +1,7 @@
+use Rattle.vsi_bound.proofs.Operands.{operated}
+use Rattle.vsi_bound.proofs.values.operate.Goals as goal
+
+pub returns : goal.returns
+returns c =
+    operated c.args.op c.in-Some-pop.left c.in-Some.right c.applied.result _ _ _ _ c.in-Some.ensures.items
+    c.in-Some-pop.ensures.items c.in_ok-push.ensures.items c.applied.ensures

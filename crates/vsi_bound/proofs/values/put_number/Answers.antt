@@ -1,0 +1,7 @@
+use Rattle.std.proofs.Common.{arith}
+use Rattle.std.proofs.lemmas.Int.{ints}
+use Rattle.vsi_bound.proofs.Operands.{acts_push}
+use Rattle.vsi_bound.proofs.values.put_number.Goals as goal
+
+pub returns : goal.returns
+returns c facts = acts_push c.args.n _ facts _ _ c.in_ok-push.ensures.items (omega (arith, ints))

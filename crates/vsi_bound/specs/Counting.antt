@@ -1,0 +1,9 @@
+-- Loops that count.
+use Rattle.std.specs.Prelude.{◌≡◌, ◌≢◌, ℕ, zero, suc, ℤ, pos}
+use Rattle.vsi_syntax.specs.Operators.{sum_of}
+
+-- A loop whose guard is this function of its variable, and which adds the step at each turn, ends after so many turns
+-- with the last word in the variable.
+abbrev pub Counts : (ℤ → ℤ) → ℤ → ℕ → ℤ → ℤ → Type 0
+Counts guard step zero now last = (guard now ≡ pos 0) × (now ≡ last)
+Counts guard step (suc turns) now last = (guard now ≢ pos 0) × Counts guard step turns (sum_of now step) last

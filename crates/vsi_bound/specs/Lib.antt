@@ -1,0 +1,9 @@
+pub mod Known
+pub mod Stretch
+pub mod Values
+pub mod Counting
+pub mod Loops
+pub mod Looping
+pub mod Facts
+pub mod Bound
+pub mod Laws

@@ -1,0 +1,110 @@
+//! The bound of an image.
+
+ghost use Rattle.std.specs.Prelude.{◌≡◌, IfOk, OnOk, Some, slice_get, true};
+ghost use Rattle.vsi_image.specs.declared.instr.Instr.TheVariants as instr;
+ghost use Rattle.vsi_bound.specs.Bound.{Answers, IsLoop};
+ghost use Rattle.vsi_bound.specs.Facts.{AreSame};
+ghost use Rattle.vsi_bound.specs.Stretch.{Ends};
+
+use crate::cost::{Cost, exactly, sum};
+use crate::error::{Reason, Stop};
+use crate::known::Known;
+use crate::stretches::{is_at, jump_at, stretch, target_at};
+use std::alloc::{AllocError, Global};
+use vsi_image::{Image, Instr, Verified};
+use vsi_syntax::MAX_DEPTH;
+
+/// How many instructions an image can run.
+#[derive(Clone, Copy, PartialEq, Eq, Debug)]
+pub enum Bound {
+    /// From every store it halts, after no fewer instructions than `least` and no more than `most`.
+    /// Where both are equal, each of its runs has just so many.
+    Halts { least: u64, most: u64 },
+    /// The loop whose test is the instruction of this number has no bound.
+    Endless { test: usize, reason: Reason },
+    /// The instruction of this number doesn't belong to commands as a compiler lays them out.
+    Unstructured(usize),
+    /// Each loop has a bound, and the number of instructions is above the greatest `u64`.
+    TooLarge,
+}
+
+/// The facts of a start: each slot has its own word.
+fn fresh(alloc: Global, slots: u16) -> Result<Vec<Known>, AllocError>
+    ensures { IfOk result (λ facts. AreSame slots facts.items) }
+{
+    let mut facts = Vec::new(alloc);
+    for slot in 0..slots {
+        facts.push(Known::Same(slot))?;
+    }
+    Ok(facts)
+}
+
+/// Checks that there is a HALT at this place.
+fn check_halt(code: &[Instr], place: usize) -> Result<(), Stop>
+    ensures { OnOk result (slice_get code.now place ≡ Some instr.Halt) }
+{
+    if is_at(code, place, Instr::Halt) {
+        Ok(())
+    } else {
+        Err(Stop::Unread(place))
+    }
+}
+
+/// The cost of an image's runs.
+fn cost_of(alloc: Global, image: &Image) -> Result<Cost, Stop>
+    ensures { IfOk result (Ends image.now.code.items image.now.slots) }
+{
+    let code = image.code.as_slice();
+    let Some(halt) = code.len().checked_sub(1) else {
+        return Err(Stop::Unread(0));
+    };
+    check_halt(code, halt)?;
+    let mut facts = fresh(alloc, image.slots)?;
+    let cost = stretch(alloc, code, &mut facts, 0, halt, MAX_DEPTH as u16)?;
+    let whole = sum(cost, exactly(1))?;
+    Ok(whole)
+}
+
+/// Whether the instruction at this place tests the guard of a loop.
+fn is_loop(code: &[Instr], test: usize) -> bool
+    ensures { result ≡ true → IsLoop code.now test }
+{
+    let Some(target) = target_at(code, test) else {
+        return false;
+    };
+    if target == 0 {
+        return false;
+    }
+    match jump_at(code, target - 1) {
+        Some(start) => start <= test,
+        None => false,
+    }
+}
+
+/// How many instructions an image can run. Time is linear in the code, times the depth to which
+/// loops nest, and each loop and each conditional goes over the slots.
+///
+/// # Errors
+///
+/// There was no memory for what is known of the slots.
+pub fn bound_of(alloc: Global, image: &Verified) -> Result<Bound, AllocError>
+    ensures { IfOk result (Answers image.now) }
+{
+    match cost_of(alloc, image.image()) {
+        Ok(cost) => Ok(Bound::Halts {
+            least: cost.least,
+            most: cost.most,
+        }),
+        Err(Stop::Endless(test, reason)) => {
+            // It is one; the test proves it.
+            if is_loop(&image.image().code, test) {
+                Ok(Bound::Endless { test, reason })
+            } else {
+                Ok(Bound::Unstructured(test))
+            }
+        }
+        Err(Stop::Unread(place)) => Ok(Bound::Unstructured(place)),
+        Err(Stop::TooLarge) => Ok(Bound::TooLarge),
+        Err(Stop::Memory) => Err(AllocError),
+    }
+}

@@ -1,0 +1,103 @@
+//! The cost of a loop, from that of one turn.
+
+ghost use Rattle.std.specs.Prelude.{◌≡◌, ◌+◌, ◌-◌, ◌*◌, ◌^◌, ◌<◌, ◌≤◌, IfOk, OnOk, length};
+ghost use Rattle.vsi_bound.specs.Loops.{Keeps};
+ghost use Rattle.vsi_bound.specs.Looping.{Finished, IsCounter};
+ghost use Rattle.vsi_bound.specs.Stretch.{Evaluates};
+
+use crate::cost::{Cost, exactly, sum, times};
+use crate::error::{Reason, Stop};
+use crate::facts::{keeps, leave};
+use crate::known::Known;
+use crate::loops::{Counter, counter_of};
+use crate::values::evaluate;
+use std::alloc::Global;
+use vsi_image::Instr;
+
+/// A test that begins a conditional or a loop: where its guard begins, its own place, its target,
+/// the place of the jump before the target, and where that leads to.
+#[derive(Clone, Copy)]
+pub(crate) struct Test {
+    pub start: usize,
+    pub place: usize,
+    pub target: usize,
+    pub jump: usize,
+    pub end: usize,
+}
+
+/// The fact about the guard of a loop, if these facts hold at the start of a turn.
+pub(crate) fn guard_at(
+    alloc: Global,
+    code: &[Instr],
+    entry: &[Known],
+    test: Test,
+) -> Result<Known, Stop>
+    ensures { IfOk result (Evaluates code.now entry.now test.start test.place) }
+{
+    let (end, guard) = evaluate(alloc, code, entry, test.start)?;
+    if end == test.place {
+        Ok(guard)
+    } else {
+        Err(Stop::Unread(end))
+    }
+}
+
+/// The variable of the loop with this test.
+fn counter(facts: &[Known], test: Test, guard: Known, turned: &[Known]) -> Result<Counter, Stop>
+    ensures { IfOk result (λ c. IsCounter facts.now guard turned.now c.slot c.turns c.last) }
+{
+    match counter_of(facts, guard, turned) {
+        Ok(counter) => Ok(counter),
+        Err(reason) => Err(Stop::Endless(test.place, reason)),
+    }
+}
+
+/// Checks that a turn keeps each number.
+fn check_kept(entry: &[Known], turned: &[Known], place: usize) -> Result<(), Stop>
+    requires { length turned.now ≡ length entry.now }
+    ensures { OnOk result (Keeps entry.now turned.now) }
+{
+    if keeps(entry, turned) {
+        Ok(())
+    } else {
+        Err(Stop::Endless(place, Reason::Step))
+    }
+}
+
+/// The cost of so many turns, each of which tests the guard, does its body and jumps back, and of
+/// the last test.
+fn whole(turns: u64, tested: u64, body: Cost) -> Result<Cost, Stop>
+    requires { tested < 2 ^ 63 }
+    ensures least { IfOk result
+        (λ cost. cost.least ≡ turns * (body.least + (tested + 1)) + tested) }
+    ensures most { IfOk result
+        (λ cost. cost.most ≡ turns * (body.most + (tested + 1)) + tested) }
+{
+    let turn = sum(body, exactly(tested + 1))?;
+    let all = times(turns, turn)?;
+    sum(all, exactly(tested))
+}
+
+/// The cost of a loop; leaves the facts that hold after it.
+pub(crate) fn finish(
+    facts: &mut [Known],
+    test: Test,
+    entry: &[Known],
+    guard: Known,
+    turned: &[Known],
+    body: Cost,
+) -> Result<Cost, Stop>
+    requires entry { length entry.now ≡ length facts.old }
+    requires turned { length turned.now ≡ length facts.old }
+    requires order { test.start ≤ test.place }
+    requires short { test.place < 2 ^ 32 }
+    ensures { IfOk result (λ cost. Finished facts.old entry.now guard turned.now
+        (test.place - test.start + 1) body cost facts.new) }
+{
+    let counter = counter(facts, test, guard, turned)?;
+    check_kept(entry, turned, test.place)?;
+    let tested = (test.place - test.start + 1) as u64;
+    let cost = whole(counter.turns, tested, body)?;
+    leave(facts, entry, turned, counter.slot, counter.last);
+    Ok(cost)
+}

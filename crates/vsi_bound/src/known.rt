@@ -1,0 +1,79 @@
+//! Facts about words.
+
+ghost use Rattle.std.specs.Prelude.{◌≡◌, ℤ, List};
+ghost use Rattle.vsi_syntax.specs.Operators.{apply};
+ghost use Rattle.vsi_syntax.specs.declared.operator.Op.TheVariants.{Add, Sub, Lt};
+ghost use Rattle.vsi_bound.specs.Known.{Means};
+
+use vsi_syntax::Op;
+
+/// A fact about a word, in terms of the slots at an earlier place.
+#[derive(Clone, Copy, PartialEq, Eq)]
+pub(crate) enum Known {
+    /// It is this number.
+    Number(i64),
+    /// It is the word that this slot had.
+    Same(u16),
+    /// It is that word and this number, added up.
+    Moved(u16, i64),
+    /// It is 1 where the word that this slot had is below this number, else 0.
+    Below(u16, i64),
+    /// It is 1 where that word is above this number, else 0.
+    Above(u16, i64),
+    /// Nothing.
+    Any,
+}
+
+/// The fact about a sum.
+fn sum(left: Known, right: Known) -> Known
+    ensures { (m : List ℤ) (a b : ℤ) → Means m left a → Means m right b
+        → Means m result (apply Add a b) }
+{
+    match (left, right) {
+        (Known::Same(slot), Known::Number(n)) => Known::Moved(slot, n),
+        (Known::Number(n), Known::Same(slot)) => Known::Moved(slot, n),
+        _ => Known::Any,
+    }
+}
+
+/// The fact about a difference.
+fn difference(left: Known, right: Known) -> Known
+    ensures { (m : List ℤ) (a b : ℤ) → Means m left a → Means m right b
+        → Means m result (apply Sub a b) }
+{
+    match (left, right) {
+        (Known::Same(slot), Known::Number(n)) => {
+            if n == i64::MIN {
+                Known::Any
+            } else {
+                Known::Moved(slot, -n)
+            }
+        }
+        _ => Known::Any,
+    }
+}
+
+/// The fact about a comparison.
+fn less(left: Known, right: Known) -> Known
+    ensures { (m : List ℤ) (a b : ℤ) → Means m left a → Means m right b
+        → Means m result (apply Lt a b) }
+{
+    match (left, right) {
+        (Known::Same(slot), Known::Number(n)) => Known::Below(slot, n),
+        (Known::Number(n), Known::Same(slot)) => Known::Above(slot, n),
+        _ => Known::Any,
+    }
+}
+
+/// The fact about the word that an operator gives.
+pub(crate) fn applied(op: Op, left: Known, right: Known) -> Known
+    ensures { (m : List ℤ) (a b : ℤ) → Means m left a → Means m right b
+        → Means m result (apply op a b) }
+{
+    match op {
+        Op::Add => sum(left, right),
+        Op::Sub => difference(left, right),
+        Op::Lt => less(left, right),
+        Op::Mul | Op::Eq => Known::Any,
+    }
+}

@@ -1,0 +1,110 @@
+//! The turns of one loop.
+
+ghost use Rattle.std.specs.Prelude.{◌≡◌, IfOk, IfSome, Some, slice_get};
+ghost use Rattle.vsi_bound.specs.declared.known.Known.TheVariants as spec;
+ghost use Rattle.vsi_bound.specs.Counting.{Counts};
+ghost use Rattle.vsi_bound.specs.Looping as looping;
+ghost use Rattle.vsi_bound.specs.Looping.{IsCounter, guard_value};
+
+use crate::counting::{Turns, turns_down, turns_up};
+use crate::error::Reason;
+use crate::known::Known;
+
+/// The variable of a loop, its turns, and its word after them.
+#[derive(Clone, Copy)]
+pub(crate) struct Counter {
+    pub slot: u16,
+    pub turns: u64,
+    pub last: i64,
+}
+
+/// The number that a slot has.
+fn number_at(facts: &[Known], slot: u16) -> Option<i64>
+    ensures { IfSome result (λ n. slice_get facts.now slot ≡ Some (spec.Number n)) }
+{
+    if slot as usize >= facts.len() {
+        return None;
+    }
+    match facts[slot as usize] {
+        Known::Number(n) => Some(n),
+        _ => None,
+    }
+}
+
+/// The number that a turn adds to a slot.
+fn step_at(turned: &[Known], slot: u16) -> Option<i64>
+    ensures { IfSome result (λ d. slice_get turned.now slot ≡ Some (spec.Moved slot d)) }
+{
+    if slot as usize >= turned.len() {
+        return None;
+    }
+    match turned[slot as usize] {
+        Known::Moved(from, d) => { if from == slot { Some(d) } else { None } }
+        _ => None,
+    }
+}
+
+/// The reason for which a loop doesn't count from the start to the limit.
+fn reason_of(start: i64, step: i64, limit: i64, up: bool) -> Reason {
+    let leads = if up { step > 0 } else { step < 0 };
+    let begun = if up { start < limit } else { start > limit };
+    if begun && !leads {
+        Reason::Step
+    } else {
+        Reason::Wraps
+    }
+}
+
+/// The turns of a loop that goes up or down to a limit.
+fn counted(start: i64, step: i64, limit: i64, up: bool) -> Option<Turns>
+    ensures { IfSome result (λ t. Counts (guard_value up limit) step t.turns start t.last) }
+{
+    if up {
+        turns_up(start, step, limit)
+    } else {
+        turns_down(start, step, limit)
+    }
+}
+
+/// The same, or the reason for which there are none.
+fn turns_of(start: i64, step: i64, limit: i64, up: bool) -> Result<Turns, Reason>
+    ensures { IfOk result (λ t. Counts (guard_value up limit) step t.turns start t.last) }
+{
+    match counted(start, step, limit, up) {
+        Some(turns) => Ok(turns),
+        None => Err(reason_of(start, step, limit, up)),
+    }
+}
+
+/// The slot, the limit and the direction of a guard.
+fn guard_of(guard: Known) -> Option<(u16, i64, bool)>
+    ensures { IfSome result (λ g. guard ≡ looping.guard_of g.2 g.0 g.1) }
+{
+    match guard {
+        Known::Below(slot, limit) => Some((slot, limit, true)),
+        Known::Above(slot, limit) => Some((slot, limit, false)),
+        _ => None,
+    }
+}
+
+/// The variable by which a loop counts, from the facts before the loop, about its guard, and after
+/// each turn.
+pub(crate) fn counter_of(facts: &[Known], guard: Known, turned: &[Known]) -> Result<Counter, Reason>
+    ensures { IfOk result (λ c. IsCounter facts.now guard turned.now c.slot c.turns c.last) }
+{
+    let Some((slot, limit, up)) = guard_of(guard) else {
+        return Err(Reason::Guard);
+    };
+    let Some(start) = number_at(facts, slot) else {
+        return Err(Reason::Start);
+    };
+    let Some(step) = step_at(turned, slot) else {
+        return Err(Reason::Step);
+    };
+    let turns = turns_of(start, step, limit, up)?;
+    Ok(Counter {
+        slot,
+        turns: turns.turns,
+        last: turns.last,
+    })
+}
