@@ -56,6 +56,8 @@ cut_within (request.Leak search) = omega arith
 cut_within (request.Report c) = omega arith
 cut_within (request.Draw drawing) = omega arith
 cut_within (request.Format source) = omega arith
+cut_within (request.Try attempt) = omega arith
+cut_within (request.Lattice arguments) = omega arith
 cut_within (request.Explain page) = omega arith
 
 -- Where the explanation of a stop has found no memory, the same is left.

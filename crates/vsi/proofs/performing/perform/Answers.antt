@@ -97,7 +97,7 @@ returns-in-Try-clause-performed g c = rw c.in-Try.is
 pub returns-in-Lattice-clause-performed : goal.returns-in-Lattice-clause-performed
 returns-in-Lattice-clause-performed g c = rw c.in-Lattice.is
     (put_alone (ShapedText c.in-Lattice.arguments.items) _ _ _ _ c.lattice.result c.put-in-Lattice.result refl
-    (subst (λ a. IfOk c.lattice.result (ShapedText a)) c.as_slice-arguments.ensures.value c.lattice.ensures.told)
+    (subst (λ a. IfOk c.lattice.result (ShapedText a)) c.as_slice.ensures.value c.lattice.ensures.told)
     c.put-in-Lattice.ensures.done)
 
 pub returns-in-Explain-clause-performed : goal.returns-in-Explain-clause-performed
@@ -154,7 +154,7 @@ returns-in-Try-clause-left g c = rw c.in-Try.is
 pub returns-in-Lattice-clause-left : goal.returns-in-Lattice-clause-left
 returns-in-Lattice-clause-left g c = rw c.in-Lattice.is
     (put_leaves (ShapedText c.in-Lattice.arguments.items) _ _ c.lattice.result c.put-in-Lattice.result
-    (subst (λ a. IfOk c.lattice.result (ShapedText a)) c.as_slice-arguments.ensures.value c.lattice.ensures.told)
+    (subst (λ a. IfOk c.lattice.result (ShapedText a)) c.as_slice.ensures.value c.lattice.ensures.told)
     c.put-in-Lattice.ensures.left)
 
 pub returns-in-Audit-clause-left : goal.returns-in-Audit-clause-left

@@ -10,7 +10,7 @@ use Rattle.vsi.proofs.trying.ran.Goals as goal
 pub returns-clause-runs : goal.returns-clause-runs
 returns-clause-runs c =
     IfOk-weaker c.shown.result
-    (λ lines. ShowsTo c.args.lattice.now c.args.viewer c.in_ok-verified.verified c.as_slice-words.result.now
+    (λ lines. ShowsTo c.args.lattice.now c.args.viewer c.in_ok-verified.verified c.as_slice-2.result.now
     c.args.attempt.now.budget (Ok lines))
     (λ lines. RunsMade c.args.lattice.now c.args.viewer c.args.attempt.now c.args.text.now (Ok lines))
     (λ lines shows. record {
@@ -18,11 +18,11 @@ returns-clause-runs c =
       made = c.in_ok-verified.ensures.made;
       words = c.in_ok-words.words;
       begins = subst (λ s. BeginsSet c.in_ok-verified.verified s (Ok c.in_ok-words.words))
-          c.as_slice-settings.ensures.value c.in_ok-words.ensures.begins;
+          c.as_slice.ensures.value c.in_ok-words.ensures.begins;
       shows = subst
           (λ w. ShowsTo c.args.lattice.now c.args.viewer c.in_ok-verified.verified w c.args.attempt.now.budget
           (Ok lines))
-          c.as_slice-words.ensures.value shows;
+          c.as_slice-2.ensures.value shows;
     })
     c.shown.ensures.shows
 
@@ -30,10 +30,10 @@ pub returns-clause-stopped : goal.returns-clause-stopped
 returns-clause-stopped c =
     IfErr-weaker c.shown.result
     (StopsBy (λ reason. ShowsTo c.args.lattice.now c.args.viewer c.in_ok-verified.verified
-    c.as_slice-words.result.now c.args.attempt.now.budget (Err reason)) NoOther)
+    c.as_slice-2.result.now c.args.attempt.now.budget (Err reason)) NoOther)
     (StopsBy (RefusesRun c.args.lattice.now c.args.viewer c.args.attempt.now c.args.text.now) NoOther)
     (stops_by
-    (λ reason. ShowsTo c.args.lattice.now c.args.viewer c.in_ok-verified.verified c.as_slice-words.result.now
+    (λ reason. ShowsTo c.args.lattice.now c.args.viewer c.in_ok-verified.verified c.as_slice-2.result.now
     c.args.attempt.now.budget (Err reason))
     (RefusesRun c.args.lattice.now c.args.viewer c.args.attempt.now c.args.text.now) NoOther
     (λ reason shows. inr (inr (record {
@@ -41,11 +41,11 @@ returns-clause-stopped c =
       made = c.in_ok-verified.ensures.made;
       words = c.in_ok-words.words;
       begins = subst (λ s. BeginsSet c.in_ok-verified.verified s (Ok c.in_ok-words.words))
-          c.as_slice-settings.ensures.value c.in_ok-words.ensures.begins;
+          c.as_slice.ensures.value c.in_ok-words.ensures.begins;
       shows = subst
           (λ w. ShowsTo c.args.lattice.now c.args.viewer c.in_ok-verified.verified w c.args.attempt.now.budget
           (Err reason))
-          c.as_slice-words.ensures.value shows;
+          c.as_slice-2.ensures.value shows;
     }))))
     c.shown.ensures.stopped
 
@@ -58,12 +58,12 @@ returns-in_err-verified-clause-stopped c =
 pub returns-in_err-words-clause-stopped : goal.returns-in_err-words-clause-stopped
 returns-in_err-words-clause-stopped c =
     stopped_by
-    (λ reason. BeginsSet c.in_ok-verified.verified c.as_slice-settings.result.now (Err reason))
+    (λ reason. BeginsSet c.in_ok-verified.verified c.as_slice.result.now (Err reason))
     (RefusesRun c.args.lattice.now c.args.viewer c.args.attempt.now c.args.text.now) NoOther
     (λ reason is. inr (inl (record {
       image = c.in_ok-verified.verified;
       made = c.in_ok-verified.ensures.made;
-      is = subst (λ s. BeginsSet c.in_ok-verified.verified s (Err reason)) c.as_slice-settings.ensures.value is;
+      is = subst (λ s. BeginsSet c.in_ok-verified.verified s (Err reason)) c.as_slice.ensures.value is;
     })))
     c.from_residual-in_err-words.result c.in_err-words.field-0.0 c.from_residual-in_err-words.ensures.1
     c.in_err-words.ensures.stopped

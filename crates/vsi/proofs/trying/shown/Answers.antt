@@ -6,12 +6,12 @@ use Rattle.vsi.proofs.trying.shown.Goals as goal
 pub returns-in-Some-clause-shows : goal.returns-in-Some-clause-shows
 returns-in-Some-clause-shows c = rw c.in-Some.is
     (answered_told (ViewsTo c.args.lattice.now c.in-Some.class c.args.verified.now c.args.words.now c.args.budget)
-    c.view.result c.answered.result c.answered.ensures c.view.ensures.views)
+    c.view-lines.result c.answered.result c.answered.ensures c.view-lines.ensures.views)
 
 pub returns-in-Some-clause-stopped : goal.returns-in-Some-clause-stopped
 returns-in-Some-clause-stopped c = rw c.in-Some.is
     (answered_stops (ViewsTo c.args.lattice.now c.in-Some.class c.args.verified.now c.args.words.now c.args.budget)
-    c.view.result c.answered.result c.answered.ensures c.view.ensures.views)
+    c.view-lines.result c.answered.result c.answered.ensures c.view-lines.ensures.views)
 
 pub returns-in-None-clause-shows : goal.returns-in-None-clause-shows
 returns-in-None-clause-shows c = rw c.in-None.is

@@ -1,10 +1,10 @@
-use Rattle.std.proofs.Common.{refl}
+use Rattle.std.proofs.Common.{Some, refl}
 use Rattle.vsi.specs.Reasons.{LacksGiven, StopsBy}
 use Rattle.vsi.proofs.Reasons.{handed}
 use Rattle.vsi.proofs.trying.viewer_of.Goals as goal
 
-pub returns-in-Some-clause-looks : goal.returns-in-Some-clause-looks
-returns-in-Some-clause-looks c = rw c.in-Some.is
+pub returns-in_ok-class-in-Some-clause-looks : goal.returns-in_ok-class-in-Some-clause-looks
+returns-in_ok-class-in-Some-clause-looks c = rw c.in-Some.is
     (c.in_ok-class-in-Some.class, c.in_ok-class-in-Some.ensures.named, refl)
 
 pub returns-in-None-clause-looks : goal.returns-in-None-clause-looks
