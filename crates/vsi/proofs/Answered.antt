@@ -1,4 +1,4 @@
--- What stands for an answer.
+-- The result that an answer becomes.
 use Rattle.std.proofs.Common.{◌≡◌, ℕ, Result, Ok, Err, sym, subst}
 use Rattle.std.specs.Prelude.{IfOk, MatchResult}
 use Rattle.std.specs.Global.{Vec}
@@ -6,7 +6,7 @@ use Rattle.vsi_answers.specs.declared.unanswered.Unanswered.{Unanswered}
 use Rattle.vsi.specs.declared.stop.Stop.{Stop}
 use Rattle.vsi.specs.Stops.{stop_of}
 
--- What is told of an answer is told of the text that stands for it.
+-- A property of an answer holds for the text that it becomes.
 pub answered_told : (P : Result (Vec ℕ) Unanswered → Type 0) (answer : Result (Vec ℕ) Unanswered)
     (result : Result (Vec ℕ) Stop) →
     MatchResult answer (λ text. result ≡ Ok text) (λ reason. result ≡ Err (stop_of reason)) → P answer →

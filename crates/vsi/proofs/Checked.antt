@@ -1,4 +1,4 @@
--- What is so where `check` is done to the end.
+-- The facts that hold if `check` is done to the end.
 use Rattle.std.proofs.Common.{ℕ, List, Option, Bool, subst, inl, inr}
 use Rattle.std.specs.Prelude.{Ok, false}
 use Rattle.vsi_types.specs.declared.rules.Profile.TheVariants.{Base}

@@ -11,7 +11,7 @@ use Rattle.vsi.specs.Performed.{IsAskedAt, IsVerdict}
 use Rattle.vsi.specs.Reasons.{NoOther, RefusesAsked, RefusesPolicy, StopsBy}
 use Rattle.vsi.proofs.Reasons.{stops_by}
 
--- What is true where a text conforms, and only there, tells its verdict.
+-- A Boolean that is true exactly if a text conforms gives its verdict.
 pub is_verdict : (conforms : Bool) (l : Lattice) (source : List ℕ) (i : Interface) →
     (conforms ≡ true → Conforms l source i) → (Conforms l source i → conforms ≡ true) → IsVerdict conforms l source i
 is_verdict true l source i is exact = is refl

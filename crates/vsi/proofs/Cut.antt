@@ -20,7 +20,7 @@ more_lines c m xs ys old new part =
     subst (λ t. WritesPart t old new) (sym (text_of-append c m xs ys))
     (longer_text old new (text_of c m xs) (text_of c (store_behind c m xs) ys) part)
 
--- What some lines write, and a part of what others do behind them.
+-- The text of some lines, followed by a part of the text of others.
 pub then_lines : (c : Control) (m mid : List ℤ) (xs ys : List (List ℕ)) (old between new : Option (List ℕ)) →
     Drives c m mid xs old between → WritesPart (text_of c mid ys) between new →
     WritesPart (text_of c m (xs ++ ys)) old new
@@ -63,7 +63,7 @@ at_byte bytes i within =
     ∙ ap (λ l. l ++ drop (i + 1) bytes) (take_more bytes i 0 within)
     ∙ append_assoc (take i bytes) (get_or bytes i 0 ∷ []) (drop (i + 1) bytes)
 
--- What the lines of the bytes that were read have written is a part of what those of the whole input write.
+-- The text of the lines in the bytes read so far is a part of the text of the lines of the whole input.
 pub input_cut : (c : Control) (m : List ℤ) (bytes : List ℕ) (first rest old new : Option (List ℕ)) →
     Consumes first rest bytes → WritesPart (text_of c m (whole_lines [] bytes)) old new →
     Partly (DrivenText c m first) old new

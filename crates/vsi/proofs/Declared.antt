@@ -21,7 +21,7 @@ same_parts K L count leq bottom top =
 abbrev IsOfClasses : Order → Type 0
 IsOfClasses L = (a b : ℕ) → Below L a b → (a < L.count) × (b < L.count)
 
--- What is below by one order that pairs declare is below by another one that they declare.
+-- A class that is below another by one order declared by pairs is below it by every order that they declare.
 below_too : (count : ℕ) (pairs : List (ℕ × ℕ)) (K L : Order) → IsDeclared count pairs K → IsDeclared count pairs L →
     IsOfClasses K → (a b : ℕ) → Below K a b → Below L a b
 below_too count pairs K L k l within a b below =
@@ -47,7 +47,7 @@ same_order count pairs K L k l in_k in_l is_k is_l =
     (is_k.antisymmetric K.top L.top is_k.top_within top_k (down K.top L.top (is_l.top_greatest K.top top_l))
     (is_k.top_greatest L.top top_k))
 
--- Of two lattices that one file declares.
+-- The agreement of two lattices declared by one file.
 pub record AreAlike (l m : Lattice) : Type 0 where
   pub named : names l ≡ names m
   pub ordered : order l ≡ order m

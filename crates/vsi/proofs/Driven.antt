@@ -15,13 +15,13 @@ use Rattle.vsi_drive.specs.Cycles.{cycle, store_behind, text_of}
 use Rattle.vsi.specs.Performed.{control_of}
 use Rattle.vsi.specs.Driven.{Drives, DrivesInput, begun, grown, last_line, whole_lines}
 
--- The store behind some lines and others is the one behind the others, from that behind the first.
+-- The store after two lists of lines is the one after the second list, beginning with the store after the first.
 store_behind-append : (c : Control) (m : List ℤ) (xs ys : List (List ℕ)) →
     store_behind c m (xs ++ ys) ≡ store_behind c (store_behind c m xs) ys
 store_behind-append c m [] ys = refl
 store_behind-append c m (x ∷ xs) ys = store_behind-append c (cycle c m x).store xs ys
 
--- What is written of some lines and others is what is written of the first, and then of the others.
+-- The text of two lists of lines is the text of the first list, followed by that of the second.
 pub text_of-append : (c : Control) (m : List ℤ) (xs ys : List (List ℕ)) →
     text_of c m (xs ++ ys) ≡ text_of c m xs ++ text_of c (store_behind c m xs) ys
 text_of-append c m [] ys = refl
@@ -40,7 +40,7 @@ Drives-trans c m mid words xs ys old between new first second = record {
   store = second.store ∙ ap (λ s. store_behind c s ys) first.store ∙ sym (store_behind-append c m xs ys);
 }
 
--- What is so of both ends of a step is so of the step.
+-- A step keeps the whole lines of an append if both of its endings do.
 whole_cons : (b : Bool) (line g xs ys : List ℕ) → whole_lines [] (xs ++ ys) ≡ whole_lines [] xs ++ whole_lines
     (begun [] xs) ys →
     whole_lines g (xs ++ ys) ≡ whole_lines g xs ++ whole_lines (begun g xs) ys →
@@ -58,20 +58,20 @@ whole_lines-append line (x ∷ xs) ys =
     whole_cons (x == 10) line (grown line x) xs ys (whole_lines-append [] xs ys) (whole_lines-append (grown line x)
     xs ys)
 
--- The same of what stands behind them.
+-- The same for the bytes after them.
 begun_cons : (b : Bool) (g xs ys : List ℕ) → begun [] (xs ++ ys) ≡ begun (begun [] xs) ys →
     begun g (xs ++ ys) ≡ begun (begun g xs) ys →
     (if b then begun [] (xs ++ ys) else begun g (xs ++ ys)) ≡ begun (if b then begun [] xs else begun g xs) ys
 begun_cons true g xs ys ended going = ended
 begun_cons false g xs ys ended going = going
 
--- What stands behind the last line feed of some bytes and others.
+-- The bytes after the last line feed of two lists of bytes.
 pub begun-append : (line xs ys : List ℕ) → begun line (xs ++ ys) ≡ begun (begun line xs) ys
 begun-append line [] ys = refl
 begun-append line (x ∷ xs) ys =
     begun_cons (x == 10) (grown line x) xs ys (begun-append [] xs ys) (begun-append (grown line x) xs ys)
 
--- At a line feed the line that stands is driven.
+-- At a line feed the line that was read is driven.
 pub line_ended : (c : Control) (m mid words : List ℤ) (line done cur : List ℕ) (byte : ℕ)
     (old between new : Option (List ℕ)) → Drives c m mid (whole_lines line done) old between → cur ≡ begun line done →
     byte ≡ 10 → Appends between new (cycle c mid cur).line → words ≡ (cycle c mid cur).store →
@@ -95,7 +95,7 @@ line_goes_on c m words line done byte old new first other =
     ∙ append-nil (whole_lines line done)))
     first
 
--- Behind a line feed nothing stands of a line.
+-- After a line feed a line has no bytes yet.
 pub ended_begun : (line done : List ℕ) (byte : ℕ) → byte ≡ 10 → begun line (done ++ byte ∷ []) ≡ []
 ended_begun line done byte feed =
     begun-append line done (byte ∷ [])
@@ -149,12 +149,12 @@ driven_whole c m mid words bytes cur line first rest last old between new result
     })
     done
 
--- What a controller is driven by, part by part.
+-- The control of a controller, part by part.
 pub control_is : (k : Control) (l : Lattice) (class : ℕ) (im : Image) (budget : ℕ) → k.known ≡ class_named l →
     k.order ≡ order l → k.class ≡ class → k.image ≡ im → k.budget ≡ budget → k ≡ control_of l class im budget
 control_is k l class im budget known ordered seen is within =
     λ i. record { known = known i; order = ordered i; class = seen i; image = is i; budget = within i }
 
--- What a slice of a whole vector becomes is what the vector becomes.
+-- A vector becomes what the slice of the whole vector becomes.
 pub written_back : (n : ℕ) (xs ys : List ℤ) → length xs ≡ n → take n (xs ++ ys) ≡ xs
 written_back n xs ys is = subst (λ k. take k (xs ++ ys) ≡ xs) is (take-append_seam xs ys)

@@ -1,4 +1,4 @@
--- What files hold where a text has been put into one.
+-- The contents of files after a text has been put into one.
 use Rattle.std.proofs.Common.{◌≡◌, ℕ, List, Result, Ok, Err, subst}
 use Rattle.std.specs.Prelude.{◌≢◌, ◌<◌, Option, IfErr, IfOk, OnOk}
 use Rattle.std.specs.Borrow.{Bor}
@@ -6,25 +6,25 @@ use Rattle.vsi.specs.declared.stop.Stop.{Stop}
 use Rattle.vsi.specs.Stops.{status_of}
 use Rattle.vsi.specs.Holding.{Delivers, Holding}
 
--- What is done without filling a file leaves them as they were.
+-- A deed that fills no file leaves the files as they were.
 pub alone : {T : Type 0} (A : Type 0) (result : Result T Stop) (left holds : Holding) → left ≡ holds → OnOk result A →
     OnOk result ((left ≡ holds) × A)
 alone A (Ok x) left holds same does = (same, does)
 alone A (Err stop) left holds same does = tt
 
--- What is so of two things that are done is so of both.
+-- Two properties of one result hold together.
 pub both_done : {T : Type 0} (A B : Type 0) (result : Result T Stop) → OnOk result A → OnOk result B → OnOk result
     (A × B)
 both_done A B (Ok x) a b = (a, b)
 both_done A B (Err stop) a b = tt
 
--- A text has been put where it is asked for, by files that held the same before.
+-- A text has been put into the requested file, by files that held the same before.
 pub delivered_of : (out : Option (Bor (List ℕ))) (text same : List ℕ) (old before new : Holding) → text ≡ same →
     old ≡ before → Delivers out text old new → Delivers out same before new
 delivered_of out text same old before new is kept done =
     subst (λ h. Delivers out same h new) kept (subst (λ t. Delivers out t old new) is done)
 
--- What is so of the files where an answer stops early is so where the status says that it has.
+-- A property of the files after an answer that stops early holds if the status says that it has.
 pub unfilled_at : {T : Type 0} (A : Type 0) (answer : Result T Stop) (status : ℕ) →
     IfErr answer (λ stop. status_of stop < 4 → A) → IfOk answer (λ x. status ≡ 0) →
     IfErr answer (λ stop. status ≡ status_of stop) → status ≢ 0 → status < 4 → A

@@ -1,4 +1,4 @@
--- What the requests leave of the output where they stop.
+-- The output that requests leave if they stop.
 use Rattle.std.proofs.Common.{◌≡◌, ◌+◌, ◌-◌, ◌≤◌, ◌<◌, ◌⊎◌, ◌++◌, ◌∙◌, ℕ, ℤ, List, [], Bool, true, false, Option, Some, Result, Ok, Err, inl, inr, refl, sym, ap, subst, arith}
 use Rattle.std.specs.Prelude.{◌≢◌, IfOk, IfErr}
 use Rattle.std.specs.Global.{Vec}
@@ -66,7 +66,7 @@ pub leaves_memory : (Kind : List ℕ → Type 0) (asked : Request) (old new : Op
 leaves_memory Kind asked old new part =
     record { partly = part; silent = λ other below. absurd (omega (arith, below, cut_within asked)) }
 
--- Of a status that isn't 0 what is left of the output where an answer stops is left.
+-- If the status isn't 0, the output is left as a stopped answer leaves it.
 pub partly_at : {T : Type 0} (A : Type 0) (answer : Result T Stop) (status : ℕ) → IfErr answer (λ stop. A) →
     IfOk answer (λ x. status ≡ 0) → status ≢ 0 → A
 partly_at A (Ok x) status so done some = absurd (some done)
@@ -83,7 +83,7 @@ steps_text code k budget s old new within written =
     (sym rest.1 ∙ ap (λ n. trace_text code n s) (let same : k + (budget - k) ≡ budget = omega (arith, within) in same))
     (longer_text old new (trace_text code k s) rest.0 (whole_part (trace_text code k s) old new written))
 
--- The same where a trace may be asked for or not.
+-- The same with a requested trace or without.
 steps_part : (traced : Bool) (code : List Instr) (budget : ℕ) (s : State) (old new : Option (List ℕ)) →
     WrittenSteps (λ k. trace_of traced code k s) budget old new → WritesPart (trace_of traced code budget s) old new
 steps_part true code budget s old new (k, within, written) = steps_text code k budget s old new within written
@@ -129,7 +129,7 @@ shown_part holds e o traced image words given text delivered trace old mid new b
           (subst (λ t. WritesPart (shown o.out t) mid new) is part),
     )
 
--- What a call that only writes has written where it has stopped.
+-- The output of a call that only writes, if it has stopped.
 written_part : (text : List ℕ) (old new : Option (List ℕ)) (Steps : Type 0) (error : EngineError) →
     IsOfWriting error → (error ≡ engine.WriteFault → WritesPart text old new) → (error ≡ engine.Memory → Steps) →
     (Steps → WritesPart text old new) → WritesPart text old new
@@ -179,7 +179,7 @@ device_leaf Kind engine.Memory old new stop only write memory part =
 
 -- ---- controllers.
 
--- What a controller has written of its input is a part of the answer of `drive`.
+-- The text that a controller has written for its input is a part of the answer of `drive`.
 pub driven_answers : (holds : Holding) (d : Driving) (given old new : Option (List ℕ)) (l : Lattice) (driver : ℕ)
     (image : Image) (first : List ℤ) (k : Control) → LooksAt holds d.lattice.now d.class.now l driver →
     IsImageAt holds d.execution.image.now image → IsStoredAt holds d.execution.store image first →

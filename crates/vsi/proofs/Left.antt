@@ -1,4 +1,4 @@
--- What a class is shown of two runs of an image, of the files as `build` has left them.
+-- The views that a class has of two runs of an image, with the files as `build` has left them.
 use Rattle.std.proofs.Common.{◌≡◌, ◌≢◌, ◌∙◌, ℕ, ℤ, ◌++◌, List, length, Option, Some, None, inl, inr, refl, sym, ap, subst, unwrap_or}
 use Rattle.std.specs.Prelude.{Ok, String, IsSome, codes}
 use Rattle.std.specs.Borrow.{Bor}
@@ -40,7 +40,7 @@ use Rattle.vsi.proofs.Short.{built_short, read_again, read_whole}
 
 -- ---- what is left, and what is seen of it.
 
--- An image has been built under the lattice of one file, and stands in another.
+-- An image has been built under the lattice of one file, and is in another.
 record Leaves (holds : Holding) (path image : List ℕ) (left : Holding) : Type 0 where
   lattice : Lattice
   declared : IsLatticeAt holds path lattice
@@ -64,14 +64,14 @@ record Sees (holds : Holding) (path class : List ℕ) (e : Execution) (o : Outse
 
 -- ---- of one lattice and one image.
 
--- What is built under a lattice is built under one that is alike.
+-- An image built under a lattice is also built under an agreeing one.
 built_alike : (l m : Lattice) (P : Profile) (source : List ℕ) (bytes : Vec ℕ) → AreAlike l m →
     BuildsTo l P source (Ok bytes) → BuildsTo m P source (Ok bytes)
 built_alike l m P source bytes alike built =
     subst (λ L. IsBuilt (class_named m) L P source bytes.items) alike.ordered
     (subst (λ ns. IsBuilt (place_in ns) (order l) P source bytes.items) alike.named built)
 
--- What a class sees under a lattice it sees under one that is alike.
+-- A class sees the same text under an agreeing lattice.
 seen_alike : (l m : Lattice) (a : ℕ) (im : Image) (words : List ℤ) (budget : ℕ) (text : Vec ℕ) → AreAlike l m →
     ViewsTo l a im words budget (Ok text) → ViewsTo m a im words budget (Ok text)
 seen_alike l m a im words budget text alike views =
@@ -106,7 +106,7 @@ one_text l₀ l₁ l₂ P source bytes i₁ i₂ a₁ a₂ class m₁ m₂ b₁ 
 
 -- ---- of the files.
 
--- Lattices that are read of one file are alike, where it tells what it holds.
+-- Lattices read from one file agree, if its contents are known.
 alike_at : (holds : Holding) (path policy : List ℕ) (l m : Lattice) → holds path ≡ Some policy →
     IsLatticeAt holds path l → IsLatticeAt holds path m → AreAlike l m
 alike_at holds path policy l m tells first second =
@@ -123,7 +123,7 @@ lattice_left old new path l same at = record {
   declared = at.declared;
 }
 
--- The image that is read of the file in which bytes that were built stand is theirs.
+-- The image read from the file that holds built bytes is the image of those bytes.
 image_left : (holds left : Holding) (path image held asked : List ℕ) (leaves : Leaves holds path image left)
     (im : Image) → left image ≡ Some held → asked ≡ image → IsImageAt left asked im → AreImage leaves.bytes.items im
 image_left holds left path image held asked leaves im tells same at =
@@ -165,7 +165,7 @@ store_at holds (Some p) None file same is = absurd cc
 store_at holds (Some p) (Some q) file same is =
     let path : p.now ≡ q.now = cc in subst (λ n. IsReadAt holds n file) path is
 
--- What goes to the output of a text.
+-- The part of a text that goes to the output.
 shown_at : (old new : Option (Bor (List ℕ))) (text : List ℕ) → given old ≡ given new → shown old text ≡ shown new text
 shown_at None None text same = refl
 shown_at None (Some p) text same = absurd cc
@@ -186,7 +186,7 @@ delivered_at (Some p) (Some q) text before after same is =
           (λ e. apart (e ∙ path)) (λ e. beside (e ∙ ap (λ n. n ++ codes ".new") path));
     }
 
--- A build that words ask for leaves an image.
+-- A build that the arguments request leaves an image.
 leaves_of : (holds : Holding) (c d : Compilation) (i j : Bor (List ℕ)) (left : Holding) (old new : Option (List ℕ)) →
     SameBuild c d i j → PerformsBuild holds d j.now left old new → Leaves holds c.lattice.now i.now left
 leaves_of holds c d i j left old new same done =
@@ -214,7 +214,7 @@ begins_of holds l m x y e f o p im words same at = record {
   whole = at.whole;
 }
 
--- A view that words ask for sees a run, and shows it.
+-- A view that the arguments request sees a run, and shows it.
 record Shown (holds : Holding) (path class : List ℕ) (e : Execution) (o : Outset) (left : Holding)
     (old new : Option (List ℕ)) : Type 0 where
   text : Vec ℕ
@@ -246,7 +246,7 @@ shown_of holds l m x y e f o p left old new same done =
       };
     }
 
--- A build that words ask for, and no help, leaves an image where they are done.
+-- A build that the arguments request without help leaves an image if they are obeyed to the end.
 build_done : (holds : Holding) (input : Option (List ℕ)) (words : List (String Global)) (c : Compilation)
     (image : Bor (List ℕ)) (left : Holding) (old new : Option (List ℕ)) → AsksFor words (Build c image) →
     ¬ (AsksHelp words) → Done holds input words left old new → Leaves holds c.lattice.now image.now left
@@ -266,7 +266,7 @@ view_done holds input words l x e o left old new asked unhelped (inr (request, a
     shown_of holds l one.lattice x one.class e one.execution o one.outset left old new one.same
     (subst (λ (r : Request). Performs holds input r left old new) one.is performed)
 
--- What a file holds that tells it.
+-- The contents of a file that are known.
 held_by : (o : Option (List ℕ)) → IsSome o → (bytes : List ℕ) × (o ≡ Some bytes)
 held_by None some = absurd cc
 held_by (Some bytes) some = (bytes, refl)

@@ -7,7 +7,7 @@ use Rattle.vsi.specs.Holding.{Holding, IsReadAt}
 use Rattle.vsi.specs.Loading.{held, AreRead}
 use Rattle.vsi.specs.declared.loaded.Text.{Text}
 
--- What holds of a text if it is chosen holds of the one that is found, if any.
+-- A property that a text has if it is chosen holds for the text that is found, if any.
 only : (P : List ℕ → Type 0) (x : List ℕ) (b : Bool) → (b ≡ true → P x) → IfSome (if b then Some x else None) P
 only P x true one = one refl
 only P x false one = search
@@ -18,7 +18,7 @@ first : (P : List ℕ → Type 0) (x : List ℕ) (old new : Option (List ℕ)) (
 first P x old new true found step = found
 first P x old new false found step = step found
 
--- What holds of the text found among some, and of one more if it is at the path, holds of the one found among all.
+-- A property of the text found among some, and of one more if it is at the path, holds for the text found among all.
 held_more : (P : List ℕ → Type 0) (texts : List Text) (t : Text) (path : List ℕ) → IfSome (held texts path) P →
     (bytes_eq t.path.items path ≡ true → P t.bytes.items) → IfSome (held (texts ++ t ∷ []) path) P
 held_more P [] t path found one = only P t.bytes.items (bytes_eq t.path.items path) one
@@ -33,7 +33,7 @@ read_more holds texts t all one path =
     held_more (IsReadAt holds path) texts t path (all path)
     (λ same. subst (λ at. IsReadAt holds at t.bytes.items) ((bytes_eq-Decides t.path.items path).0 same) one)
 
--- What was read before a file is taken is read of the files as they were first, and so is what is there after it.
+-- The texts before a file is taken were read from the first files, and so were the texts after it.
 pub go_on : (first old new : Holding) (before after : List Text) → (old ≡ first) × AreRead first before → new ≡ old →
     (AreRead old before → AreRead old after) → (new ≡ first) × AreRead first after
 go_on first old new before after read kept told =

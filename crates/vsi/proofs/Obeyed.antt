@@ -19,13 +19,13 @@ use Rattle.vsi.specs.Stops.{status_of}
 use Rattle.vsi.proofs.Leaving.{leaves_memory}
 use Rattle.vsi.proofs.Reasons.{late_stops}
 
--- What is so of each stop is so of the one that an answer is.
+-- A property of every stop holds for the stop that an answer is.
 pub each_stop : {T : Type 0} (So : Stop → Type 0) (result : Result T Stop) → ((stop : Stop) → So stop) →
     IfErr result So
 each_stop So (Ok x) so = tt
 each_stop So (Err stop) so = so stop
 
--- Where an answer that is put out has stopped, its stop tells why, or is late.
+-- If an answer has stopped on its way to the output, its stop gives the reason, or is late.
 pub put_stops : {T U : Type 0} (why : Unanswered → Type 0) (other : Stop → Type 0) (answer : Result T Stop)
     (result : Result U Stop) → IfErr answer (StopsBy why other) →
     IfErr result (λ stop. (answer ≡ Err stop) ⊎ (3 < status_of stop)) → IfErr result (StopsBy why other)
@@ -33,13 +33,13 @@ put_stops why other answer (Ok x) told stopped = tt
 put_stops why other answer (Err stop) told (inl is) = subst (λ r. IfErr r (StopsBy why other)) is told
 put_stops why other answer (Err stop) told (inr late) = late_stops why other stop late
 
--- Want of memory tells no reason of `check`.
+-- Lack of memory claims no reason for `check`.
 memory_check : (is_json : Bool) (holds : Holding) (asked : Judging) (old new : Option (List ℕ)) →
     WhyCheck is_json holds asked old new Memory
 memory_check true holds asked old new = tt
 memory_check false holds asked old new = tt
 
--- Want of memory tells no reason of any request.
+-- Lack of memory claims no reason for any request.
 memory_why : (holds : Holding) (asked : Request) (old new : Option (List ℕ)) → Why holds asked old new Memory
 memory_why holds (request.Check asked) old new = memory_check asked.is_json holds asked old new
 memory_why holds (request.Conform asked) old new = tt
@@ -75,7 +75,7 @@ explained_stops holds given asked old new stop told so (inr wants) =
       leaves = leaves_memory (Answers holds given asked) asked old new so.leaves.partly;
     })
 
--- What is so where a stop comes early is so where the one that is told does.
+-- A fact that holds if a stop is early holds if the reported stop is early.
 pub early_told : {A : Type 0} (stop told : Stop) → (told ≡ stop) ⊎ (told ≡ Memory) → (status_of stop < 4 → A) →
     status_of told < 4 → A
 early_told stop told (inl same) so early = so (subst (λ s. status_of s < 4) same early)
@@ -93,7 +93,7 @@ pub stops_at : (holds : Holding) (given : Option (List ℕ)) (words : List (Stri
 stops_at holds given [] old new stop so = tt
 stops_at holds given (word ∷ words) old new stop so = so
 
--- Where there are no words, nothing is asked of the stop that is told.
+-- Without arguments, nothing is claimed about the reported stop.
 pub tells_without_words : {E : Type 0} (holds : Holding) (given : Option (List ℕ)) (words : List (String Global))
     (old new : Option (List ℕ)) (status : ℕ) (contents : E → Option (List ℕ)) (before after : Counted E) →
     words ≡ [] → TellsStop (λ stop. Unit {0}) status contents before after →

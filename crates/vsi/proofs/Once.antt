@@ -11,7 +11,7 @@ use Rattle.vsi_arguments.specs.declared.request.Request.TheVariants.{Build, Expl
 use Rattle.vsi_asked.specs.Asked.{AsksFor, Spells, given, name_of}
 use Rattle.vsi_asked.specs.Words.{has_flag, operands_in, shown, texts, values_in}
 
--- What stands behind one first word is the same.
+-- The arguments after the same first one are the same.
 behind : (words : List (List ℕ)) (name : List ℕ) (xs ys : List (List ℕ)) → words ≡ name ∷ xs → words ≡ name ∷ ys →
     ys ≡ xs
 behind words name xs ys first second = cc
@@ -41,7 +41,7 @@ two_words a b x y is = (cc, cc)
 one_word : (a x : List ℕ) → x ∷ [] ≡ a ∷ [] → x ≡ a
 one_word a x is = cc
 
--- Two builds that are asked for by the same words are of the same paths.
+-- Two builds that the same arguments request have the same paths.
 same_build : (words : List (String Global)) (c d : Compilation) (i j : Bor (List ℕ)) → Spells words (Build c i) →
     Spells words (Build d j) → SameBuild c d i j
 same_build words c d i j first second =
@@ -51,7 +51,7 @@ same_build words c d i j first second =
     (sym second.has_operands ∙ ap (operands_in false) rest ∙ first.has_operands) in
     record { lattice = same.0; image = same.1 }
 
--- What words ask for that ask for a build.
+-- Arguments that request a build request only that build.
 pub record OneBuild (c : Compilation) (i : Bor (List ℕ)) (request : Request) : Type 0 where
   pub compilation : Compilation
   pub image : Bor (List ℕ)
@@ -80,7 +80,7 @@ pub record SameView (l m x y : Bor (List ℕ)) (e f : Execution) (o p : Outset) 
   pub settings : shown p.settings.items ≡ shown o.settings.items
   pub is_full : p.is_full ≡ o.is_full
 
--- Two views that are asked for by the same words are of the same.
+-- Two views that the same arguments request are the same.
 same_view : (words : List (String Global)) (l m x y : Bor (List ℕ)) (e f : Execution) (o p : Outset) →
     Spells words (View l x e o) → Spells words (View m y f p) → SameView l m x y e f o p
 same_view words l m x y e f o p first second =
@@ -100,7 +100,7 @@ same_view words l m x y e f o p first second =
       is_full = sym second.has_flags.0 ∙ ap (has_flag (codes "--full-store")) rest ∙ first.has_flags.0;
     }
 
--- What words ask for that ask for a view.
+-- Arguments that request a view request only that view.
 pub record OneView (l x : Bor (List ℕ)) (e : Execution) (o : Outset) (request : Request) : Type 0 where
   pub lattice : Bor (List ℕ)
   pub class : Bor (List ℕ)

@@ -30,7 +30,7 @@ Partly-weaker Kind Wider old new f (inr (text, is, part)) = inr (text, f text is
 pub kept_partly : (Kind : List ℕ → Type 0) (old : Option (List ℕ)) → Partly Kind old old
 kept_partly Kind old = inl (Keeps-refl old)
 
--- What is so whatever the stop is so of the stop that an answer is.
+-- A fact that doesn't depend on the stop holds for the stop that an answer is.
 pub any_stop : {T : Type 0} (A : Type 0) (result : Result T Stop) → A → IfErr result (λ stop. A)
 any_stop A (Ok x) a = tt
 any_stop A (Err stop) a = a
@@ -46,7 +46,7 @@ pub kept_leaves : {T : Type 0} (Kind : List ℕ → Type 0) (from : ℕ) (old : 
 kept_leaves Kind from old (Ok x) = tt
 kept_leaves Kind from old (Err stop) = kept_leaf Kind from old stop
 
--- A fault, or want of memory, leaves a part of an answer.
+-- A fault, or lack of memory, leaves a part of an answer.
 pub late_leaf : (Kind : List ℕ → Type 0) (old new : Option (List ℕ)) (stop : Stop) → 3 < status_of stop →
     Partly Kind old new → Leaves Kind 4 old new stop
 late_leaf Kind old new stop late part = record { partly = part; silent = λ other below. absurd (omega arith) }
@@ -75,7 +75,7 @@ pub spent_leaves : {T : Type 0} (Kind : List ℕ → Type 0) (old new : Option (
 spent_leaves Kind old new (Ok x) late part = tt
 spent_leaves Kind old new (Err stop) late part = spent_leaf Kind old new stop (omega (arith, late)) part
 
--- And want of memory that is passed on.
+-- Lack of memory that is passed on leaves a part of an answer too.
 pub memory_handed : {T : Type 0} (Kind : List ℕ → Type 0) (old new : Option (List ℕ)) (result : Result T Stop)
     (stop : Stop) → IsErrAnd result (λ s. s ≡ stop) → stop ≡ Memory → Partly Kind old new →
     IfErr result (Leaves Kind 3 old new)
@@ -91,7 +91,7 @@ fault_leaves Kind old new text (Ok x) is fault part = tt
 fault_leaves Kind old new text (Err stop) is fault part =
     late_leaf Kind old new stop (omega arith) (inr (text, is, part))
 
--- What is left of an answer that may be a difference.
+-- The output that an answer leaves if it may be a difference.
 pub answer_leaves : {T : Type 0} (Kind : List ℕ → Type 0) (told : Type 0) (old new : Option (List ℕ)) (text : List ℕ)
     (result : Result T Stop) → Kind text →
     IfErr result (λ stop. ((stop ≡ Differs) × told) ⊎ (status_of stop ≡ 4)) → WritesPart text old new →
@@ -102,7 +102,7 @@ answer_leaves Kind told old new text (Err stop) is (inl differs) part =
 answer_leaves Kind told old new text (Err stop) is (inr fault) part =
     late_leaf Kind old new stop (omega arith) (inr (text, is, part))
 
--- What is left where an answer is put out.
+-- The output that is left when an answer is written.
 pub put_leaves : {T : Type 0} (Kind : Vec ℕ → Type 0) (old new : Option (List ℕ)) (answer : Result (Vec ℕ) Stop)
     (result : Result T Stop) → IfOk answer Kind →
     IfErr result (λ stop. Keeps old new

@@ -1,4 +1,4 @@
--- What a stop tells, and one that is handed on.
+-- The claims of a stop, and those of one that is passed on.
 use Rattle.std.proofs.Common.{◌≡◌, ◌<◌, Result, Ok, Err, sym, subst, arith}
 use Rattle.std.specs.Prelude.{Some, None, IfErr, IsErrAnd, MatchResult}
 use Rattle.vsi_answers.specs.declared.unanswered.Unanswered.{Unanswered}
@@ -8,7 +8,7 @@ use Rattle.vsi.specs.declared.stop.Stop.TheVariants.{Refused, Interface, Audit, 
 use Rattle.vsi.specs.Reasons.{NoOther, StopsBy}
 use Rattle.vsi.specs.Stops.{status_of, stop_of}
 
--- A fault of a file, and want of memory, tell no reason.
+-- A fault of a file, and lack of memory, claim no reason.
 pub late_stops : (why : Unanswered → Type 0) (other : Stop → Type 0) (stop : Stop) → 3 < status_of stop →
     StopsBy why other stop
 late_stops why other (Refused text (Some cause)) late = absurd (omega arith)
@@ -24,7 +24,7 @@ late_stops why other (FileFault path) late = tt
 late_stops why other (LostFile path) late = tt
 late_stops why other Memory late = tt
 
--- A stop tells what its reason and what the others say.
+-- A stop has weaker claims if its reason and the other stops have them.
 pub StopsBy-weaker : (why so : Unanswered → Type 0) (other more : Stop → Type 0) →
     ((reason : Unanswered) → why reason → so reason) → ((stop : Stop) → other stop → more stop) → (stop : Stop) →
     StopsBy why other stop → StopsBy so more stop
@@ -47,14 +47,14 @@ pub stops_by : (why so : Unanswered → Type 0) (other : Stop → Type 0) →
     StopsBy so other stop
 stops_by why so other f = StopsBy-weaker why so NoOther other f (λ stop none. absurd none)
 
--- The stop for a reason tells it.
+-- The stop for a reason claims that reason.
 pub reason_stops : (why : Unanswered → Type 0) (other : Stop → Type 0) (reason : Unanswered) → why reason →
     StopsBy why other (stop_of reason)
 reason_stops why other (unanswered.Refused text cause) is = is
 reason_stops why other unanswered.OutOfBudget is = is
 reason_stops why other unanswered.Memory is = tt
 
--- What is told of an answer is told of the reason of the stop that stands for it.
+-- A property of an answer holds for the reason of the stop that it becomes.
 pub answered_stops : {T : Type 0} (Ask : Result T Unanswered → Type 0) (answer : Result T Unanswered)
     (result : Result T Stop) →
     MatchResult answer (λ text. result ≡ Ok text) (λ reason. result ≡ Err (stop_of reason)) → Ask answer →
@@ -65,7 +65,7 @@ answered_stops Ask (Err reason) result is told =
     subst (λ r. IfErr r (StopsBy (λ reason. Ask (Err reason)) NoOther)) (sym is)
     (reason_stops (λ reason. Ask (Err reason)) NoOther reason told)
 
--- What holds of a stop holds where that stop is handed on.
+-- A property of a stop holds if that stop is passed on.
 pub handed : {T : Type 0} (P : Stop → Type 0) (stop : Stop) (result : Result T Stop) →
     IsErrAnd result (λ e. e ≡ stop) → P stop → IfErr result P
 handed P stop (Ok x) is told = tt
@@ -78,13 +78,13 @@ pub stopped_by : {T : Type 0} (why so : Unanswered → Type 0) (other : Stop →
 stopped_by why so other f result stop is told =
     handed (StopsBy so other) stop result is (stops_by why so other f stop told)
 
--- A late stop that is passed on tells no reason.
+-- A late stop that is passed on claims no reason.
 pub late_stopped : {T : Type 0} (why : Unanswered → Type 0) (other : Stop → Type 0) (result : Result T Stop)
     (stop : Stop) → IsErrAnd result (λ s. s ≡ stop) → 3 < status_of stop → IfErr result (StopsBy why other)
 late_stopped why other result stop is late =
     handed (StopsBy why other) stop result is (late_stops why other stop late)
 
--- What holds of the reason for no answer is told where the stop for that reason is handed on.
+-- A property of the reason for no answer is claimed if the stop for that reason is passed on.
 pub handed_reason : {T : Type 0} (why : Unanswered → Type 0) (other : Stop → Type 0) (reason : Unanswered)
     (result : Result T Stop) → IsErrAnd result (λ e. e ≡ stop_of reason) → why reason →
     IfErr result (StopsBy why other)

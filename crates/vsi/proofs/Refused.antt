@@ -1,4 +1,4 @@
--- Why a step has stopped is why the whole has, and what is told of a refusal.
+-- The reason of a stopped step is the reason of the whole, and the claims about a refusal.
 use Rattle.std.proofs.Common.{◌≡◌, ◌⊎◌, ℕ, List, Result, Ok, Err, subst, inl, inr}
 use Rattle.std.specs.Borrow.{Bor}
 use Rattle.std.specs.Prelude.{IfErr, IsErrAnd, IsSomeAnd, MatchResult, Option, Some, None}
@@ -90,7 +90,7 @@ refuses_tree holds path bytes text l answer result read same declared is told =
 
 -- ---- texts without a program.
 
--- A refusal that tells an error with which no program stands tells that there is none.
+-- A refusal that reports an error which no program has says that there is no program.
 tells_program : (l : Lattice) (text : List ℕ) (error : CompileError) → RefusesProgram (class_named l) text error →
     (HasProgram (class_named l) text → error ≡ compiler.Memory) → (reason : Unanswered) →
     Because (TellsSource (λ e. e ≡ error) l text) ⊥ reason →
@@ -98,7 +98,7 @@ tells_program : (l : Lattice) (text : List ℕ) (error : CompileError) → Refus
 tells_program l text error refused exact =
     source_told (IsProgramFault l text) l text error (λ other. (refused, λ program. other (exact program)))
 
--- The stop for a source text of a file that has no program tells so.
+-- The stop for a file's source text without a program claims that there is none.
 pub refuses_program : (holds : Holding) (l : Lattice) (path text judged told : List ℕ) (error : CompileError)
     (stop : Stop) → IsReadAt holds path text → judged ≡ text → told ≡ text →
     RefusesProgram (class_named l) judged error → (HasProgram (class_named l) judged → error ≡ compiler.Memory) →

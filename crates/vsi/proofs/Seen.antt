@@ -1,4 +1,4 @@
--- What a class is shown of two runs of an image that was built.
+-- The views that a class has of two runs of a built image.
 use Rattle.std.proofs.Common.{◌≡◌, ◌∙◌, ℕ, ℤ, List, sym, subst, ap, unwrap_or}
 use Rattle.std.specs.Prelude.{Bool, Some, Ok}
 use Rattle.std.specs.Global.{Vec}
@@ -29,7 +29,7 @@ same_seen l m₁ m₂ strict source bytes i₁ i₂ a₁ a₂ class w₁ w₂ b�
     (subst (λ m. ViewsTo m a₁ i₁ w₂ b₂ (Ok t₂)) is₂
     (subst (λ i. ViewsTo m₂ a₁ i w₂ b₂ (Ok t₂)) same (subst (λ a. ViewsTo m₂ a i₂ w₂ b₂ (Ok t₂)) at v₂)))
 
--- What is built is seen alike.
+-- A class sees two runs of a built image alike.
 pub built_is_seen_alike : BuiltIsSeenAlike
 built_is_seen_alike built holds c bytes build path class e₁ e₂ o₁ o₂ t₁ t₂ first second is₁ is₂ are same agree =
     same_seen build.lattice first.lattice second.lattice c.is_strict build.source bytes first.image second.image

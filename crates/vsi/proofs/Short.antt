@@ -70,7 +70,7 @@ built_short known L P text bytes built =
     subst (λ bs. length bs ≤ 1048576) (sym built.spelled)
     (bytes_short 2 (fields built.image) built.compiled.coded.spelled.fits.allowed)
 
--- What is read of a file that holds so few bytes is what it holds.
+-- The bytes read from a file with so few bytes are all of its bytes.
 pub read_whole : (holds : Holding) (path bytes held read : List ℕ) → holds path ≡ Some held →
     HoldsAt holds path bytes → IsReadAt holds path read → length bytes ≤ 1048576 → read ≡ bytes
 read_whole holds path bytes held read tells holding is short =
@@ -78,7 +78,7 @@ read_whole holds path bytes held read tells holding is short =
     let taken : read ≡ take 1048577 held = subst (λ o. IfSome o (λ xs. read ≡ take 1048577 xs)) tells is in
     taken ∙ subst (λ xs. take 1048577 xs ≡ bytes) (sym same) (take_all 1048577 bytes (omega arith))
 
--- What is read of it twice is the same.
+-- Two readings of one file give the same bytes.
 pub read_again : (holds : Holding) (path held first second : List ℕ) → holds path ≡ Some held →
     IsReadAt holds path first → IsReadAt holds path second → first ≡ second
 read_again holds path held first second tells one two =

@@ -1,4 +1,4 @@
--- What a stop of the run without words means, and what is told of it.
+-- The meaning of a stop of the run without arguments, and the report of it.
 use Rattle.std.proofs.Common.{◌≡◌, ◌≢◌, ◌-◌, ◌^◌, ◌≤◌, ◌<◌, ◌⊎◌, ◌++◌, [], ℕ, List, Option, Some, None, Result, Ok, Err, inl, inr, sym, ap, subst, ◌∙◌, arith, append-nil}
 use Rattle.std.specs.Prelude.{IfOk, IfErr, IsTrue, OnOk, MatchResult, Bool, true, false, codes, ◌==◌, if◌then◌else◌}
 use Rattle.std.specs.Global.{Vec}
@@ -12,14 +12,14 @@ use Rattle.vsi.specs.declared.stop.Stop.TheVariants.{Refused, Interface, Audit, 
 use Rattle.vsi.specs.Stops.{Gets, IsStreamFault, StopsFor, line_of, note_behind, status_of, stop_of, text_of_stop}
 use Rattle.vsi.specs.Input.{Hears, HearsFault, RefusesRun, SpendsRun, StopsRun, TellsStop, greeting}
 
--- The stop that stands for why there is no answer means that.
+-- The stop for the reason why there is no answer means that reason.
 pub stop_of_why : (W : Unanswered → Type 0) (reason : Unanswered) → W reason →
     StopsFor W (λ path. ⊥) (stop_of reason)
 stop_of_why W (unanswered.Refused text cause) why = why
 stop_of_why W unanswered.OutOfBudget why = why
 stop_of_why W unanswered.Memory why = tt
 
--- What is told of an answer is what the stop means that stands for it.
+-- A property of an answer is the meaning of the stop that it becomes.
 pub answered_stopped : (P : Result (Vec ℕ) Unanswered → Type 0) (answer : Result (Vec ℕ) Unanswered)
     (result : Result (Vec ℕ) Stop) →
     MatchResult answer (λ text. result ≡ Ok text) (λ reason. result ≡ Err (stop_of reason)) → P answer →
@@ -47,7 +47,7 @@ StopsFor-weaker V W F G v f (FileFault path) why = f path.now why
 StopsFor-weaker V W F G v f (LostFile path) why = absurd why
 StopsFor-weaker V W F G v f Memory why = tt
 
--- What was done to its end was done where the status is 0.
+-- A deed that was done to its end was done if the status is 0.
 pub done_at_zero : {T P : Type 0} (answer : Result T Stop) (status : ℕ) → OnOk answer P →
     IfErr answer (λ stop. status ≡ status_of stop) → status ≡ 0 → P
 done_at_zero (Ok x) status done stopped zero = done
@@ -67,7 +67,7 @@ done_at_zero (Err Memory) status done stopped zero = absurd (omega arith)
 pub Gets-nothing : {E : Type 0} (contents : E → Option (List ℕ)) (error : Counted E) → Gets contents error error []
 Gets-nothing contents error = λ room same. Appends-nil (contents (device_of error))
 
--- One text behind another.
+-- One text after another.
 pub Gets-trans : {E : Type 0} (contents : E → Option (List ℕ)) (old mid new : Counted E) (first second : List ℕ) →
     faults_of old ≤ faults_of mid → faults_of mid ≤ faults_of new → Gets contents old mid first →
     Gets contents mid new second → Gets contents old new (first ++ second)
@@ -77,7 +77,7 @@ Gets-trans contents old mid new first second up more got gets = λ room same.
     let still : faults_of mid < 2 ^ 64 - 1 = omega arith in
     Appends-trans _ _ _ first second (got room begun) (gets still ended)
 
--- A text behind what a person at a terminal is greeted with.
+-- A text after the greeting at a terminal.
 pub Hears-behind : {E : Type 0} (contents : E → Option (List ℕ)) (old mid new : Counted E) (text : List ℕ) →
     faults_of old ≤ faults_of mid → faults_of mid ≤ faults_of new → Hears contents old mid [] →
     Gets contents mid new text → Hears contents old new text
@@ -88,13 +88,13 @@ Hears-behind contents old mid new text up more (inr got) gets =
     subst (Gets contents old mid) (append-nil greeting) got in
     inr (Gets-trans contents old mid new greeting text up more greeted gets)
 
--- Nothing is told behind a text either way.
+-- Nothing follows a text in either case.
 nothing_either : (wants : Bool) (text note : List ℕ) → note ≡ [] →
     text ++ (if wants then [] else note) ≡ text
 nothing_either true text note none = append-nil text
 nothing_either false text note none = ap (λ l. text ++ l) none ∙ append-nil text
 
--- The text of a stop and what is told behind it have been told, where memory isn't wanted.
+-- The text of a stop and the note after it have been written, if memory didn't run out.
 pub told_with_note : {E : Type 0} (contents : E → Option (List ℕ)) (old mid new : Counted E) (stop : Stop)
     (note : List ℕ) (wants : Bool) → wants ≡ (status_of stop == 5) → wants ≡ false →
     faults_of old ≤ faults_of mid → faults_of mid ≤ faults_of new → Gets contents old mid (text_of_stop stop) →
@@ -103,7 +103,7 @@ told_with_note contents old mid new stop note wants is not up more got gets =
     subst (λ b. Gets contents old new (text_of_stop stop ++ (if b then [] else note))) (sym not ∙ is)
     (Gets-trans contents old mid new (text_of_stop stop) note up more got gets)
 
--- The text of a stop has been told alone, where memory is wanted.
+-- The text of a stop has been written alone, if memory ran out.
 pub told_alone : {E : Type 0} (contents : E → Option (List ℕ)) (old new : Counted E) (stop : Stop)
     (note : List ℕ) (wants : Bool) → wants ≡ (status_of stop == 5) → wants ≡ true →
     Gets contents old new (text_of_stop stop) → Gets contents old new (text_of_stop stop ++ note_behind stop note)
@@ -118,7 +118,7 @@ never_unheard stop unheard is_closed closed fault e (inl other) = absurd (other 
 never_unheard stop unheard is_closed closed fault e (inr reads) =
     let shut : is_closed ≡ true = closed e in cc
 
--- The text of a stop is heard behind the greeting, where it isn't a fault and nothing is told behind it.
+-- The text of a stop is heard after the greeting, if it isn't a fault and nothing follows it.
 pub heard_stop : {T E : Type 0} (contents : E → Option (List ℕ)) (old mid new : Counted E) (note : List ℕ)
     (is_closed : Bool) (answer : Result T Stop) → faults_of old ≤ faults_of mid → faults_of mid ≤ faults_of new →
     Hears contents old mid [] → note ≡ [] →
@@ -131,7 +131,7 @@ heard_stop contents old mid new note is_closed (Err stop) up more greeted none t
     (subst (Gets contents mid new) (nothing_either (status_of stop == 5) (text_of_stop stop) note none)
     (told (inl other)))
 
--- At a status of 5 nothing but want of memory has been told.
+-- At a status of 5 nothing but lack of memory has been reported.
 pub told_memory : {E : Type 0} (contents : E → Option (List ℕ)) (old new : Counted E) (stop : Stop)
     (note : List ℕ) (is_closed : Bool) (status : ℕ) → status ≡ status_of stop → status ≡ 5 →
     ((status_of stop ≢ 4) ⊎ (is_closed ≡ false) → Gets contents old new (text_of_stop stop ++ note_behind stop note)) →
@@ -157,7 +157,7 @@ heard_nothing contents old mid new note answer status up more greeted none noted
     Hears-behind contents old mid new [] up more greeted
     (subst (Gets contents mid new) none (done_at_zero answer status noted is zero))
 
--- The text of a stop with a status of 4 tells that a standard stream fails.
+-- The text of a stop with a status of 4 says that a standard stream failed.
 stream_text : (W : Unanswered → Type 0) (F : Type 0) (stop : Stop) → StopsFor W (IsStreamFault F) stop →
     status_of stop ≡ 4 → text_of_stop stop ≡ codes "file fault: -\n"
 stream_text W F (Refused text cause) why four = absurd (omega arith)
@@ -172,7 +172,7 @@ stream_text W F (FileFault path) why four = ap (line_of (codes "file fault: ")) 
 stream_text W F (LostFile path) why four = absurd why
 stream_text W F Memory why four = absurd (omega arith)
 
--- Where all or nothing is told of the fault of a standard stream, it is heard or nothing but the greeting.
+-- If the fault of a standard stream is reported or passed over, it is heard, or nothing but the greeting is.
 pub heard_fault : {T E : Type 0} (contents : E → Option (List ℕ)) (old mid new : Counted E) (note : List ℕ)
     (W : Unanswered → Type 0) (F : Type 0) (answer : Result T Stop) (status : ℕ) →
     faults_of old ≤ faults_of mid → faults_of mid ≤ faults_of new → Hears contents old mid [] → note ≡ [] →
@@ -191,7 +191,7 @@ heard_fault contents old mid new note W F (Err stop) status up more greeted none
     (nothing_either (status_of stop == 5) (text_of_stop stop) note none
     ∙ stream_text W F stop why (sym is ∙ four)) told))
 
--- Where all is told of a stop, or nothing of a file fault, it is told at a status that isn't 0.
+-- If a stop is reported, or a file fault passed over, the stop is reported at a status that isn't 0.
 pub tells_stop : {T E : Type 0} (So : Stop → Type 0) (contents : E → Option (List ℕ)) (old mid new : Counted E)
     (note : List ℕ) (answer : Result T Stop) (status : ℕ) → IfErr answer So → faults_of old ≤ faults_of mid →
     faults_of mid ≤ faults_of new → Hears contents old mid [] → IfOk answer (λ _. status ≡ 0) →
@@ -215,7 +215,7 @@ tells_stop So contents old mid new note (Err stop) status so up more greeted don
   told = inl (Hears-behind contents old mid new _ up more greeted all);
 }
 
--- A refusal is what a status of 1 means, and its text is told.
+-- A status of 1 means a refusal, whose text is written.
 pub refused_at_one : {T : Type 0} (remaining : Option (List ℕ)) (F : List ℕ → Type 0) (told : List ℕ → Type 0)
     (answer : Result T Stop) (status : ℕ) → IfOk answer (λ _. status ≡ 0) →
     IfErr answer (λ stop. status ≡ status_of stop) → IfErr answer (StopsFor (StopsRun remaining) F) →
@@ -235,7 +235,7 @@ refused_at_one r F told (Err (FileFault path)) status done is why tells one = ab
 refused_at_one r F told (Err (LostFile path)) status done is why tells one = absurd why
 refused_at_one r F told (Err Memory) status done is why tells one = absurd (omega arith)
 
--- A spent budget is what a status of 3 means, and it is told.
+-- A status of 3 means a spent budget, which is reported.
 pub spent_at_three : {T : Type 0} (remaining : Option (List ℕ)) (F : List ℕ → Type 0) (told : List ℕ → Type 0)
     (answer : Result T Stop) (status : ℕ) → IfOk answer (λ _. status ≡ 0) →
     IfErr answer (λ stop. status ≡ status_of stop) → IfErr answer (StopsFor (StopsRun remaining) F) →

@@ -1,4 +1,4 @@
--- Why a controller doesn't begin, as a stop tells.
+-- The reason why a controller doesn't begin, as a stop claims it.
 use Rattle.std.proofs.Common.{◌≡◌, ℕ, Some, inr, sym, subst}
 use Rattle.vsi_lattice.specs.LatticeView.{class_named}
 use Rattle.vsi_lattice.specs.declared.lattice.Lattice.{Lattice}
@@ -24,12 +24,12 @@ LacksController l image error =
     (i : ℕ) × (first_unknown (class_named l) 0 (globals image.globals.items) ≡ Some i)
     × (error ≡ views.ClassNotInLattice i)
 
--- That is the fault that is told.
+-- The lack of a class is the reported fault.
 lacking_fault : (l : Lattice) (image : Image) (error : ViewError) → LacksController l image error →
     IsViewFault l image (fault.View error)
 lacking_fault l image error (i, first, is) = subst (λ e. IsViewFault l image (fault.View e)) (sym is) first
 
--- The stop for it tells it.
+-- The stop for that fault claims it.
 pub controller_stops : (holds : Holding) (d : Driving) (l : Lattice) (driver : ℕ) (image : Image) (error : ViewError)
     (stop : Stop) → LooksAt holds d.lattice.now d.class.now l driver →
     IsImageAt holds d.execution.image.now image → LacksController l image error →

@@ -1,4 +1,4 @@
--- Why an image isn't run, or runs aren't compared, as a stop tells.
+-- The reason why an image isn't run, or runs aren't compared, as a stop claims it.
 use Rattle.std.proofs.Common.{◌≡◌, ℕ, ℤ, ◌<◌, ◌⊎◌, List, Result, Err, inl, inr, length, refl, sym, subst, arith}
 use Rattle.std.specs.Prelude.{Option, IfErr, IsErrAnd}
 use Rattle.std.specs.Borrow.{Bor}
@@ -43,7 +43,7 @@ Unstarted holds e o reason = RefusesImage holds e.image.now reason ⊎ RefusesSt
 abbrev pub Unseen : Holding → List ℕ → List ℕ → Unanswered → Type 0
 Unseen holds lattice image reason = RefusesLattice holds lattice reason ⊎ RefusesImage holds image reason
 
--- Want of memory tells no reason.
+-- Lack of memory claims no reason.
 pub memory_stops : (why : Unanswered → Type 0) (other : Stop → Type 0) (stop : Stop) → stop ≡ stops.Memory →
     StopsBy why other stop
 memory_stops why other stop is = subst (StopsBy why other) (sym is) tt
@@ -54,13 +54,13 @@ pub memory_stopped : {T : Type 0} (why : Unanswered → Type 0) (other : Stop �
 memory_stopped why other result stop is wants =
     handed (StopsBy why other) stop result is (memory_stops why other stop wants)
 
--- A late stop that is handed on tells no reason.
+-- A late stop that is passed on claims no reason.
 pub handed_late : {T : Type 0} (why : Unanswered → Type 0) (other : Stop → Type 0) (result : Result T Stop) →
     IfErr result (λ stop. 3 < status_of stop) → IfErr result (StopsBy why other)
 handed_late why other result late =
     IfErr-weaker result (λ stop. 3 < status_of stop) (StopsBy why other) (late_stops why other) late
 
--- A fault of the output tells no reason.
+-- A fault of the output claims no reason.
 pub fault_stops : (why : Unanswered → Type 0) (other : Stop → Type 0) (stop : Stop) → status_of stop ≡ 4 →
     StopsBy why other stop
 fault_stops why other stop four = late_stops why other stop (omega (arith, four))
@@ -139,7 +139,7 @@ abbrev pub RefusesWords : Holding → Option (Bor (List ℕ)) → Image → Unan
 RefusesWords holds path image reason =
     (file : List ℕ) × IsStoreAt holds path file × Because (TellsFault (IsStoreFault image file)) ⊥ reason
 
--- What is told of one fault is told of a fault of its kind.
+-- A report of one fault is a report of a fault of its kind.
 pub kind_told : (Kind : Fault → Type 0) (fault : Fault) → (IsNoMemory fault → Kind fault) → (reason : Unanswered) →
     Because (TellsFault (λ f. (f ≡ fault) × IsNoMemory f)) ⊥ reason → Because (TellsFault Kind) ⊥ reason
 kind_told Kind fault kind (unanswered.Refused text (cause.Source e)) told = absurd told
@@ -150,7 +150,7 @@ kind_told Kind fault kind (unanswered.Refused text (cause.Steady e)) told = absu
 kind_told Kind fault kind unanswered.OutOfBudget told = absurd told
 kind_told Kind fault kind unanswered.Memory told = tt
 
--- The stop for a refused store file tells its fault.
+-- The stop for a refused store file reports its fault.
 pub words_stop : (holds : Holding) (path : Option (Bor (List ℕ))) (image : Image) (file : List ℕ) (error : StoreError)
     (stop : Stop) → IsStoreAt holds path file → IsRefusal (globals image.globals.items) file error →
     StopsBy (Because (TellsFault (λ f. (f ≡ fault.Store error) × IsNoMemory f)) ⊥) NoOther stop →
@@ -181,7 +181,7 @@ store_stopped holds new path store so other image result stop held same f =
       is = refused.2;
     }))
 
--- An answer that is a difference tells of one, and a fault of the output tells no reason.
+-- An answer that is a difference claims one, and a fault of the output claims no reason.
 pub answer_stopped : {T : Type 0} (why : Unanswered → Type 0) (other : Stop → Type 0) (told : Type 0)
     (result : Result T Stop) → IfErr result (λ stop. ((stop ≡ stops.Differs) × told) ⊎ (status_of stop ≡ 4)) →
     (told → other stops.Differs) → IfErr result (StopsBy why other)
@@ -193,7 +193,7 @@ answer_stopped why other told result stopped f =
     ])
     stopped
 
--- A call that only writes stops at a fault of the output, or for want of memory.
+-- A call that only writes stops at a fault of the output, or for lack of memory.
 pub ended_stops : (why : Unanswered → Type 0) (other : Stop → Type 0) (error : EngineError) (stop : Stop) →
     IsOfWriting error → (error ≡ engine.WriteFault → status_of stop ≡ 4) → (error ≡ engine.Memory → stop ≡
     stops.Memory) →
@@ -206,7 +206,7 @@ ended_stops why other (engine.Verify e) stop only write memory = absurd only
 ended_stops why other (engine.Store e) stop only write memory = absurd only
 ended_stops why other engine.Memory stop only write memory = memory_stops why other stop (memory refl)
 
--- An image that has no text is told so under the two classes.
+-- The lack of a text for an image is reported under the two classes.
 pub textless_stops : (why : Unanswered → Type 0) (holds : Holding) (path : List ℕ) (image shown : Image) (l : Lattice)
     (error : AuditError) (stop : Stop) → IsImageAt holds path image → Declares two_classes l → shown ≡ image →
     StopsBy (λ reason. ⊥)

@@ -1,4 +1,4 @@
--- What is written of an answer, and what is left as it was.
+-- The output of an answer, and the files that it leaves as they were.
 use Rattle.std.proofs.Common.{◌≡◌, ℕ, ◌<◌, List, Result, Ok, Err, ◌∙◌, sym, subst, inl, inr, arith}
 use Rattle.std.specs.Prelude.{Bool, true, false, Option, IfOk, IfErr, MatchResult, OnOk, IsOkAnd, codes}
 use Rattle.std.specs.Global.{Vec}
@@ -39,12 +39,12 @@ pub put_alone : {T : Type 0} (Kind : Vec ℕ → Type 0) (old new : Option (List
 put_alone Kind old new left holds answer result kept is done =
     on_ok_weaker result (λ written. (kept, writes_of Kind old new answer is written)) done
 
--- What holds where an answer is given holds where it is given and told.
+-- A property that holds if an answer is given holds if it is given and written.
 pub told_of : {T A W : Type 0} (answer : Result T Stop) → OnOk answer A → IsOkAnd answer (λ x. W) → A × W
 told_of (Ok x) holds told = (holds, told)
 told_of (Err stop) holds told = absurd told
 
--- An image that passes its audit is told to be accepted.
+-- `accepted` is written for an image that passes its audit.
 pub accept_performs : {T U : Type 0} (holds : Holding) (asked : Audit) (old new : Option (List ℕ))
     (answer : Result U Stop) (result : Result T Stop) → OnOk answer (AuditsFiles holds asked) →
     OnOk result (IsOkAnd answer (λ x. Appends old new (codes "accepted\n"))) →
@@ -69,7 +69,7 @@ answer_so l j k text source b c out e f g tells =
     subst (λ c. TellsAnswer l k source c out) g
     (subst (λ s. TellsAnswer l k s b out) f (subst (λ k. TellsAnswer l k text b out) e tells))
 
--- What is answered of a lattice and a source text is told of the files that hold them.
+-- An answer about a lattice and a source text is an answer about the files that hold them.
 pub told_files : (holds : Holding) (c : Compilation)
     (Ask : Lattice → List ℕ → Result (Vec ℕ) Unanswered → Type 0) (Told : Lattice → List ℕ → Vec ℕ → Type 0)
     (l : Lattice) (text source : List ℕ) (answer : Result (Vec ℕ) Unanswered) (result : Result (Vec ℕ) Stop) →
@@ -93,19 +93,19 @@ told_by holds c Ask l text source P answer result files same by is told =
     l text source answer result (λ m s t so. so) files same is
     (subst (λ Q. Ask l Q source answer) by told)
 
--- What `check` asks is what its answer tells.
+-- The answer to the request of `check` is the text that it writes.
 pub told_accepted : (is_steady is_strict : Bool) (l : Lattice) (source : List ℕ) (text : Vec ℕ) →
     AsksCheck is_steady is_strict l source (Ok text) → ToldAccepted is_steady is_strict l source text
 told_accepted true is_strict l source text told = told
 told_accepted false is_strict l source text told = told
 
--- What `flows` asks is what its answer tells.
+-- The answer to the request of `flows` is the text that it writes.
 pub told_flows : (has_walks is_strict : Bool) (l : Lattice) (source : List ℕ) (text : Vec ℕ) →
     AsksFlows has_walks is_strict l source (Ok text) → ToldFlows has_walks is_strict l source text
 told_flows true is_strict l source text told = told
 told_flows false is_strict l source text told = told
 
--- What holds anyway holds where an answer is given.
+-- A fact that always holds also holds if an answer is given.
 pub on_ok_of : {T A : Type 0} (result : Result T Stop) → A → OnOk result A
 on_ok_of (Ok x) a = a
 on_ok_of (Err stop) a = tt

@@ -9,7 +9,7 @@ use Rattle.vsi_drive.specs.declared.starts.StartFault.TheVariants as start
 use Rattle.vsi_diagnostics.specs.Diagnostic.{Diagnostic, nothing, number, refusal}
 use Rattle.vsi_diagnostics.specs.Source.{refused}
 
--- Of a setting.
+-- The diagnostic of a wrong setting.
 abbrev pub setting_diagnostic : LineFault → Diagnostic
 setting_diagnostic TooLong = refusal 44 (codes "LineTooLong") nothing
 setting_diagnostic (BadSetting n) = refusal 45 (codes "BadSetting") (number n)
@@ -17,12 +17,12 @@ setting_diagnostic (UnknownGlobal n) = refusal 46 (codes "NoGlobal") (number n)
 setting_diagnostic (AboveClass n) = refusal 47 (codes "AboveClass") (number n)
 setting_diagnostic (NotANumber n) = refusal 48 (codes "NoNumber") (number n)
 
--- Of a run that doesn't begin.
+-- The diagnostic of a run that doesn't begin.
 abbrev pub start_diagnostic : StartFault → Diagnostic
 start_diagnostic (start.Setting f) = setting_diagnostic f
 start_diagnostic (start.Unnamed i) = refusal 56 (codes "GlobalNotNamed") (number i)
 
--- Of an image whose commands are judged; none where memory was wanting.
+-- The diagnostic of an image whose commands are judged; none if memory ran out.
 abbrev pub audit_diagnostic : AuditError → Option Diagnostic
 audit_diagnostic (audit.UnknownClass i) = refused 43 (codes "ClassNotInLattice") (number i)
 audit_diagnostic (audit.Unstructured i) = refused 49 (codes "NoCommands") (number i)

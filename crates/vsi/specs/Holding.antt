@@ -1,4 +1,4 @@
--- What files hold, and what is read of them.
+-- The contents of files, and the bytes read from them.
 use Rattle.std.specs.Prelude.{◌≡◌, ◌≢◌, ◌++◌, ℕ, List, [], Option, Some, None, IfSome, codes}
 use Rattle.std.specs.Borrow.{Bor}
 use Rattle.vsi_lattice.specs.declared.lattice.Lattice.{Lattice}
@@ -6,11 +6,11 @@ use Rattle.vsi_image.specs.declared.instr.Image.{Image}
 use Rattle.vsi_devices.specs.Engine.{IsReadFrom}
 use Rattle.vsi_answers.specs.Judged.{AreImage, Declares}
 
--- The bytes of the file at each path, where the files tell them.
+-- The bytes of the file at each path, if they are known.
 abbrev pub Holding : Type 0
 Holding = List ℕ → Option (List ℕ)
 
--- These bytes are read of the file at a path: all of them, or as many as the limit, where the files tell them.
+-- These bytes are read from the file at a path: all of its bytes, or as many as the limit, if they are known.
 abbrev pub IsReadAt : Holding → List ℕ → List ℕ → Type 0
 IsReadAt holds path bytes = IsReadFrom (holds path) bytes
 
@@ -26,14 +26,14 @@ pub record IsImageAt (holds : Holding) (path : List ℕ) (image : Image) : Type 
   pub read : IsReadAt holds path bytes
   pub are : AreImage bytes image
 
--- These are the bytes of a store file; where no path is given there are none.
+-- These are the bytes of a store file; without a path there are none.
 abbrev pub IsStoreAt : Holding → Option (Bor (List ℕ)) → List ℕ → Type 0
 IsStoreAt holds None bytes = bytes ≡ []
 IsStoreAt holds (Some path) bytes = IsReadAt holds path.now bytes
 
 -- ---- what is put into them.
 
--- The file at the path holds these bytes, where the files tell it.
+-- The file at the path holds these bytes, if its contents are known.
 abbrev pub HoldsAt : Holding → List ℕ → List ℕ → Type 0
 HoldsAt holds path bytes = IfSome (holds path) (λ held. held ≡ bytes)
 
@@ -41,7 +41,7 @@ HoldsAt holds path bytes = IfSome (holds path) (λ held. held ≡ bytes)
 abbrev pub KeepsOthers : List ℕ → Holding → Holding → Type 0
 KeepsOthers path old new = (other : List ℕ) → other ≢ path → new other ≡ old other
 
--- Files of this kind tell of no file what it holds.
+-- Files of this kind leave the contents of every file unknown.
 abbrev pub TellsNothing : {F : Type 0} → (F → Holding) → Type 0
 TellsNothing {F} holds = (files : F) (path : List ℕ) → holds files path ≡ None
 
@@ -50,13 +50,13 @@ pub record Fills (path bytes : List ℕ) (old new : Holding) : Type 0 where
   pub filled : HoldsAt new path bytes
   pub others : KeepsOthers path old new
 
--- The file at the path has been replaced by one of these bytes, which was filled beside it: its name has `.new`
--- behind it.
+-- The file at the path has been replaced by one of these bytes, which was filled beside it under its name with `.new`
+-- appended.
 pub record Replaces (path bytes : List ℕ) (old new : Holding) : Type 0 where
   pub filled : HoldsAt new path bytes
   pub others : (other : List ℕ) → other ≢ path → other ≢ path ++ codes ".new" → new other ≡ old other
 
--- A text has been put into the file that is asked for, and no file has been touched where none is.
+-- A text has been put into the requested file, and no file has been touched if none is requested.
 abbrev pub Delivers : Option (Bor (List ℕ)) → List ℕ → Holding → Holding → Type 0
 Delivers None text old new = new ≡ old
 Delivers (Some path) text old new = Replaces path.now text old new

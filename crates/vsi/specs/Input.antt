@@ -1,4 +1,4 @@
--- What the run without words writes, and what it tells where it writes nothing.
+-- The output of the run without arguments, and its message if it has no output.
 use Rattle.std.specs.Prelude.{◌≡◌, ◌⊎◌, ◌++◌, [], ℕ, List, Option, Ok, Err, codes}
 use Rattle.std.specs.Global.{Vec}
 use Rattle.std.specs.Io.KnownBytes.{Appends}
@@ -23,7 +23,7 @@ pub record WritesRunOf (l : Lattice) (source : List ℕ) (old new : Option (List
   pub ran : RunsSourceTo l source 1000000 (Ok text)
   pub written : Appends old new text.items
 
--- A source is read of what a reader gives, and the text of its run under the two classes has been written.
+-- A source is read from a reader, and the text of its run under the two classes has been written.
 pub record WritesRun (remaining old new : Option (List ℕ)) : Type 0 where
   pub source : List ℕ
   pub given : IsReadFrom remaining source
@@ -31,7 +31,7 @@ pub record WritesRun (remaining old new : Option (List ℕ)) : Type 0 where
   pub declared : Declares two_classes lattice
   pub writes : WritesRunOf lattice source old new
 
--- The text of the run of a source that is read of what a reader gives, which halts, under the two classes.
+-- The text of the halting run, under the two classes, of a source read from a reader.
 pub record AnswersInput (remaining : Option (List ℕ)) (bytes : List ℕ) : Type 0 where
   pub source : List ℕ
   pub given : IsReadFrom remaining source
@@ -41,7 +41,7 @@ pub record AnswersInput (remaining : Option (List ℕ)) (bytes : List ℕ) : Typ
   pub ran : RunsSourceTo lattice source 1000000 (Ok text)
   pub is : bytes ≡ text.items
 
--- A source is read of what a reader gives, and this is why its run under the two classes has no answer.
+-- A source is read from a reader, and its run under the two classes has no answer, for this reason.
 pub record StopsRun (remaining : Option (List ℕ)) (reason : Unanswered) : Type 0 where
   pub source : List ℕ
   pub given : IsReadFrom remaining source
@@ -49,30 +49,30 @@ pub record StopsRun (remaining : Option (List ℕ)) (reason : Unanswered) : Type
   pub declared : Declares two_classes lattice
   pub stopped : RunsSourceTo lattice source 1000000 (Err reason)
 
--- A source that is read of what a reader gives is refused, and this is so of the text of the refusal.
+-- A source read from a reader is refused, and the text of the refusal has this property.
 abbrev pub RefusesRun : Option (List ℕ) → (List ℕ → Type 0) → Type 0
 RefusesRun remaining told =
     (text : Vec ℕ) × (cause : Cause) × StopsRun remaining (Refused text cause) × told text.items
 
--- The image of a source that is read of what a reader gives hasn't halted within a million instructions, and this is so
--- of the text that tells it.
+-- The image of a source read from a reader hasn't halted within a million instructions, and the text that says so has
+-- this property.
 abbrev pub SpendsRun : Option (List ℕ) → (List ℕ → Type 0) → Type 0
 SpendsRun remaining told = StopsRun remaining OutOfBudget × told (codes "out of budget\n")
 
--- What a person is told at a terminal.
+-- The greeting at a terminal.
 abbrev pub greeting : List ℕ
 greeting = codes "vsi reads a source text from the terminal until Ctrl-D; `vsi --help` tells more.\n"
 
--- A writer has got this text, behind the greeting or behind nothing, unless a call of it failed.
+-- A writer has got this text, after the greeting or alone, unless a call of it failed.
 abbrev pub Hears : {E : Type 0} → (E → Option (List ℕ)) → Counted E → Counted E → List ℕ → Type 0
 Hears contents old new text = Gets contents old new text ⊎ Gets contents old new (greeting ++ text)
 
--- A writer has got that a standard stream fails, or nothing, as where nobody is there to take the output.
+-- A writer has got the message that a standard stream failed, or nothing, as when nobody is there to take the output.
 abbrev pub HearsFault : {E : Type 0} → (E → Option (List ℕ)) → Counted E → Counted E → Type 0
 HearsFault contents old new = Hears contents old new [] ⊎ Hears contents old new (codes "file fault: -\n")
 
--- A writer has got the text of a stop of which this is so and that has this status, with a note behind it, or at a file
--- fault nothing.
+-- A writer has got the text of a stop with this property and this status, followed by a note, or nothing at a file
+-- fault.
 pub record TellsStop {E : Type 0} (So : Stop → Type 0) (status : ℕ) (contents : E → Option (List ℕ))
     (old new : Counted E) : Type 0 where
   pub stop : Stop

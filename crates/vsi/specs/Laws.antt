@@ -1,4 +1,4 @@
--- What the words of a command line and the files promise together.
+-- The joint promises of the arguments of a command line and the files.
 use Rattle.std.specs.Prelude.{◌≡◌, ◌≢◌, ℕ, ℤ, List, Option, IsSome, String}
 use Rattle.std.specs.Borrow.{Bor}
 use Rattle.std.specs.Global.{Vec}
@@ -33,7 +33,7 @@ pub record IsAcceptedAt (holds : Holding) (lattice source : List ℕ) : Type 0 w
   pub declares : Declares policy declared
   pub accepted : IsAccepted (class_named declared) (order declared) Base text
 
--- Where the words `check`, a lattice file and a source text are obeyed to the end, the text is accepted under the
+-- If the arguments `check`, a lattice file and a source text are obeyed to the end, the text is accepted under the
 -- lattice.
 abbrev pub CheckedIsAccepted : Type 0
 CheckedIsAccepted =
@@ -41,8 +41,8 @@ CheckedIsAccepted =
     (left : Holding) (old new : Option (List ℕ)) →
     ArePlainCheck words lattice source → Done holds given words left old new → IsAcceptedAt holds lattice source
 
--- `build` has made these bytes, and `view` shows a class two runs of the image that they are, under the same lattice.
--- Where the stores that they begin with agree at and below the class, it is shown the same.
+-- `build` has made these bytes, and `view` shows a class two runs of the image in them, under the same lattice: if the
+-- stores that the runs begin with agree at and below the class, both texts are the same.
 abbrev pub BuiltIsSeenAlike : Type 0
 BuiltIsSeenAlike =
     (built holds : Holding) (c : Compilation) (bytes : Vec ℕ) (build : OfFiles built c (ToldImage c.is_strict) bytes)
@@ -53,29 +53,28 @@ BuiltIsSeenAlike =
     AgreeAt (class_named build.lattice) (order build.lattice) first.image first.viewer first.words second.words →
     t₁.items ≡ t₂.items
 
--- Words that ask for this request, and for no help, have been obeyed to the end.
+-- Arguments that ask for this request, and for no help, have been obeyed to the end.
 pub record AreObeyed (holds : Holding) (input : Option (List ℕ)) (words : List (String Global)) (request : Request)
     (left : Holding) (old new : Option (List ℕ)) : Type 0 where
   pub asked : AsksFor words request
   pub unhelped : ¬ (AsksHelp words)
   pub done : Done holds input words left old new
 
--- This text has been shown: written to the output, or put into the file that is asked for.
+-- This text has been shown: written to the output, or put into the requested file.
 pub record Shows (holds : Holding) (o : Outset) (text : List ℕ) (left : Holding) (old new : Option (List ℕ))
     : Type 0 where
   pub written : Appends old new (shown o.out text)
   pub delivered : Delivers o.out text holds left
 
--- The words that two runs begin with, of what the files hold, agree at and below a class.
+-- The words that two runs begin with, as the files give them, agree at and below a class.
 abbrev pub BeginAlike : Holding → List ℕ → List ℕ → Execution → Outset → Execution → Outset → Type 0
 BeginAlike holds path class e₁ o₁ e₂ o₂ =
     (l : Lattice) (a : ℕ) (i₁ i₂ : Image) (m₁ m₂ : List ℤ) → LooksAt holds path class l a →
     BeginsAt holds e₁ o₁ i₁ m₁ → BeginsAt holds e₂ o₂ i₂ m₂ → AgreeAt (class_named l) (order l) i₁ a m₁ m₂
 
 -- `build` has been done, and `view` shows a class two runs of the image in the file that was filled, under the lattice
--- of the file that was read, of the files as `build` has left them. Where what these two hold is told, and the runs
--- begin
--- with words that agree at and below the class, one text has been shown of both.
+-- of the file that was read, with the files as `build` has left them: if the contents of these two are known, and the
+-- runs begin with words that agree at and below the class, both runs have shown the same text.
 abbrev pub LeftIsSeenAlike : Type 0
 LeftIsSeenAlike =
     (holds left left₁ left₂ : Holding) (input input₁ input₂ old old₁ old₂ new new₁ new₂ : Option (List ℕ))

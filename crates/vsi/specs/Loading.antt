@@ -12,11 +12,11 @@ abbrev pub held : List Text → List ℕ → Option (List ℕ)
 held [] path = None
 held (text ∷ texts) path = if bytes_eq text.path.items path then Some text.bytes.items else held texts path
 
--- Each of these texts is what was read of the file at its path: all of it, or as much as the limit.
+-- Each of these texts is the content read from the file at its path: all of it, or as much as the limit.
 abbrev pub AreRead : Holding → List Text → Type 0
 AreRead holds texts = (path : List ℕ) → IfSome (held texts path) (IsReadAt holds path)
 
--- The bytes that the reader of a file has left, where they are known.
+-- The bytes that the reader of a file has left, if they are known.
 abbrev pub left_of : {R : Type 0} → (R → Option (List ℕ)) → Opened R → Option (List ℕ)
 left_of remaining (Memory bytes) = cursor_remaining (λ v. Some v.items) bytes
 left_of remaining (System reader) = remaining reader

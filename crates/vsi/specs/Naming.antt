@@ -1,9 +1,9 @@
--- The name that each name of emitted C begins with.
+-- The name that every name in the emitted C begins with.
 use Rattle.std.specs.Prelude.{ℕ, suc, ◌==◌, List, [], ◌∷◌, Option, Some, None, codes, take, if◌then◌else◌}
 use Rattle.std.specs.Borrow.{Bor}
 use Rattle.vsi_c_names.specs.Names.{is_function_name}
 
--- What follows the last slash of a path; what was found before, where there is none.
+-- The part of a path after its last slash, or the part found before if there is none.
 abbrev pub after_slash : List ℕ → List ℕ → List ℕ
 after_slash found [] = found
 after_slash found (byte ∷ rest) = if byte == 47 then after_slash rest rest else after_slash found rest
@@ -17,11 +17,11 @@ plain_length (byte ∷ rest) = if byte == 46 then 0 else suc (plain_length rest)
 abbrev pub stem : List ℕ → List ℕ
 stem path = take (plain_length (after_slash path path)) (after_slash path path)
 
--- The name that is given, or else that of the file.
+-- The given name, or else that of the file.
 abbrev pub proposed : Option (Bor (List ℕ)) → List ℕ → List ℕ
 proposed (Some name) path = name.now
 proposed None path = stem path
 
--- That name where functions may have it, and `image` where they may not.
+-- The proposed name if functions may have it, and `image` if they may not.
 abbrev pub function_name : Option (Bor (List ℕ)) → List ℕ → List ℕ
 function_name name path = if is_function_name (proposed name path) then proposed name path else codes "image"

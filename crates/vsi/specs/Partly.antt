@@ -1,4 +1,4 @@
--- What a request that has stopped leaves of the output: nothing new, or an answer of it from its beginning on.
+-- The output that a stopped request leaves: nothing new, or the beginning of one of its answers.
 use Rattle.std.specs.Prelude.{◌≡◌, ◌≢◌, ◌<◌, ◌⊎◌, ℕ, ◌++◌, ℤ, Bool, true, false, List, Option, IfSome, codes, take}
 use Rattle.std.specs.Global.{Vec}
 use Rattle.std.specs.Io.KnownBytes.{Appends, Keeps}
@@ -28,7 +28,7 @@ use Rattle.vsi.specs.Tried.{TriesFile}
 
 -- ---- a part of an answer.
 
--- Some first bytes of a text have been written, none or all of them among others.
+-- Some first bytes of a text have been written, possibly none or all of them.
 abbrev pub WritesPart : List ℕ → Option (List ℕ) → Option (List ℕ) → Type 0
 WritesPart text old new = (n : ℕ) × Appends old new (take n text)
 
@@ -64,22 +64,22 @@ pub record ShowsRun (holds : Holding) (e : Execution) (o : Outset) (traced : Boo
   pub ran : RunsFiles holds e o traced trace text
   pub is : bytes ≡ trace ++ shown o.out text
 
--- `run`: that trace, and where the run halts the text of the store after it.
+-- `run`: the trace, and after it the text of the store if the run halts.
 abbrev pub AnswersRun : Holding → Execution → Outset → Bool → List ℕ → Type 0
 AnswersRun holds e o traced bytes = TracesRun holds e o traced bytes ⊎ ShowsRun holds e o traced bytes
 
--- `view`: the lines that the class sees, and nothing where they go to a file.
+-- `view`: the lines that the class sees, and nothing if they go to a file.
 abbrev pub AnswersView : Holding → List ℕ → List ℕ → Execution → Outset → List ℕ → Type 0
 AnswersView holds path class e o bytes =
     (text : Vec ℕ) × ViewsFiles holds path class e o text × (bytes ≡ shown o.out text.items)
 
--- What a controller writes of all lines of an input.
+-- The text that a controller writes for all lines of an input.
 pub record DrivenText (c : Control) (m : List ℤ) (remaining : Option (List ℕ)) (text : List ℕ) : Type 0 where
   pub bytes : List ℕ
   pub whole : IfSome remaining (λ all. bytes ≡ all)
   pub is : text ≡ text_of c m (lines_of bytes)
 
--- `drive`: what the cycles of all lines of the input write.
+-- `drive`: the text that the cycles of all lines of the input write.
 pub record AnswersDrive (holds : Holding) (d : Driving) (given : Option (List ℕ)) (text : List ℕ) : Type 0 where
   pub lattice : Lattice
   pub driver : ℕ
@@ -94,7 +94,7 @@ pub record AnswersDrive (holds : Holding) (d : Driving) (given : Option (List �
 abbrev pub AnswersCompare : Holding → Comparison → List ℕ → Type 0
 AnswersCompare holds c bytes = (told : found.Comparison) × ComparesFiles holds c told × (bytes ≡ told.text.items)
 
--- The answers of a request. `build` writes nothing to the output.
+-- The answers of a request; `build` writes nothing to the output.
 abbrev pub Answers : Holding → Option (List ℕ) → Request → List ℕ → Type 0
 Answers holds given (request.Try attempt) = BytesOf (TriesFile holds attempt)
 Answers holds given (request.Check asked) = BytesOf (AnswersCheck asked.is_json holds asked)
@@ -121,13 +121,13 @@ Answers holds given (request.Explain page) = λ bytes. bytes ≡ page.now
 -- ---- what a stop leaves.
 
 -- The least status at which a request may have written a part of an answer: a run that is out of budget has written its
--- trace, and any other request is cut short by a fault, or for want of memory.
+-- trace, and any other request is cut short by a fault or by lack of memory.
 abbrev pub cut_from : Request → ℕ
 cut_from (request.Run e o has_trace has_count) = 3
 cut_from asked = 4
 
--- What a stop leaves of the output: nothing but first bytes of an answer of this kind, and below this status nothing at
--- all, unless the stop is a difference, which is the answer itself.
+-- The output that a stop leaves: only first bytes of an answer of this kind, and nothing at all below this status,
+-- unless the stop is a difference, which is the answer itself.
 pub record Leaves (Kind : List ℕ → Type 0) (from : ℕ) (old new : Option (List ℕ)) (stop : Stop) : Type 0 where
   pub partly : Partly Kind old new
   pub silent : stop ≢ Differs → status_of stop < from → Keeps old new

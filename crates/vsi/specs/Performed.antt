@@ -1,4 +1,4 @@
--- What each subcommand that is done to its end has written, of what its files hold.
+-- The output of each subcommand that ends well, given the contents of its files.
 use Rattle.std.specs.Prelude.{◌≡◌, ℕ, ◌++◌, ℤ, Bool, true, false, List, [], Option, Some, None, Ok, codes, decimal, if◌then◌else◌}
 use Rattle.std.specs.Borrow.{Bor}
 use Rattle.std.specs.Global.{Vec}
@@ -72,7 +72,7 @@ pub record Writes (Kind : Vec ℕ → Type 0) (old new : Option (List ℕ)) : Ty
   pub is : Kind text
   pub written : Appends old new text.items
 
--- What goes to the output of a text: nothing of one that is put into a file.
+-- The part of a text that goes to the output: nothing if it is put into a file.
 abbrev pub shown : Option (Bor (List ℕ)) → List ℕ → List ℕ
 shown None text = text
 shown (Some path) text = []
@@ -84,7 +84,7 @@ pub record AreFiles (holds : Holding) (c : Compilation) (l : Lattice) (source : 
   pub lattice : IsLatticeAt holds c.lattice.now l
   pub read : IsReadAt holds c.source.now source
 
--- What is told of the files of a compilation, where this is what is told of a lattice and a source text.
+-- The text written for the files of a compilation, where `Kind` describes it for a lattice and a source text.
 pub record OfFiles (holds : Holding) (c : Compilation) (Kind : Lattice → List ℕ → Vec ℕ → Type 0) (text : Vec ℕ)
     : Type 0 where
   pub lattice : Lattice
@@ -92,13 +92,13 @@ pub record OfFiles (holds : Holding) (c : Compilation) (Kind : Lattice → List 
   pub files : AreFiles holds c lattice source
   pub is : Kind lattice source text
 
--- What is told of one file, where this is what is told of its bytes.
+-- The text written for one file, where `Kind` describes it for the file's bytes.
 pub record OfFile (holds : Holding) (path : List ℕ) (Kind : List ℕ → Vec ℕ → Type 0) (text : Vec ℕ) : Type 0 where
   pub bytes : List ℕ
   pub read : IsReadAt holds path bytes
   pub is : Kind bytes text
 
--- The image that a file holds, and the words of a run of it: those of the store file, and what is set behind it.
+-- The image in a file, and the words that a run of it begins with: those of the store file, changed by the settings.
 pub record BeginsAt (holds : Holding) (e : Execution) (o : Outset) (im : Image) (words : List ℤ) : Type 0 where
   pub image : IsImageAt holds e.image.now im
   pub file : List ℕ
@@ -106,13 +106,13 @@ pub record BeginsAt (holds : Holding) (e : Execution) (o : Outset) (im : Image) 
   pub begins : Begins im file (texts o.settings.items) o.is_full words
   pub whole : IsStoreOf im words
 
--- The words that a store file tells for an image.
+-- The words that a store file gives to the globals of an image.
 pub record IsStoredAt (holds : Holding) (path : Option (Bor (List ℕ))) (im : Image) (words : List ℤ) : Type 0 where
   pub file : List ℕ
   pub read : IsStoreAt holds path file
   pub told : Tells file (globals im.globals.items) words
 
--- The class that looks, under the lattice that a file declares.
+-- The class of the viewer, under the lattice that a file declares.
 pub record LooksAt (holds : Holding) (path name : List ℕ) (l : Lattice) (class : ℕ) : Type 0 where
   pub lattice : IsLatticeAt holds path l
   pub named : class_named l name ≡ Some class
@@ -130,16 +130,16 @@ judgement_of asked =
     if asked.is_steady then judgement.Steady
     else if asked.compilation.is_strict then judgement.Strict else judgement.Base
 
--- `accepted`, of a text that is accepted, and with `--steady` one whose image is steady.
+-- `accepted`, for an accepted text, whose image is also steady with `--steady`.
 abbrev pub ToldAccepted : Bool → Bool → Lattice → List ℕ → Vec ℕ → Type 0
 ToldAccepted true is_strict l source text = ChecksSteadyTo l source (Ok text)
 ToldAccepted false is_strict l source text = ChecksTo l (profile_of is_strict) source (Ok text)
 
--- The line of JSON of a text that is accepted.
+-- The line of JSON for an accepted text.
 abbrev pub ToldJson : Judgement → Lattice → List ℕ → Vec ℕ → Type 0
 ToldJson j l source text = TellsAccepted l j source text.items
 
--- The lines of the classes of a text that is accepted.
+-- The lines of the classes of an accepted text.
 abbrev pub ToldClasses : Bool → Lattice → List ℕ → Vec ℕ → Type 0
 ToldClasses is_strict l source text = ClassesTo l (profile_of is_strict) source (Ok text)
 
@@ -148,7 +148,7 @@ abbrev pub ToldFlows : Bool → Bool → Lattice → List ℕ → Vec ℕ → Ty
 ToldFlows true is_strict l source text = WalksTo l (profile_of is_strict) source (Ok text)
 ToldFlows false is_strict l source text = FlowsTo l (profile_of is_strict) source (Ok text)
 
--- The bytes of the image of a text that is accepted.
+-- The bytes of the image of an accepted text.
 abbrev pub ToldImage : Bool → Lattice → List ℕ → Vec ℕ → Type 0
 ToldImage is_strict l source bytes = BuildsTo l (profile_of is_strict) source (Ok bytes)
 
@@ -160,11 +160,11 @@ ToldListing bytes text = ListsTo bytes (Ok text)
 abbrev pub ToldCanonical : List ℕ → Vec ℕ → Type 0
 ToldCanonical source text = IsCanonicalText source text.items
 
--- A page with a panel that shows the source text. Of the rest of the page no more is claimed.
+-- A page with a panel that shows the source text; nothing is claimed about the rest of the page.
 abbrev pub ToldPage : Lattice → List ℕ → Vec ℕ → Type 0
 ToldPage l source page = HasPanel page.items source
 
--- A run that halts: its trace, where one is asked for, and the text of its store.
+-- A run that halts: its trace, if it is traced, and the text of its store.
 pub record RunsFiles (holds : Holding) (e : Execution) (o : Outset) (traced : Bool) (trace text : List ℕ)
     : Type 0 where
   pub image : Image
@@ -172,7 +172,7 @@ pub record RunsFiles (holds : Holding) (e : Execution) (o : Outset) (traced : Bo
   pub begins : BeginsAt holds e o image words
   pub ran : RunsApart traced image words e.budget (Some text) trace
 
--- The lines of the store, behind a run that halts, that a class sees.
+-- The lines of the final store of a halting run that a class sees.
 pub record ViewsFiles (holds : Holding) (path class : List ℕ) (e : Execution) (o : Outset) (text : Vec ℕ)
     : Type 0 where
   pub lattice : Lattice
@@ -183,7 +183,7 @@ pub record ViewsFiles (holds : Holding) (path class : List ℕ) (e : Execution) 
   pub begins : BeginsAt holds e o image words
   pub views : ViewsTo lattice viewer image words e.budget (Ok text)
 
--- What a class sees of the runs of an image from two store files.
+-- The comparison that a class makes of the runs of an image from two store files.
 pub record ComparesFiles (holds : Holding) (c : Comparison) (told : found.Comparison) : Type 0 where
   pub lattice : Lattice
   pub viewer : ℕ
@@ -208,7 +208,7 @@ pub record IsAudited (P : Profile) (l : Lattice) (image : Image) : Type 0 where
   pub noninterfering : IsNoninterfering (class_named l) (order l) image
   pub endings : P ≡ Strict → EndsAlike (class_named l) (order l) image
 
--- What an audit judges: with `--steady` that the image is steady.
+-- The judgement of an audit: with `--steady` that the image is steady.
 abbrev pub Passes : Bool → Bool → Lattice → Image → Type 0
 Passes true is_strict l image = IsSteady (class_named l) (order l) image
 Passes false is_strict l image = IsAudited (profile_of is_strict) l image
@@ -227,7 +227,7 @@ ToldFlowsGraph holds None is_strict l graph = graph ≡ []
 ToldFlowsGraph holds (Some path) is_strict l graph =
     (source : List ℕ) × IsReadAt holds path.now source × IsFlowsGraph l (profile_of is_strict) source graph
 
--- The graph of a lattice, and behind it that of the flows.
+-- The graph of a lattice, followed by the graph of the flows.
 pub record DrawsFiles (holds : Holding) (d : Drawing) (text : Vec ℕ) : Type 0 where
   pub lattice : Lattice
   pub declared : IsLatticeAt holds d.lattice.now lattice
@@ -237,7 +237,7 @@ pub record DrawsFiles (holds : Holding) (d : Drawing) (text : Vec ℕ) : Type 0 
   pub of_flows : ToldFlowsGraph holds d.source d.is_strict lattice flows
   pub parts : text.items ≡ classes ++ flows
 
--- No leak of a text that has a program has been met in so many pairs of runs, which says nothing of other pairs.
+-- No leak was found in this many pairs of runs of a text that has a program, which says nothing about other pairs.
 pub record SearchesFiles (holds : Holding) (s : Search) (text : Vec ℕ) : Type 0 where
   pub lattice : Lattice
   pub declared : IsLatticeAt holds s.lattice.now lattice
@@ -247,7 +247,7 @@ pub record SearchesFiles (holds : Holding) (s : Search) (text : Vec ℕ) : Type 
   pub pairs : ℕ
   pub line : text.items ≡ codes "no leak in " ++ decimal pairs ++ codes " pairs of runs\n"
 
--- What the interface of a file asks.
+-- The request that the interface in a file makes.
 pub record IsAskedAt (holds : Holding) (path : List ℕ) (asked : Asked) : Type 0 where
   pub bytes : List ℕ
   pub read : IsReadAt holds path bytes
@@ -282,13 +282,13 @@ abbrev pub IsWrittenInC : Bool → Image → List ℕ → List ℕ → Type 0
 IsWrittenInC true im name text = text ≡ header_text name (globals im.globals.items)
 IsWrittenInC false im name text = IsEmitted im name text
 
--- The C of an image that is asked for, or its header.
+-- The C of the requested image, or its header.
 pub record EmitsFile (holds : Holding) (asked : Emission) (text : Vec ℕ) : Type 0 where
   pub image : Image
   pub held : IsEmittedFrom holds asked.lattice asked.file image
   pub is : IsWrittenInC asked.is_header image (function_name asked.name asked.file.now) text.items
 
--- What an interface asks, with its lattice, and a source text, as the files hold them.
+-- The request of an interface, its lattice and a source text, as the files hold them.
 pub record AreAsked (holds : Holding) (c : Conformance) (asked : Asked) (l : Lattice) (source : List ℕ) : Type 0 where
   pub interface : IsAskedAt holds c.interface.now asked
   pub lattice : IsPolicyAt holds c.interface.now asked.policy l
@@ -304,7 +304,7 @@ abbrev pub IsVerdict : Bool → Lattice → List ℕ → Interface → Type 0
 IsVerdict true l source i = Conforms l source i
 IsVerdict false l source i = ¬ (Conforms l source i)
 
--- A text that tells whether a source text conforms to an interface, and in what it differs.
+-- A text that says whether a source text conforms to an interface, and where it differs.
 pub record TellsConforming (is_json conforms : Bool) (l : Lattice) (source : List ℕ) (i : Interface) (text : List ℕ)
     : Type 0 where
   pub answer : Answer
@@ -313,8 +313,8 @@ pub record TellsConforming (is_json conforms : Bool) (l : Lattice) (source : Lis
   pub is : IsVerdict conforms l source i
   pub written : IsWrittenAs is_json l source i answer text
 
--- What is told of the files of a conformance, where the source text conforms to the interface under its lattice, or
--- where it doesn't.
+-- The text written for the files of a conformance, whose source text conforms to the interface under its lattice or
+-- doesn't.
 pub record ConformsFiles (holds : Holding) (c : Conformance) (conforms : Bool) (text : Vec ℕ) : Type 0 where
   pub asked : Asked
   pub lattice : Lattice
@@ -336,7 +336,7 @@ pub record BuildsFile (holds : Holding) (c : Compilation) (image : List ℕ) (le
   pub built : OfFiles holds c (ToldImage c.is_strict) bytes
   pub filled : Fills image bytes.items holds left
 
--- `build`: that is done, and nothing was written to the output.
+-- `build`: the image's file has been filled, and nothing was written to the output.
 pub record PerformsBuild (holds : Holding) (c : Compilation) (image : List ℕ) (left : Holding)
     (old new : Option (List ℕ)) : Type 0 where
   pub builds : BuildsFile holds c image left
@@ -347,7 +347,7 @@ pub record PerformsAudit (holds : Holding) (a : Audit) (old new : Option (List �
   pub audits : AuditsFiles holds a
   pub written : Appends old new (codes "accepted\n")
 
--- `run`: the trace, and behind it the text of the store, which goes to a file where one is asked for.
+-- `run`: the trace, followed by the text of the store, which goes to a file if one is given.
 pub record PerformsRun (holds : Holding) (e : Execution) (o : Outset) (traced : Bool) (left : Holding)
     (old new : Option (List ℕ)) : Type 0 where
   pub trace : List ℕ
@@ -356,7 +356,7 @@ pub record PerformsRun (holds : Holding) (e : Execution) (o : Outset) (traced : 
   pub written : Appends old new (trace ++ shown o.out text)
   pub delivered : Delivers o.out text holds left
 
--- `view`: the lines, which go to a file where one is asked for.
+-- `view`: the lines, which go to a file if one is given.
 pub record PerformsView (holds : Holding) (path class : List ℕ) (e : Execution) (o : Outset) (left : Holding)
     (old new : Option (List ℕ)) : Type 0 where
   pub text : Vec ℕ
@@ -369,8 +369,8 @@ abbrev pub control_of : Lattice → ℕ → Image → ℕ → Control
 control_of l class im budget =
     record { known = class_named l; order = order l; class = class; image = im; budget = budget }
 
--- `drive`: a cycle for each line of the input, from the words of the store file on, has been done and written, and the
--- last store goes to a file where one is asked for.
+-- `drive`: a cycle has run for each line of the input, beginning with the words of the store file, its text has been
+-- written, and the last store goes to a file if one is given.
 pub record PerformsDrive (holds : Holding) (d : Driving) (given : Option (List ℕ)) (left : Holding)
     (old new : Option (List ℕ)) : Type 0 where
   pub lattice : Lattice
@@ -396,8 +396,8 @@ abbrev pub Alone : (Option (List ℕ) → Option (List ℕ) → Type 0) → Hold
     Option (List ℕ) → Type 0
 Alone Does holds left old new = (left ≡ holds) × Does old new
 
--- What a request that is done to its end has done: what it has written, of what its files hold and the input gives, and
--- what the files hold then.
+-- The effect of a request that ends well: its output, given the contents of its files and the input, and the contents
+-- of the files afterwards.
 abbrev pub Performs : Holding → Option (List ℕ) → Request → Holding → Option (List ℕ) → Option (List ℕ) → Type 0
 Performs holds given (request.Try attempt) left = Alone (Writes (TriesFile holds attempt)) holds left
 Performs holds given (request.Check asked) left = Alone (PerformsCheck asked.is_json holds asked) holds left

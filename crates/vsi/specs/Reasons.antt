@@ -1,4 +1,4 @@
--- Why a request that isn't done has stopped, of what its files hold.
+-- The reason why a request has stopped early, given the contents of its files.
 use Rattle.std.specs.Prelude.{◌≡◌, ◌≢◌, ◌⊎◌, ℕ, ℤ, Bool, true, false, List, Option, Some, None, Result, Err, IsSomeAnd}
 use Rattle.std.specs.Global.{Vec}
 use Rattle.std.specs.Borrow.{Bor}
@@ -59,9 +59,9 @@ use Rattle.vsi.specs.Performed.{AreFiles, BeginsAt, ComparesFiles, ConformsFiles
 
 -- ---- what a stop tells.
 
--- The refusal of a file or of a text, and a run that is out of budget, is for this reason; of the other stops of
--- status 1, and of a class that is missing, this is so. Of a mistake in words, a file fault and want of memory nothing
--- is claimed.
+-- The first property holds for the reason of a refused file or text and of a run out of budget, the second holds for
+-- the other stops of status 1 and for a missing class, and nothing is claimed about mistaken arguments, file faults and
+-- lack of memory.
 abbrev pub StopsBy : (Unanswered → Type 0) → (Stop → Type 0) → Stop → Type 0
 StopsBy why other (stops.Refused text (Some cause)) = why (unanswered.Refused text cause)
 StopsBy why other (stops.Refused text None) = other (stops.Refused text None)
@@ -80,7 +80,7 @@ StopsBy why other stops.Memory = Unit {0}
 abbrev pub NoOther : Stop → Type 0
 NoOther stop = ⊥
 
--- The fault isn't want of memory.
+-- The fault isn't lack of memory.
 abbrev pub IsNoMemory : Fault → Type 0
 IsNoMemory (fault.Lattice e) = e ≢ lattice.Memory
 IsNoMemory (fault.Decode e) = e ≢ decoder.Memory
@@ -88,11 +88,11 @@ IsNoMemory (fault.Verify e) = Unit {0}
 IsNoMemory (fault.Store e) = e ≢ store.Memory
 IsNoMemory (fault.View e) = e ≢ views.Memory
 
--- The stop is a difference, of which this has been told.
+-- The stop is a difference, and it has been reported in this way.
 abbrev pub IsDifference : Type 0 → Stop → Type 0
 IsDifference told stop = (stop ≡ stops.Differs) × told
 
--- A lattice has no class of this name, which the stop tells.
+-- A lattice has no class of this name, and the stop gives that name.
 abbrev pub LacksClass : Lattice → List ℕ → Stop → Type 0
 LacksClass l name (stops.NoClass told) = (told.now ≡ name) × (class_named l name ≡ None)
 LacksClass l name stop = ⊥
@@ -103,7 +103,7 @@ LacksClass l name stop = ⊥
 abbrev pub LacksClassAt : Holding → List ℕ → List ℕ → Stop → Type 0
 LacksClassAt holds path name stop = (l : Lattice) × IsLatticeAt holds path l × LacksClass l name stop
 
--- The bytes of a file have this reason for no answer to what is asked of them.
+-- A request about the bytes of a file has no answer, for this reason.
 pub record RefusesFile {T : Type 0} (holds : Holding) (path : List ℕ) (Ask : List ℕ → Result T Unanswered → Type 0)
     (reason : Unanswered) : Type 0 where
   pub bytes : List ℕ
@@ -118,7 +118,7 @@ RefusesLattice holds path = RefusesFile holds path ReadsLattice
 abbrev pub RefusesImage : Holding → List ℕ → Unanswered → Type 0
 RefusesImage holds path = RefusesFile holds path ReadsImage
 
--- A lattice and a source text have this reason for no answer to what is asked of them.
+-- A request about a lattice and a source text has no answer, for this reason.
 pub record RefusesText (holds : Holding) (c : Compilation) (Ask : Lattice → List ℕ → Answer → Type 0)
     (reason : Unanswered) : Type 0 where
   pub lattice : Lattice
@@ -126,11 +126,11 @@ pub record RefusesText (holds : Holding) (c : Compilation) (Ask : Lattice → Li
   pub files : AreFiles holds c lattice source
   pub is : Ask lattice source (Err reason)
 
--- A compilation has this reason for no answer: its lattice file is refused, or else its source text.
+-- A request about a compilation has no answer, for this reason: its lattice file is refused, or else its source text.
 abbrev pub RefusesFiles : Holding → Compilation → (Lattice → List ℕ → Answer → Type 0) → Unanswered → Type 0
 RefusesFiles holds c Ask reason = RefusesLattice holds c.lattice.now reason ⊎ RefusesText holds c Ask reason
 
--- The words that a run begins with are refused: the store file, or what is set behind it.
+-- The words that a run begins with are refused: the store file, or the settings applied to it.
 pub record RefusesStart (holds : Holding) (e : Execution) (o : Outset) (reason : Unanswered) : Type 0 where
   pub image : Image
   pub held : IsImageAt holds e.image.now image
@@ -161,35 +161,35 @@ pub record RefusesSource (holds : Holding) (lattice source : List ℕ) (reason :
 
 -- ---- what is asked.
 
--- What `check` asks, and what `check --steady` does.
+-- The request of `check`, and that of `check --steady`.
 abbrev pub AsksCheck : Bool → Bool → Lattice → List ℕ → Answer → Type 0
 AsksCheck true is_strict l source = ChecksSteadyTo l source
 AsksCheck false is_strict l source = ChecksTo l (profile_of is_strict) source
 
--- What `classes` asks.
+-- The request of `classes`.
 abbrev pub AsksClasses : Bool → Lattice → List ℕ → Answer → Type 0
 AsksClasses is_strict l source = ClassesTo l (profile_of is_strict) source
 
--- What `flows` asks, and what `flows --walks` does.
+-- The request of `flows`, and that of `flows --walks`.
 abbrev pub AsksFlows : Bool → Bool → Lattice → List ℕ → Answer → Type 0
 AsksFlows true is_strict l source = WalksTo l (profile_of is_strict) source
 AsksFlows false is_strict l source = FlowsTo l (profile_of is_strict) source
 
--- What `build` asks.
+-- The request of `build`.
 abbrev pub AsksImage : Bool → Lattice → List ℕ → Answer → Type 0
 AsksImage is_strict l source = BuildsTo l (profile_of is_strict) source
 
--- What `fmt` asks. Its refusals read no lattice, and are told as those under two classes.
+-- The request of `fmt`, whose refusals need no lattice and are reported as under two classes.
 abbrev pub AsksCanonical : List ℕ → Answer → Type 0
 AsksCanonical source answer = (l : Lattice) × Declares two_classes l × FormatsTo l source answer
 
 -- ---- why each subcommand has stopped.
 
--- The line of JSON of a text that is refused.
+-- The line of JSON for a refused text.
 abbrev pub ToldRefusal : Judgement → Lattice → List ℕ → Vec ℕ → Type 0
 ToldRefusal j l source text = TellsRefused l j source text.items
 
--- `check`: the text is refused, and with `--json` that has been told.
+-- `check`: the text is refused, and with `--json` the refusal has been written.
 abbrev pub WhyCheck : Bool → Holding → Judging → Option (List ℕ) → Option (List ℕ) → Stop → Type 0
 WhyCheck true holds asked old new =
     StopsBy (RefusesLattice holds asked.compilation.lattice.now)
@@ -208,12 +208,12 @@ pub record RefusesAsked (holds : Holding) (path : List ℕ) (reason : Unanswered
   pub interface : IsAskedAt holds path asked
   pub refused : RefusesPolicy holds path asked.policy reason
 
--- `conform`: the interface is refused by an error, which the text tells. That it has this error isn't claimed.
+-- `conform`: the interface is refused with an error that the text describes; nothing claims that the interface has it.
 abbrev pub IsUnusable : Stop → Type 0
 IsUnusable (stops.Interface text error) = text.items ≡ interface_line error
 IsUnusable stop = ⊥
 
--- `conform`: the interface is refused, or the text doesn't conform to it, which has been told.
+-- `conform`: the interface is refused, or the text doesn't conform to it and the difference has been written.
 abbrev pub DiffersConform : Holding → Conformance → Option (List ℕ) → Option (List ℕ) → Stop → Type 0
 DiffersConform holds c old new stop =
     IsUnusable stop ⊎ IsDifference (Writes (ConformsFiles holds c false) old new) stop
@@ -276,12 +276,12 @@ pub record DiffersCompare (holds : Holding) (c : Comparison) (old new : Option (
   pub differs : told.is_same ≡ false
   pub written : Appends old new told.text.items
 
--- `compare`: the lattice has no class of the name, or a difference has been told.
+-- `compare`: the lattice has no class of the name, or a difference has been written.
 abbrev pub OtherCompare : Holding → Comparison → Option (List ℕ) → Option (List ℕ) → Stop → Type 0
 OtherCompare holds c old new stop =
     LacksClassAt holds c.lattice.now c.class.now stop ⊎ IsDifference (DiffersCompare holds c old new) stop
 
--- An image is refused by the error that the stop has, and its text tells it.
+-- An image is refused with the error in the stop, whose text describes that error.
 abbrev pub IsRefusedImage : Bool → Lattice → Image → Stop → Type 0
 IsRefusedImage is_strict l image (stops.Audit text error) =
     audited.Refuses (class_named l) (order l) (profile_of is_strict) image error × IsAuditText l image error text.items
@@ -289,7 +289,7 @@ IsRefusedImage is_strict l image (stops.Unsteady text error) =
     steady.Refuses (class_named l) (order l) image error × IsUnsteadyText l image error text.items
 IsRefusedImage is_strict l image stop = ⊥
 
--- `audit`: the image of the file is refused, and the text tells why.
+-- `audit`: the image of the file is refused, and the text says why.
 pub record RefusesAudit (holds : Holding) (a : Audit) (stop : Stop) : Type 0 where
   pub lattice : Lattice
   pub declared : IsLatticeAt holds a.lattice.now lattice
@@ -297,7 +297,7 @@ pub record RefusesAudit (holds : Holding) (a : Audit) (stop : Stop) : Type 0 whe
   pub held : IsImageAt holds a.image.now image
   pub is : IsRefusedImage a.is_strict lattice image stop
 
--- The image of a file has no text by this error, and this text tells it. That the image has none isn't claimed.
+-- The image of a file has no text according to this error, which this text describes; nothing claims that it has none.
 pub record LacksText (holds : Holding) (path : List ℕ) (error : AuditError) (text : List ℕ) : Type 0 where
   pub image : Image
   pub held : IsImageAt holds path image
@@ -310,7 +310,7 @@ abbrev pub HasNoText : Holding → List ℕ → Stop → Type 0
 HasNoText holds path (stops.Audit text error) = LacksText holds path error text.items
 HasNoText holds path stop = ⊥
 
--- A leak of the image of a source text, and the text that tells it.
+-- A leak of the image of a source text, and the text that describes the leak.
 pub record TellsLeak (holds : Holding) (s : Search) (text : List ℕ) : Type 0 where
   pub lattice : Lattice
   pub declared : IsLatticeAt holds s.lattice.now lattice
@@ -352,8 +352,8 @@ pub record RefusesController (holds : Holding) (d : Driving) (reason : Unanswere
   pub held : IsImageAt holds d.execution.image.now image
   pub is : Because (TellsFault (IsViewFault lattice image)) ⊥ reason
 
--- `drive`: the lattice is refused, or the image, or the store file, or no controller begins. No line of the input is
--- refused so: its cycle writes what is wrong with it.
+-- `drive`: the lattice is refused, or the image, or the store file, or no controller begins; a wrong line of the input
+-- isn't a reason, because its cycle writes the fault.
 abbrev pub WhyDrive : Holding → Driving → Unanswered → Type 0
 WhyDrive holds d reason =
     RefusesLattice holds d.lattice.now reason ⊎ RefusesImage holds d.execution.image.now reason
@@ -369,13 +369,13 @@ abbrev pub RefusesUnder : Holding → Option (Bor (List ℕ)) → List ℕ → L
 RefusesUnder holds (Some path) source text reason = RefusesLattice holds path.now reason
 RefusesUnder holds None source text reason = RefusesNamed holds source (named_policy text) reason
 
--- `try`: the image that is made of a text doesn't begin, by a fault of what is set.
+-- `try`: the image made from a text doesn't begin, because a setting is wrong.
 pub record RefusesBegin (l : Lattice) (a : Attempt) (text : List ℕ) (reason : Unanswered) : Type 0 where
   pub image : Image
   pub made : IsMade l text image
   pub is : BeginsSet image a.settings.items (Err reason)
 
--- `try`: the text is refused, or what is set, or the run has no answer.
+-- `try`: the text or a setting is refused, or the run has no answer.
 abbrev pub RefusesRun : Lattice → Option ℕ → Attempt → List ℕ → Unanswered → Type 0
 RefusesRun l viewer a text reason =
     BuildsTo l Base text (Err reason) ⊎ RefusesBegin l a text reason ⊎ RunsMade l viewer a text (Err reason)
@@ -411,7 +411,7 @@ pub record LacksTried (holds : Holding) (a : Attempt) (stop : Stop) : Type 0 whe
   pub under : IsTriedUnder holds a.lattice a.source.now text lattice
   pub lacks : LacksGiven lattice a.class stop
 
--- Why a request has stopped.
+-- The reason why a request has stopped.
 abbrev pub Why : Holding → Request → Option (List ℕ) → Option (List ℕ) → Stop → Type 0
 Why holds (request.Try attempt) old new = StopsBy (WhyTry holds attempt) (LacksTried holds attempt)
 Why holds (request.Check asked) old new = WhyCheck asked.is_json holds asked old new

@@ -1,4 +1,4 @@
--- What the program ends with where it stops early, and what it tells then.
+-- The status of the program when it stops early, and its message.
 use Rattle.std.specs.Prelude.{◌≡◌, ◌<◌, ◌-◌, ◌^◌, ◌==◌, ◌++◌, ◌∷◌, [], ℕ, List, Option, Some, None, Result, IsErrAnd, codes, if◌then◌else◌, string_bytes}
 use Rattle.std.specs.Io.KnownBytes.{Appends}
 use Rattle.vsi_answers.specs.declared.unanswered.Unanswered.{Unanswered}
@@ -22,17 +22,17 @@ status_of (FileFault path) = 4
 status_of (LostFile path) = 4
 status_of Memory = 5
 
--- A request that has no answer stops with the text that tells why.
+-- A request that has no answer stops with the text that says why.
 abbrev pub stop_of : Unanswered → Stop
 stop_of (unanswered.Refused text cause) = Refused text (Some cause)
 stop_of unanswered.OutOfBudget = OutOfBudget
 stop_of unanswered.Memory = Memory
 
--- Where a stream's count of faults rose, the answer is a file fault.
+-- If a stream's count of faults rose, the answer is a file fault.
 abbrev pub TellsFault : {T : Type 0} → ℕ → ℕ → Result T Stop → Type 0
 TellsFault old new answer = old < new → IsErrAnd answer (λ stop. status_of stop ≡ 4)
 
--- A start and a word on a line.
+-- A line made of a start and a name.
 abbrev pub line_of : List ℕ → List ℕ → List ℕ
 line_of start word = start ++ word ++ 10 ∷ []
 
@@ -50,7 +50,7 @@ text_of_stop (FileFault path) = line_of (codes "file fault: ") path.now
 text_of_stop (LostFile path) = line_of (codes "file fault: ") (string_bytes path)
 text_of_stop Memory = codes "out of memory\n"
 
--- What is told behind the text of a stop: nothing where memory is wanted.
+-- The note after the text of a stop: nothing if memory ran out.
 abbrev pub note_behind : Stop → List ℕ → List ℕ
 note_behind stop note = if status_of stop == 5 then [] else note
 
@@ -60,7 +60,7 @@ Gets contents old new text =
     faults_of old < 2 ^ 64 - 1 → faults_of new ≡ faults_of old →
     Appends (contents (device_of old)) (contents (device_of new)) text
 
--- What a stop of the run without words means: why there is no answer, a fault at this path, or want of memory.
+-- The meaning of a stop of the run without arguments: why there is no answer, a fault at this path, or lack of memory.
 abbrev pub StopsFor : (Unanswered → Type 0) → (List ℕ → Type 0) → Stop → Type 0
 StopsFor why faulted (Refused text (Some cause)) = why (unanswered.Refused text cause)
 StopsFor why faulted (Refused text None) = ⊥
@@ -75,6 +75,6 @@ StopsFor why faulted (FileFault path) = faulted path.now
 StopsFor why faulted (LostFile path) = ⊥
 StopsFor why faulted Memory = Unit {0}
 
--- The path of a standard stream, where a device has failed.
+-- The path of a standard stream, if a device has failed.
 abbrev pub IsStreamFault : Type 0 → List ℕ → Type 0
 IsStreamFault faulted path = (path ≡ codes "-") × faulted

@@ -1,4 +1,4 @@
--- What `try` prints.
+-- The output of `try`.
 use Rattle.std.specs.Prelude.{◌≡◌, ℕ, ℤ, false, List, [], Option, Some, None, Result, Ok}
 use Rattle.std.specs.Borrow.{Bor}
 use Rattle.std.specs.Global.{Vec}
@@ -19,43 +19,43 @@ use Rattle.vsi.specs.Input.{two_classes}
 
 -- ---- the lattice.
 
--- The path of a lattice file that a text names, as it is opened: relative to the folder of the text.
+-- The path at which a lattice file named by a text is opened: relative to the folder of the text.
 abbrev pub policy_path : List ℕ → List ℕ → List ℕ
 policy_path source path = utf8_lossy (beside source path)
 
--- The lattice of the file that a text names, or where it names none `L` below `H`.
+-- The lattice of the file that a text names, or `L` below `H` if it names none.
 abbrev pub IsNamedLattice : Holding → List ℕ → Option (List ℕ) → Lattice → Type 0
 IsNamedLattice holds source (Some path) l = IsLatticeAt holds (policy_path source path) l
 IsNamedLattice holds source None l = Declares two_classes l
 
--- The lattice that a text is tried under: that of the file that is given, or else the text's own.
+-- The lattice that a text is tried under: that of the given file, or else the text's own.
 abbrev pub IsTriedUnder : Holding → Option (Bor (List ℕ)) → List ℕ → List ℕ → Lattice → Type 0
 IsTriedUnder holds (Some path) source text l = IsLatticeAt holds path.now l
 IsTriedUnder holds None source text l = IsNamedLattice holds source (named_policy text) l
 
 -- ---- the run.
 
--- The class that looks, where one is given.
+-- The class of the viewer, if one is given.
 abbrev pub Looks : Lattice → Option (Bor (List ℕ)) → Option ℕ → Type 0
 Looks l None viewer = viewer ≡ None
 Looks l (Some name) viewer = (class : ℕ) × (class_named l name.now ≡ Some class) × (viewer ≡ Some class)
 
--- The image whose bytes `build` makes of a text.
+-- The image whose bytes `build` makes from a text.
 pub record IsMade (l : Lattice) (text : List ℕ) (im : Image) : Type 0 where
   pub bytes : Vec ℕ
   pub built : BuildsTo l Base text (Ok bytes)
   pub are : AreImage bytes.items im
 
--- What an image begins with: globals that are set, and else zeros.
+-- The store that an image begins with: the settings, and zeros elsewhere.
 abbrev pub BeginsSet : Image → List (Bor (List ℕ)) → Result (Vec ℤ) Unanswered → Type 0
 BeginsSet im settings answer = BeginsWith im [] (texts settings) false answer
 
--- What `run` answers of an image, or for a class what `view` does.
+-- The answer of `run` for an image, or that of `view` for a class.
 abbrev pub ShowsTo : Lattice → Option ℕ → Image → List ℤ → ℕ → Answer → Type 0
 ShowsTo l None im words budget = RunsTo im words budget
 ShowsTo l (Some class) im words budget = ViewsTo l class im words budget
 
--- The run of the image that is made of a text, from what is set.
+-- The run of the image made from a text, beginning with the settings.
 pub record RunsMade (l : Lattice) (viewer : Option ℕ) (a : Attempt) (text : List ℕ) (answer : Answer) : Type 0 where
   pub image : Image
   pub made : IsMade l text image
@@ -63,7 +63,7 @@ pub record RunsMade (l : Lattice) (viewer : Option ℕ) (a : Attempt) (text : Li
   pub begins : BeginsSet image a.settings.items (Ok words)
   pub shows : ShowsTo l viewer image words.items a.budget answer
 
--- A source text, the lattice that it is tried under, and the class that looks.
+-- A source text, the lattice that it is tried under, and the class of the viewer.
 pub record AreTried (holds : Holding) (a : Attempt) (l : Lattice) (viewer : Option ℕ) (text : List ℕ) : Type 0 where
   pub read : IsReadAt holds a.source.now text
   pub under : IsTriedUnder holds a.lattice a.source.now text l

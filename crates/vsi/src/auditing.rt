@@ -1,4 +1,4 @@
-//! What the subcommands that judge an image without its source answer.
+//! The answers of the subcommands that judge an image without its source.
 
 ghost use Rattle.std.specs.Prelude.{◌≡◌, ◌⊎◌, ℕ, IfErr, IfOk, OnOk};
 ghost use Rattle.vsi_audit.specs.Telling.{IsAuditText};
@@ -20,7 +20,7 @@ use vsi_image::{Image, Verified};
 use vsi_lattice::Lattice;
 use vsi_steady::{SteadyError, steady_in, steady_text};
 
-/// What stands for the refusal of an image.
+/// The stop for a refused image.
 fn refused_image<'a>(alloc: Global, lattice: &Lattice, image: &Image, error: AuditError) -> Stop<'a>
     ensures { StopsBy (λ reason. ⊥)
         (λ stop. (text : Vec ℕ) × (stop ≡ stops.Audit text error)
@@ -35,7 +35,7 @@ fn refused_image<'a>(alloc: Global, lattice: &Lattice, image: &Image, error: Aud
     }
 }
 
-/// What stands for the refusal of an image that isn't steady.
+/// The stop for a refused image that isn't steady.
 fn refused_unsteady<'a>(
     alloc: Global,
     lattice: &Lattice,
@@ -55,7 +55,7 @@ fn refused_unsteady<'a>(
     }
 }
 
-/// Judges an image as it is asked.
+/// Judges an image as requested.
 fn judge<'a>(
     alloc: Global,
     asked: Audit<'a>,
@@ -97,7 +97,7 @@ pub(crate) fn audit<'a, F: Files>(
     judge(desk.alloc, asked, &classes, &verified)
 }
 
-/// The source text that the image stands for.
+/// The source text that is equivalent to the image.
 pub(crate) fn source<'a, F: Files>(
     desk: &mut Desk,
     image: &'a str,

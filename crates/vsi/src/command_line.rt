@@ -1,4 +1,4 @@
-//! Does what a command line asks for.
+//! Obeys a command line.
 
 ghost use Rattle.std.specs.Prelude.{◌≡◌, ◌≢◌, ◌<◌, ◌≤◌, ◌⊎◌, ◌++◌, [], false, Ok, Err, IfOk, IfErr, OnOk, codes};
 ghost use Rattle.std.specs.Io.KnownBytes.{Keeps};
@@ -20,26 +20,26 @@ use std::io::{Read, Write};
 use vsi_devices::{Counted, read_all};
 use vsi_lattice::Lattice;
 
-/// The budget of a run without words, in instructions.
+/// The budget of a run without arguments, in instructions.
 const DEFAULT_BUDGET: u64 = 1_000_000;
 
-/// What a person is told at a terminal.
+/// The greeting at a terminal.
 const GREETING: &[u8] = b"\
 vsi reads a source text from the terminal until Ctrl-D; `vsi --help` tells more.
 ";
 
-/// What words get to read that don't ask for the subcommand that reads the input.
+/// The input of every subcommand except the one that reads the input.
 const NOTHING: &[u8] = b"";
 
-/// Does what the words ask for, and gives the status that the program ends with. The words leave
-/// out its name; without any, a source text is read from the input, compiled with the classes `L`
+/// Obeys the arguments, and returns the exit status of the program. The arguments leave out the
+/// program's name; without any, a source text is read from the input, compiled with the classes `L`
 /// below `H`, run from zeros with a budget of 1,000,000, and the text of its store is written to
 /// the output.
 ///
-/// The status is 0 where all was done, 1 for a refusal or a difference, 2 for a mistake in the
-/// words, 3 where a run is out of budget, 4 for a fault of a file or a stream, 5 for want of
-/// memory. For all but 0 a text that tells the cause goes to `error`, whose own faults leave the
-/// status as it is.
+/// The status is 0 if everything was done, 1 for a refusal or a difference, 2 for a mistake in the
+/// arguments, 3 if a run is out of budget, 4 for a fault of a file or a stream, 5 for lack of
+/// memory. For every status but 0 a text that gives the cause goes to `error`, whose own faults
+/// leave the status as it is.
 pub fn command<F: Files, R: Read, W: Write, E: Write>(
     alloc: Global,
     words: &[String],
@@ -92,7 +92,7 @@ pub fn command<F: Files, R: Read, W: Write, E: Write>(
     ended(answer, &told, output.is_closed(), error)
 }
 
-/// Does what is asked for without words, and gives the status.
+/// Does the run without arguments, and returns the status.
 fn without_words<F: Files, R: Read, W: Write, E: Write>(
     alloc: Global,
     files: &mut F,
@@ -130,8 +130,7 @@ fn without_words<F: Files, R: Read, W: Write, E: Write>(
     ended(answer, &Told::new(alloc), output.is_closed(), error)
 }
 
-/// Does what the words ask for, which get to read the input where they ask for the subcommand that
-/// reads it.
+/// Obeys the arguments, and gives them the input only if they name the subcommand that reads it.
 fn obeyed<'a, F: Files, R: Read, W: Write>(
     alloc: Global,
     words: &'a [String],
@@ -161,7 +160,7 @@ fn obeyed<'a, F: Files, R: Read, W: Write>(
     obey(alloc, words, files, &mut nothing, output, told)
 }
 
-/// Tells what is to be told of an answer, and gives its status.
+/// Writes the message of an answer to standard error, and returns the status.
 fn ended<E: Write>(
     answer: Result<(), Stop<'_>>,
     told: &Told,
@@ -201,7 +200,7 @@ fn ended<E: Write>(
     }
 }
 
-/// Tells a person at a terminal that a text is waited for.
+/// Says at a terminal that the program waits for a text.
 fn greet<F: Files, E: Write>(files: &mut F, error: &mut Counted<E>)
     ensures kept { F.holds files.new ≡ F.holds files.old }
     ensures count { faults_of error.old ≤ faults_of error.new }
@@ -212,7 +211,7 @@ fn greet<F: Files, E: Write>(files: &mut F, error: &mut Counted<E>)
     }
 }
 
-/// Whether the words ask for the subcommand that reads the input.
+/// Whether the arguments name the subcommand that reads the input.
 fn reads_input(words: &[String]) -> bool
     ensures { result ≡ spec.reads_input words.now }
 {
@@ -222,7 +221,7 @@ fn reads_input(words: &[String]) -> bool
     }
 }
 
-/// The run without words.
+/// The run without arguments.
 fn run_input<'a, R: Read, W: Write>(
     alloc: Global,
     input: &mut Counted<R>,
@@ -249,7 +248,7 @@ fn run_input<'a, R: Read, W: Write>(
     }
 }
 
-/// Writes the text of the store in which the run of a source text ends.
+/// Writes the text of the final store of the run of a source text.
 fn write_run<'a, W: Write>(
     alloc: Global,
     lattice: &Lattice,
@@ -273,7 +272,7 @@ fn write_run<'a, W: Write>(
     write(text.as_slice(), output)
 }
 
-/// The text of the store in which the run of a source text ends.
+/// The text of the final store of the run of a source text.
 fn ran<'a>(alloc: Global, lattice: &Lattice, source: &[u8]) -> Result<Vec<u8>, Stop<'a>>
     ensures ran { IfOk result
         (λ text. RunsSourceTo lattice.now source.now 1000000 (Ok text)) }

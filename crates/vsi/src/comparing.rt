@@ -17,7 +17,8 @@ use std::io::Write;
 use vsi_arguments::Comparison;
 use vsi_devices::Counted;
 
-/// Runs an image file from two store files, and says what a class sees of both.
+/// Runs an image file from two store files, and returns the comparison that a class makes of both
+/// runs.
 fn compared<'a, F: Files>(
     desk: &mut Desk,
     asked: Comparison<'a>,
@@ -49,7 +50,7 @@ fn compared<'a, F: Files>(
     Ok(found)
 }
 
-/// Writes what a class sees of runs of an image file from two store files.
+/// Writes the comparison that a class makes of the runs of an image file from two store files.
 pub(crate) fn compare<'a, F: Files, W: Write>(
     desk: &mut Desk,
     asked: Comparison<'a>,

@@ -25,7 +25,7 @@ use vsi_conform::{
 use vsi_devices::Counted;
 use vsi_lattice::Lattice;
 
-/// What stands for the refusal of an interface file.
+/// The stop for a refused interface file.
 fn unusable<'a>(alloc: Global, error: InterfaceError) -> Stop<'a>
     ensures { StopsBy (λ reason. ⊥) IsUnusable result }
 {
@@ -166,7 +166,7 @@ fn judged<'a, F: Files>(
     answer_of(desk.alloc, asked.is_json, &lattice, &text, &found.interface)
 }
 
-/// Writes whether the source text conforms to the interface, and in what it differs.
+/// Writes whether the source text conforms to the interface, and where it differs.
 pub(crate) fn conform<'a, F: Files, W: Write>(
     desk: &mut Desk,
     asked: Conformance<'a>,

@@ -1,8 +1,8 @@
-//! What was read of files on the way of a request, for the explanation of its refusal.
+//! The files read by a request, kept for the explanation of its refusal.
 
 use std::alloc::{AllocError, Global};
 
-/// What a file that was read is.
+/// The kind of a file that was read.
 #[derive(Clone, Copy, Debug, PartialEq, Eq)]
 pub(crate) enum Kind {
     Lattice,
@@ -10,12 +10,12 @@ pub(crate) enum Kind {
     Image,
     Store,
     Interface,
-    /// No file, but a setting of the command line.
+    /// A setting of the command line, which isn't a file.
     Setting,
 }
 
 impl Kind {
-    /// Whether no part of a file serves, however long the part is.
+    /// Whether only a whole file of this kind is useful.
     pub(crate) fn must_be_whole(self) -> bool {
         matches!(self, Kind::Lattice | Kind::Store | Kind::Interface)
     }
@@ -29,7 +29,7 @@ pub(crate) struct Kept {
     pub(crate) bytes: Vec<u8>,
 }
 
-/// What was read, where a refusal is to be explained.
+/// The files that were read, if refusals are explained.
 #[derive(Drop)]
 pub(crate) struct Desk {
     pub(crate) alloc: Global,
@@ -39,7 +39,7 @@ pub(crate) struct Desk {
 }
 
 impl Desk {
-    /// A desk on which nothing stands yet.
+    /// An empty desk.
     pub(crate) fn new(alloc: Global, is_explained: bool) -> Desk {
         Desk {
             alloc,
@@ -73,7 +73,7 @@ impl Desk {
         found
     }
 
-    /// What was read of this kind behind so many others.
+    /// The file of this kind that was read after this many others of the kind.
     pub(crate) fn behind(&self, kind: Kind, others: usize) -> Option<&Kept> {
         let mut left = others;
         for kept in &self.kept {

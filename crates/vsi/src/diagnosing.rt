@@ -34,7 +34,7 @@ fn start_diagnostic(fault: StartFault) -> Diagnostic<'static>
     }
 }
 
-/// The refusal of an image whose commands are judged; none where memory was wanting.
+/// The refusal of an image whose commands are judged; none if memory ran out.
 fn audit_diagnostic(error: &AuditError) -> Option<Diagnostic<'static>>
     ensures { option_map diagnostic_of result ≡ spec.audit_diagnostic error.now }
 {
@@ -52,7 +52,7 @@ fn audit_diagnostic(error: &AuditError) -> Option<Diagnostic<'static>>
     }
 }
 
-/// The refusal with this cause, where the source text that was read is this one.
+/// The refusal with this cause, if the source text that was read is this one.
 fn cause_diagnostic<'s>(source: &[u8], cause: &'s Cause) -> Option<Diagnostic<'s>> {
     match cause {
         Cause::Source(error) => refusal_diagnostic(source, error),
@@ -62,8 +62,8 @@ fn cause_diagnostic<'s>(source: &[u8], cause: &'s Cause) -> Option<Diagnostic<'s
     }
 }
 
-/// The refusal that a stop is, where the source text that was read is this one; none where the
-/// stop has no number.
+/// The refusal that a stop is, if the source text that was read is this one; none if the stop has
+/// no number.
 pub(crate) fn stop_diagnostic<'s>(source: &[u8], stop: &'s Stop<'_>) -> Option<Diagnostic<'s>> {
     match stop {
         Stop::Refused(_, Some(cause)) => cause_diagnostic(source, cause),

@@ -52,7 +52,7 @@ fn flows_graph<'a, F: Files>(
     }
 }
 
-/// The graph of the flows of a source text, and nothing where none is given.
+/// The graph of the flows of a source text, or nothing if none is given.
 fn flows_behind<'a, F: Files>(
     desk: &mut Desk,
     classes: &Lattice,
@@ -72,7 +72,7 @@ fn flows_behind<'a, F: Files>(
     }
 }
 
-/// The graph of the lattice, and behind it that of the flows, where a source text is given.
+/// The graph of the lattice, followed by the graph of the flows if a source text is given.
 pub(crate) fn draw<'a, F: Files>(
     desk: &mut Desk,
     drawing: Drawing<'a>,

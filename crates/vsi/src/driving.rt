@@ -31,11 +31,11 @@ use vsi_drive::{Controller, LINE_LIMIT};
 use vsi_image::Verified;
 use vsi_store::{read_store, store_text};
 
-/// How many bytes a read is given room for.
+/// The size of the buffer of a read, in bytes.
 const CHUNK: usize = 4096;
 
-/// Drives an image file: each line of the input sets globals, and what a class sees behind its run
-/// is written. The last store goes to the file that is asked for.
+/// Drives an image file: each line of the input sets globals, and the part of the store that a
+/// class sees after its run is written. The last store goes to the requested file.
 pub(crate) fn drive<'a, F: Files, R: Read, W: Write>(
     desk: &mut Desk,
     driving: Driving<'a>,
@@ -73,7 +73,7 @@ pub(crate) fn drive<'a, F: Files, R: Read, W: Write>(
     save(desk.alloc, &verified, &words, driving.save, files)
 }
 
-/// Writes a store to the file that is asked for, if one is.
+/// Writes a store to the requested file, if there is one.
 fn save<'a, F: Files>(
     alloc: Global,
     verified: &Verified,
@@ -96,7 +96,7 @@ fn save<'a, F: Files>(
     }
 }
 
-/// The words that a store file tells for an image, or zeros without one.
+/// The words that a store file gives to the globals of an image, or zeros without one.
 pub(crate) fn stored_words<'a, F: Files>(
     desk: &mut Desk,
     verified: &Verified,
@@ -153,7 +153,7 @@ fn drive_input<'a, R: Read, W: Write>(
     Err(Stop::FileFault(STREAM))
 }
 
-/// Does a cycle for what stands behind the last line feed, where anything does.
+/// Does a cycle for the bytes after the last line feed, if there are any.
 fn drive_rest<'a, W: Write>(
     alloc: Global,
     controller: &Controller,
@@ -177,8 +177,8 @@ fn drive_rest<'a, W: Write>(
     drive_line(alloc, controller, line, store, output)
 }
 
-/// Does a cycle for each line that ends in these bytes. What has been read of a line stands in
-/// `line`, of a line that is too long one byte more than its limit.
+/// Does a cycle for each line that ends in these bytes. `line` holds the part of a line that has
+/// been read, and one byte more than the limit for a line that is too long.
 fn drive_bytes<'a, W: Write>(
     alloc: Global,
     controller: &Controller,

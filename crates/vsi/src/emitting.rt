@@ -1,4 +1,4 @@
-//! What `emit-c` answers: an image in C, or why there is none.
+//! The answer of `emit-c`: an image in C, or why there is none.
 
 ghost use Rattle.std.specs.Prelude.{◌≡◌, ◌≤◌, IfErr, IfOk, length};
 ghost use Rattle.vsi.specs.Naming as naming;
@@ -18,10 +18,10 @@ use vsi_c_names::is_function_name;
 use vsi_emit::{emit_c, emit_header};
 use vsi_image::Verified;
 
-/// The name of C where neither the name that is given nor that of the file serves.
+/// The name in C if neither the given name nor that of the file is allowed.
 const OTHERWISE: &[u8] = b"image";
 
-/// What follows the last slash of a path.
+/// The part of a path after its last slash.
 fn file_name(path: &[u8]) -> &[u8]
     ensures { result.now ≡ naming.after_slash path.now path.now }
 {
@@ -36,7 +36,7 @@ fn file_name(path: &[u8]) -> &[u8]
     found
 }
 
-/// How many bytes come before the first dot of a name.
+/// The number of bytes before the first dot of a name.
 fn plain_length(name: &[u8]) -> usize
     ensures count { result ≡ naming.plain_length name.now }
     ensures within { result ≤ length name.now }
@@ -61,7 +61,7 @@ fn stem(path: &[u8]) -> &[u8]
     &name[..plain_length(name)]
 }
 
-/// The name that is given, or else that of the file.
+/// The given name, or else that of the file.
 fn proposed<'a>(name: Option<&'a str>, path: &'a str) -> &'a [u8]
     ensures { result.now ≡ naming.proposed name.entry path.now }
 {
@@ -71,7 +71,7 @@ fn proposed<'a>(name: Option<&'a str>, path: &'a str) -> &'a [u8]
     }
 }
 
-/// That name where functions may have it, and `image` where they may not.
+/// The proposed name if functions may have it, and `image` if they may not.
 fn function_name<'a>(name: Option<&'a str>, path: &'a str) -> &'a [u8]
     ensures { result.now ≡ naming.function_name name.entry path.now }
 {
@@ -83,7 +83,7 @@ fn function_name<'a>(name: Option<&'a str>, path: &'a str) -> &'a [u8]
     }
 }
 
-/// The image of the files of a compilation, which is read from its bytes as one of a file is.
+/// The image of the files of a compilation, read from its bytes as if they were in a file.
 fn built_image<'a, F: Files>(
     desk: &mut Desk,
     compilation: Compilation<'a>,
@@ -97,7 +97,7 @@ fn built_image<'a, F: Files>(
     let bytes = built(desk, compilation, files)?;
     match judged_image(desk.alloc, bytes.as_slice()) {
         Ok(verified) => Ok(verified),
-        // The bytes that are built are an image's, so only memory can be wanting.
+        // The bytes just built are an image's, so only memory can run out.
         Err(_) => Err(Stop::Memory),
     }
 }
@@ -145,12 +145,12 @@ fn written_in_c<'a>(
     };
     match answer {
         Ok(text) => Ok(text),
-        // Functions may have the name that is handed over.
+        // Functions may have this name.
         Err(_) => Err(Stop::Memory),
     }
 }
 
-/// The C of the image that is asked for, or its header.
+/// The C of the requested image, or its header.
 pub(crate) fn emit<'a, F: Files>(
     desk: &mut Desk,
     asked: Emission<'a>,

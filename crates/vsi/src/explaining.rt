@@ -1,4 +1,4 @@
-//! What stands behind a refusal for a person, of what was read.
+//! The explanation that follows a refusal, made from the files that were read.
 
 ghost use Rattle.std.specs.Prelude.{◌≡◌};
 
@@ -27,20 +27,20 @@ use vsi_syntax::put_number;
 use vsi_telling::{Refused, class_list, explanation};
 use vsi_types::Profile;
 
-/// What a run that is out of budget is told.
+/// The advice for a run that is out of budget.
 const SPENT: &[u8] = b"\
 The run did not halt within its budget. Give a larger --budget, or look for a
 loop whose guard never becomes 0.
 ";
 
-/// What a text is told whose image isn't steady.
+/// The advice for a text whose image isn't steady.
 const UNSTEADY: &[u8] = b"\
 With --steady each `if` counts as a `while`: a variable that a guard reads must
 have the least class. Compute both results and select one by arithmetic, as in
 `out := g * a + (1 - g) * b` for a guard g that is 0 or 1.
 ";
 
-/// How an explanation is made: its colours, and the profile that judges a source text.
+/// The settings of an explanation: its colours, and the profile that judges a source text.
 #[derive(Clone, Copy)]
 pub(crate) struct Explaining {
     pub(crate) manner: Manner,
@@ -48,7 +48,7 @@ pub(crate) struct Explaining {
 }
 
 impl Explaining {
-    /// How a request's refusal is explained.
+    /// The settings for explaining a request's refusal.
     pub(crate) fn new<F: Files>(request: &Request<'_>, colour: Colour, files: &mut F) -> Self
         ensures { F.holds files.new ≡ F.holds files.old }
     {
@@ -81,7 +81,7 @@ fn is_strict(request: &Request<'_>) -> bool {
     }
 }
 
-/// The explanation of a stop, and for a refusal with a number the page that has more.
+/// The explanation of a stop, with the page that says more about a refusal that has a number.
 pub(crate) fn explained<F: Files>(
     desk: &Desk,
     explaining: Explaining,
@@ -97,7 +97,7 @@ pub(crate) fn explained<F: Files>(
     Ok(lines)
 }
 
-/// The source text that was read, empty where none was.
+/// The source text that was read, or an empty one if none was.
 fn source_of(desk: &Desk) -> &[u8] {
     match desk.last(Kind::Source) {
         Some(kept) => kept.bytes.as_slice(),
@@ -130,7 +130,7 @@ impl Explaining {
         }
     }
 
-    /// What stands behind a refusal with this cause.
+    /// The explanation of a refusal with this cause.
     fn of_cause(self, desk: &Desk, cause: &Cause) -> Result<Vec<u8>, AllocError> {
         match cause {
             Cause::Source(error) => self.of_source(desk, error),
@@ -145,7 +145,7 @@ impl Explaining {
         }
     }
 
-    /// What stands behind the refusal of a source text.
+    /// The explanation of a refused source text.
     fn of_source(self, desk: &Desk, error: &CompileError) -> Result<Vec<u8>, AllocError> {
         let Some(kept) = desk.last(Kind::Source) else {
             return Ok(Vec::new(desk.alloc));
@@ -167,7 +167,7 @@ impl Explaining {
         explanation(desk.alloc, self.manner, &refused)
     }
 
-    /// What stands behind the refusal of a store file.
+    /// The explanation of a refused store file.
     fn of_store(self, desk: &Desk, error: &StoreError) -> Result<Vec<u8>, AllocError> {
         let Some(kept) = desk.last(Kind::Store) else {
             return Ok(Vec::new(desk.alloc));
@@ -184,7 +184,7 @@ impl Explaining {
         explanation(desk.alloc, self.manner, &refused)
     }
 
-    /// What stands behind the refusal of a lattice file or of an image.
+    /// The explanation of a refused lattice file or image.
     fn of_file(self, desk: &Desk, fault: &Fault) -> Result<Vec<u8>, AllocError> {
         let kind = match fault {
             Fault::Lattice(_) => Kind::Lattice,
@@ -202,7 +202,7 @@ impl Explaining {
         explanation(desk.alloc, self.manner, &refused)
     }
 
-    /// What stands behind the refusal of an interface.
+    /// The explanation of a refused interface.
     fn of_interface(self, desk: &Desk, error: &InterfaceError) -> Result<Vec<u8>, AllocError> {
         let Some(kept) = desk.last(Kind::Interface) else {
             return Ok(Vec::new(desk.alloc));
@@ -216,7 +216,7 @@ impl Explaining {
         self.interface_advice(desk.alloc, kept, Some(&lattice), error)
     }
 
-    /// What stands behind the refusal of this interface, whose lattice is there where it was read.
+    /// The explanation of this refused interface, with its lattice if that was read.
     fn interface_advice<'d>(
         self,
         alloc: Global,
@@ -232,7 +232,7 @@ impl Explaining {
         advice(alloc, self.manner, &kept.path, refused)
     }
 
-    /// What stands behind the refusal of a run that doesn't begin.
+    /// The explanation of a run that doesn't begin.
     fn of_start(self, desk: &Desk, fault: StartFault) -> Result<Vec<u8>, AllocError> {
         let Some(kept) = faulty_start(desk, fault) else {
             return Ok(Vec::new(desk.alloc));
@@ -248,7 +248,7 @@ impl Explaining {
         advice(desk.alloc, self.manner, &kept.path, refused)
     }
 
-    /// What stands behind the refusal of an image's commands.
+    /// The explanation of an image whose commands are refused.
     fn of_audit(self, desk: &Desk, error: &AuditError) -> Result<Vec<u8>, AllocError> {
         let (Some(kept), Some(image), Some(lattice)) = (
             desk.last(Kind::Image),
@@ -265,7 +265,7 @@ impl Explaining {
         advice(desk.alloc, self.manner, &kept.path, refused)
     }
 
-    /// What stands behind the refusal of an image that isn't steady.
+    /// The explanation of a refused image that isn't steady.
     fn of_unsteady(
         self,
         desk: &Desk,
@@ -296,7 +296,7 @@ fn push_page(lines: &mut Vec<u8>, diagnostic: &Diagnostic) -> Result<(), AllocEr
     lines.extend_from_slice(b"\n")
 }
 
-/// Why a file can't be used.
+/// The reason why a file can't be used.
 fn of_fault<F: Files>(alloc: Global, files: &mut F, path: &str) -> Result<Vec<u8>, AllocError>
     ensures { F.holds files.new ≡ F.holds files.old }
 {
@@ -317,7 +317,7 @@ fn of_fault<F: Files>(alloc: Global, files: &mut F, path: &str) -> Result<Vec<u8
     Ok(lines)
 }
 
-/// The lattice that was read, or `L` below `H` where none was.
+/// The lattice that was read, or `L` below `H` if none was.
 fn policy(desk: &Desk) -> Option<Lattice> {
     let text = match desk.last(Kind::Lattice) {
         Some(kept) => kept.bytes.as_slice(),
@@ -326,7 +326,7 @@ fn policy(desk: &Desk) -> Option<Lattice> {
     read_lattice(desk.alloc, text).ok()
 }
 
-/// What stands behind the name of a class that the lattice lacks.
+/// The explanation of a class name that the lattice lacks.
 fn of_class(desk: &Desk) -> Result<Vec<u8>, AllocError> {
     match policy(desk) {
         Some(lattice) => class_list(desk.alloc, &lattice),
@@ -339,7 +339,7 @@ fn read_image(desk: &Desk) -> Option<Image> {
     decode(desk.alloc, desk.last(Kind::Image)?.bytes.as_slice()).ok()
 }
 
-/// The last file of a kind; an interface stands for a lattice file where it has classes itself.
+/// The last file of a kind; an interface that has its own classes counts as a lattice file.
 fn of_kind<'d>(desk: &'d Desk, kind: Kind) -> Option<&'d Kept> {
     match desk.last(kind) {
         Some(kept) => Some(kept),
@@ -353,7 +353,7 @@ fn read_policy(desk: &Desk) -> Option<Lattice> {
     read_lattice(desk.alloc, desk.last(Kind::Lattice)?.bytes.as_slice()).ok()
 }
 
-/// What was read that a run can't begin with: a setting, the store file, or else the image.
+/// The text that keeps a run from beginning: a setting, the store file, or else the image.
 fn faulty_start<'d>(desk: &'d Desk, fault: StartFault) -> Option<&'d Kept> {
     match fault {
         StartFault::Setting(

@@ -5,13 +5,13 @@ ghost use Rattle.vsi.specs.Holding.{HoldsAt, KeepsOthers};
 
 use std::io::Read;
 
-/// The files of a system. It counts as a device: `None` is a file fault, also where an
-/// implementation found no memory.
+/// The files of a system. It counts as a device: `None` is a file fault, even if an implementation
+/// ran out of memory.
 pub trait Files {
     /// The reader of a file.
     type Input: Read + Drop;
 
-    /// The bytes of the file at each path, where they are known.
+    /// The bytes of the file at each path, if they are known.
     ghost holds: { Self → List ℕ → Option (List ℕ) } = { λ _ _. None };
 
     /// The file at the path to read from, or nothing if it doesn't open.
@@ -25,10 +25,10 @@ pub trait Files {
         ensures filled { IfSome result (λ _. HoldsAt (holds self.new) path.now bytes.now) }
         ensures others { KeepsOthers path.now (holds self.old) (holds self.new) };
 
-    /// Fills a new file, at the path `fresh` or one beside it, with these bytes, and then gives it
-    /// the place of the file at `path`, or of none; nothing if that fails, and then the file at
-    /// `path` is as it was. What isn't a file of its own, such as a device or a link, is neither
-    /// filled nor replaced.
+    /// Fills a new file, at the path `fresh` or one beside it, with these bytes, and then moves it
+    /// to `path`, over the file there if one exists; nothing if that fails, and then the file at
+    /// `path` is as it was. A path that isn't a regular file, such as a device or a link, is
+    /// neither filled nor replaced.
     fn replace_file(&mut self, _path: &str, _fresh: &str, _bytes: &[u8]) -> Option<()>
         ensures filled { IfSome result (λ _. HoldsAt (holds self.new) _path.now _bytes.now) }
         ensures stays { result ≡ None → holds self.new _path.now ≡ holds self.old _path.now }

@@ -26,7 +26,7 @@ pub(crate) fn fill<'a, F: Files>(bytes: &[u8], path: &'a str, files: &mut F) -> 
     }
 }
 
-/// Writes a text to a file, as a whole: to one beside it first, whose name has `.new` behind it.
+/// Writes a whole text to a file: first to one beside it, whose name has `.new` appended.
 pub(crate) fn replace<'a, F: Files>(
     alloc: Global,
     text: &[u8],
@@ -44,7 +44,7 @@ pub(crate) fn replace<'a, F: Files>(
     }
 }
 
-/// Writes a text to the file that is asked for, as a whole, or else to standard output.
+/// Writes a whole text to the requested file, or else to standard output.
 pub(crate) fn deliver<'a, F: Files, W: Write>(
     alloc: Global,
     text: &[u8],

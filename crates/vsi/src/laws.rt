@@ -2,20 +2,20 @@
 
 ghost use Rattle.vsi.specs.Laws.{BuiltIsSeenAlike, CheckedIsAccepted, LeftIsSeenAlike};
 
-/// Where the words `check`, a lattice file and a source text are obeyed to the end, the files at
+/// If the arguments `check`, a lattice file and a source text are obeyed to the end, the files at
 /// these paths hold a lattice and a text that is accepted under it.
 pub fn checked_is_accepted()
     ensures { CheckedIsAccepted }
 {}
 
-/// Where `build` makes an image and `view` shows a class two runs of it under the same lattice,
-/// from stores that agree at and below the class, the views are the same.
+/// If `build` makes an image and `view` shows a class two runs of it under the same lattice, from
+/// stores that agree at and below the class, the views are the same.
 pub fn built_is_seen_alike()
     ensures { BuiltIsSeenAlike }
 {}
 
-/// Where `build` is obeyed, and `view` then shows a class two runs of the image file under the same
-/// lattice file, from stores that agree at and below the class, it shows one text of both.
+/// If `build` is obeyed, and `view` then shows a class two runs of the image file under the same
+/// lattice file, from stores that agree at and below the class, both runs show the same text.
 pub fn left_is_seen_alike()
     ensures { LeftIsSeenAlike }
 {}

@@ -15,7 +15,7 @@ use vsi_arguments::Search;
 use vsi_lattice::{Class, Lattice};
 use vsi_leak::{Effort, Finding, Wanted, leak_of_text, leak_text};
 
-/// The class that looks, where one is named.
+/// The class of the viewer, if one is named.
 fn looking<'a>(lattice: &Lattice, name: Option<&'a str>) -> Result<Option<Class>, Stop<'a>>
     ensures within { IfOk result (λ class. IfSome class (IsClass (order lattice.now))) }
     ensures stopped { IfErr result (StopsBy (λ reason. ⊥)
@@ -27,8 +27,8 @@ fn looking<'a>(lattice: &Lattice, name: Option<&'a str>) -> Result<Option<Class>
     Ok(Some(class_in(lattice, name)?))
 }
 
-/// Searches a source text for a leak, which is told as a refusal is. Where none is found the line
-/// has the number of pairs.
+/// Searches a source text for a leak, which is reported as a refusal. If none is found the line has
+/// the number of pairs.
 pub(crate) fn leak<'a, F: Files>(
     desk: &mut Desk,
     search: Search<'a>,

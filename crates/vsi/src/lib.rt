@@ -1,11 +1,11 @@
-//! The compiler, its machine and their texts as one library, and the command line over them.
+//! The compiler, its machine and their texts as one library, with the command line that uses them.
 //!
-//! `compile` and `compile_in` give the image of a source text and promise what is kept of it;
-//! `run_source` runs it. `audit_in` judges an image, whoever made it, and `source_text` writes it
-//! as a text. `read_lattice` gives the lattice that they want. `read_all`, `write_out` and
-//! `Counted` move texts through devices, and `refusal_text` and `fault_text` tell why a text or a
-//! file is refused. `command` does what the words of a command line ask for. What an error holds,
-//! as a `LexError` or a `Walk` of `Step`s, stands here beside it.
+//! `compile` and `compile_in` give the image of a source text and promise what it keeps of the
+//! text; `run_source` runs it. `audit_in` judges an image, whoever made it, and `source_text`
+//! writes it as a text. `read_lattice` gives the lattice that they need. `read_all`, `write_out`
+//! and `Counted` move texts through devices, and `refusal_text` and `fault_text` say why a text or
+//! a file is refused. `command` obeys the arguments of a command line. The types inside errors,
+//! such as `LexError` or a `Walk` of `Step`s, are exported here too.
 //!
 //! To be believed: of `specs/` `Words`, `Holding`, `Loading`, `Driven`, `Tried`, `Shaping`,
 //! `Performed`, `Reasons`, `Partly`, `Done`, `Input` and `Laws`, and of `Stops` all but `StopsFor`;

@@ -14,18 +14,18 @@ use std::io;
 use std::io::{Cursor, Read};
 use vsi_arguments::{ArgumentsError, Request, request_of};
 
-/// What `trouble` says of a file that this request would write over.
+/// The message of `trouble` about a file that this request would write over.
 const SPARED: &str = "this request reads the file, so it doesn't write over it.";
 
-/// The bytes that were read of the file at a path.
+/// The bytes that were read from the file at a path.
 #[derive(Drop)]
 pub(crate) struct Text {
     pub(crate) path: Vec<u8>,
     pub(crate) bytes: Vec<u8>,
 }
 
-/// The files of a system, of which those that a request names were read once: whatever the request
-/// reads of them later is in memory, and it writes over none of them.
+/// The files of a system, where those that a request names were read once: the request later reads
+/// them from memory, and it writes over none of them.
 #[derive(Drop)]
 pub struct Loaded<F> {
     alloc: Global,
@@ -36,7 +36,7 @@ pub struct Loaded<F> {
     system: F,
 }
 
-/// The reader of a file: of bytes in memory, or of the system.
+/// The reader of a file: from bytes in memory, or from the system.
 #[derive(Drop)]
 pub enum Opened<R> {
     Memory(Cursor<Vec<u8>>),

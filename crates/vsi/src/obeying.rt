@@ -1,4 +1,4 @@
-//! Does what words ask for.
+//! Obeys arguments.
 
 ghost use Rattle.std.specs.Prelude.{◌≡◌, ◌<◌, ◌⊎◌, IfErr, OnOk};
 ghost use Rattle.std.specs.Io.KnownBytes.{Keeps};
@@ -21,10 +21,10 @@ use vsi_arguments::{ArgumentsError, Asked, Manner, request_of};
 use vsi_asked::{asks_for, asks_help};
 use vsi_devices::Counted;
 
-/// What is told where the words don't ask for what was read of them.
+/// The message if the arguments don't spell the request that was read from them.
 const MISUNDERSTOOD: &str = "error: these words are not understood\n";
 
-/// Does what the words ask for, or tells what is wrong with them.
+/// Obeys the arguments, or says what is wrong with them.
 pub(crate) fn obey<'a, F: Files, R: Read, W: Write>(
     alloc: Global,
     words: &'a [String],
@@ -57,7 +57,7 @@ pub(crate) fn obey<'a, F: Files, R: Read, W: Write>(
     }
 }
 
-/// Does what is asked for, in the manner that is asked for.
+/// Performs the request in the requested manner.
 fn obey_asked<'a, F: Files, R: Read, W: Write>(
     alloc: Global,
     asked: Asked<'a>,
@@ -87,7 +87,7 @@ fn obey_asked<'a, F: Files, R: Read, W: Write>(
     }
 }
 
-/// How a refusal is explained, where that is asked for.
+/// The settings for explaining a refusal, if explanations are requested.
 fn explaining_of<F: Files>(asked: &Asked<'_>, files: &mut F) -> Option<Explaining>
     ensures { F.holds files.new ≡ F.holds files.old }
 {
@@ -97,7 +97,7 @@ fn explaining_of<F: Files>(asked: &Asked<'_>, files: &mut F) -> Option<Explainin
     }
 }
 
-/// The stop of a request, once its explanation stands behind what is told, where one is asked for.
+/// The stop of a request, once its explanation has been added to the note, if one is requested.
 fn explain_stop<'a, F: Files>(
     desk: &Desk,
     explaining: Option<Explaining>,
@@ -118,7 +118,7 @@ fn explain_stop<'a, F: Files>(
     }
 }
 
-/// The stop at words that don't ask for what was read of them.
+/// The stop for arguments that don't spell the request that was read from them.
 fn misunderstood<'a>(alloc: Global) -> Stop<'a>
     ensures { IsMistake result ⊎ (3 < status_of result) }
 {
@@ -128,7 +128,7 @@ fn misunderstood<'a>(alloc: Global) -> Stop<'a>
     }
 }
 
-/// Help that the words ask for goes to the output; what is wrong with them is told by the stop.
+/// Writes help that the arguments request to the output; for a mistake the stop says what is wrong.
 fn answer_arguments<'a, W: Write>(
     alloc: Global,
     words: &[String],

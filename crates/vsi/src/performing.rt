@@ -28,7 +28,7 @@ use std::io::{Read, Write};
 use vsi_arguments::{Judging, Request};
 use vsi_devices::Counted;
 
-/// Writes `accepted` where nothing is wrong.
+/// Writes `accepted` if nothing is wrong.
 fn accept<'a, W: Write>(
     answer: Result<(), Stop<'a>>,
     output: &mut Counted<W>,
@@ -68,7 +68,7 @@ fn put<'a, W: Write>(
     write(text.as_slice(), output)
 }
 
-/// Writes that the source text is accepted, in the manner that is asked for.
+/// Writes that the source text is accepted, in the requested manner.
 fn put_check<'a, F: Files, W: Write>(
     desk: &mut Desk,
     asked: Judging<'a>,

@@ -26,10 +26,10 @@ use vsi_image::{DecodeError, Verified};
 use vsi_lattice::{Class, Lattice, LatticeError};
 use vsi_store::{StoreError, ViewError};
 
-/// The lattice of a run without words.
+/// The lattice of a run without arguments.
 pub(crate) const TWO_CLASSES: &[u8] = b"classes = [\"L\", \"H\"]\nbelow = [[\"L\", \"H\"]]\n";
 
-/// What stands for an error of a call that reads the file at the path, or judges its bytes. No such
+/// The stop for an error of a call that reads the file at the path, or judges its bytes. No such
 /// call compiles.
 pub(crate) fn device_stop<'a>(alloc: Global, error: EngineError, path: &'a str) -> Stop<'a>
     ensures read { error ≡ ReadFault → status_of result ≡ 4 }
@@ -47,7 +47,7 @@ pub(crate) fn device_stop<'a>(alloc: Global, error: EngineError, path: &'a str) 
     }
 }
 
-/// What stands for the refusal of a source text.
+/// The stop for a refused source text.
 pub(crate) fn refused<'a>(
     alloc: Global,
     lattice: &Lattice,
@@ -60,7 +60,7 @@ pub(crate) fn refused<'a>(
     Stop::from(refused_source(alloc, lattice, source, error))
 }
 
-/// What is answered of a source text, or what stands for why there is no answer.
+/// The answer for a source text, or the stop for the reason why there is none.
 pub(crate) fn answered<'a>(answer: Result<Vec<u8>, Unanswered>) -> Result<Vec<u8>, Stop<'a>>
     ensures { MatchResult answer (λ text. result ≡ Ok text)
         (λ reason. result ≡ Err (stop_of reason)) }
@@ -71,7 +71,7 @@ pub(crate) fn answered<'a>(answer: Result<Vec<u8>, Unanswered>) -> Result<Vec<u8
     }
 }
 
-/// Whether the fault is want of memory.
+/// Whether the fault is lack of memory.
 fn wants_memory(fault: &Fault) -> bool
     ensures { result ≡ false → IsNoMemory fault.now }
 {
@@ -84,7 +84,7 @@ fn wants_memory(fault: &Fault) -> bool
     )
 }
 
-/// What stands for the refusal of another file.
+/// The stop for another refused file.
 pub(crate) fn faulty<'a>(alloc: Global, fault: Fault) -> Stop<'a>
     ensures { StopsBy (Because (TellsFault (λ f. (f ≡ fault) × IsNoMemory f)) ⊥) NoOther result }
 {
@@ -112,8 +112,8 @@ pub(crate) fn whole_in<'a, F: Files>(
     read_all(alloc, &mut reader).map_err(|error| device_stop(alloc, error, path))
 }
 
-/// The bytes of a file of this kind. One that is as long as `READ_LIMIT` is a file fault where only
-/// a whole file serves.
+/// The bytes of a file of this kind. A file as long as `READ_LIMIT` is a file fault if only a whole
+/// file is useful.
 pub(crate) fn bytes_in<'a, F: Files>(
     desk: &mut Desk,
     kind: Kind,
@@ -213,8 +213,8 @@ pub(crate) fn image_in<'a, F: Files>(
     Ok(verified)
 }
 
-/// The class that looks, with the lattice of a file, and the image that it looks at. The image is
-/// read once the lattice has the class.
+/// The lattice of a file, the class of the viewer, and the image that it views. The image is read
+/// only if the lattice has the class.
 pub(crate) fn policy_and_image<'a, F: Files>(
     desk: &mut Desk,
     lattice: &'a str,

@@ -23,7 +23,7 @@ use vsi_devices::{Counted, run_words};
 use vsi_image::Verified;
 use vsi_machine::{Outcome, count_text, counted, stop_text};
 
-/// What stands in the place of a path where a setting is told.
+/// The text in place of a path in a message about a setting.
 const SETTING: &str = "--set";
 
 /// Keeps each setting for an explanation.
@@ -36,7 +36,7 @@ pub(crate) fn keep_settings<'a>(desk: &mut Desk, settings: &[&[u8]]) -> Result<(
     Ok(())
 }
 
-/// The words that a run begins with, of a store file's bytes and the settings behind it, which are
+/// The words that a run begins with, from a store file's bytes and then the settings, which are
 /// kept for an explanation.
 fn words_in<'a>(
     desk: &mut Desk,
@@ -55,8 +55,8 @@ fn words_in<'a>(
     Ok(start_words(desk.alloc, verified, file, settings, outset.is_full)?)
 }
 
-/// The image that is run and the words that it begins with. The store file is read before the image
-/// and judged after it.
+/// The image to run and the words that it begins with. The store file is read before the image and
+/// judged after it.
 fn image_and_words<'a, F: Files>(
     desk: &mut Desk,
     execution: Execution<'a>,
@@ -77,7 +77,7 @@ fn image_and_words<'a, F: Files>(
     Ok((verified, words))
 }
 
-/// How an image is run: from what, and what is told besides the store that it ends in.
+/// A run of an image: its beginning, and the reports besides its final store.
 #[derive(Drop)]
 pub(crate) struct Running<'a> {
     pub(crate) execution: Execution<'a>,
@@ -86,7 +86,8 @@ pub(crate) struct Running<'a> {
     pub(crate) has_count: bool,
 }
 
-/// How many instructions a run does that halts within the budget, or where it stands at its end.
+/// The number of instructions of a run that halts within the budget, or its position at the end of
+/// the budget.
 fn count_lines<'a>(
     alloc: Global,
     verified: &Verified,
@@ -104,7 +105,7 @@ fn count_lines<'a>(
     }
 }
 
-/// Puts behind the note what a run is asked to tell of its instructions.
+/// Appends the count of a run's instructions to the note, if it is requested.
 fn put_count<'a>(
     alloc: Global,
     is_asked: bool,
@@ -122,7 +123,7 @@ fn put_count<'a>(
     Ok(())
 }
 
-/// Runs an image file and writes what the run shows; the note gets what standard error is told.
+/// Runs an image file and writes its output; the note gets the text for standard error.
 pub(crate) fn run<'a, F: Files, W: Write>(
     desk: &mut Desk,
     asked: &Running<'a>,
@@ -173,7 +174,7 @@ pub(crate) fn run<'a, F: Files, W: Write>(
     }
 }
 
-/// The lines of the store that a class may see behind a run of an image file.
+/// The lines of the final store of a run of an image file that a class may see.
 fn seen<'a, F: Files>(
     desk: &mut Desk,
     lattice: &'a str,

@@ -1,4 +1,4 @@
-//! What `lattice` answers: the text of a lattice file, or why the arguments make none.
+//! The answer of `lattice`: the text of a lattice file, or why the arguments make none.
 
 ghost use Rattle.std.specs.Prelude.{◌<◌, IfErr, IfOk};
 ghost use Rattle.vsi.specs.Shaping.{ShapedText};
@@ -23,7 +23,7 @@ pub(crate) fn lattice<'a>(alloc: Global, arguments: &[&[u8]]) -> Result<Vec<u8>,
     }
 }
 
-/// The stop at arguments that make no lattice.
+/// The stop for arguments that make no lattice.
 fn mistaken<'a>(alloc: Global, error: &ShapeError) -> Stop<'a>
     ensures { StopsBy (λ reason. ⊥) NoOther result }
 {
@@ -36,7 +36,7 @@ fn mistaken<'a>(alloc: Global, error: &ShapeError) -> Stop<'a>
     }
 }
 
-/// What is wrong with the arguments.
+/// The message that says what is wrong with the arguments.
 fn mistake_text(alloc: Global, error: &ShapeError) -> Result<String, AllocError> {
     let mut text = Vec::from_slice(alloc, b"error: ")?;
     match error {

@@ -1,4 +1,4 @@
-//! Why a command line ends early, with the status and the text that tell so.
+//! The reasons why a command line ends early, each with its status and its text.
 
 ghost use Rattle.std.specs.Prelude.{◌≡◌, ◌<◌, ◌≤◌, ◌⊎◌, ◌==◌, true, false, IfErr, OnOk, OnErr, IsTrue};
 ghost use Rattle.std.specs.Io.KnownBytes.{Appends};
@@ -18,10 +18,10 @@ use vsi_steady::SteadyError;
 /// Standard input and output, in a file fault.
 pub(crate) const STREAM: &str = "-";
 
-/// Why a command line wasn't done to its end.
+/// The reason why a command line ended early.
 #[derive(Debug, Drop)]
 pub(crate) enum Stop<'a> {
-    /// With the fault text, and its cause where that is told further.
+    /// With the fault text, and its cause if that can be explained.
     Refused(Vec<u8>, Option<Cause>),
     /// An interface file is refused, with the fault text.
     Interface(Vec<u8>, InterfaceError),
@@ -29,7 +29,7 @@ pub(crate) enum Stop<'a> {
     Audit(Vec<u8>, AuditError),
     /// An image isn't steady, with the fault text.
     Unsteady(Vec<u8>, SteadyError),
-    /// A class sees a difference, of which standard output has told.
+    /// A class sees a difference, which standard output has shown.
     Differs,
     /// With the text of the parser of command lines.
     Usage(String),
@@ -41,7 +41,7 @@ pub(crate) enum Stop<'a> {
     FileFault(&'a str),
     /// The file at this path, which another file names, doesn't open, or fails.
     LostFile(String),
-    /// A growth was refused.
+    /// An allocation failed.
     Memory,
 }
 
@@ -76,7 +76,7 @@ impl From<Unanswered> for Stop<'_> {
 }
 
 impl Stop<'_> {
-    /// What the program ends with.
+    /// The exit status of the program.
     pub(crate) fn status(&self) -> u8
         ensures status { result ≡ status_of self.now }
         ensures some { 0 < result }
@@ -92,7 +92,7 @@ impl Stop<'_> {
         }
     }
 
-    /// Whether the stop is want of memory, behind which nothing else is told.
+    /// Whether the stop is lack of memory, after which nothing else is written.
     pub(crate) fn wants_memory(&self) -> bool
         ensures { result ≡ (status_of self.now == 5) }
     {
@@ -110,8 +110,8 @@ impl Stop<'_> {
         }
     }
 
-    /// This stop where an explanation could be added; where it wanted memory that is the stop, but
-    /// for a fault of a file or a stream.
+    /// This stop if an explanation could be added; otherwise lack of memory is the stop, unless
+    /// this is a fault of a file or a stream.
     pub(crate) fn after(self, added: Result<(), AllocError>) -> Self
         ensures fault { status_of self.entry ≡ 4 → status_of result ≡ 4 }
         ensures kept { (result ≡ self.entry) ⊎ (result ≡ Memory) }
@@ -123,7 +123,7 @@ impl Stop<'_> {
         }
     }
 
-    /// Writes what goes to standard error, for which no memory is taken.
+    /// Writes the text for standard error, without allocating memory.
     pub(crate) fn tell<E: Write>(&self, error: &mut Counted<E>) -> Result<(), EngineError>
         requires { faults_of error.old < u64.MAX }
         ensures count { faults_of error.old ≤ faults_of error.new }
@@ -162,7 +162,7 @@ pub(crate) fn write<'a, W: Write>(text: &[u8], output: &mut Counted<W>) -> Resul
     write_out(text, output).map_err(|_| Stop::FileFault(STREAM))
 }
 
-/// Writes an answer, and stops behind it where it is a difference.
+/// Writes an answer, and then stops if it is a difference.
 pub(crate) fn write_answer<'a, W: Write>(
     text: &[u8],
     agrees: bool,
@@ -182,7 +182,7 @@ pub(crate) fn write_answer<'a, W: Write>(
     if agrees { Ok(()) } else { Err(Stop::Differs) }
 }
 
-/// Writes the start and the word on a line.
+/// Writes the start and the name on a line.
 fn tell_line<E: Write>(start: &[u8], word: &str, error: &mut Counted<E>) -> Result<(), EngineError>
     requires { faults_of error.old < u64.MAX }
     ensures count { faults_of error.old ≤ faults_of error.new }

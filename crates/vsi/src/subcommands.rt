@@ -1,4 +1,4 @@
-//! What the subcommands that run nothing answer: the text to be written, or why there is none.
+//! The answers of the subcommands that run nothing: the text to write, or why there is none.
 
 ghost use Rattle.std.specs.Prelude.{◌≡◌, ◌<◌, true, false, IfErr, IfOk, OnOk};
 ghost use Rattle.vsi.specs.Performed.{AreFiles, BuildsFile, OfFile, OfFiles, ToldAccepted, ToldCanonical, ToldClasses, ToldFlows, ToldImage, ToldJson, ToldListing, Writes};
@@ -51,7 +51,7 @@ fn policy_and_text<'a, F: Files>(
     Ok((classes, text))
 }
 
-/// `accepted`, where a text is accepted as it is asked under a lattice.
+/// `accepted`, if a text is accepted under a lattice as requested.
 fn checked(
     alloc: Global,
     asked: Judging<'_>,
@@ -68,7 +68,7 @@ fn checked(
     vsi_answers::check(alloc, profile, classes, text)
 }
 
-/// `accepted`, where the source text is accepted as it is asked.
+/// `accepted`, if the source text is accepted as requested.
 pub(crate) fn check<'a, F: Files>(
     desk: &mut Desk,
     asked: Judging<'a>,
@@ -85,7 +85,7 @@ pub(crate) fn check<'a, F: Files>(
     answered(checked(desk.alloc, asked, &classes, text.as_slice()))
 }
 
-/// What the source text is judged by.
+/// The judgement that the source text must pass.
 fn judgement(asked: Judging<'_>) -> Judgement
     ensures { result ≡ judgement_of asked.entry }
 {
@@ -157,7 +157,7 @@ pub(crate) fn classes<'a, F: Files>(
     answered(vsi_answers::classes(desk.alloc, profile, &classes, text.as_slice()))
 }
 
-/// The flows between the declared variables of a text, each with a walk where that is asked for.
+/// The flows between the declared variables of a text, each with a walk if requested.
 fn listed_flows(
     alloc: Global,
     has_walks: bool,
@@ -174,8 +174,7 @@ fn listed_flows(
     vsi_answers::flows(alloc, profile, classes, text)
 }
 
-/// The flows between the declared variables of the source text, each with a walk where that is
-/// asked for.
+/// The flows between the declared variables of the source text, each with a walk if requested.
 pub(crate) fn flows<'a, F: Files>(
     desk: &mut Desk,
     compilation: Compilation<'a>,
@@ -216,7 +215,7 @@ pub(crate) fn built<'a, F: Files>(
     answered(vsi_answers::build(desk.alloc, profile, &classes, text.as_slice()))
 }
 
-/// Compiles the source text, and fills the image file once the image's bytes are there.
+/// Compiles the source text, and then fills the image file with the image's bytes.
 pub(crate) fn build<'a, F: Files>(
     desk: &mut Desk,
     compilation: Compilation<'a>,

@@ -1,4 +1,4 @@
-//! What standard error is told besides the text of a stop.
+//! The note on standard error besides the text of a stop.
 
 ghost use Rattle.std.specs.Prelude.{◌≡◌, ◌≤◌, []};
 ghost use Rattle.vsi.specs.Stops.{Gets, text_of_stop};
@@ -9,10 +9,10 @@ use std::alloc::{AllocError, Global};
 use std::io::Write;
 use vsi_devices::{Counted, write_out};
 
-/// What is told behind a stop, or behind what is done.
+/// The note after a stop, or after a request that was performed.
 #[derive(Drop)]
 pub(crate) struct Told {
-    /// The lines that are told.
+    /// The lines of the note.
     pub(crate) note: Vec<u8>,
 }
 
@@ -26,12 +26,12 @@ impl Told {
         }
     }
 
-    /// Puts lines behind those that are told.
+    /// Appends lines to the note.
     pub(crate) fn put(&mut self, lines: Result<Vec<u8>, AllocError>) -> Result<(), AllocError> {
         self.note.extend_from_slice(&lines?)
     }
 
-    /// Writes what is told.
+    /// Writes the note.
     pub(crate) fn tell<E: Write>(&self, error: &mut Counted<E>)
         ensures count { faults_of error.old ≤ faults_of error.new }
         ensures told { Gets E.contents error.old error.new self.now.note.items }

@@ -1,4 +1,4 @@
-//! What `try` answers: what the run of a source text shows, or why it shows nothing.
+//! The answer of `try`: the output of the run of a source text, or why there is none.
 
 ghost use Rattle.std.specs.Prelude.{◌≡◌, IfErr, IfOk, IfSome, Ok, Err, length};
 ghost use Rattle.vsi.specs.Reasons.{LacksGiven, LacksTried, NoOther, RefusesLattice, RefusesNamed, RefusesRun, RefusesUnder, StopsBy, WhyTry};
@@ -41,7 +41,7 @@ fn lattice_beside<'a, F: Files>(
     declared_lattice(desk.alloc, bytes.as_slice())
 }
 
-/// The lattice of the file that a text names, or where it names none `L` below `H`.
+/// The lattice of the file that a text names, or `L` below `H` if it names none.
 fn own_lattice<'a, F: Files>(
     desk: &mut Desk,
     source: &str,
@@ -60,7 +60,7 @@ fn own_lattice<'a, F: Files>(
     }
 }
 
-/// The lattice that a text is tried under: that of the file that is given, or else the text's own.
+/// The lattice that a text is tried under: that of the given file, or else the text's own.
 fn lattice_for<'a, F: Files>(
     desk: &mut Desk,
     lattice: Option<&'a str>,
@@ -80,7 +80,7 @@ fn lattice_for<'a, F: Files>(
     }
 }
 
-/// The class that looks, where one is given.
+/// The class of the viewer, if one is given.
 fn viewer_of<'a>(lattice: &Lattice, name: Option<&'a str>) -> Result<Option<Class>, Stop<'a>>
     ensures within { IfOk result (λ viewer. IfSome viewer (IsClass (order lattice.now))) }
     ensures looks { IfOk result (Looks lattice.now name.entry) }
@@ -95,7 +95,7 @@ fn viewer_of<'a>(lattice: &Lattice, name: Option<&'a str>) -> Result<Option<Clas
     }
 }
 
-/// The image that is made of a text, whose bytes are kept for an explanation.
+/// The image made from a text, whose bytes are kept for an explanation.
 fn made_image<'a>(
     desk: &mut Desk,
     lattice: &Lattice,
@@ -111,12 +111,12 @@ fn made_image<'a>(
     desk.keep(Kind::Image, source, image)?;
     match judged_image(desk.alloc, image) {
         Ok(verified) => Ok(verified),
-        // The bytes that are built are an image's, so only memory can be wanting.
+        // The bytes just built are an image's, so only memory can run out.
         Err(_) => Err(Stop::Memory),
     }
 }
 
-/// The words that an image begins with, of what is set.
+/// The words that an image begins with, from the settings.
 fn words_set<'a>(
     desk: &mut Desk,
     verified: &Verified,
@@ -131,7 +131,7 @@ fn words_set<'a>(
     Ok(start_words(desk.alloc, verified, b"", settings, false)?)
 }
 
-/// What the run of an image shows: each global, or those that a class may see.
+/// The output of the run of an image: each global, or those that a class may see.
 fn shown<'a>(
     alloc: Global,
     lattice: &Lattice,
@@ -156,7 +156,7 @@ fn shown<'a>(
     }
 }
 
-/// What the run of the image shows that is made of a text.
+/// The output of the run of the image made from a text.
 fn ran<'a>(
     desk: &mut Desk,
     attempt: &Attempt<'a>,
@@ -183,7 +183,7 @@ fn ran<'a>(
     )
 }
 
-/// What the run of the source text shows.
+/// The output of the run of the source text.
 pub(crate) fn try_source<'a, F: Files>(
     desk: &mut Desk,
     attempt: &Attempt<'a>,

@@ -1,4 +1,4 @@
-//! What is told of an image that is judged and refused.
+//! The explanation of an image that is judged and refused.
 
 use std::alloc::{AllocError, Global};
 use vsi_audit::AuditError;
@@ -26,7 +26,7 @@ fn line_of<'l>(listing: &'l [u8], start: &[u8]) -> Option<&'l [u8]> {
     None
 }
 
-/// What the commands of an image ask of an instruction.
+/// The rule of an image's commands for an instruction.
 fn rule_of(instruction: Option<&Instr>) -> &'static str {
     match instruction {
         Some(Instr::Jz(_)) => {
@@ -53,7 +53,7 @@ fn rule_of(instruction: Option<&Instr>) -> &'static str {
     }
 }
 
-/// What the line of an instruction in a listing begins with.
+/// The beginning of an instruction's line in a listing.
 fn line_start(alloc: Global, number: usize) -> Result<Vec<u8>, AllocError> {
     let mut start = Vec::new(alloc);
     put_parts(&mut start, &[Part::Number(number), Part::Text(b": ")])?;
@@ -97,7 +97,7 @@ impl Judged<'_> {
         put_line_of(words, &text, &start)
     }
 
-    /// Adds what is told of a global whose class the lattice lacks.
+    /// Adds the explanation of a global whose class the lattice lacks.
     fn put_class(&self, words: &mut Vec<u8>, number: usize) -> Result<(), AllocError> {
         let Some((name, class)) = self.image.globals.get(number) else {
             return Ok(());
@@ -106,7 +106,7 @@ impl Judged<'_> {
         put_other_class(words, name, class, &classes)
     }
 
-    /// Adds what is told of code that isn't that of commands.
+    /// Adds the explanation of code that isn't that of commands.
     fn put_code(&self, words: &mut Vec<u8>, number: usize) -> Result<(), AllocError> {
         words.extend_from_slice(
             b"The image is valid, and its code isn't that of commands from here on:\n",
@@ -119,7 +119,7 @@ impl Judged<'_> {
         )
     }
 
-    /// Adds what is told of fields that the code doesn't need.
+    /// Adds the explanation of fields that the code doesn't need.
     fn put_fields(&self, words: &mut Vec<u8>) -> Result<(), AllocError> {
         put_parts(
             words,
@@ -137,7 +137,7 @@ impl Judged<'_> {
         )
     }
 
-    /// Adds what is told of a flow that breaks the policy.
+    /// Adds the explanation of a flow that breaks the policy.
     fn put_flow(&self, words: &mut Vec<u8>, walk: &Walk) -> Result<(), AllocError> {
         let (Some(first), Some(last)) = (walk.steps.first(), walk.steps.last()) else {
             return Ok(());
@@ -157,7 +157,7 @@ impl Judged<'_> {
         )
     }
 
-    /// Adds what is told of a jump or a global into which something flows that may not.
+    /// Adds the explanation of a jump or a global into which something flows that may not.
     fn put_unsteady(
         &self,
         words: &mut Vec<u8>,
@@ -186,7 +186,7 @@ impl Judged<'_> {
     }
 }
 
-/// What the last line of a refusal names in front of `may not flow to`.
+/// The source that the last line of a refusal names before `may not flow to`.
 fn source_in(refusal: &[u8]) -> &[u8] {
     let mut source: &[u8] = b"(something)";
     for line in refusal.split(|byte| *byte == b'\n') {
@@ -200,7 +200,7 @@ fn source_in(refusal: &[u8]) -> &[u8] {
     source
 }
 
-/// Adds what is told of an image whose commands are judged.
+/// Adds the explanation of an image whose commands are judged.
 pub(crate) fn put_audit(
     judged: &Judged,
     words: &mut Vec<u8>,
@@ -219,7 +219,7 @@ pub(crate) fn put_audit(
     }
 }
 
-/// Adds what is told of an image that isn't steady, of which this was told.
+/// Adds the explanation of an image that isn't steady, with the text of its refusal.
 pub(crate) fn put_steady(
     judged: &Judged,
     words: &mut Vec<u8>,

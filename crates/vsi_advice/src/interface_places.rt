@@ -1,4 +1,4 @@
-//! Where something stands in an interface file.
+//! The places of the parts of an interface file.
 
 use toml::{Table, Value};
 use vsi_syntax::Span;
@@ -6,10 +6,10 @@ use vsi_telling::finding::{key_place, quoted_place};
 use vsi_telling::names::part_of;
 use vsi_telling::tables::{array_in, value_in};
 
-/// What stands before each run.
+/// The header of each run.
 const RUN: &[u8] = b"[[runs]]";
 
-/// A part of a file that was found behind so many of its bytes.
+/// A part of a file that was found after so many of its bytes.
 fn behind(from: usize, span: Span) -> Span {
     Span {
         start: from.saturating_add(span.start),
@@ -17,7 +17,7 @@ fn behind(from: usize, span: Span) -> Span {
     }
 }
 
-/// A pair of `globals`, or what stands in the place of one.
+/// A pair of `globals`, or the value in the place of one.
 pub(crate) fn pair_in(table: &Table, number: usize) -> Option<&[Value]> {
     let pair = value_in(table, "globals", number)?;
     Some(pair.as_array()?.as_slice())
@@ -38,7 +38,7 @@ pub(crate) fn pairs_in(table: &Table) -> usize {
     }
 }
 
-/// The pair of a name, behind so many others.
+/// The pair of a name, after so many others.
 pub(crate) fn pair_named(table: &Table, name: &[u8], others: usize) -> Option<usize> {
     let mut left = others;
     for number in 0..pairs_in(table) {
@@ -53,7 +53,7 @@ pub(crate) fn pair_named(table: &Table, name: &[u8], others: usize) -> Option<us
     None
 }
 
-/// How often a text stands in `globals` before a place of a pair.
+/// How often a text occurs in `globals` before a place of a pair.
 fn times_before(table: &Table, number: usize, side: usize, text: &[u8]) -> usize {
     let mut times: usize = 0;
     for before in 0..number {
@@ -69,7 +69,7 @@ fn times_before(table: &Table, number: usize, side: usize, text: &[u8]) -> usize
     times
 }
 
-/// Where the text at a place of a pair of `globals` stands.
+/// The position of the text at a place of a pair of `globals`.
 pub(crate) fn pair_place(bytes: &[u8], table: &Table, number: usize, side: usize) -> Option<Span> {
     let key = key_place(bytes, b"globals")?;
     let text = text_in(table, number, side)?;
@@ -105,7 +105,7 @@ pub(crate) fn run_place(bytes: &[u8], number: usize) -> Option<Span> {
     None
 }
 
-/// What stands in the run of this number.
+/// The content of the run of this number.
 fn run_part(bytes: &[u8], number: usize) -> Option<Span> {
     let run = run_place(bytes, number)?;
     let stop = match run_place(bytes, number.saturating_add(1)) {
@@ -118,7 +118,7 @@ fn run_part(bytes: &[u8], number: usize) -> Option<Span> {
     })
 }
 
-/// Where a key of a run stands, or else where the run begins.
+/// The position of a key of a run, or else where the run begins.
 pub(crate) fn run_key_place(bytes: &[u8], number: usize, key: &[u8]) -> Option<Span> {
     let part = run_part(bytes, number)?;
     match key_place(part_of(bytes, part), key) {
@@ -127,7 +127,7 @@ pub(crate) fn run_key_place(bytes: &[u8], number: usize, key: &[u8]) -> Option<S
     }
 }
 
-/// Whether bytes begin with a name, with a quote behind it or not, and `=`.
+/// Whether bytes begin with a name, with a quote after it or not, and `=`.
 fn begins_entry(bytes: &[u8], name: &[u8]) -> bool {
     let Some(rest) = bytes.strip_prefix(name) else {
         return false;

@@ -1,4 +1,4 @@
-//! What is told of a faulty run of an interface file.
+//! The explanation of a faulty run of an interface file.
 
 use crate::interface_places::{entry_place, pairs_in, run_key_place, run_place, text_in};
 use crate::interfaces::{Page, RUN_KEYS, is_run_key};
@@ -10,7 +10,7 @@ use vsi_telling::finding::key_place;
 use vsi_telling::names::{put_names_between, put_word_between};
 use vsi_telling::tables::value_in;
 
-/// What a run looks like.
+/// An example of a run.
 const SHAPE: &str = "A run is written so:\n  [[runs]]\n  store = { key = 7 }\n  \
     budget = 1000\n  expect = { out = 3 }\n";
 
@@ -66,7 +66,7 @@ impl Page<'_> {
         self.put(behind)
     }
 
-    /// Tells of runs that are none.
+    /// Explains runs that are none.
     fn runs(&mut self) -> Result<Option<Span>, AllocError> {
         self.put(
             "The value of `runs` is no array of tables. Hint: write a line `[[runs]]` before the \
@@ -79,7 +79,7 @@ impl Page<'_> {
         }
     }
 
-    /// Tells of a run that is no table or has another key.
+    /// Explains a run that is no table or has another key.
     fn other(&mut self, number: usize) -> Result<Option<Span>, AllocError> {
         let Some(key) = other_key(self.table, number) else {
             self.run("Run ", number, " is no table.\n")?;
@@ -113,7 +113,7 @@ impl Page<'_> {
         )
     }
 
-    /// Tells of a table of words that is none.
+    /// Explains a table of words that is none.
     fn table(&mut self, number: usize, key: &str) -> Result<Option<Span>, AllocError> {
         if let Some(name) = faulty_word(self.table, number, key) {
             self.word(number, key.as_bytes(), name)?;
@@ -126,7 +126,7 @@ impl Page<'_> {
         Ok(run_key_place(self.bytes, number, key.as_bytes()))
     }
 
-    /// Tells of a budget that is none.
+    /// Explains a budget that is none.
     fn budget(&mut self, number: usize) -> Result<Option<Span>, AllocError> {
         if run_value(self.table, number, "budget").is_none() {
             self.run("Run ", number, " has no budget. ")?;
@@ -144,7 +144,7 @@ impl Page<'_> {
         Ok(run_key_place(self.bytes, number, b"budget"))
     }
 
-    /// Tells of a run that expects nothing, or two things.
+    /// Explains a run that expects nothing, or two things.
     fn expect(&mut self, number: usize) -> Result<Option<Span>, AllocError> {
         let has_halts = run_value(self.table, number, "halts").is_some();
         if run_value(self.table, number, "expect").is_none() {
@@ -191,14 +191,14 @@ impl Page<'_> {
         self.other_global(number, name, &names)
     }
 
-    /// Tells of a name that is no global.
+    /// Explains a name that is no global.
     fn global(&mut self, number: usize, name: &[u8]) -> Result<Option<Span>, AllocError> {
         self.no_global(number, name)?;
         Ok(entry_place(self.bytes, number, name))
     }
 }
 
-/// Adds what is told of the runs of an interface, and answers where it stands.
+/// Adds the explanation of the runs of an interface, and returns its place.
 pub(crate) fn of_run(page: &mut Page, error: &InterfaceError) -> Result<Option<Span>, AllocError> {
     match error {
         InterfaceError::BadRuns => page.runs(),

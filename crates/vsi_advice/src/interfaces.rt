@@ -1,4 +1,4 @@
-//! What is told of a refused interface file.
+//! The explanation of a refused interface file.
 
 use crate::interface_places::{pair_in, pair_named, pair_place, pairs_in, text_in};
 use crate::interface_runs::of_run;
@@ -12,7 +12,7 @@ use vsi_telling::names::{class_names, put_names_between, put_quoted, put_word_be
 use vsi_telling::nearest::put_nearest_or;
 use vsi_telling::tables::{put_syntax, table_in, value_in};
 
-/// What the head of an interface looks like.
+/// An example of the head of an interface.
 const SHAPE: &[u8] = b"An interface begins so:\n  lattice = \"two.toml\"\n  \
     profile = \"base\"\n  globals = [[\"key\", \"H\"], [\"out\", \"L\"]]\n";
 
@@ -40,7 +40,7 @@ const PROFILES: [&[u8]; 3] = [b"base", b"strict", b"steady"];
 /// The orders.
 const ORDERS: [&[u8]; 2] = [b"exact", b"set"];
 
-/// An interface file that is refused, and what is told of it so far.
+/// An interface file that is refused, and its explanation so far.
 #[derive(Drop)]
 pub(crate) struct Page<'p> {
     pub(crate) alloc: Global,
@@ -49,7 +49,7 @@ pub(crate) struct Page<'p> {
     pub(crate) words: &'p mut Vec<u8>,
 }
 
-/// Adds what is told where the file is no TOML, and answers where.
+/// Adds the explanation if the file is no TOML, and answers where.
 fn put_not_toml(
     alloc: Global,
     words: &mut Vec<u8>,
@@ -101,7 +101,7 @@ impl Page<'_> {
         )
     }
 
-    /// Tells of a key that no interface has.
+    /// Explains a key that no interface has.
     fn key(&mut self, key: &[u8]) -> Result<Option<Span>, AllocError> {
         if is_run_key(key) {
             put_word_between(
@@ -123,7 +123,7 @@ impl Page<'_> {
         Ok(key_place(self.bytes, key))
     }
 
-    /// Tells of a lattice that is missing, named twice or no text.
+    /// Explains a lattice that is missing, named twice or no text.
     fn lattice(&mut self) -> Result<Option<Span>, AllocError> {
         if self.table.get("lattice").is_none() {
             self.put(
@@ -147,7 +147,7 @@ impl Page<'_> {
         Ok(key_place(self.bytes, b"lattice"))
     }
 
-    /// Tells of a key that has no text as its value, and has to have one of the words.
+    /// Explains a key that has no text as its value, and has to have one of the words.
     fn no_choice(&mut self, key: &str, choices: &[&[u8]]) -> Result<Option<Span>, AllocError> {
         let fault: &[u8] = match self.table.get(key) {
             Some(_) => b"` is to have one of the words ",
@@ -160,7 +160,7 @@ impl Page<'_> {
         Ok(key_place(self.bytes, key.as_bytes()))
     }
 
-    /// Tells of a text that is none of the words.
+    /// Explains a text that is none of the words.
     fn other_choice(
         &mut self,
         text: &[u8],
@@ -173,7 +173,7 @@ impl Page<'_> {
         Ok(quoted_place(self.bytes, text, 0))
     }
 
-    /// Tells of a key whose value is none of the words.
+    /// Explains a key whose value is none of the words.
     fn choice(
         &mut self,
         key: &str,
@@ -186,7 +186,7 @@ impl Page<'_> {
         }
     }
 
-    /// Tells of `globals` that aren't an array of pairs of texts.
+    /// Explains `globals` that aren't an array of pairs of texts.
     fn globals(&mut self) -> Result<Option<Span>, AllocError> {
         let Some(value) = self.table.get("globals") else {
             self.put(
@@ -209,7 +209,7 @@ impl Page<'_> {
         Ok(key_place(self.bytes, b"globals"))
     }
 
-    /// Tells of a name of a global.
+    /// Explains a name of a global.
     fn name(&mut self, name: &[u8], others: usize, text: &str) -> Result<Option<Span>, AllocError> {
         self.quote(name)?;
         self.put(text)?;
@@ -250,7 +250,7 @@ impl Page<'_> {
         self.other_class(name, class, &classes)
     }
 
-    /// Tells of the class of a global that is none.
+    /// Explains the class of a global that is none.
     fn class(
         &mut self,
         name: &[u8],
@@ -307,7 +307,7 @@ fn text_at<'t>(table: &'t Table, key: &str) -> Option<&'t str> {
     table.get(key)?.as_str()
 }
 
-/// Adds what is told of a fault, and answers where it stands.
+/// Adds the explanation of a fault, and returns its place.
 fn put_fault(
     page: &mut Page,
     lattice: Option<&Lattice>,
@@ -339,7 +339,7 @@ fn put_fault(
     }
 }
 
-/// Adds what is told of a fault in an interface that is a table, and answers where it stands.
+/// Adds the explanation of a fault in an interface that is a table, and returns its place.
 fn put_table_fault(
     alloc: Global,
     words: &mut Vec<u8>,
@@ -357,7 +357,7 @@ fn put_table_fault(
     put_fault(&mut page, lattice, error)
 }
 
-/// Adds what is told of a refused interface file, and answers where it is wrong. The lattice is
+/// Adds the explanation of a refused interface file, and answers where it is wrong. The lattice is
 /// that of the file that it names.
 pub(crate) fn put_interface(
     alloc: Global,

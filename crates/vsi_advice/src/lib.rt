@@ -1,5 +1,5 @@
-//! What stands behind the refusal of an interface, of a setting or of an image that is judged, for
-//! a person: where it is wrong, what is wanted there, and what to do.
+//! The explanation that follows the refusal of an interface, of a setting or of a judged image:
+//! where it is wrong, what belongs there, and what to do.
 //!
 //! Its sentences are composed freely. `advice` hands them to `vsi_telling::shown`, whose clause
 //! says that no byte of a file drives a terminal.
@@ -29,7 +29,7 @@ use vsi_steady::SteadyError;
 use vsi_syntax::Span;
 use vsi_telling::shown;
 
-/// What was refused, and why.
+/// A refusal: what is refused, and why.
 #[derive(Clone, Copy)]
 pub enum Refused<'a> {
     /// An interface file, with the lattice of the file that it names, where that was read.
@@ -60,15 +60,15 @@ pub enum Refused<'a> {
     },
 }
 
-/// What is told of a refusal: a part of the file, if one is known, and words.
+/// The explanation of a refusal: a part of the file, if one is known, and words.
 #[derive(Drop)]
 pub(crate) struct Telling {
     pub(crate) place: Option<Span>,
     pub(crate) words: Vec<u8>,
 }
 
-/// Adds what is told of an interface or of a run that doesn't begin, and answers where it is wrong;
-/// nothing is told here of an image that is judged.
+/// Adds the explanation of an interface or of a run that doesn't begin, and answers where it is
+/// wrong; nothing is added here for a judged image.
 fn put_file(
     alloc: Global,
     words: &mut Vec<u8>,
@@ -89,7 +89,7 @@ fn put_file(
     }
 }
 
-/// Adds what is told of an image that is judged; nothing is told here of a file.
+/// Adds the explanation of an image that is judged; nothing is added here for a file.
 fn put_judged(alloc: Global, words: &mut Vec<u8>, refused: Refused) -> Result<(), AllocError> {
     match refused {
         Refused::Audit {
@@ -121,7 +121,7 @@ fn put_judged(alloc: Global, words: &mut Vec<u8>, refused: Refused) -> Result<()
     }
 }
 
-/// What is told of a refusal.
+/// The explanation of a refusal.
 fn telling_of(alloc: Global, refused: Refused) -> Result<Telling, AllocError> {
     let mut words = Vec::new(alloc);
     let place = put_file(alloc, &mut words, refused)?;
@@ -129,7 +129,7 @@ fn telling_of(alloc: Global, refused: Refused) -> Result<Telling, AllocError> {
     Ok(Telling { place, words })
 }
 
-/// The bytes in which the places of a refusal are; of an image none is told.
+/// The bytes in which the places of a refusal are; an image has none.
 fn bytes_of<'a>(refused: Refused<'a>) -> &'a [u8] {
     match refused {
         Refused::Interface { bytes, .. } | Refused::Start { bytes, .. } => bytes,
@@ -137,9 +137,9 @@ fn bytes_of<'a>(refused: Refused<'a>) -> &'a [u8] {
     }
 }
 
-/// What stands behind a refusal: the place in the file of this path, its line and carets where a
-/// place is known, then in whole sentences of at most 80 columns what is wrong, what is wanted, and
-/// what to do.
+/// The explanation that follows a refusal: the place in the file of this path, its line and carets
+/// where a place is known, then in whole sentences of at most 80 columns what is wrong, what is
+/// wanted, and what to do.
 pub fn advice(
     alloc: Global,
     manner: Manner,

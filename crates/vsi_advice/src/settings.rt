@@ -1,4 +1,4 @@
-//! What is told of a setting, and of a store that isn't full.
+//! The explanation of a setting, and of a store that isn't full.
 
 use std::alloc::{AllocError, Global};
 use vsi_drive::{LineFault, StartFault};
@@ -21,7 +21,7 @@ fn trimmed(setting: &[u8], part: Span) -> Span {
     }
 }
 
-/// The parts of a setting in front of its first `=` and behind it.
+/// The parts of a setting before its first `=` and after it.
 fn sides(setting: &[u8]) -> (Span, Span) {
     let length = setting.len();
     let mut at = length;
@@ -39,7 +39,7 @@ fn sides(setting: &[u8]) -> (Span, Span) {
     (trimmed(setting, name), trimmed(setting, value))
 }
 
-/// What to do with a setting that isn't of the form.
+/// The advice for a setting that isn't of the form.
 fn form_hint(setting: &[u8], name: &[u8], value: &[u8]) -> &'static str {
     if name.ends_with(b":") {
         return "Hint: leave the `:` out, since a setting is no assignment.\n";
@@ -61,7 +61,7 @@ fn is_digits(text: &[u8]) -> bool {
     !text.is_empty() && text.iter().all(|byte| byte.is_ascii_digit())
 }
 
-/// What to do with a value that is no number.
+/// The advice for a value that is no number.
 fn number_hint(value: &[u8]) -> &'static str {
     if value.starts_with(b"+") {
         return "Hint: leave the `+` out.\n";
@@ -77,7 +77,7 @@ fn number_hint(value: &[u8]) -> &'static str {
     expression.\n"
 }
 
-/// Adds what is told of a setting that isn't of the form.
+/// Adds the explanation of a setting that isn't of the form.
 fn put_form(words: &mut Vec<u8>, setting: &[u8]) -> Result<Option<Span>, AllocError> {
     let (name, value) = sides(setting);
     words.extend_from_slice(
@@ -91,7 +91,7 @@ fn put_form(words: &mut Vec<u8>, setting: &[u8]) -> Result<Option<Span>, AllocEr
     }))
 }
 
-/// Adds what is told of a name that is none of those of the globals.
+/// Adds the explanation of a name that is none of those of the globals.
 fn put_other_name(
     alloc: Global,
     words: &mut Vec<u8>,
@@ -108,7 +108,7 @@ fn put_other_name(
     )
 }
 
-/// Adds what is told of a name that no global of an image has.
+/// Adds the explanation of a name that no global of an image has.
 fn put_unknown(
     alloc: Global,
     words: &mut Vec<u8>,
@@ -119,7 +119,7 @@ fn put_unknown(
     put_other_name(alloc, words, name, &names)
 }
 
-/// Adds what is told of a setting whose name is no global.
+/// Adds the explanation of a setting whose name is no global.
 fn put_name(
     alloc: Global,
     words: &mut Vec<u8>,
@@ -131,7 +131,7 @@ fn put_name(
     Ok(Some(place))
 }
 
-/// Adds what is told of a setting whose number is none.
+/// Adds the explanation of a setting whose number is none.
 fn put_number(words: &mut Vec<u8>, setting: &[u8]) -> Result<Option<Span>, AllocError> {
     let (_name, place) = sides(setting);
     let value = part_of(setting, place);
@@ -151,7 +151,7 @@ fn global_name(image: &Image, number: usize) -> &[u8] {
     }
 }
 
-/// Adds what is told of a global that has no word.
+/// Adds the explanation of a global that has no word.
 fn put_unnamed(words: &mut Vec<u8>, name: &[u8]) -> Result<(), AllocError> {
     put_word_between(
         words,
@@ -166,7 +166,7 @@ fn put_unnamed(words: &mut Vec<u8>, name: &[u8]) -> Result<(), AllocError> {
     words.extend_from_slice(b" = 0` to a store file, with the word that is meant.\n")
 }
 
-/// Adds what is told of a run of an image that doesn't begin, and answers where its setting is
+/// Adds the explanation of a run of an image that doesn't begin, and answers where its setting is
 /// wrong.
 pub(crate) fn put_start(
     alloc: Global,

@@ -1,4 +1,4 @@
--- What the files of the tests hold.
+-- The contents of the files of the tests.
 use Rattle.std.specs.Prelude.{ℕ, Bool, false, List, Option, Some, None, bytes_eq, codes, if◌then◌else◌}
 use Rattle.vsi_command_tests.specs.declared.devices.Page.{Page}
 use Rattle.vsi_command_tests.specs.declared.devices.Page.TheVariants.{Blank, Filled}
@@ -7,7 +7,7 @@ use Rattle.vsi_command_tests.specs.declared.devices.Page.TheVariants.{Blank, Fil
 abbrev pub two : List ℕ
 two = codes "classes = [\"L\", \"H\"]\nbelow = [[\"L\", \"H\"]]\n"
 
--- The bytes of the files that hold texts. Those of the image aren't told.
+-- The bytes of the files that hold texts. Those of the image aren't known.
 abbrev pub stored : List ℕ → Option (List ℕ)
 stored path =
     if bytes_eq path (codes "two") then Some two

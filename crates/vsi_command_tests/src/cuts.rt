@@ -1,4 +1,4 @@
-//! What is shown where a device fails in mid-stream.
+//! The output if a device fails in mid-stream.
 
 use super::devices::{Device, Room, SUM, Shown, run, show};
 use std::alloc::{AllocError, Global};
@@ -20,7 +20,7 @@ fn is_told(cut: &Shown, device: Device, error: &[u8]) -> bool {
     matches!(device, Device::Error) || cut.error.as_slice() == error
 }
 
-/// Whether a line ends so wherever a device takes less than the whole, and tells this.
+/// Whether a line ends so wherever a device takes less than the whole, and reports this.
 fn is_cut_anywhere(
     alloc: Global,
     line: &str,
@@ -96,7 +96,7 @@ fn tells_faults_of_what_is_read(rt: HostRuntime) -> Result<(), Fail> {
     Ok(())
 }
 
-/// Whether a run without words whose output takes so many bytes shows these and the fault.
+/// Whether a run without arguments whose output takes so many bytes shows these and the fault.
 fn is_begun(alloc: Global, begun: &[u8]) -> bool {
     let shown = run(alloc, 0, Room::only(Device::Output, begun.len()));
     shown.status == 4 && shown.output.as_slice() == begun && shown.error.as_slice() == STREAM

@@ -1,4 +1,4 @@
-//! Readers, writers and files in memory that fail when they are told to.
+//! Readers, writers and files in memory that fail on request.
 
 ghost use Rattle.std.specs.Prelude.{◌≡◌, [], Some};
 ghost use Rattle.vsi_devices.specs.Counted.{faults_of};
@@ -172,7 +172,7 @@ impl Files for Shelf {
     }
 }
 
-/// What is written to.
+/// The devices that are written to.
 #[derive(Clone, Copy)]
 pub(super) enum Device {
     Output,
@@ -225,7 +225,7 @@ pub(super) struct Shown {
 }
 
 impl Shown {
-    /// What a device took.
+    /// The bytes that a device took.
     pub(super) fn taken(&self, device: Device) -> &[u8] {
         match device {
             Device::Output => self.output.as_slice(),
@@ -235,7 +235,7 @@ impl Shown {
     }
 }
 
-/// Calls `command` with these words, this input and this room.
+/// Calls `command` with these arguments, this input and this room.
 fn call(alloc: Global, words: &[String], drip: Drip<'_>, room: Room) -> Shown {
     let mut files = Shelf::new(alloc, room.image, Page::Blank);
     let mut input = Counted::new(drip);
@@ -257,7 +257,7 @@ fn call(alloc: Global, words: &[String], drip: Drip<'_>, room: Room) -> Shown {
     }
 }
 
-/// What the words of a line show within this room. An input that is read fails.
+/// The output of the arguments of a line within this room. An input that is read fails.
 pub(super) fn show(alloc: Global, line: &str, room: Room) -> Result<Shown, AllocError> {
     let mut words = Vec::new(alloc);
     for word in line.split(' ') {
@@ -266,8 +266,8 @@ pub(super) fn show(alloc: Global, line: &str, room: Room) -> Result<Shown, Alloc
     Ok(call(alloc, words.as_slice(), Drip::new(b"", 1), room))
 }
 
-/// What a run without words shows of the sum within this room, where the input fails at one call,
-/// counted from 1.
+/// The output of a run without arguments for the sum within this room, if the input fails at one
+/// call, counted from 1.
 pub(super) fn run(alloc: Global, fails_at: u64, room: Room) -> Shown {
     call(alloc, &[], Drip::new(SUM, fails_at), room)
 }

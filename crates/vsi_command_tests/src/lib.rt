@@ -1,5 +1,5 @@
 //! Tests of `command` over devices that fail in mid-stream, and of what errors say of themselves.
-//! What `command` writes where none fails is told by the transcripts in `cases/`.
+//! The transcripts in `cases/` show the output of `command` if none fails.
 #![tactic(auto)]
 
 #[cfg(test)]

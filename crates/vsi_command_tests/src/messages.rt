@@ -1,4 +1,4 @@
-//! What the errors of the library say of themselves.
+//! The messages of the library's errors.
 
 use std::alloc::{AllocError, Global};
 use std::fmt::Display;

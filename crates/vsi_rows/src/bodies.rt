@@ -1,5 +1,5 @@
 //! Programs over locations as texts: operators and commands before their parts, `@K` for location
-//! `K`, and behind it, where places are told, that of the name.
+//! `K`, and after it, where places are shown, that of the name.
 
 use crate::row::Row;
 use crate::trees::opened;
@@ -31,7 +31,7 @@ fn put_expression(row: &mut Row<'_>, e: &Ex, has_places: bool) {
     }
 }
 
-/// Adds what stands before an expression, and the expression.
+/// Adds the text before an expression, and the expression.
 fn put_head(row: &mut Row<'_>, before: &str, e: &Ex, has_places: bool) {
     row.put(before);
     put_expression(row, e, has_places);

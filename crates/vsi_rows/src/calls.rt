@@ -57,7 +57,7 @@ fn answer_of_image(alloc: Global, call: &str, row: &mut Row<'_>) {
     }
 }
 
-/// Adds the answer to a row about the words of a command line.
+/// Adds the answer to a row about the arguments of a command line.
 fn answer_of_words(alloc: Global, call: &str, row: &mut Row<'_>) {
     match call {
         "asked" => requests::asked(alloc, row),

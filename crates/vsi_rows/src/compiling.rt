@@ -27,7 +27,7 @@ fn compiled(
     }
 }
 
-/// What is shown of a text's image.
+/// The form to show of a text's image.
 #[derive(Clone, Copy)]
 pub(crate) enum Shown {
     Nothing,
@@ -84,7 +84,7 @@ pub(crate) fn classes(alloc: Global, row: &mut Row<'_>, profile: Profile, lattic
     }
 }
 
-/// Adds what a text tells of an error: the whole text of the refusal, or the lines of the walk
+/// Adds what a text says about an error: the whole text of the refusal, or the lines of the walk
 /// alone.
 fn put_told(
     alloc: Global,
@@ -102,7 +102,7 @@ fn put_told(
     }
 }
 
-/// Adds what the text that is left of a row tells of an error.
+/// Adds what the rest of a row as a text says about an error.
 fn put_error(
     alloc: Global,
     row: &mut Row<'_>,
@@ -114,8 +114,8 @@ fn put_error(
     put_told(alloc, row, lattice, &text, error, is_whole);
 }
 
-/// `refusal` or `explain`, then `PROFILE LATTICE TEXT | OTHER`: what the other text tells of the
-/// refusal of the text, or of its walk alone; where there is no other, what the text itself tells.
+/// `refusal` or `explain`, then `PROFILE LATTICE TEXT | OTHER`: what the other text says about the
+/// refusal of the text, or about its walk alone; without another text, what the text itself says.
 pub(crate) fn refusal(
     alloc: Global,
     row: &mut Row<'_>,

@@ -66,7 +66,7 @@ fn put_turns(out: &mut Vec<u8>, from: u32, to: u32, part: &str) -> Result<(), Wr
     Ok(())
 }
 
-/// Adds what `FROM TO PART` stands for.
+/// Adds the meaning of `FROM TO PART`.
 fn put_repetition(out: &mut Vec<u8>, text: &str) -> Result<(), Wrong> {
     let Some((from, text)) = text.split_once(' ') else {
         return Err(Wrong::Row);
@@ -80,7 +80,7 @@ fn put_repetition(out: &mut Vec<u8>, text: &str) -> Result<(), Wrong> {
     }
 }
 
-/// Adds what the text behind a backslash stands for, up to the next one.
+/// Adds the meaning of the text after a backslash, up to the next one.
 fn put_piece(out: &mut Vec<u8>, piece: &str) -> Result<(), Wrong> {
     if let Some(repetition) = piece.strip_prefix('[') {
         return put_repetition(out, repetition);
@@ -97,7 +97,7 @@ fn put_piece(out: &mut Vec<u8>, piece: &str) -> Result<(), Wrong> {
     }
 }
 
-/// The bytes that a text of a row stands for.
+/// The bytes that a text of a row means.
 pub(crate) fn bytes_of(alloc: Global, text: &str) -> Result<Vec<u8>, Wrong> {
     let mut out = Vec::new(alloc);
     let mut is_first = true;

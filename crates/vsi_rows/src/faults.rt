@@ -1,4 +1,4 @@
-//! The call that tells of faults which are made here.
+//! The call that writes the text of faults which are made here.
 
 use crate::row::Row;
 use crate::wrong::Wrong;
@@ -9,7 +9,7 @@ use vsi_image::{DecodeError, Limit, VerifyError};
 use vsi_lattice::{Class, Lattice, LatticeError};
 use vsi_store::{StoreError, ViewError};
 
-/// The fault of a lattice file of this name, with the number or the classes that it tells.
+/// The fault of a lattice file of this name, with the number or the classes that it shows.
 fn of_lattice(name: &str, number: usize, other: usize) -> Option<LatticeError> {
     match name {
         "NotToml" => Some(LatticeError::NotToml),
@@ -82,7 +82,7 @@ fn class(number: usize) -> Option<Class> {
     Some(Class::at(u8::try_from(number).ok()?))
 }
 
-/// The fault of a kind and a name, with the numbers that it tells.
+/// The fault of a kind and a name, with the numbers that it shows.
 fn fault(kind: &str, name: &str, first: usize, second: usize) -> Option<Fault> {
     match kind {
         "lattice" => Some(Fault::Lattice(of_lattice(name, first, second)?)),
@@ -95,7 +95,7 @@ fn fault(kind: &str, name: &str, first: usize, second: usize) -> Option<Fault> {
 }
 
 /// `fault KIND NAME FIRST SECOND`: the text of a fault of a lattice file, bytes, an image, a store
-/// or a view, by its name and the numbers that it tells, 0 for each that it doesn't.
+/// or a view, by its name and the numbers that it shows, 0 for each that it doesn't.
 pub(crate) fn told(alloc: Global, row: &mut Row<'_>) {
     let kind = row.field();
     let name = row.field();
@@ -107,7 +107,7 @@ pub(crate) fn told(alloc: Global, row: &mut Row<'_>) {
     }
 }
 
-/// `refusal_of_memory LATTICE`: what is told where memory was wanting for a text.
+/// `refusal_of_memory LATTICE`: the report if memory ran out for a text.
 pub(crate) fn memory(alloc: Global, row: &mut Row<'_>, lattice: &Lattice) {
     row.put_made(refusal_text(alloc, lattice, b"", &CompileError::Memory));
 }

@@ -44,7 +44,7 @@ fn put_checked(
 /// The program of the same globals that is an `if` with two empty branches and a loop without a
 /// body.
 fn emptied<'a>(alloc: Heap, program: &Resolved<'a>) -> Option<Resolved<'a>> {
-    // What `body` ensures says that the program is resolved, which the proofs ask for.
+    // The clause of `body` says that the program is resolved, which the proofs need.
     let _facts = program.body();
     if program.globals().len() == 0 {
         return None;
@@ -72,7 +72,7 @@ fn emptied<'a>(alloc: Heap, program: &Resolved<'a>) -> Option<Resolved<'a>> {
     program.rebuilt(alloc, Vec::new(alloc), body).ok()
 }
 
-/// What is checked of a program.
+/// The form of a program that is checked.
 #[derive(Clone, Copy)]
 pub(crate) enum Form {
     Written,
@@ -80,7 +80,7 @@ pub(crate) enum Form {
     Emptied,
 }
 
-/// What is made of a program; nothing of one that is checked as it is written.
+/// The form made from a program; nothing for one that is checked as it is written.
 fn made<'a>(alloc: Heap, form: Form, program: &Resolved<'a>) -> Option<Resolved<'a>> {
     match form {
         Form::Written => None,

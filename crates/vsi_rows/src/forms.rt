@@ -58,7 +58,7 @@ fn agree<A: Classes, B: Classes>(count: u8, left: &A, right: &B) -> bool
     agree_on_ends(left, right)
 }
 
-/// What both forms make of pairs.
+/// The results of both forms for pairs.
 #[derive(Clone, Copy)]
 enum Agreement {
     Alike,
@@ -66,7 +66,7 @@ enum Agreement {
     Apart,
 }
 
-/// What both forms make of the pairs.
+/// The results of both forms for the pairs.
 fn made(alloc: Global, count: u8, pairs: &[(u8, u8)]) -> Agreement
     requires some { 0 < count }
     requires small { count ≤ 64 }

@@ -82,7 +82,7 @@ fn code(alloc: Global, row: &mut Row<'_>, text: &str) -> Vec<Instr> {
     code
 }
 
-/// What is left of a row as instructions.
+/// The rest of a row as instructions.
 fn rest(alloc: Global, row: &mut Row<'_>) -> Vec<Instr> {
     let text = row.text(alloc);
     match from_utf8(&text) {
@@ -91,7 +91,7 @@ fn rest(alloc: Global, row: &mut Row<'_>) -> Vec<Instr> {
     }
 }
 
-/// What is left of a row as an image.
+/// The rest of a row as an image.
 pub(crate) fn image(alloc: Global, row: &mut Row<'_>) -> Image {
     let globals = globals(alloc, row);
     let slots = row.small();
@@ -105,7 +105,7 @@ pub(crate) fn image(alloc: Global, row: &mut Row<'_>) -> Image {
     }
 }
 
-/// What is left of a row as bytes: pairs of hexadecimal digits, between which a blank stands.
+/// The rest of a row as bytes: pairs of hexadecimal digits, with a blank between them.
 pub(crate) fn bytes(alloc: Global, row: &mut Row<'_>) -> Vec<u8> {
     let mut bytes = Vec::new(alloc);
     for pair in row.rest.split(' ') {

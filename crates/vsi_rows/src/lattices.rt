@@ -45,7 +45,7 @@ fn put_order<C: Classes>(row: &mut Row<'_>, lattice: &C) {
     }
 }
 
-/// Adds the names of the classes, each behind a space.
+/// Adds the names of the classes, each after a space.
 fn put_names(row: &mut Row<'_>, lattice: &Lattice) {
     row.put("classes");
     for number in 0..64u8 {

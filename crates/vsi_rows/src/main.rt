@@ -2,10 +2,10 @@
 //! each call's answer.
 //!
 //! A line that is empty or begins with `#` is printed as it is. Any other is a row: the name of a
-//! call, the fields that it takes and the text, each behind a space; `calls` has the calls by their
-//! names, and the comment of a call tells its fields and its answer. The row is printed too, and
-//! then the lines of the answer, each behind two spaces. What is wanted of each row stands in the
-//! file `stdout`; `escapes` tells how texts are written.
+//! call, the fields that it takes and the text, each after a space; `calls` has the calls by their
+//! names, and the comment of a call describes its fields and its answer. The row is printed too,
+//! and then the lines of the answer, each after two spaces. The expected answer of each row is in
+//! the file `stdout`; `escapes` says how texts are written.
 //!
 //! To add a row, write it into `stdin`, and into `stdout` with the answer that the language's pages
 //! ask for, worked by hand; `rt run < stdin` is to print `stdout`.

@@ -1,4 +1,4 @@
-//! Calls that tell what the words of a line ask for.
+//! Calls that answer which request the arguments of a line make.
 
 use crate::row::Row;
 use crate::wrong::Wrong;
@@ -7,7 +7,7 @@ use vsi_arguments::{ArgumentsError, Request, request_of};
 use vsi_asked::{asks_for, asks_help};
 use vsi_explain::page;
 
-/// The words of a line, which stand behind single spaces; none for an empty line.
+/// The words of a line, each after a single space; none for an empty line.
 fn words_of(alloc: Global, line: &str) -> Result<Vec<String>, AllocError> {
     let mut words = Vec::new(alloc);
     if !line.is_empty() {

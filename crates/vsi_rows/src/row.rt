@@ -1,4 +1,4 @@
-//! A row: what is given to a call, and what is answered.
+//! A row: the input of a call, and its answer.
 
 use crate::escapes::bytes_of;
 use crate::wrong::Wrong;
@@ -16,7 +16,7 @@ pub(crate) struct Row<'a> {
     /// The fields that aren't read yet, and the text.
     pub rest: &'a str,
     pub answer: String,
-    /// What went wrong last.
+    /// The last error.
     pub wrong: Option<Wrong>,
 }
 
@@ -156,8 +156,8 @@ impl<'a> Row<'a> {
         classes
     }
 
-    /// What is left up to ` | `, as the bytes that it stands for; then what stands behind that is
-    /// left. Where there is no ` | `, the whole text stands for both.
+    /// The rest up to ` | `, as the bytes that it means; then the text after that is left. Without
+    /// a ` | `, the whole text counts as both.
     pub(crate) fn first_text(&mut self, alloc: Global) -> Vec<u8> {
         match self.rest.split_once(" | ") {
             Some((first, other)) => {
@@ -170,7 +170,7 @@ impl<'a> Row<'a> {
         }
     }
 
-    /// What is left, as the bytes that it stands for.
+    /// The rest, as the bytes that it means.
     pub(crate) fn text(&mut self, alloc: Global) -> Vec<u8> {
         match bytes_of(alloc, self.rest) {
             Ok(text) => text,

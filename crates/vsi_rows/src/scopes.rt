@@ -69,7 +69,7 @@ fn put_program(row: &mut Row<'_>, program: &Resolved<'_>, has_places: bool) {
 
 /// The program of the same globals without a `letvar` or a command.
 fn emptied<'t>(alloc: Heap, program: &Resolved<'t>) -> Option<Resolved<'t>> {
-    // What `body` ensures says that the program is resolved, which the proofs ask for.
+    // The clause of `body` says that the program is resolved, which the proofs need.
     let _facts = program.body();
     program
         .rebuilt(alloc, Vec::new(alloc), Vec::new(alloc))
@@ -99,7 +99,7 @@ fn generated(alloc: Heap, row: &mut Row<'_>, program: &Resolved<'_>) -> Option<V
     generated.ok()
 }
 
-/// What is shown of a program over locations.
+/// The form to show of a program over locations.
 #[derive(Clone, Copy)]
 pub(crate) enum Form {
     Located,

@@ -19,7 +19,7 @@ fn declaring(alloc: Global, row: &mut Row<'_>) -> Image {
     }
 }
 
-/// `store GLOBALS TEXT`: the words that a store file tells, or the line of the refusal.
+/// `store GLOBALS TEXT`: the words that a store file gives, or the line of the refusal.
 pub(crate) fn read(alloc: Global, row: &mut Row<'_>) {
     let image = declaring(alloc, row);
     let text = row.text(alloc);

@@ -32,7 +32,7 @@ pub(crate) fn tree_of<'t>(alloc: Global, text: &'t [u8]) -> Result<Program<'t>, 
     Ok(parse(alloc, &tokens)?)
 }
 
-/// Adds the line of a refusal; of a flow it tells no more than that.
+/// Adds the line of a refusal; for a flow it says no more than that.
 pub(crate) fn put_refusal(row: &mut Row<'_>, error: &CompileError) {
     match error {
         CompileError::Flow(_) => row.put("Flow\n"),
@@ -40,7 +40,7 @@ pub(crate) fn put_refusal(row: &mut Row<'_>, error: &CompileError) {
     }
 }
 
-/// What is shown of a text's tree.
+/// The form to show of a text's tree.
 #[derive(Clone, Copy)]
 pub(crate) enum Form {
     Accepted,

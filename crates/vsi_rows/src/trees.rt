@@ -59,14 +59,14 @@ fn put_assignment(row: &mut Row<'_>, name: &Name<'_>, value: &Expr<'_>) {
     put_expression(row, value);
 }
 
-/// Adds what stands before an expression, the expression and a space.
+/// Adds the text before an expression, the expression and a space.
 fn put_head(row: &mut Row<'_>, before: &str, e: &Expr<'_>) {
     row.put(before);
     put_expression(row, e);
     row.put(" ");
 }
 
-/// Adds commands, each behind a space.
+/// Adds commands, each after a space.
 #[cycle(putting)]
 fn put_all(row: &mut Row<'_>, body: &[Stmt<'_>]) {
     for c in body {

@@ -1,4 +1,4 @@
-//! Where a word stands in the bytes of a file.
+//! The places of words in the bytes of a file.
 
 use vsi_syntax::Span;
 
@@ -18,7 +18,7 @@ fn span_of(start: usize, word: &[u8]) -> Span {
     }
 }
 
-/// Whether the bytes are a word and a quote behind it.
+/// Whether the bytes are a word and a quote after it.
 fn is_quoted(bytes: &[u8], word: &[u8]) -> bool {
     let Some(rest) = bytes.strip_prefix(beginning(word)) else {
         return false;
@@ -29,7 +29,7 @@ fn is_quoted(bytes: &[u8], word: &[u8]) -> bool {
     }
 }
 
-/// Where a word stands between quotes, behind so many other times.
+/// The place of a word between quotes, after so many other times.
 pub fn quoted_place(bytes: &[u8], word: &[u8], others: usize) -> Option<Span> {
     let mut left = others;
     for at in 0..bytes.len() {
@@ -48,7 +48,7 @@ pub fn quoted_place(bytes: &[u8], word: &[u8], others: usize) -> Option<Span> {
     None
 }
 
-/// Where a word stands at the beginning of a line, behind blanks and a quote.
+/// The place of a word at the beginning of a line, after blanks and a quote.
 pub fn key_place(bytes: &[u8], word: &[u8]) -> Option<Span> {
     let mut is_at_beginning = true;
     for at in 0..bytes.len() {
@@ -64,7 +64,7 @@ pub fn key_place(bytes: &[u8], word: &[u8]) -> Option<Span> {
     None
 }
 
-/// Where a word without quotes stands behind a bracket or a comma.
+/// The place of a word without quotes after a bracket or a comma.
 pub(crate) fn bare_place(bytes: &[u8]) -> Option<Span> {
     let mut is_quoted = false;
     let mut is_behind = false;

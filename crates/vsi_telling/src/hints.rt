@@ -3,7 +3,7 @@
 use crate::spot::Spot;
 use vsi_syntax::Kind;
 
-/// Whether a text begins with a word, and behind blanks with a symbol.
+/// Whether a text begins with a word, and then, after blanks, with a symbol.
 fn begins_with(text: &[u8], word: &[u8], symbol: u8) -> bool {
     let Some(rest) = text.trim_ascii_start().strip_prefix(word) else {
         return false;
@@ -11,7 +11,7 @@ fn begins_with(text: &[u8], word: &[u8], symbol: u8) -> bool {
     rest.trim_ascii_start().first() == Some(&symbol)
 }
 
-/// The hint where another sort of file stands in the place of a source text.
+/// The hint if another sort of file is in the place of a source text.
 pub(crate) fn file_hint(text: &[u8]) -> Option<&'static str> {
     if let [b'V', b'S', b'I', 0..=31, ..] = text {
         return Some(
@@ -34,7 +34,7 @@ const TRUE: [&[u8]; 3] = [b"true", b"True", b"TRUE"];
 /// The words of other languages for a number that is false.
 const FALSE: [&[u8]; 3] = [b"false", b"False", b"FALSE"];
 
-/// The words of other languages round several commands.
+/// The words of other languages around several commands.
 const BLOCK: [&[u8]; 4] = [b"begin", b"end", b"BEGIN", b"END"];
 
 /// The words of other languages for an `if` in an `else`.
@@ -66,7 +66,7 @@ const TYPES: [&[u8]; 13] = [
 /// The words that do nothing in other languages.
 const IDLE: [&[u8]; 6] = [b"skip", b"pass", b"nop", b"noop", b"nothing", b"SKIP"];
 
-/// The hint for a word of other languages that stands for a number or round commands.
+/// The hint for a word of other languages that means a number or is around commands.
 fn value_hint(word: &[u8]) -> Option<&'static str> {
     if TRUE.contains(&word) {
         return Some("Hint: there is no `true`: write `1`.\n");
@@ -106,7 +106,7 @@ pub(crate) fn is_idle(word: &[u8]) -> bool {
     IDLE.contains(&word)
 }
 
-/// The hint for a symbol behind a name with which a command begins.
+/// The hint for a symbol after a name with which a command begins.
 fn target_hint(spot: &Spot) -> Option<&'static str> {
     if !spot.is_behind_target() {
         return None;
@@ -189,7 +189,7 @@ fn separator_hint(spot: &Spot) -> Option<&'static str> {
     }
 }
 
-/// The hint where a guard or an initial value has ended without the word behind it.
+/// The hint if a guard or an initial value has ended without the word after it.
 fn guard_hint(spot: &Spot) -> Option<&'static str> {
     if !spot.is_behind_operand() {
         return None;
@@ -205,7 +205,7 @@ fn guard_hint(spot: &Spot) -> Option<&'static str> {
     }
 }
 
-/// The hint for a comparison behind a comparison, or an assignment within an expression.
+/// The hint for a comparison after a comparison, or an assignment within an expression.
 fn comparison_hint(spot: &Spot) -> Option<&'static str> {
     match spot.kind() {
         Some(Kind::Equal | Kind::Less) => Some(
@@ -216,7 +216,7 @@ fn comparison_hint(spot: &Spot) -> Option<&'static str> {
     }
 }
 
-/// The hint where commands stand side by side.
+/// The hint if commands are side by side.
 fn command_hint(spot: &Spot) -> Option<&'static str> {
     match spot.kind() {
         Some(Kind::Name | Kind::If | Kind::While | Kind::Letvar | Kind::OpenBrace) => {
@@ -230,7 +230,7 @@ fn command_hint(spot: &Spot) -> Option<&'static str> {
 }
 
 /// The hint for the place of an unexpected token, where none is known by names. `lacks_else` says
-/// whether an `if` before it still wants its `else`, of which is told elsewhere.
+/// whether an `if` before it still wants its `else`, which is explained elsewhere.
 pub(crate) fn place_hint(spot: &Spot, lacks_else: bool) -> Option<&'static str> {
     if let Some(hint) = separator_hint(spot) {
         return Some(hint);

@@ -1,4 +1,4 @@
-//! What is told of a refused image.
+//! The explanation of a refused image.
 
 use crate::names::{Part, put_parts};
 use std::alloc::AllocError;
@@ -6,11 +6,11 @@ use vsi_image::{DecodeError, VerifyError};
 use vsi_store::ViewError;
 use vsi_syntax::Span;
 
-/// What to do with an image whose bytes aren't as they were.
+/// The advice for an image whose bytes aren't as they were.
 const BUILD_AGAIN: &str = "The image was changed or cut, or another program made it. Hint: build \
     it again from its source text by `vsi build LATTICE SOURCE IMAGE`.\n";
 
-/// What to do with an image that isn't valid.
+/// The advice for an image that isn't valid.
 const DO_NOT_TRUST: &str = "The image was changed, or was made by hand, and nothing of it is run. \
     Hint: build it again from its source text; if it came from someone else, don't trust it.\n";
 
@@ -20,7 +20,7 @@ fn put_plainly(words: &mut Vec<u8>, text: &str) -> Result<Option<Span>, AllocErr
     Ok(None)
 }
 
-/// Adds what is told where a source text stands in the place of an image.
+/// Adds the explanation if a source text is in the place of an image.
 fn put_text_hint(words: &mut Vec<u8>, path: &[u8]) -> Result<Option<Span>, AllocError> {
     let stem = path.strip_suffix(b".vsi").unwrap_or(path);
     put_parts(
@@ -39,7 +39,7 @@ fn put_text_hint(words: &mut Vec<u8>, path: &[u8]) -> Result<Option<Span>, Alloc
     Ok(None)
 }
 
-/// Adds what is told where the bytes of an image don't begin as one.
+/// Adds the explanation if the bytes of an image don't begin as one.
 fn put_other_file(
     words: &mut Vec<u8>,
     path: &[u8],
@@ -63,7 +63,7 @@ fn put_other_file(
     )
 }
 
-/// Adds what is told of bytes that are no image.
+/// Adds the explanation of bytes that are no image.
 pub(crate) fn put_bytes(
     words: &mut Vec<u8>,
     path: &[u8],
@@ -85,7 +85,7 @@ pub(crate) fn put_bytes(
     }
 }
 
-/// Adds what is told of an image that isn't valid.
+/// Adds the explanation of an image that isn't valid.
 pub(crate) fn put_image(
     words: &mut Vec<u8>,
     error: &VerifyError,
@@ -100,7 +100,7 @@ pub(crate) fn put_image(
     }
 }
 
-/// Adds what is told of a view that is refused.
+/// Adds the explanation of a view that is refused.
 pub(crate) fn put_view(words: &mut Vec<u8>, error: &ViewError) -> Result<Option<Span>, AllocError> {
     match error {
         ViewError::Memory => Err(AllocError),

@@ -1,4 +1,4 @@
-//! What is told of a refused lattice file.
+//! The explanation of a refused lattice file.
 
 use crate::finding::{bare_place, key_place, quoted_place};
 use crate::names::{Part, put_parts};
@@ -9,7 +9,7 @@ use toml::{Table, Value};
 use vsi_lattice::LatticeError;
 use vsi_syntax::Span;
 
-/// What a lattice file looks like.
+/// An example of a lattice file.
 const SHAPE: &[u8] =
     b"A lattice file names the classes, and pairs of them, the lower one first:\n  \
     classes = [\"L\", \"H\"]\n  below = [[\"L\", \"H\"]]\n";
@@ -153,7 +153,7 @@ fn put_file_hint(
     Ok(Some(span))
 }
 
-/// Adds what is told where the file is no TOML, and answers a place where it may be wrong.
+/// Adds the explanation if the file is no TOML, and answers a place where it may be wrong.
 fn put_not_toml(
     words: &mut Vec<u8>,
     path: &[u8],
@@ -165,7 +165,7 @@ fn put_not_toml(
     Ok(place)
 }
 
-/// What is wrong with the keys or the values of a table that has no other key.
+/// The fault of the keys or the values of a table that has no other key.
 fn key_words(table: &Table) -> &'static [u8] {
     if table.get("classes").is_none() {
         return b"The key `classes` is missing.\n";
@@ -199,7 +199,7 @@ fn put_bad_keys(
     Ok(key_place(bytes, key))
 }
 
-/// Adds what is told of a name, and answers where it stands behind so many others like it.
+/// Adds the explanation of a name, and returns its place after so many others like it.
 fn put_name(
     words: &mut Vec<u8>,
     bytes: &[u8],
@@ -215,7 +215,7 @@ fn put_name(
     Ok(quoted_place(bytes, name, others))
 }
 
-/// Adds what is told of a fault at one name, and answers where it stands.
+/// Adds the explanation of a fault at one name, and returns its place.
 fn put_name_fault(
     words: &mut Vec<u8>,
     bytes: &[u8],
@@ -250,7 +250,8 @@ fn put_name_fault(
     }
 }
 
-/// Adds what is told of two classes in an order, and answers where the fault is, if that is known.
+/// Adds the explanation of two classes in an order, and answers where the fault is, if that is
+/// known.
 fn put_order_fault(
     alloc: Global,
     words: &mut Vec<u8>,
@@ -272,7 +273,8 @@ fn put_order_fault(
     }
 }
 
-/// Adds what is told of two classes of a table, and answers where the fault is, if that is known.
+/// Adds the explanation of two classes of a table, and answers where the fault is, if that is
+/// known.
 fn put_pair_fault(
     alloc: Global,
     words: &mut Vec<u8>,
@@ -284,7 +286,7 @@ fn put_pair_fault(
     put_order_fault(alloc, words, bytes, &order, error)
 }
 
-/// Adds what is told of a fault in a table, and answers where it is.
+/// Adds the explanation of a fault in a table, and answers where it is.
 fn put_fault(
     alloc: Global,
     words: &mut Vec<u8>,
@@ -302,7 +304,7 @@ fn put_fault(
     }
 }
 
-/// Adds what is told of a fault in the table that a file is, and answers where it is.
+/// Adds the explanation of a fault in the table that a file is, and answers where it is.
 fn put_table_fault(
     alloc: Global,
     words: &mut Vec<u8>,
@@ -315,7 +317,7 @@ fn put_table_fault(
     }
 }
 
-/// Adds what is told of a refused lattice file, and answers where it is wrong.
+/// Adds the explanation of a refused lattice file, and answers where it is wrong.
 pub(crate) fn put_lattice(
     alloc: Global,
     words: &mut Vec<u8>,

@@ -1,4 +1,4 @@
-//! What is told of bytes and words that are none of the language.
+//! The explanation of bytes and words that are none of the language.
 
 use crate::hints::file_hint;
 use crate::names::{Part, part_of, put_parts};
@@ -9,7 +9,7 @@ use vsi_syntax::LexError;
 /// The largest number of bytes of a name.
 const LONGEST_NAME: usize = 32;
 
-/// The hint for a byte that is told by its number.
+/// The hint for a byte that is shown by its number.
 fn strange_hint(byte: u8, next: Option<u8>) -> &'static str {
     match (byte, next) {
         (0xEF, Some(0xBB)) => {
@@ -64,7 +64,7 @@ fn byte_hint(byte: u8, next: Option<u8>) -> &'static str {
     }
 }
 
-/// Adds what is told of a byte.
+/// Adds the explanation of a byte.
 fn put_byte(words: &mut Vec<u8>, source: &[u8], at: usize) -> Result<(), AllocError> {
     let Some(byte) = source.get(at).copied() else {
         return Ok(());
@@ -89,7 +89,7 @@ fn put_byte(words: &mut Vec<u8>, source: &[u8], at: usize) -> Result<(), AllocEr
     words.extend_from_slice(byte_hint(byte, next).as_bytes())
 }
 
-/// Adds what is told of a word that is none.
+/// Adds the explanation of a word that is none.
 fn put_word(words: &mut Vec<u8>, word: &[u8]) -> Result<(), AllocError> {
     let parts = [
         Part::Quoted(word),
@@ -115,7 +115,7 @@ fn put_word(words: &mut Vec<u8>, word: &[u8]) -> Result<(), AllocError> {
     }
 }
 
-/// Adds what is told of a text without tokens.
+/// Adds the explanation of a text without tokens.
 pub(crate) fn put_words(
     words: &mut Vec<u8>,
     source: &[u8],

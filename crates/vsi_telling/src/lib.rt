@@ -1,5 +1,5 @@
-//! What stands behind the refusal of a file, for a person: where it is wrong, what stands there,
-//! what could stand there, and what to do.
+//! The explanation that follows the refusal of a file: where it is wrong, what is there, what could
+//! be there, and what to do.
 //!
 //! To be believed: `specs/Places`.
 #![tactic(auto)]
@@ -35,7 +35,7 @@ use vsi_lattice::Lattice;
 use vsi_store::StoreError;
 use vsi_syntax::{LexError, ParseError, Span};
 
-/// What was refused: a file by its path and its bytes, and why.
+/// A refusal: a file by its path and its bytes, and why.
 #[derive(Clone, Copy)]
 pub enum Refused<'a> {
     /// A source text over a lattice.
@@ -60,7 +60,7 @@ pub enum Refused<'a> {
     },
 }
 
-/// What is told of a file: a part of it, if one is known, and words.
+/// The explanation of a file: a part of it, if one is known, and words.
 #[derive(Drop)]
 pub(crate) struct Telling {
     pub(crate) place: Option<Span>,
@@ -112,8 +112,8 @@ fn shown_at(
     Ok(text)
 }
 
-/// A place of a file and words as text: a line is at most 80 columns long. Without a place the
-/// path alone is told.
+/// A place of a file and words as text: a line is at most 80 columns long. Without a place only the
+/// path is shown.
 pub fn shown(
     alloc: Global,
     manner: Manner,
@@ -164,7 +164,7 @@ fn place_of(error: &CompileError) -> Option<Span>
     }
 }
 
-/// Adds what is told of a refused source text.
+/// Adds the explanation of a refused source text.
 fn put_source(
     alloc: Global,
     words: &mut Vec<u8>,
@@ -181,7 +181,7 @@ fn put_source(
     }
 }
 
-/// What is told of a refused source text.
+/// The explanation of a refused source text.
 fn of_source(
     alloc: Global,
     lattice: &Lattice,
@@ -193,7 +193,7 @@ fn of_source(
     Ok(words)
 }
 
-/// What stands behind the refusal of a source text, as `explanation` tells it.
+/// The explanation of a refused source text, as `explanation` writes it.
 pub fn source_explanation(
     alloc: Global,
     manner: Manner,
@@ -212,7 +212,8 @@ pub fn source_explanation(
     shown(alloc, manner, path, source, place_of(error), &words)
 }
 
-/// Adds what is told of a refused lattice file, image or other file, and answers where it is wrong.
+/// Adds the explanation of a refused lattice file, image or other file, and answers where it is
+/// wrong.
 fn put_file(
     alloc: Global,
     words: &mut Vec<u8>,
@@ -229,14 +230,14 @@ fn put_file(
     }
 }
 
-/// What is told of a refused lattice file, image or other file.
+/// The explanation of a refused lattice file, image or other file.
 fn of_file(alloc: Global, path: &[u8], bytes: &[u8], fault: &Fault) -> Result<Telling, AllocError> {
     let mut words = Vec::new(alloc);
     let place = put_file(alloc, &mut words, path, bytes, fault)?;
     Ok(Telling { place, words })
 }
 
-/// What is told of a refused store file for an image.
+/// The explanation of a refused store file for an image.
 fn of_store(
     alloc: Global,
     bytes: &[u8],
@@ -248,9 +249,9 @@ fn of_store(
     Ok(Telling { place, words })
 }
 
-/// What stands behind a refusal: the place in the file, its line and carets where a place is
-/// known, then in whole sentences of at most 80 columns what stands there, what could stand there,
-/// and what to do. Behind `CompileError::Flow` it says only that a flow breaks the policy.
+/// The explanation that follows a refusal: the place in the file, its line and carets where a place
+/// is known, then in whole sentences of at most 80 columns what is there, what could be there, and
+/// what to do. For `CompileError::Flow` it says only that a flow breaks the policy.
 pub fn explanation<'a>(
     alloc: Global,
     manner: Manner,

@@ -4,10 +4,10 @@ use std::alloc::{AllocError, Global};
 use vsi_lattice::{Class, Classes, Lattice};
 use vsi_syntax::{Kind, Span, Token, lex, put_number, put_place};
 
-/// How many bytes of a word are told at most.
+/// The largest number of bytes of a word that are shown.
 const LONGEST: usize = 40;
 
-/// How many names are told at most.
+/// The largest number of names that are shown.
 const MOST: usize = 8;
 
 /// Adds a word between back quotes, or its beginning where it is long.
@@ -35,7 +35,7 @@ pub fn put_names(words: &mut Vec<u8>, names: &[&[u8]]) -> Result<(), AllocError>
     Ok(())
 }
 
-/// Adds a word between back quotes, with what stands before it and behind it.
+/// Adds a word between back quotes, with the text before it and after it.
 pub fn put_word_between(
     words: &mut Vec<u8>,
     before: &[u8],
@@ -47,7 +47,7 @@ pub fn put_word_between(
     words.extend_from_slice(behind)
 }
 
-/// Adds names between back quotes, with what stands before them and behind them.
+/// Adds names between back quotes, with the text before them and after them.
 pub fn put_names_between(
     words: &mut Vec<u8>,
     before: &[u8],
@@ -123,7 +123,7 @@ pub fn put_parts(words: &mut Vec<u8>, parts: &[Part<'_>]) -> Result<(), AllocErr
     Ok(())
 }
 
-/// The part of a text where a token stands.
+/// The part of a text that a token covers.
 pub fn part_of(text: &[u8], span: Span) -> &[u8] {
     let stop = span.stop.min(text.len());
     let start = span.start.min(stop);
@@ -138,7 +138,7 @@ pub(crate) fn tokens_in<'a>(alloc: Global, source: &'a [u8]) -> Result<Vec<Token
     }
 }
 
-/// A token that declares a name: the one behind a word of the kind.
+/// A token that declares a name: the one after a word of the kind.
 fn declared_by<'a>(tokens: &[Token<'a>], at: usize, kind: Kind) -> Option<Token<'a>> {
     let word = tokens.get(at)?;
     if word.kind != kind {
@@ -147,7 +147,7 @@ fn declared_by<'a>(tokens: &[Token<'a>], at: usize, kind: Kind) -> Option<Token<
     tokens.get(at.saturating_add(1)).copied()
 }
 
-/// The names behind `var`, or those behind `letvar`, in their order.
+/// The names after `var`, or those after `letvar`, in their order.
 pub(crate) fn declared<'a>(
     alloc: Global,
     tokens: &[Token<'a>],
@@ -162,7 +162,7 @@ pub(crate) fn declared<'a>(
     Ok(names)
 }
 
-/// The first token behind `var`, or behind `letvar`, that is this name.
+/// The first token after `var`, or after `letvar`, that is this name.
 pub(crate) fn declaration<'a>(tokens: &[Token<'a>], kind: Kind, name: &[u8]) -> Option<Token<'a>> {
     for at in 0..tokens.len() {
         if let Some(token) = declared_by(tokens, at, kind) {

@@ -1,4 +1,4 @@
-//! What a word may have been meant for.
+//! The word that may have been meant.
 
 use crate::names::put_word_between;
 use std::alloc::{AllocError, Global};

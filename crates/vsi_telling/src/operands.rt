@@ -4,18 +4,18 @@ use crate::names::{Part, part_of, put_parts, put_pattern, put_word_between};
 use std::alloc::AllocError;
 use vsi_syntax::Span;
 
-/// How many bytes of an operand are told at most.
+/// The largest number of bytes of an operand that are shown.
 const LONGEST: usize = 40;
 
-/// What is said where a comparison is turned into its opposite.
+/// The remark if a comparison is turned into its opposite.
 const OPPOSITE: &str = ": the brackets stay. A comparison is 1 where it holds, and else 0";
 
-/// What is said where besides the sides change places.
+/// The remark if the sides also change places.
 const SWAPPED: &str =
     ": the sides change places, and the brackets stay. A comparison is 1 where it holds, and else \
     0";
 
-/// What is said of signs that join two guards.
+/// The remark about signs that join two guards.
 const JOINED: &str = ", where each is 0 or 1: the brackets stay";
 
 /// The loop that divides, and what it does.
@@ -27,11 +27,11 @@ const REMAINDER: &str = "Hint: there is no remainder. `letvar r := P in { while 
     r := r - Q; N := r }` puts into N what is left of P when Q is taken away as often as it can \
     be.\n";
 
-/// What is said of a sign that negates a guard.
+/// The remark about a sign that negates a guard.
 const NEGATED: &str = ", where P is 0 or 1: the brackets stay";
 
-/// A sign or a word of other languages, how it stands between P and Q, how that is written here,
-/// and what is said of it.
+/// A sign or a word of other languages, its form between P and Q, the form here, and the remark
+/// about it.
 type Form = (&'static [u8], &'static str, &'static str, &'static str);
 
 /// The signs and words of other languages.
@@ -64,10 +64,10 @@ fn form_in(forms: &[Form], sign: &[u8]) -> Option<Form> {
     None
 }
 
-/// The words in front of an operand.
+/// The words before an operand.
 const STARTS: [&[u8]; 5] = [b"if", b"while", b"and", b"or", b"not"];
 
-/// The words behind an operand.
+/// The words after an operand.
 const STOPS: [&[u8]; 6] = [b"then", b"do", b"in", b"else", b"and", b"or"];
 
 /// Whether a byte belongs to a name, a keyword or a number.
@@ -125,7 +125,7 @@ fn operand_start(source: &[u8], at: usize) -> Option<usize> {
     None
 }
 
-/// Whether nothing of an operand stands behind the end of its line.
+/// Whether an operand has no part after the end of its line.
 fn ends_with_line(rest: &[u8]) -> bool {
     match rest.trim_ascii_start().first() {
         Some(byte) => byte.is_ascii_alphabetic() || *byte == b'}',
@@ -201,7 +201,7 @@ fn operands<'s>(source: &'s [u8], at: usize, behind: usize) -> Option<(&'s [u8],
     Some((left, right))
 }
 
-/// What stands in brackets behind a sign that negates, where that is a whole guard or value.
+/// The operand in brackets after a sign that negates, if it is a whole guard or value.
 fn negated(source: &[u8], at: usize, behind: usize) -> Option<&[u8]> {
     let start = operand_start(source, at)?;
     if operand(source, start, at).is_some() {
@@ -225,7 +225,7 @@ struct Foreign<'a> {
     right: &'a [u8],
 }
 
-/// What a sign or a word of other languages at a place means, where it is one.
+/// The meaning of a sign or a word of other languages at a place, if it is one.
 fn foreign_at<'a>(source: &'a [u8], sign: &[u8], at: usize) -> Option<Foreign<'a>> {
     let (_sign, meant, written, rest) = form_in(&FORMS, sign)?;
     let behind = at.saturating_add(sign.len());
@@ -306,8 +306,8 @@ fn target_before(source: &[u8], start: usize) -> Option<&[u8]> {
     None
 }
 
-/// What is divided, by what, and the name that the value is for; where one isn't a single word, P,
-/// Q and another name.
+/// The dividend, the divisor, and the name that gets the value; where one isn't a single word, P, Q
+/// and another name.
 fn division_parts(source: &[u8], at: usize) -> (&[u8], &[u8], &[u8]) {
     let Some((left, right)) = operands(source, at, at.saturating_add(1)) else {
         return (b"P", b"Q", b"n");

@@ -1,5 +1,5 @@
-//! What is told of a lattice file whose pairs lead round, or leave two classes without one above or
-//! below both.
+//! The explanation of a lattice file whose pairs form a cycle, or leave two classes without one
+//! above or below both.
 
 use crate::finding::key_place;
 use crate::names::{Part, put_names, put_parts, put_word_between};
@@ -14,7 +14,7 @@ pub(crate) struct Order<'t> {
     pub(crate) pairs: Vec<(usize, usize)>,
 }
 
-/// The part of a file where the pair of `below` with a number stands.
+/// The part of a file that holds the pair of `below` with a number.
 fn pair_place(bytes: &[u8], number: usize) -> Option<Span> {
     let key = key_place(bytes, b"below")?;
     let mut is_quoted = false;
@@ -157,7 +157,7 @@ impl<'t> Order<'t> {
         true
     }
 
-    /// Whether a class stands in a pair.
+    /// Whether a class is in a pair.
     fn is_placed(&self, class: usize) -> bool {
         for (low, high) in &self.pairs {
             if *low == class || *high == class {
@@ -168,7 +168,7 @@ impl<'t> Order<'t> {
     }
 }
 
-/// Adds a pair of those that lead round.
+/// Adds a pair of a cycle.
 fn put_link(
     words: &mut Vec<u8>,
     order: &Order,
@@ -201,7 +201,7 @@ fn wrong_in(order: &Order, ring: &[usize]) -> Option<usize> {
     wrong
 }
 
-/// Adds which pair of a ring to take out, and answers where it stands.
+/// Adds which pair of a ring to take out, and returns its place.
 fn put_wrong(
     words: &mut Vec<u8>,
     bytes: &[u8],
@@ -227,8 +227,8 @@ fn put_wrong(
     Ok(pair_place(bytes, number))
 }
 
-/// Adds what is told of these pairs that lead round, the last one first, and answers where the one
-/// that is wrong stands.
+/// Adds the explanation of the pairs of a cycle, the last one first, and returns the place of the
+/// wrong one.
 fn put_links(
     words: &mut Vec<u8>,
     bytes: &[u8],
@@ -249,7 +249,7 @@ fn put_links(
     Ok(place)
 }
 
-/// Adds what is told of pairs that lead round, and answers where the one that is wrong stands.
+/// Adds the explanation of pairs that form a cycle, and returns the place of the wrong one.
 pub(crate) fn put_ring(
     alloc: Global,
     words: &mut Vec<u8>,
@@ -285,7 +285,7 @@ fn put_placing(
     Ok(())
 }
 
-/// Adds what is told where a class stands in no pair, and answers whether one of the two does.
+/// Adds the explanation if a class is in no pair, and answers whether one of the two does.
 fn put_unplaced(
     words: &mut Vec<u8>,
     order: &Order,
@@ -372,7 +372,7 @@ fn put_common(
     Ok(true)
 }
 
-/// Adds what is told where several classes are above, or below, both, and answers whether some are.
+/// Adds the explanation if several classes are above, or below, both, and answers whether some are.
 fn put_several(
     alloc: Global,
     words: &mut Vec<u8>,

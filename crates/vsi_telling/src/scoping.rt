@@ -1,4 +1,4 @@
-//! What is told of names that are declared twice or not at all.
+//! The explanation of names that are declared twice or not at all.
 
 ghost use Rattle.std.specs.Prelude.{◌≡◌, option_map};
 ghost use Rattle.vsi_telling.specs.Places.{scoping_start};
@@ -14,7 +14,7 @@ use vsi_lattice::Lattice;
 use vsi_scope::ScopeError;
 use vsi_syntax::{Kind, Span, Token};
 
-/// Adds what is told of a name that a global above has.
+/// Adds the explanation of a name that a global above has.
 fn put_duplicate(
     words: &mut Vec<u8>,
     source: &[u8],
@@ -55,7 +55,7 @@ fn put_no_class(
     )
 }
 
-/// Adds what is told of a class that the lattice lacks.
+/// Adds the explanation of a class that the lattice lacks.
 fn put_class(
     alloc: Global,
     words: &mut Vec<u8>,
@@ -127,7 +127,7 @@ fn put_choices(
     )
 }
 
-/// Adds what is told of a name that isn't declared.
+/// Adds the explanation of a name that isn't declared.
 fn put_unbound(
     alloc: Global,
     words: &mut Vec<u8>,
@@ -166,7 +166,7 @@ pub(crate) fn place_of(error: ScopeError) -> Option<Span>
     }
 }
 
-/// What is told of a program with too many declarations, or too large.
+/// The explanation of a program with too many declarations, or too large.
 fn size_words(error: ScopeError) -> &'static str {
     match error {
         ScopeError::TooManyGlobals(_) => {
@@ -185,7 +185,7 @@ fn size_words(error: ScopeError) -> &'static str {
     }
 }
 
-/// Adds what is told of a name that is declared twice, or not at all.
+/// Adds the explanation of a name that is declared twice, or not at all.
 fn put_name(
     alloc: Global,
     words: &mut Vec<u8>,
@@ -201,7 +201,7 @@ fn put_name(
     put_unbound(alloc, words, source, &tokens, name)
 }
 
-/// Adds what is told of a program whose names, number of declarations or size is refused.
+/// Adds the explanation of a program whose names, number of declarations or size is refused.
 pub(crate) fn put_scopes(
     alloc: Global,
     words: &mut Vec<u8>,

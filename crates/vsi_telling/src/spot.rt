@@ -2,7 +2,7 @@
 
 use vsi_syntax::{Kind, Span, Token};
 
-/// A place of tokens: that of the token with this number, or behind the last one.
+/// A place of tokens: that of the token with this number, or after the last one.
 #[derive(Clone, Copy)]
 pub(crate) struct Spot<'a, 't> {
     pub(crate) tokens: &'t [Token<'a>],
@@ -43,7 +43,7 @@ impl<'a, 't> Spot<'a, 't> {
         Some(self.before(count)?.kind)
     }
 
-    /// The kind of the token behind it.
+    /// The kind of the token after it.
     pub(crate) fn kind_behind(&self) -> Option<Kind> {
         let at = self.at.checked_add(1)?;
         Some(self.tokens.get(at)?.kind)
@@ -100,7 +100,7 @@ impl<'a, 't> Spot<'a, 't> {
         open > 0
     }
 
-    /// The name behind a token of the text.
+    /// The name after a token of the text.
     pub(crate) fn name_behind(&self, token: Token<'a>) -> Option<&'a [u8]> {
         for other in self.tokens {
             if other.span.start > token.span.start {
@@ -137,7 +137,7 @@ fn kind_at(tokens: &[Token], at: usize) -> Option<Kind> {
     Some(tokens.get(at)?.kind)
 }
 
-/// Whether a name stands behind a `var`.
+/// Whether a name is after a `var`.
 fn is_global(tokens: &[Token], name: &[u8]) -> bool {
     let mut is_behind = false;
     for token in tokens {

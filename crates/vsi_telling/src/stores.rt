@@ -1,4 +1,4 @@
-//! What is told of a refused store file.
+//! The explanation of a refused store file.
 
 use crate::finding::key_place;
 use crate::names::{Part, put_names_between, put_parts, put_word_between};
@@ -7,7 +7,7 @@ use std::alloc::{AllocError, Global};
 use vsi_store::StoreError;
 use vsi_syntax::Span;
 
-/// What a store file looks like.
+/// An example of a store file.
 const SHAPE: &[u8] =
     b"A store file has a line for each global that doesn't begin as 0:\n  x = 1\n  y = -5\n";
 
@@ -32,7 +32,7 @@ pub fn put_no_global(words: &mut Vec<u8>, name: &[u8], names: &[&[u8]]) -> Resul
     put_names_between(words, b" Its globals are ", names, b".\n")
 }
 
-/// Adds what is told of a key that is none of the names.
+/// Adds the explanation of a key that is none of the names.
 fn put_other_key(
     alloc: Global,
     words: &mut Vec<u8>,
@@ -43,7 +43,7 @@ fn put_other_key(
     put_nearest_or(alloc, words, key, names, b"Hint: take the line away.\n")
 }
 
-/// Adds what is told of a key that is no global.
+/// Adds the explanation of a key that is no global.
 fn put_unknown(
     alloc: Global,
     words: &mut Vec<u8>,
@@ -65,7 +65,7 @@ fn file_hint(bytes: &[u8]) -> &'static [u8] {
     }
 }
 
-/// Adds what is told where the file is no TOML.
+/// Adds the explanation if the file is no TOML.
 fn put_not_toml(words: &mut Vec<u8>, bytes: &[u8]) -> Result<(), AllocError> {
     put_parts(
         words,
@@ -80,7 +80,7 @@ fn put_not_toml(words: &mut Vec<u8>, bytes: &[u8]) -> Result<(), AllocError> {
     )
 }
 
-/// Adds what is told of a value that is no number.
+/// Adds the explanation of a value that is no number.
 fn put_no_number(words: &mut Vec<u8>, key: &[u8]) -> Result<(), AllocError> {
     put_parts(
         words,
@@ -96,8 +96,8 @@ fn put_no_number(words: &mut Vec<u8>, key: &[u8]) -> Result<(), AllocError> {
     )
 }
 
-/// Adds what is told of a refused store file for an image with these globals, and answers where it
-/// is wrong.
+/// Adds the explanation of a refused store file for an image with these globals, and answers where
+/// it is wrong.
 pub(crate) fn put_store(
     alloc: Global,
     words: &mut Vec<u8>,

@@ -1,4 +1,4 @@
-//! What is told of tokens that are no program.
+//! The explanation of tokens that are no program.
 
 use crate::hints::{file_hint, is_idle, is_type, place_hint, word_hint};
 use crate::names::{
@@ -30,13 +30,13 @@ fn lacks_else(alloc: Global, tokens: &[Token]) -> Result<bool, AllocError> {
     Ok(wanted > 0)
 }
 
-/// What could stand behind tokens, as a sentence lists it.
+/// The tokens that could follow these, as a sentence lists them.
 fn expected_list(alloc: Global, tokens: &[Token]) -> Result<Vec<u8>, AllocError> {
     let expected = expected_after(alloc, tokens)?;
     expected.words(alloc)
 }
 
-/// Adds a list of what could stand somewhere, if anything could.
+/// Adds a list of the tokens that could be somewhere, if any could.
 fn put_list(words: &mut Vec<u8>, list: &[u8]) -> Result<(), AllocError> {
     if list.is_empty() {
         return Ok(());
@@ -51,13 +51,13 @@ fn put_list(words: &mut Vec<u8>, list: &[u8]) -> Result<(), AllocError> {
     )
 }
 
-/// Adds what could stand behind the tokens in front of a place.
+/// Adds the tokens that could follow those before a place.
 fn put_expected(alloc: Global, words: &mut Vec<u8>, tokens: &[Token]) -> Result<(), AllocError> {
     let list = expected_list(alloc, tokens)?;
     put_list(words, &list)
 }
 
-/// Adds what stands at a place.
+/// Adds the token at a place.
 fn put_standing(words: &mut Vec<u8>, spot: &Spot) -> Result<(), AllocError> {
     match spot.here() {
         Some(token) => {
@@ -136,8 +136,8 @@ fn put_foreign(
     put_foreign_word(words, spot, token)
 }
 
-/// Adds a hint where the tokens in front of a place are misread, and answers whether they are: what
-/// could stand there is then of no use.
+/// Adds a hint where the tokens in front of a place are misread, and answers whether they are: a
+/// list of what could be there is then of no use.
 fn put_misread(
     alloc: Global,
     words: &mut Vec<u8>,
@@ -239,7 +239,7 @@ fn put_place_hint(
     Ok(())
 }
 
-/// Adds what could stand at a place, and a hint, where they are known.
+/// Adds the tokens that could be at a place, and a hint, if they are known.
 fn put_advice(
     alloc: Global,
     words: &mut Vec<u8>,
@@ -264,7 +264,7 @@ fn put_advice(
     put_place_hint(alloc, words, source, spot)
 }
 
-/// Adds what stands at a place, what could stand there, and a hint.
+/// Adds the token at a place, those that could be there, and a hint.
 fn put_at_spot(
     alloc: Global,
     words: &mut Vec<u8>,
@@ -275,7 +275,7 @@ fn put_at_spot(
     put_advice(alloc, words, source, spot)
 }
 
-/// Adds what is told where a token stands that can't.
+/// Adds the explanation if a token is where it can't be.
 fn put_unexpected(
     alloc: Global,
     words: &mut Vec<u8>,
@@ -286,7 +286,7 @@ fn put_unexpected(
     put_at_spot(alloc, words, source, &spot_at(&tokens, span))
 }
 
-/// Adds what is told of a program that is nested too deep.
+/// Adds the explanation of a program that is nested too deep.
 fn put_too_deep(words: &mut Vec<u8>, source: &[u8], span: Span) -> Result<(), AllocError> {
     put_parts(
         words,
@@ -301,7 +301,7 @@ fn put_too_deep(words: &mut Vec<u8>, source: &[u8], span: Span) -> Result<(), Al
     )
 }
 
-/// Adds what is told of tokens that are no program.
+/// Adds the explanation of tokens that are no program.
 pub(crate) fn put_tree(
     alloc: Global,
     words: &mut Vec<u8>,

@@ -6,7 +6,7 @@ use Rattle.vsi.proofs.command_line.ended.Given.{Over}
 use Rattle.vsi.proofs.command_line.ended.Goals as goal
 use Rattle.vsi.proofs.command_line.ended.Goals.{Joined-stop, then-not-is_unheard+then-not-wants_memory, then-not-is_unheard+else-not-wants_memory, else-not-is_unheard}
 
--- Nothing has been told of a stop that isn't to be heard, and else all.
+-- Nothing has been written about a stop that isn't to be heard, and everything about any other.
 all_or_nothing : (g : Over) (c : Joined-stop g) →
     ((c.is_unheard.result ≡ true) × Gets g.E.Write.contents c.args.error.now c.if-not-is_unheard.error [])
     ⊎ Gets g.E.Write.contents c.args.error.now c.if-not-is_unheard.error

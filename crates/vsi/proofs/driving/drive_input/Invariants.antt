@@ -5,7 +5,7 @@ use Rattle.vsi_drive.specs.Control.{control}
 use Rattle.vsi.specs.Driven.{Drives, begun, whole_lines}
 use Rattle.vsi.proofs.driving.drive_input.Given as goal
 
--- What has been read of the input has been driven, and no read and no write has failed.
+-- The part of the input that was read has been driven, and no read and no write has failed.
 abbrev pub invariant-loop-call : goal.invariant-loop-call
 invariant-loop-call g l =
     let contents = g.W.Write.contents in
