@@ -36,6 +36,7 @@ read_more holds texts t all one path =
 -- The texts before a file is taken were read from the first files, and so were the texts after it.
 pub go_on : (first old new : Holding) (before after : List Text) → (old ≡ first) × AreRead first before → new ≡ old →
     (AreRead old before → AreRead old after) → (new ≡ first) × AreRead first after
-go_on first old new before after read kept told =
-    (kept ∙ read.0,
-    subst (λ h. AreRead h after) read.0 (told (subst (λ h. AreRead h before) (sym read.0) read.1)))
+go_on first old new before after read kept told = (
+  kept ∙ read.0,
+  subst (λ h. AreRead h after) read.0 (told (subst (λ h. AreRead h before) (sym read.0) read.1)),
+)

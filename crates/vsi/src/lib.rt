@@ -40,7 +40,9 @@ mod trying;
 
 pub use command_line::command;
 pub use files::Files;
-pub use loaded::{Loaded, Opened, load};
+pub use loaded::Loaded;
+pub use loaded::Opened;
+pub use loaded::load;
 pub use vsi_audit::AuditError;
 pub use vsi_audit::audit_in;
 pub use vsi_audit::audit_text;

@@ -9,9 +9,7 @@ pub(crate) const MOST_READ: usize = 4;
 /// an interface or a text names isn't among them.
 pub(crate) fn paths_of<'a>(request: &Request<'a>) -> [Option<&'a str>; MOST_READ] {
     match request {
-        Request::Check(judging) => {
-            two(judging.compilation.lattice, judging.compilation.source)
-        }
+        Request::Check(judging) => { two(judging.compilation.lattice, judging.compilation.source) }
         Request::Classes(compilation)
         | Request::Report(compilation)
         | Request::Build(compilation, _)
@@ -23,7 +21,9 @@ pub(crate) fn paths_of<'a>(request: &Request<'a>) -> [Option<&'a str>; MOST_READ
         Request::EmitC(asked) => [asked.lattice, Some(asked.file), None, None],
         Request::Run { execution, .. } => [execution.store, Some(execution.image), None, None],
         Request::View {
-            lattice, execution, ..
+            lattice,
+            execution,
+            ..
         } => [Some(*lattice), Some(execution.image), execution.store, None],
         Request::Drive(asked) => [
             Some(asked.lattice),
@@ -48,10 +48,14 @@ pub(crate) fn paths_of<'a>(request: &Request<'a>) -> [Option<&'a str>; MOST_READ
 pub(crate) fn is_state(request: &Request<'_>, path: &str) -> bool {
     match request {
         Request::Run {
-            execution, outset, ..
+            execution,
+            outset,
+            ..
         }
         | Request::View {
-            execution, outset, ..
+            execution,
+            outset,
+            ..
         } => execution.store == Some(path) && outset.out == Some(path),
         Request::Drive(asked) => asked.execution.store == Some(path) && asked.save == Some(path),
         _ => false,

@@ -4,8 +4,8 @@ ghost use Rattle.std.specs.Prelude.{◌≡◌, [], Some};
 ghost use Rattle.vsi_devices.specs.Counted.{faults_of};
 
 use std::alloc::{AllocError, Global};
-use std::io::{ErrorKind, Read, Write};
 use std::io;
+use std::io::{ErrorKind, Read, Write};
 use vsi::{Counted, Files, command};
 
 /// The text that is read from standard input.

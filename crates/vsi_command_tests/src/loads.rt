@@ -46,8 +46,19 @@ fn carried<F: Files + Drop>(
     let mut output = Counted::new(Scant::new(alloc, 1 << 20));
     let mut error = Counted::new(Scant::new(alloc, 1 << 20));
     let arguments = arguments.as_slice();
-    let status = command(alloc, arguments, &mut files, &mut input, &mut output, &mut error);
-    Ok((status, output.into_inner().taken(), error.into_inner().taken()))
+    let status = command(
+        alloc,
+        arguments,
+        &mut files,
+        &mut input,
+        &mut output,
+        &mut error,
+    );
+    Ok((
+        status,
+        output.into_inner().taken(),
+        error.into_inner().taken(),
+    ))
 }
 
 #[test]
@@ -70,7 +81,10 @@ fn writes_over_no_file_that_it_reads(rt: HostRuntime) -> Result<(), Fail> {
     ] {
         let shelf = Shelf::new(rt.alloc(), 1 << 20, Page::Blank);
         let (found, _output, told) = carried(rt.alloc(), line, shelf)?;
-        assert!(rt; found == *status && told.as_slice() == error.as_bytes(), "at {line}");
+        assert!(rt;
+            found == *status && told.as_slice() == error.as_bytes(),
+            "at {line}"
+        );
     }
     Ok(())
 }

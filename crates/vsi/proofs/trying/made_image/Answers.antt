@@ -10,7 +10,7 @@ returns-in-Ok-clause-made c =
     record {
       bytes = c.in_ok-bytes.bytes;
       built =
-        answered_told (BuildsTo c.args.lattice.now Base c.args.text.now) c.build.result (Ok c.in_ok-bytes.bytes)
-        c.in_ok-bytes.ensures c.build.ensures.builds;
+          answered_told (BuildsTo c.args.lattice.now Base c.args.text.now) c.build.result (Ok c.in_ok-bytes.bytes)
+          c.in_ok-bytes.ensures c.build.ensures.builds;
       are = subst (λ b. AreImage b c.in-Ok.verified) c.as_slice-image.ensures.value c.in-Ok.ensures.image;
     }

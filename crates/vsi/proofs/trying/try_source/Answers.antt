@@ -35,7 +35,7 @@ pub returns-clause-stopped : goal.returns-clause-stopped
 returns-clause-stopped g c =
     let holds = g.F.Files.holds c.args.files.now in
     let refuses = RefusesRun c.in_ok-lattice.lattice c.in_ok-viewer.viewer c.args.attempt.now
-        c.as_slice-text.result.now in
+    c.as_slice-text.result.now in
     IfErr-weaker c.ran.result (StopsBy refuses NoOther)
     (StopsBy (WhyTry holds c.args.attempt.now) (LacksTried holds c.args.attempt.now))
     (stops_by refuses (WhyTry holds c.args.attempt.now) (LacksTried holds c.args.attempt.now)

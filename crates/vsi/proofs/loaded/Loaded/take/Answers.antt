@@ -10,6 +10,6 @@ returns-clause-told g c = λ all.
     let holds = g.F.Files.holds c.args.self.now.system in
     subst (AreRead holds) (sym c.in_ok-push.ensures.items)
     (read_more holds c.args.self.now.texts.items
-    (record { path = c.in_ok-path.path; bytes = c.in-Ok.bytes; }) all
+    (record { path = c.in_ok-path.path; bytes = c.in-Ok.bytes }) all
     (subst (λ at. IsReadAt holds at c.in-Ok.bytes.items) (sym (c.in_ok-path.ensures.items ∙ c.as_bytes.ensures.value))
     c.in-Ok.ensures.read))
