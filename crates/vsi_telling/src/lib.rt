@@ -30,6 +30,7 @@ use std::alloc::{AllocError, Global};
 use vsi_caret::{Manner, put_place_in, put_safe, put_text};
 use vsi_compiler::CompileError;
 use vsi_diagnostics::Fault;
+use vsi_foreign::put_further;
 use vsi_image::Image;
 use vsi_lattice::Lattice;
 use vsi_store::StoreError;
@@ -173,11 +174,19 @@ fn put_source(
     error: &CompileError,
 ) -> Result<(), AllocError> {
     match error {
-        CompileError::Lex(inner) => lexical::put_words(words, source, *inner),
+        CompileError::Lex(inner) => lexical::put_words(alloc, words, source, *inner),
         CompileError::Parse(inner) => syntactic::put_tree(alloc, words, source, inner),
         CompileError::Scope(inner) => scoping::put_scopes(alloc, words, lattice, source, *inner),
         CompileError::Flow(_) => words.extend_from_slice(b"A flow breaks the policy.\n"),
         CompileError::Memory => Err(AllocError),
+    }
+}
+
+/// Where a text that is no program is refused.
+fn misread_at(error: &CompileError) -> Option<usize> {
+    match error {
+        CompileError::Lex(_) | CompileError::Parse(_) => Some(place_of(error)?.start),
+        _ => None,
     }
 }
 
@@ -190,6 +199,9 @@ fn of_source(
 ) -> Result<Vec<u8>, AllocError> {
     let mut words = Vec::new(alloc);
     put_source(alloc, &mut words, lattice, source, error)?;
+    if let Some(at) = misread_at(error) {
+        put_further(alloc, &mut words, source, at)?;
+    }
     Ok(words)
 }
 

@@ -1,0 +1,185 @@
+//! What is said of the constructs of other languages in a text.
+
+use crate::look::Look;
+use crate::pieces::pieces_of;
+use crate::shapes::{Found, Shape, shape_at};
+use crate::structure::{halved_at, structure_at};
+use crate::telling::put_found;
+use std::alloc::{AllocError, Global};
+use vsi_syntax::put_place;
+
+/// How many further places of a text are named at most.
+const MOST: usize = 12;
+
+/// The number of the last piece that begins at a place of the text or before it.
+fn piece_number(look: &Look, at: usize) -> usize {
+    let mut number: usize = 0;
+    for place in 0..look.pieces.len() {
+        if look.pieces[place].at > at {
+            return number;
+        }
+        number = place;
+    }
+    number
+}
+
+/// What is found at pieces, in their order; none begins within another one.
+fn all_shapes(alloc: Global, look: &Look) -> Result<Vec<Found>, AllocError> {
+    let mut shapes = Vec::new(alloc);
+    let mut next: usize = 0;
+    for at in 0..look.pieces.len() {
+        if at < next {
+            continue;
+        }
+        if let Some(found) = shape_at(look, at) {
+            next = found.next;
+            shapes.push(found)?;
+        }
+    }
+    Ok(shapes)
+}
+
+/// What is missing, or one too many, in a text.
+fn all_structures(alloc: Global, look: &Look) -> Result<Vec<Found>, AllocError> {
+    let mut found = Vec::new(alloc);
+    for at in 0..look.pieces.len() {
+        if let Some(structure) = structure_at(look, at) {
+            found.push(structure)?;
+        }
+        if let Some(structure) = halved_at(look, at) {
+            found.push(structure)?;
+        }
+    }
+    Ok(found)
+}
+
+/// The last of what is found that a piece belongs to, or comes right after.
+fn covering(shapes: &[Found], piece: usize) -> Option<Found> {
+    let mut last = None;
+    for found in shapes {
+        if found.first <= piece && piece <= found.next {
+            last = Some(*found);
+        }
+    }
+    last
+}
+
+/// Adds a hint for the construct of another language at a place of a text, and answers whether
+/// there is one.
+pub fn put_hint(
+    alloc: Global,
+    words: &mut Vec<u8>,
+    source: &[u8],
+    at: usize,
+) -> Result<bool, AllocError> {
+    let pieces = pieces_of(alloc, source)?;
+    let look = Look { pieces: &pieces };
+    let shapes = all_shapes(alloc, &look)?;
+    let Some(found) = covering(&shapes, piece_number(&look, at)) else {
+        return Ok(false);
+    };
+    let mut sentence = Vec::new(alloc);
+    if !put_found(alloc, &mut sentence, source, &look, &found)? {
+        return Ok(false);
+    }
+    words.extend_from_slice(b"Hint: ")?;
+    words.extend_from_slice(&sentence)?;
+    words.extend_from_slice(b"\n")?;
+    Ok(true)
+}
+
+/// What makes two shapes the same advice.
+fn key(look: &Look, found: &Found) -> (u8, usize) {
+    match found.shape {
+        Shape::Say(before, after) => (0, before.len().saturating_mul(1000).saturating_add(after.len())),
+        Shape::Tell(sentence) => (1, sentence.len()),
+        Shape::Put(text, _) => (2, text.len()),
+        Shape::Value(cause) => (3, sum(look.text(cause))),
+        Shape::Assign(_) => (4, 0),
+        Shape::Compound(_) => (5, 0),
+        Shape::Step(_) => (6, 0),
+        Shape::Swap => (7, 0),
+        Shape::Number => (8, 0),
+        Shape::Hyphen => (9, 0),
+        Shape::Keyword => (10, 0),
+        Shape::Initial => (11, 0),
+        Shape::Listed => (12, 0),
+        Shape::Comment => (13, 0),
+    }
+}
+
+/// A number by which short texts differ.
+fn sum(text: &[u8]) -> usize {
+    let mut total: usize = 0;
+    for byte in text {
+        total = total.wrapping_mul(31).wrapping_add(*byte as usize);
+    }
+    total
+}
+
+/// Adds one further place.
+fn put_further_place(
+    alloc: Global,
+    words: &mut Vec<u8>,
+    source: &[u8],
+    look: &Look,
+    found: &Found,
+) -> Result<(), AllocError> {
+    let mut sentence = Vec::new(alloc);
+    if !put_found(alloc, &mut sentence, source, look, found)? {
+        return Ok(());
+    }
+    let Some(piece) = look.pieces.get(found.first) else {
+        return Ok(());
+    };
+    words.extend_from_slice(b"Also at ")?;
+    put_place(words, source, piece.at)?;
+    words.extend_from_slice(b": ")?;
+    words.extend_from_slice(&sentence)?;
+    words.extend_from_slice(b"\n")
+}
+
+/// Adds the places of these that need advice of their own; `keys` are those given already.
+fn put_each(
+    alloc: Global,
+    words: &mut Vec<u8>,
+    source: &[u8],
+    look: &Look,
+    shapes: &[Found],
+    piece: usize,
+    keys: &mut Vec<(u8, usize)>,
+) -> Result<(), AllocError> {
+    for found in shapes {
+        let own = key(look, found);
+        if keys.contains(&own) || keys.len() > MOST {
+            continue;
+        }
+        keys.push(own)?;
+        if found.first <= piece && piece <= found.next {
+            continue;
+        }
+        put_further_place(alloc, words, source, look, found)?;
+    }
+    Ok(())
+}
+
+/// Adds a line for each further place of a text where it is written as in another language, the
+/// first one of each sort.
+pub fn put_further(
+    alloc: Global,
+    words: &mut Vec<u8>,
+    source: &[u8],
+    at: usize,
+) -> Result<(), AllocError> {
+    let pieces = pieces_of(alloc, source)?;
+    let look = Look { pieces: &pieces };
+    let piece = piece_number(&look, at);
+    let shapes = all_shapes(alloc, &look)?;
+    let structures = all_structures(alloc, &look)?;
+    let mut keys = Vec::new(alloc);
+    if let Some(found) = covering(&shapes, piece) {
+        keys.push(key(&look, &found))?;
+    }
+    put_each(alloc, words, source, &look, &shapes, piece, &mut keys)?;
+    put_each(alloc, words, source, &look, &structures, piece, &mut keys)
+}
