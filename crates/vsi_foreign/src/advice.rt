@@ -11,6 +11,9 @@ use vsi_syntax::put_place;
 /// How many further places of a text are named at most.
 const MOST: usize = 12;
 
+/// How many bytes of a name are shown at most.
+const LONGEST: usize = 40;
+
 /// The number of the last piece that begins at a place of the text or before it.
 fn piece_number(look: &Look, at: usize) -> usize {
     let mut number: usize = 0;
@@ -105,6 +108,7 @@ fn key(look: &Look, found: &Found) -> (u8, usize) {
         Shape::Initial => (11, 0),
         Shape::Listed => (12, 0),
         Shape::Comment => (13, 0),
+        Shape::Divide => (14, 0),
     }
 }
 
@@ -146,6 +150,7 @@ fn put_each(
     source: &[u8],
     look: &Look,
     shapes: &[Found],
+    is_within: bool,
     piece: usize,
     keys: &mut Vec<(u8, usize)>,
 ) -> Result<(), AllocError> {
@@ -155,12 +160,71 @@ fn put_each(
             continue;
         }
         keys.push(own)?;
-        if found.first <= piece && piece <= found.next {
+        let covers = found.first <= piece && piece <= found.next;
+        if found.first == piece || piece == found.next || is_within && covers {
             continue;
         }
         put_further_place(alloc, words, source, look, found)?;
     }
     Ok(())
+}
+
+/// Whether a piece belongs to a construct in whose place no name is left.
+fn is_said(shapes: &[Found], at: usize) -> bool {
+    for found in shapes {
+        if found.first <= at && at < found.next {
+            match found.shape {
+                Shape::Say(_, _) | Shape::Tell(_) | Shape::Put(_, _) => return true,
+                Shape::Hyphen | Shape::Keyword => return true,
+                _ => {}
+            }
+        }
+    }
+    false
+}
+
+/// The names that a text uses and declares nowhere, in their order.
+fn undeclared<'a>(
+    alloc: Global,
+    look: &Look<'a, '_>,
+    shapes: &[Found],
+    piece: usize,
+) -> Result<Vec<&'a [u8]>, AllocError> {
+    let refused = look.text(piece);
+    let mut names = Vec::new(alloc);
+    for at in 0..look.pieces.len() {
+        let name = look.text(at);
+        if !look.is_variable(at) || look.is_declared(name) || is_said(shapes, at) || name == refused {
+            continue;
+        }
+        if names.len() < MOST && !names.contains(&name) {
+            names.push(name)?;
+        }
+    }
+    Ok(names)
+}
+
+/// Adds a line with the names that a text uses and declares nowhere, if it has any.
+fn put_undeclared(
+    alloc: Global,
+    words: &mut Vec<u8>,
+    look: &Look,
+    shapes: &[Found],
+    piece: usize,
+) -> Result<(), AllocError> {
+    let names = undeclared(alloc, look, shapes, piece)?;
+    let mut joint: &[u8] = b"Also undeclared: ";
+    for name in &names {
+        words.extend_from_slice(joint)?;
+        words.extend_from_slice(b"`")?;
+        words.extend_from_slice(&name[..name.len().min(LONGEST)])?;
+        words.extend_from_slice(b"`")?;
+        joint = b", ";
+    }
+    if names.is_empty() {
+        return Ok(());
+    }
+    words.extend_from_slice(b": declare each at the beginning, as `var x : L;`.\n")
 }
 
 /// Adds a line for each further place of a text where it is written as in another language, the
@@ -180,6 +244,7 @@ pub fn put_further(
     if let Some(found) = covering(&shapes, piece) {
         keys.push(key(&look, &found))?;
     }
-    put_each(alloc, words, source, &look, &shapes, piece, &mut keys)?;
-    put_each(alloc, words, source, &look, &structures, piece, &mut keys)
+    put_each(alloc, words, source, &look, &shapes, true, piece, &mut keys)?;
+    put_each(alloc, words, source, &look, &structures, false, piece, &mut keys)?;
+    put_undeclared(alloc, words, &look, &shapes, piece)
 }

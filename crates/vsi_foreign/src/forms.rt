@@ -122,7 +122,7 @@ pub(crate) struct Pattern {
 }
 
 /// The pattern with these parts.
-fn pattern(text: &'static [u8], level: u8, left: u8, right: u8) -> Pattern {
+fn make_pattern(text: &'static [u8], level: u8, left: u8, right: u8) -> Pattern {
     Pattern {
         text,
         level,
@@ -134,32 +134,32 @@ fn pattern(text: &'static [u8], level: u8, left: u8, right: u8) -> Pattern {
 /// How `and` is written between operands that are 0 or 1, or any numbers.
 fn and_pattern(is_left_truth: bool, is_right_truth: bool) -> Pattern {
     match (is_left_truth, is_right_truth) {
-        (true, true) => pattern(b"P * Q", 2, 2, 3),
-        (true, false) => pattern(b"P * (1 - (Q = 0))", 2, 2, 1),
-        (false, true) => pattern(b"(1 - (P = 0)) * Q", 2, 1, 3),
-        (false, false) => pattern(b"(1 - (P = 0)) * (1 - (Q = 0))", 2, 1, 1),
+        (true, true) => make_pattern(b"P * Q", 2, 2, 3),
+        (true, false) => make_pattern(b"P * (1 - (Q = 0))", 2, 2, 1),
+        (false, true) => make_pattern(b"(1 - (P = 0)) * Q", 2, 1, 3),
+        (false, false) => make_pattern(b"(1 - (P = 0)) * (1 - (Q = 0))", 2, 1, 1),
     }
 }
 
 /// How an operator is written. The numbers say whether its operands are 0 or 1 whatever they read.
 pub(crate) fn pattern_of(form: Form, is_left_truth: bool, is_right_truth: bool) -> Pattern {
     match form {
-        Form::Or if is_left_truth && is_right_truth => pattern(b"0 < P + Q", 0, 1, 2),
-        Form::Or => pattern(b"1 - (P = 0) * (Q = 0)", 1, 1, 1),
+        Form::Or if is_left_truth && is_right_truth => make_pattern(b"0 < P + Q", 0, 1, 2),
+        Form::Or => make_pattern(b"1 - (P = 0) * (Q = 0)", 1, 1, 1),
         Form::And => and_pattern(is_left_truth, is_right_truth),
-        Form::Not if is_left_truth => pattern(b"1 - P", 1, 2, 2),
-        Form::Not => pattern(b"P = 0", 0, 1, 1),
-        Form::Equal => pattern(b"P = Q", 0, 1, 1),
-        Form::Less => pattern(b"P < Q", 0, 1, 1),
-        Form::Greater => pattern(b"Q < P", 0, 1, 1),
-        Form::AtMost => pattern(b"1 - (Q < P)", 1, 1, 1),
-        Form::AtLeast => pattern(b"1 - (P < Q)", 1, 1, 1),
-        Form::Differs => pattern(b"1 - (P = Q)", 1, 1, 1),
-        Form::Plus => pattern(b"P + Q", 1, 1, 2),
-        Form::Minus => pattern(b"P - Q", 1, 1, 2),
-        Form::Times => pattern(b"P * Q", 2, 2, 3),
-        Form::Power => pattern(b"P * P", 2, 3, 3),
-        Form::Negative => pattern(b"0 - P", 1, 2, 2),
-        Form::Open => pattern(b"P", 3, 0, 0),
+        Form::Not if is_left_truth => make_pattern(b"1 - P", 1, 2, 2),
+        Form::Not => make_pattern(b"P = 0", 0, 1, 1),
+        Form::Equal => make_pattern(b"P = Q", 0, 1, 1),
+        Form::Less => make_pattern(b"P < Q", 0, 1, 1),
+        Form::Greater => make_pattern(b"Q < P", 0, 1, 1),
+        Form::AtMost => make_pattern(b"1 - (Q < P)", 1, 1, 1),
+        Form::AtLeast => make_pattern(b"1 - (P < Q)", 1, 1, 1),
+        Form::Differs => make_pattern(b"1 - (P = Q)", 1, 1, 1),
+        Form::Plus => make_pattern(b"P + Q", 1, 1, 2),
+        Form::Minus => make_pattern(b"P - Q", 1, 1, 2),
+        Form::Times => make_pattern(b"P * Q", 2, 2, 3),
+        Form::Power => make_pattern(b"P * P", 2, 3, 3),
+        Form::Negative => make_pattern(b"0 - P", 1, 2, 2),
+        Form::Open => make_pattern(b"P", 3, 0, 0),
     }
 }

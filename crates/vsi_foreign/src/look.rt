@@ -17,9 +17,8 @@ const VALUE_STARTS: [&[u8]; 24] = [
 ];
 
 /// The words and signs before which an expression ends.
-const VALUE_STOPS: [&[u8]; 14] = [
-    b";", b"{", b"}", b":", b",", b"then", b"else", b"do", b"in", b":=", b"?", b"fi", b"done",
-    b"end",
+const VALUE_STOPS: [&[u8]; 11] = [
+    b";", b"{", b"}", b":", b",", b"then", b"else", b"do", b"in", b":=", b"?",
 ];
 
 /// The words and signs after which a command begins.
@@ -49,14 +48,6 @@ impl<'a, 't> Look<'a, 't> {
         match at.checked_sub(1) {
             Some(before) => self.is(before, text),
             None => false,
-        }
-    }
-
-    /// The text of the piece before this one.
-    pub(crate) fn text_before(&self, at: usize) -> &'a [u8] {
-        match at.checked_sub(1) {
-            Some(before) => self.text(before),
-            None => b"",
         }
     }
 
@@ -115,7 +106,7 @@ impl<'a, 't> Look<'a, 't> {
         };
         COMMAND_STARTS.contains(&self.text(before))
             || self.has_sort(before, Sort::Comment)
-            || (self.is_first(at) && !self.wants_more(before))
+            || (self.is_first(at) && (!self.wants_more(before) || self.is(before, b":")))
     }
 
     /// Whether a name is declared somewhere in the text.
@@ -172,9 +163,26 @@ impl<'a, 't> Look<'a, 't> {
             && !NO_OPERANDS.contains(&text)
     }
 
+    /// Whether a piece is a name that is read or assigned to, and no class.
+    pub(crate) fn is_variable(&self, at: usize) -> bool {
+        self.is_operand(at) && self.is_name(at) && !self.is_before(at, b":")
+    }
+
     /// Whether an operand ends with a piece.
     pub(crate) fn ends_operand(&self, at: usize) -> bool {
         self.is_operand(at) || self.is(at, b")")
+    }
+
+    /// Whether a name with a `-` in it, which no declaration can have, begins with a piece.
+    pub(crate) fn is_hyphened(&self, at: usize) -> bool {
+        let middle = at.saturating_add(1);
+        let last = at.saturating_add(2);
+        self.is(middle, b"-")
+            && self.touches(middle)
+            && self.touches(last)
+            && self.is_name(at)
+            && self.has_sort(last, Sort::Word)
+            && !self.is_declared(self.text(last))
     }
 
     /// Whether an expression has ended before a piece: an operand comes after an operand, or a

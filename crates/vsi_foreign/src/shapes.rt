@@ -26,6 +26,8 @@ pub(crate) enum Shape {
     Step(&'static str),
     /// Two names, a sign that assigns, and two values.
     Swap,
+    /// A name, a sign that assigns, and one operand divided by another.
+    Divide,
     /// A number that is written otherwise here.
     Number,
     /// A name with a `-` in it.
@@ -49,7 +51,7 @@ pub(crate) struct Found {
 }
 
 /// These pieces have this shape.
-pub(crate) fn found(first: usize, next: usize, shape: Shape) -> Found {
+pub(crate) fn make_found(first: usize, next: usize, shape: Shape) -> Found {
     Found { first, next, shape }
 }
 
@@ -90,18 +92,18 @@ fn replaced_word(look: &Look, at: usize) -> Option<Found> {
     let word = look.text(at);
     let next = at.saturating_add(1);
     if ELSE_IF.contains(&word) {
-        return Some(found(at, next, Shape::Put("else if", ".")));
+        return Some(make_found(at, next, Shape::Put("else if", ".")));
     }
     if BEGIN.contains(&word) {
         let rest = ": { } hold several commands, as in `{ x := 1; y := 2 }`.";
-        return Some(found(at, next, Shape::Put("{", rest)));
+        return Some(make_found(at, next, Shape::Put("{", rest)));
     }
     let rest = ": each variable holds a whole number.";
     if TRUE.contains(&word) {
-        return Some(found(at, next, Shape::Put("1", rest)));
+        return Some(make_found(at, next, Shape::Put("1", rest)));
     }
     if FALSE.contains(&word) || NULL.contains(&word) {
-        return Some(found(at, next, Shape::Put("0", rest)));
+        return Some(make_found(at, next, Shape::Put("0", rest)));
     }
     None
 }
@@ -112,14 +114,18 @@ fn declaring_word(look: &Look, at: usize) -> Option<Found> {
         return None;
     }
     let word = look.text(at);
+    if TYPES.contains(&word) && look.is(at.saturating_add(2), b":") {
+        let after = at.saturating_add(4);
+        return Some(make_found(at, look.value_stop(after), Shape::Initial));
+    }
     if TYPES.contains(&word) && look.is_name(at.saturating_add(1)) {
         let rest = ": declare a variable by `var x : L;` at the beginning, where L is a class of \
             the lattice file, and set its value in the store.";
-        return Some(found(at, look.command_stop(at), Shape::Say("there is no ", rest)));
+        return Some(make_found(at, look.command_stop(at), Shape::Say("there is no ", rest)));
     }
     if IDLE.contains(&word) {
         let rest = ": assign a variable to itself to do nothing, as `x := x`.";
-        return Some(found(at, at.saturating_add(1), Shape::Say("there is no ", rest)));
+        return Some(make_found(at, at.saturating_add(1), Shape::Say("there is no ", rest)));
     }
     None
 }
@@ -131,17 +137,17 @@ fn call(look: &Look, at: usize) -> Option<Found> {
     let is_command = look.is_command_start(at);
     if let Some(saying) = call_saying(look.text(at)) {
         if is_called || look.is(next, b"(") {
-            return Some(found(at, look.after_brackets(next), said(saying)));
+            return Some(make_found(at, look.after_brackets(next), said(saying)));
         }
         if is_command {
-            return Some(found(at, look.command_stop(at), said(saying)));
+            return Some(make_found(at, look.command_stop(at), said(saying)));
         }
     }
     if is_called && look.is_name(at) {
         let rest = ": you can't call functions, so write its commands in its place, as `y := x * \
             x`.";
         let shape = Shape::Say("there is no ", rest);
-        return Some(found(at, look.after_brackets(next), shape));
+        return Some(make_found(at, look.after_brackets(next), shape));
     }
     None
 }
@@ -174,7 +180,7 @@ fn command_word(look: &Look, at: usize) -> Option<Found> {
             }
         }
     };
-    Some(found(at, stop, said(saying)))
+    Some(make_found(at, stop, said(saying)))
 }
 
 /// What a word begins.
@@ -200,15 +206,11 @@ fn word(look: &Look, at: usize) -> Option<Found> {
 
 /// A name with a `-` in it, that begins with a piece.
 fn hyphen(look: &Look, at: usize) -> Option<Found> {
-    let middle = at.saturating_add(1);
-    let last = at.saturating_add(2);
-    if !look.is(middle, b"-") || !look.touches(middle) || !look.touches(last) {
-        return None;
+    if look.is_hyphened(at) {
+        Some(make_found(at, at.saturating_add(3), Shape::Hyphen))
+    } else {
+        None
     }
-    if look.is_name(at) && look.is_name(last) && !look.is_declared(look.text(last)) {
-        return Some(found(at, last.saturating_add(1), Shape::Hyphen));
-    }
-    None
 }
 
 /// A declaration of several names by one word.
@@ -216,17 +218,17 @@ fn listed(look: &Look, at: usize) -> Option<Found> {
     let stop = look.command_stop(at);
     if look.is(stop, b":") {
         let class = stop.saturating_add(1);
-        return Some(found(at, class.saturating_add(1), Shape::Listed));
+        return Some(make_found(at, class.saturating_add(1), Shape::Listed));
     }
     let rest = " declares one variable with its class, as in `var x : L; var y : L;`.";
-    Some(found(at, stop, Shape::Say("", rest)))
+    Some(make_found(at, stop, Shape::Say("", rest)))
 }
 
 /// A declaration by `var` that isn't one here.
 fn declaration(look: &Look, at: usize) -> Option<Found> {
     let name = at.saturating_add(1);
     if look.is_keyword(name) {
-        return Some(found(name, name.saturating_add(1), Shape::Keyword));
+        return Some(make_found(name, name.saturating_add(1), Shape::Keyword));
     }
     if let Some(found) = hyphen(look, name) {
         return Some(found);
@@ -238,20 +240,20 @@ fn declaration(look: &Look, at: usize) -> Option<Found> {
         _ => {
             let rest = " declares a variable with a class and no value, as in `var x : L;`: set \
                 its value in the store.";
-            return Some(found(at, look.command_stop(sign), Shape::Say("", rest)));
+            return Some(make_found(at, look.command_stop(sign), Shape::Say("", rest)));
         }
     }
     let after = sign.saturating_add(2);
     match look.text(after) {
-        [b'='] | [b':', b'='] => Some(found(at, look.command_stop(after), Shape::Initial)),
+        [b'='] | [b':', b'='] => Some(make_found(at, look.value_stop(after), Shape::Initial)),
         [b';'] => None,
         [b','] => {
             let rest = " declares one variable with its class, as in `var x : L; var y : L;`.";
-            Some(found(at, look.command_stop(after), Shape::Say("", rest)))
+            Some(make_found(at, look.command_stop(after), Shape::Say("", rest)))
         }
         _ => {
             let rest = " wants a `;` after the class, as in `var x : L;`.";
-            Some(found(at, after, Shape::Say("a declaration by ", rest)))
+            Some(make_found(at, after, Shape::Say("a declaration by ", rest)))
         }
     }
 }
@@ -260,7 +262,7 @@ fn declaration(look: &Look, at: usize) -> Option<Found> {
 fn local(look: &Look, at: usize) -> Option<Found> {
     let name = at.saturating_add(1);
     if look.is_keyword(name) {
-        return Some(found(name, name.saturating_add(1), Shape::Keyword));
+        return Some(make_found(name, name.saturating_add(1), Shape::Keyword));
     }
     let sign = name.saturating_add(1);
     let sign = if look.is(sign, b":") {
@@ -270,7 +272,7 @@ fn local(look: &Look, at: usize) -> Option<Found> {
     };
     if look.is(sign, b"=") {
         let rest = ": `=` compares, as in `letvar y := x + 1 in z := y`.";
-        return Some(found(sign, sign.saturating_add(1), Shape::Put(":=", rest)));
+        return Some(make_found(sign, sign.saturating_add(1), Shape::Put(":=", rest)));
     }
     None
 }
@@ -282,31 +284,60 @@ fn is_swap(look: &Look, at: usize) -> bool {
         && matches!(look.text(at.saturating_add(3)), [b'='] | [b':', b'='])
 }
 
+/// The signs and words that divide.
+const DIVIDING: [&[u8]; 7] = [b"/", b"//", b"div", b"DIV", b"%", b"mod", b"MOD"];
+
+/// Whether an operand divided by another is the whole value that begins with a piece.
+fn is_division(look: &Look, at: usize) -> bool {
+    let last = at.saturating_add(2);
+    look.ends_operand(at)
+        && DIVIDING.contains(&look.text(at.saturating_add(1)))
+        && look.ends_operand(last)
+        && look.value_stop(last) == last.saturating_add(1)
+}
+
+/// Whether the value between two pieces has an operator that no expression here has.
+fn is_beyond(look: &Look, at: usize, stop: usize) -> bool {
+    for place in at..stop {
+        if sign_saying(look.text(place)).is_some() || look.is(place.saturating_add(1), b"(") && look.is_name(place) {
+            return true;
+        }
+    }
+    false
+}
+
+/// An assignment by another sign, of which the value begins with a piece.
+fn assigned(look: &Look, at: usize, value: usize, shape: Shape) -> Option<Found> {
+    let stop = look.value_stop(value);
+    let next = if is_beyond(look, value, stop) { value } else { stop };
+    Some(make_found(at, next, shape))
+}
+
 /// A command that begins with a name and isn't one here.
 fn assignment(look: &Look, at: usize) -> Option<Found> {
     let sign = at.saturating_add(1);
     let value = at.saturating_add(2);
     match look.text(sign) {
-        [b'='] | [b'=', b'='] => Some(found(at, look.value_stop(value), Shape::Assign(1))),
+        [b':', b'='] | [b'='] if is_division(look, value) => {
+            Some(make_found(at, value.saturating_add(3), Shape::Divide))
+        }
+        [b'='] | [b'=', b'='] => assigned(look, at, value, Shape::Assign(1)),
         [b'<'] if look.is(value, b"-") && look.touches(value) => {
-            let next = look.value_stop(value.saturating_add(1));
-            Some(found(at, next, Shape::Assign(2)))
+            assigned(look, at, value.saturating_add(1), Shape::Assign(2))
         }
         [b':'] if look.is(value, b"=") => {
-            let next = look.value_stop(value.saturating_add(1));
-            Some(found(at, next, Shape::Assign(2)))
+            assigned(look, at, value.saturating_add(1), Shape::Assign(2))
         }
         [b':'] => {
             let rest = " by `var`, as `var x : L;`, at the beginning of the text.";
-            Some(found(at, look.command_stop(sign), Shape::Say("declare ", rest)))
+            Some(make_found(at, look.command_stop(sign), Shape::Say("declare ", rest)))
         }
-        [b'+', b'='] => Some(found(at, look.value_stop(value), Shape::Compound(" + "))),
-        [b'-', b'='] => Some(found(at, look.value_stop(value), Shape::Compound(" - "))),
-        [b'*', b'='] => Some(found(at, look.value_stop(value), Shape::Compound(" * "))),
-        [b'+', b'+'] => Some(found(at, value, Shape::Step(" + 1"))),
-        [b'-', b'-'] => Some(found(at, value, Shape::Step(" - 1"))),
-        [b','] if is_swap(look, at) => Some(found(at, look.command_stop(at), Shape::Swap)),
-        [b'-'] => hyphen(look, at),
+        [b'+', b'='] => assigned(look, at, value, Shape::Compound(" + ")),
+        [b'-', b'='] => assigned(look, at, value, Shape::Compound(" - ")),
+        [b'*', b'='] => assigned(look, at, value, Shape::Compound(" * ")),
+        [b'+', b'+'] => Some(make_found(at, value, Shape::Step(" + 1"))),
+        [b'-', b'-'] => Some(make_found(at, value, Shape::Step(" - 1"))),
+        [b','] if is_swap(look, at) => Some(make_found(at, look.command_stop(at), Shape::Swap)),
         _ => None,
     }
 }
@@ -345,21 +376,20 @@ fn is_foreign_operator(look: &Look, at: usize) -> bool {
 fn strange(text: &[u8]) -> Shape {
     Shape::Tell(match text {
         [0xE2, 0x80, 0x90..=0x95] | [0xE2, 0x88, 0x92] => {
-            "write `-` for the dash of another alphabet that stands here, as in `x - 1`."
+            "write `-` for this dash, as in `x - 1`: outside of comments a text is ASCII."
         }
         [0xE2, 0x80, 0x98..=0x9F] => {
-            "leave the typographic quotes out: each variable holds a whole number, as `x := 1`."
+            "leave this typographic quote out: each variable holds a whole number, as `x := 1`."
         }
         [0xC2, 0xA0] | [0xE2, 0x80, 0x80..=0x8F] | [0xE2, 0x80, 0xAF] | [0xE3, 0x80, 0x80] => {
-            "write a common blank for the special one that is here: it only looks like one."
+            "write a common blank for this one, which is a character of its own, as in `x := 1`."
         }
         [0xE2, 0x89, 0xA4] => "write `1 - (b < a)` where `a` is to be `b` at most.",
         [0xE2, 0x89, 0xA5] => "write `1 - (a < b)` where `a` is to be `b` at least.",
         [0xE2, 0x89, 0xA0] => "write `1 - (a = b)` where `a` and `b` are to differ.",
         [0xC3, 0x97] | [0xC2, 0xB7] => "write `*` for the product, as in `2 * x`.",
         _ => {
-            "write it in ASCII, as `x_1`: letters with accents and other signs stand in comments \
-            alone."
+            "write ASCII, as `x_1`: letters with accents and other signs are for comments only."
         }
     })
 }
@@ -369,20 +399,24 @@ fn sign(look: &Look, at: usize) -> Option<Found> {
     let next = at.saturating_add(1);
     let piece = look.pieces.get(at)?;
     match piece.sort {
-        Sort::Comment => Some(found(at, next, Shape::Comment)),
-        Sort::Strange => Some(found(at, next, strange(piece.text))),
+        Sort::Comment => Some(make_found(at, next, Shape::Comment)),
+        Sort::Strange => Some(make_found(at, next, strange(piece.text))),
         Sort::Quoted => {
             let rest = ": each variable holds a whole number, as `x := 1`.";
-            Some(found(at, next, Shape::Say("there are no texts as ", rest)))
+            Some(make_found(at, next, Shape::Say("there are no texts as ", rest)))
         }
         Sort::Number => number(piece.text, at),
         _ => {
+            if look.is(at, b".") && look.has_sort(next, Sort::Number) {
+                let sentence = "numbers are whole, so count in a smaller unit, as 50 cents for .50.";
+                return Some(make_found(at, next, Shape::Tell(sentence)));
+            }
             if is_foreign_operator(look, at) {
                 let start = look.value_start(at);
                 let stop = look.value_stop(start).max(next);
-                return Some(found(start, stop, Shape::Value(at)));
+                return Some(make_found(start, stop, Shape::Value(at)));
             }
-            Some(found(at, next, said(sign_saying(piece.text)?)))
+            Some(make_found(at, next, said(sign_saying(piece.text)?)))
         }
     }
 }
@@ -397,10 +431,10 @@ fn number(text: &[u8], at: usize) -> Option<Found> {
         let shape = if number_of(text).is_some() {
             Shape::Number
         } else {
-            let rest = ": it is whole and has digits alone, as 150 cents for 1.50.";
-            Shape::Say("there is no number ", rest)
+            let rest = ", as 150 cents for 1.50.";
+            Shape::Say("numbers are whole, so count in a smaller unit than ", rest)
         };
-        return Some(found(at, next, shape));
+        return Some(make_found(at, next, shape));
     }
     None
 }
@@ -417,10 +451,13 @@ pub(crate) fn shape_at(look: &Look, at: usize) -> Option<Found> {
         let rest = ": write the body before the loop too, as `{ x := x + 1; while x < 9 do x := x \
             + 1 }`.";
         let shape = Shape::Say("no loop begins with ", rest);
-        return Some(found(at, at.saturating_add(1), shape));
+        return Some(make_found(at, at.saturating_add(1), shape));
     }
     if look.is_name(at) {
         if let Some(found) = word(look, at) {
+            return Some(found);
+        }
+        if let Some(found) = hyphen(look, at) {
             return Some(found);
         }
         if look.is_command_start(at) {

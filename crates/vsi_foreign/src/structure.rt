@@ -1,7 +1,7 @@
 //! Words and signs of the language that are missing, or one too many.
 
 use crate::look::Look;
-use crate::shapes::{Found, Shape, found};
+use crate::shapes::{Found, Shape, make_found};
 
 /// The words with which an `if` goes on after its first branch.
 const ELSE: [&[u8]; 5] = [b"else", b"elif", b"elsif", b"elseif", b"ELSE"];
@@ -12,7 +12,7 @@ fn superfluous(look: &Look, at: usize) -> Option<Found> {
     let is_last = next >= look.pieces.len();
     if look.is(next, b"else") {
         let rest = " before `else` out, as in `if x then y := 1 else y := 2`.";
-        return Some(found(at, next, Shape::Say("leave the ", rest)));
+        return Some(make_found(at, next, Shape::Say("leave the ", rest)));
     }
     if !is_last && !look.is(next, b"}") {
         return None;
@@ -23,7 +23,7 @@ fn superfluous(look: &Look, at: usize) -> Option<Found> {
         }
     }
     let rest = " after a last command out: it separates two commands, as in `{ x := 1; y := 2 }`.";
-    Some(found(at, next, Shape::Say("leave the ", rest)))
+    Some(make_found(at, next, Shape::Say("leave the ", rest)))
 }
 
 /// Whether a command begins with a piece, by the look of it.
@@ -50,7 +50,7 @@ fn unseparated(look: &Look, at: usize) -> Option<Found> {
         return None;
     }
     let rest = " before the next command, as in `{ x := 1 }; y := 2`.";
-    Some(found(at, next, Shape::Say("put a `;` after the ", rest)))
+    Some(make_found(at, next, Shape::Say("put a `;` after the ", rest)))
 }
 
 /// Whether the line before a piece begins with a word that a guard or a branch follows.
@@ -79,7 +79,7 @@ fn unended(look: &Look, at: usize) -> Option<Found> {
     }
     let rest = " by a `;`: it separates two commands, as in `x := 1; y := 2`.";
     let shape = Shape::Say("end the command before this ", rest);
-    Some(found(at, at.saturating_add(1), shape))
+    Some(make_found(at, at.saturating_add(1), shape))
 }
 
 /// The piece with which the branch that begins with a piece has ended, if that is plain.
@@ -93,6 +93,39 @@ fn branch_stop(look: &Look, at: usize) -> Option<usize> {
     Some(look.value_stop(at.saturating_add(2)))
 }
 
+/// Whether an `else` comes after more commands than one.
+fn has_late_else(look: &Look, stop: usize) -> bool {
+    if !look.is(stop, b";") || look.is(stop.saturating_add(1), b"else") {
+        return false;
+    }
+    for at in stop..look.pieces.len() {
+        if look.is(at, b"else") {
+            return true;
+        }
+        if look.is(at, b"if") || look.is(at, b"{") || look.is(at, b"}") {
+            return false;
+        }
+    }
+    false
+}
+
+/// A `letvar` without its `in`.
+fn unbound(look: &Look, at: usize) -> Option<Found> {
+    let sign = at.saturating_add(2);
+    let sign = if look.is(sign, b":") { sign.saturating_add(2) } else { sign };
+    if !look.is(sign, b":=") && !look.is(sign, b"=") {
+        return None;
+    }
+    let stop = look.value_stop(sign.saturating_add(1));
+    if look.is(stop, b"in") {
+        return None;
+    }
+    let rest = ", and { } around the commands that use it, as in `letvar y := 1 in { x := y; z := y \
+        }`.";
+    let shape = Shape::Say("put `in` after the value of this ", rest);
+    Some(make_found(at, stop, shape))
+}
+
 /// An `if` without an `else`.
 fn halved(look: &Look, at: usize) -> Option<Found> {
     let guard = look.value_stop(at.saturating_add(1));
@@ -102,6 +135,11 @@ fn halved(look: &Look, at: usize) -> Option<Found> {
         guard
     };
     let stop = branch_stop(look, branch)?;
+    if has_late_else(look, stop) {
+        let rest = ", as in `if x < 1 then { y := 1; z := 2 } else y := 2`.";
+        let shape = Shape::Say("put { } around several commands in a branch of this ", rest);
+        return Some(make_found(at, stop, shape));
+    }
     let stop = if look.is(stop, b";") || look.is(stop, b"}") && !look.is(branch, b"{") {
         stop.saturating_add(1)
     } else {
@@ -111,7 +149,7 @@ fn halved(look: &Look, at: usize) -> Option<Found> {
         return None;
     }
     let rest = " an `else`, which may do nothing, as in `if x < 1 then x := 1 else x := x`.";
-    Some(found(at, at.saturating_add(1), Shape::Say("give this ", rest)))
+    Some(make_found(at, stop, Shape::Say("give this ", rest)))
 }
 
 /// A guard without the word after it.
@@ -119,7 +157,7 @@ fn unguarded(look: &Look, at: usize, word: &'static str) -> Option<Found> {
     let stop = look.value_stop(at.saturating_add(1));
     if look.is(stop, b":") {
         let rest = " after a guard, as in `if x < 1 then y := 1 else while x < 9 do x := x + 1`.";
-        return Some(found(stop, stop.saturating_add(1), Shape::Put(word, rest)));
+        return Some(make_found(stop, stop.saturating_add(1), Shape::Put(word, rest)));
     }
     if !look.is(stop, b"{") && !is_command(look, stop) {
         return None;
@@ -130,19 +168,23 @@ fn unguarded(look: &Look, at: usize, word: &'static str) -> Option<Found> {
         let rest = ", as in `if x < 1 then { y := 1 } else y := 2`.";
         Shape::Say("put `then` after the guard of this ", rest)
     };
-    Some(found(at, at.saturating_add(1), shape))
+    Some(make_found(at, stop, shape))
 }
 
 /// A word or a sign that is missing or one too many at a piece.
 pub(crate) fn structure_at(look: &Look, at: usize) -> Option<Found> {
+    if look.is_before(at, b"var") || look.is_before(at, b"letvar") {
+        return None;
+    }
     match look.text(at) {
+        [b'l', b'e', b't', b'v', b'a', b'r'] => unbound(look, at),
         [b';'] => superfluous(look, at),
         [b'}'] => unseparated(look, at),
         [b'i', b'f'] => unguarded(look, at, "then"),
         [b'w', b'h', b'i', b'l', b'e'] => unguarded(look, at, "do"),
         [b'e', b'l', b's', b'e'] if look.is(at.saturating_add(1), b":") => {
             let rest = " without a `:` after it, as in `if x < 1 then y := 1 else y := 2`.";
-            Some(found(at, at.saturating_add(2), Shape::Say("write ", rest)))
+            Some(make_found(at, at.saturating_add(2), Shape::Say("write ", rest)))
         }
         _ => unended(look, at),
     }

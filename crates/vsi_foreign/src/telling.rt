@@ -38,6 +38,11 @@ fn value_text(
     level: u8,
 ) -> Result<Option<Vec<u8>>, AllocError> {
     let stop = next.min(look.pieces.len());
+    for at in first..stop {
+        if look.is_hyphened(at) {
+            return Ok(None);
+        }
+    }
     let mut reading = unread(alloc);
     let Some(node) = read_all(&mut reading, &look.pieces[first.min(stop)..stop])? else {
         return Ok(None);
@@ -95,16 +100,20 @@ fn assignment(
     program_if(alloc, text, is_written)
 }
 
-/// A name that no piece is.
-fn fresh(look: &Look) -> &'static [u8] {
-    let names: [&'static [u8]; 4] = [b"t", b"old", b"kept", b"former"];
+/// Names for a value that is kept, for what is left of one, and for how often it was taken.
+const KEPT: [&[u8]; 4] = [b"t", b"old", b"kept", b"former"];
+const LEFT: [&[u8]; 4] = [b"r", b"left", b"rest", b"remainder"];
+const TIMES: [&[u8]; 4] = [b"q", b"times", b"count", b"quotient"];
+
+/// The first of these names that no piece is.
+fn fresh(look: &Look, names: &[&'static [u8]]) -> &'static [u8] {
     for name in names {
         let mut is_free = true;
         for piece in look.pieces {
-            is_free = is_free && piece.text != name;
+            is_free = is_free && piece.text != *name;
         }
         if is_free {
-            return name;
+            return *name;
         }
     }
     b"a_name_of_its_own"
@@ -117,7 +126,7 @@ fn swap(alloc: Global, look: &Look, found: &Found) -> Result<Option<Vec<u8>>, Al
     if !look.is(comma, b",") {
         return Ok(None);
     }
-    let kept = fresh(look);
+    let kept = fresh(look, &KEPT);
     let mut text = Vec::new(alloc);
     text.extend_from_slice(b"letvar ")?;
     text.extend_from_slice(kept)?;
@@ -134,6 +143,35 @@ fn swap(alloc: Global, look: &Look, found: &Found) -> Result<Option<Vec<u8>>, Al
     text.extend_from_slice(kept)?;
     text.extend_from_slice(b" }")?;
     program_if(alloc, text, is_first_written && is_written)
+}
+
+/// The loop that divides: P is divided by Q, N is what the value is for, R is what is left, and T
+/// counts.
+const QUOTIENT: &[u8] =
+    b"letvar R := P in letvar T := 0 in { while Q - 1 < R do { R := R - Q; T := T + 1 }; N := T }";
+
+/// The loop that leaves a remainder.
+const REMAINDER: &[u8] = b"letvar R := P in { while Q - 1 < R do R := R - Q; N := R }";
+
+/// The commands that divide an operand by another one, as often as it can be taken away.
+fn division(alloc: Global, look: &Look, found: &Found) -> Result<Option<Vec<u8>>, AllocError> {
+    let at = found.first;
+    let pattern = match look.text(at.saturating_add(3)) {
+        [b'/', ..] | [b'd' | b'D', ..] => QUOTIENT,
+        _ => REMAINDER,
+    };
+    let mut text = Vec::new(alloc);
+    for byte in pattern {
+        match *byte {
+            b'P' => text.extend_from_slice(look.text(at.saturating_add(2)))?,
+            b'Q' => text.extend_from_slice(look.text(at.saturating_add(4)))?,
+            b'N' => text.extend_from_slice(look.text(at))?,
+            b'R' => text.extend_from_slice(fresh(look, &LEFT))?,
+            b'T' => text.extend_from_slice(fresh(look, &TIMES))?,
+            other => text.push(other)?,
+        }
+    }
+    program_if(alloc, text, true)
 }
 
 /// The command that counts a name up or down.
@@ -244,6 +282,7 @@ pub(crate) fn offer(
         }
         Shape::Step(operator) => step(alloc, look, found, operator),
         Shape::Swap => swap(alloc, look, found),
+        Shape::Divide => division(alloc, look, found),
         Shape::Number => number(alloc, look, found),
         Shape::Hyphen | Shape::Keyword => renamed(alloc, look, found),
         Shape::Listed => declarations(alloc, look, found),
@@ -267,6 +306,7 @@ fn put_reason(words: &mut Vec<u8>, look: &Look, shape: Shape) -> Result<(), Allo
         Shape::Assign(_) => b": `:=` assigns, and `=` compares.",
         Shape::Compound(_) | Shape::Step(_) => b": a command assigns by `:=` alone.",
         Shape::Swap => b": a command assigns to one variable.",
+        Shape::Divide => b": subtract as often as you can, where neither is negative.",
         Shape::Number => b": a number has digits alone.",
         Shape::Hyphen => b": a name has letters, digits and `_` alone.",
         Shape::Keyword => b": a keyword is no name.",
@@ -345,6 +385,9 @@ fn put_plain(words: &mut Vec<u8>, look: &Look, found: &Found) -> Result<bool, Al
         Shape::Compound(_) => words.extend_from_slice(b"assign by `:=`, as `x := x + 1`.")?,
         Shape::Swap => words.extend_from_slice(
             b"assign to one variable at a time, as `letvar t := x in { x := y; y := t }`.",
+        )?,
+        Shape::Divide => words.extend_from_slice(
+            b"divide in a loop, as `while 1 < r do { r := r - 2; q := q + 1 }` does for half of r.",
         )?,
         Shape::Initial => words.extend_from_slice(b"declare a global without a value.")?,
         Shape::Listed => words.extend_from_slice(b"declare each variable by itself.")?,

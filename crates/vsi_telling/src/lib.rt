@@ -33,6 +33,7 @@ use vsi_diagnostics::Fault;
 use vsi_foreign::put_further;
 use vsi_image::Image;
 use vsi_lattice::Lattice;
+use vsi_scope::ScopeError;
 use vsi_store::StoreError;
 use vsi_syntax::{LexError, ParseError, Span};
 
@@ -182,10 +183,11 @@ fn put_source(
     }
 }
 
-/// Where a text that is no program is refused.
+/// Where a text is refused that may have constructs of other languages further on.
 fn misread_at(error: &CompileError) -> Option<usize> {
     match error {
         CompileError::Lex(_) | CompileError::Parse(_) => Some(place_of(error)?.start),
+        CompileError::Scope(ScopeError::Unbound(span)) => Some(span.start),
         _ => None,
     }
 }
