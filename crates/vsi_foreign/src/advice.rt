@@ -94,7 +94,13 @@ pub fn put_hint(
 /// What makes two shapes the same advice.
 fn key(look: &Look, found: &Found) -> (u8, usize) {
     match found.shape {
-        Shape::Say(before, after) => (0, before.len().saturating_mul(1000).saturating_add(after.len())),
+        Shape::Say(before, after) => (
+            0,
+            before
+                .len()
+                .saturating_mul(1000)
+                .saturating_add(after.len()),
+        ),
         Shape::Tell(sentence) => (1, sentence.len()),
         Shape::Put(text, _) => (2, text.len()),
         Shape::Value(cause) => (3, sum(look.text(cause))),
@@ -169,6 +175,67 @@ fn put_each(
     Ok(())
 }
 
+/// Adds names, each between back quotes, after the first text, and then the last text, if there are
+/// names.
+fn put_list(
+    words: &mut Vec<u8>,
+    first: &[u8],
+    names: &[&[u8]],
+    last: &[u8],
+) -> Result<(), AllocError> {
+    let mut joint = first;
+    for name in names {
+        words.extend_from_slice(joint)?;
+        words.extend_from_slice(b"`")?;
+        words.extend_from_slice(&name[..name.len().min(LONGEST)])?;
+        words.extend_from_slice(b"`")?;
+        joint = b", ";
+    }
+    if names.is_empty() {
+        return Ok(());
+    }
+    words.extend_from_slice(last)
+}
+
+/// The names in the places of classes that are none of these classes, in their order.
+fn no_classes<'a>(
+    alloc: Global,
+    look: &Look<'a, '_>,
+    classes: &[&[u8]],
+) -> Result<Vec<&'a [u8]>, AllocError> {
+    let mut names = Vec::new(alloc);
+    for at in 0..look.pieces.len() {
+        let name = look.text(at);
+        if !look.is_class(at) || classes.contains(&name) || names.contains(&name) {
+            continue;
+        }
+        if names.len() < MOST {
+            names.push(name)?;
+        }
+    }
+    Ok(names)
+}
+
+/// Adds a line with the names of classes that the lattice lacks, if the text has any.
+fn put_no_classes(
+    alloc: Global,
+    words: &mut Vec<u8>,
+    look: &Look,
+    classes: &[&[u8]],
+) -> Result<(), AllocError> {
+    let names = no_classes(alloc, look, classes)?;
+    if names.is_empty() {
+        return Ok(());
+    }
+    put_list(words, b"Also no class: ", &names, b"")?;
+    put_list(
+        words,
+        b": the lattice has ",
+        &classes[..classes.len().min(MOST)],
+        b".\n",
+    )
+}
+
 /// Whether a piece belongs to a construct in whose place no name is left.
 fn is_said(shapes: &[Found], at: usize) -> bool {
     for found in shapes {
@@ -194,7 +261,11 @@ fn undeclared<'a>(
     let mut names = Vec::new(alloc);
     for at in 0..look.pieces.len() {
         let name = look.text(at);
-        if !look.is_variable(at) || look.is_declared(name) || is_said(shapes, at) || name == refused {
+        if !look.is_variable(at)
+            || look.is_declared(name)
+            || is_said(shapes, at)
+            || name == refused
+        {
             continue;
         }
         if names.len() < MOST && !names.contains(&name) {
@@ -213,27 +284,18 @@ fn put_undeclared(
     piece: usize,
 ) -> Result<(), AllocError> {
     let names = undeclared(alloc, look, shapes, piece)?;
-    let mut joint: &[u8] = b"Also undeclared: ";
-    for name in &names {
-        words.extend_from_slice(joint)?;
-        words.extend_from_slice(b"`")?;
-        words.extend_from_slice(&name[..name.len().min(LONGEST)])?;
-        words.extend_from_slice(b"`")?;
-        joint = b", ";
-    }
-    if names.is_empty() {
-        return Ok(());
-    }
-    words.extend_from_slice(b": declare each at the beginning, as `var x : L;`.\n")
+    let last = b": declare each at the beginning, as `var x : L;`.\n";
+    put_list(words, b"Also undeclared: ", &names, last)
 }
 
 /// Adds a line for each further place of a text where it is written as in another language, the
-/// first one of each sort.
+/// first one of each sort; then the names that no declaration has, or that are none of the classes.
 pub fn put_further(
     alloc: Global,
     words: &mut Vec<u8>,
     source: &[u8],
     at: usize,
+    classes: &[&[u8]],
 ) -> Result<(), AllocError> {
     let pieces = pieces_of(alloc, source)?;
     let look = Look { pieces: &pieces };
@@ -245,6 +307,16 @@ pub fn put_further(
         keys.push(key(&look, &found))?;
     }
     put_each(alloc, words, source, &look, &shapes, true, piece, &mut keys)?;
-    put_each(alloc, words, source, &look, &structures, false, piece, &mut keys)?;
+    put_each(
+        alloc,
+        words,
+        source,
+        &look,
+        &structures,
+        false,
+        piece,
+        &mut keys,
+    )?;
+    put_no_classes(alloc, words, &look, classes)?;
     put_undeclared(alloc, words, &look, &shapes, piece)
 }

@@ -6,7 +6,7 @@ use crate::pieces::{Piece, Sort};
 use std::alloc::{AllocError, Global};
 
 /// A node of a tree: its operands are nodes before it in the list.
-#[derive(Clone, Copy, Debug)]
+#[derive(Clone, Copy)]
 pub(crate) enum Node<'a> {
     Name(&'a [u8]),
     Number(u64),
@@ -21,6 +21,7 @@ pub(crate) const NO_OPERANDS: [&[u8]; 20] = [
 
 /// The words for 1 and for 0.
 pub(crate) const TRUE: [&[u8]; 3] = [b"true", b"True", b"TRUE"];
+
 pub(crate) const FALSE: [&[u8]; 3] = [b"false", b"False", b"FALSE"];
 
 /// A tree that is being read from the left.

@@ -1,7 +1,7 @@
 //! The operators of other languages, and how each is written here.
 
 /// An operator, or an open bracket.
-#[derive(Clone, Copy, Debug, PartialEq, Eq)]
+#[derive(Clone, Copy, PartialEq, Eq)]
 pub(crate) enum Form {
     Open,
     Or,

@@ -117,7 +117,10 @@ impl<'a, 't> Look<'a, 't> {
                 return true;
             }
             let text = piece.text;
-            is_after = matches!(text, [b'v', b'a', b'r'] | [b'l', b'e', b't', b'v', b'a', b'r']);
+            is_after = matches!(
+                text,
+                [b'v', b'a', b'r'] | [b'l', b'e', b't', b'v', b'a', b'r']
+            );
         }
         false
     }
@@ -145,7 +148,8 @@ impl<'a, 't> Look<'a, 't> {
             let Some(before) = start.checked_sub(1) else {
                 return start;
             };
-            if self.ends_before_value(before) || (self.is_first(start) && self.is_command_start(start))
+            if self.ends_before_value(before)
+                || (self.is_first(start) && self.is_command_start(start))
             {
                 return start;
             }
@@ -161,6 +165,19 @@ impl<'a, 't> Look<'a, 't> {
             && form_between(text).is_none()
             && form_before(text).is_none()
             && !NO_OPERANDS.contains(&text)
+    }
+
+    /// Whether a piece is a name in the place of a class.
+    pub(crate) fn is_class(&self, at: usize) -> bool {
+        let Some(word) = at.checked_sub(3) else {
+            return false;
+        };
+        self.is_name(at) && self.is_before(at, b":") && self.is_declaring(word)
+    }
+
+    /// Whether a piece is `var` or `letvar`.
+    fn is_declaring(&self, at: usize) -> bool {
+        self.is(at, b"var") || self.is(at, b"letvar")
     }
 
     /// Whether a piece is a name that is read or assigned to, and no class.

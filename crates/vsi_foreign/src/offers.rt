@@ -69,10 +69,7 @@ pub(crate) fn is_expression(alloc: Global, text: &[u8]) -> Result<bool, AllocErr
 }
 
 /// The text, if it is an expression.
-pub(crate) fn expression_alone(
-    alloc: Global,
-    text: Vec<u8>,
-) -> Result<Option<Vec<u8>>, AllocError>
+pub(crate) fn expression_alone(alloc: Global, text: Vec<u8>) -> Result<Option<Vec<u8>>, AllocError>
     ensures { IfOk result (λ found. IfSome found (λ text. IsExpression text.items)) }
 {
     if is_expression(alloc, &text)? {

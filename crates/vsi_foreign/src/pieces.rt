@@ -6,7 +6,7 @@ use std::alloc::{AllocError, Global};
 const MOST: usize = 4096;
 
 /// The sort of a piece.
-#[derive(Clone, Copy, Debug, PartialEq, Eq)]
+#[derive(Clone, Copy, PartialEq, Eq)]
 pub(crate) enum Sort {
     /// Letters, digits and `_`, beginning with a letter or `_`.
     Word,
@@ -23,7 +23,7 @@ pub(crate) enum Sort {
 }
 
 /// A piece of a text, and where it begins.
-#[derive(Clone, Copy, Debug)]
+#[derive(Clone, Copy)]
 pub(crate) struct Piece<'a> {
     pub(crate) sort: Sort,
     pub(crate) text: &'a [u8],
@@ -181,10 +181,7 @@ fn piece_at<'a>(source: &'a [u8], at: usize, is_first: bool, last: Option<&Piece
 }
 
 /// The pieces of a text, without the blanks and the comments of the language.
-pub(crate) fn pieces_of<'a>(
-    alloc: Global,
-    source: &'a [u8],
-) -> Result<Vec<Piece<'a>>, AllocError> {
+pub(crate) fn pieces_of<'a>(alloc: Global, source: &'a [u8]) -> Result<Vec<Piece<'a>>, AllocError> {
     let mut pieces = Vec::new(alloc);
     let mut at: usize = 0;
     let mut is_first = true;

@@ -9,15 +9,29 @@ const NONE: &str = "there is no ";
 /// The words that call something.
 const CALLS: [Saying; 9] = [
     (
-        &[b"declassify", b"endorse", b"reveal", b"release", b"sanitize"],
+        &[
+            b"declassify",
+            b"endorse",
+            b"reveal",
+            b"release",
+            b"sanitize",
+        ],
         NONE,
         ": nothing makes a secret public, so compute what you publish from public variables alone, \
         as `l := l + 1`.",
     ),
     (
         &[
-            b"input", b"raw_input", b"read", b"readln", b"readline", b"scanf", b"gets", b"getchar",
-            b"cin", b"argv",
+            b"input",
+            b"raw_input",
+            b"read",
+            b"readln",
+            b"readline",
+            b"scanf",
+            b"gets",
+            b"getchar",
+            b"cin",
+            b"argv",
         ],
         NONE,
         ": declare `var x : L;` and give `x` its value in the store, by a line `x = 5`.",
@@ -31,9 +45,21 @@ const CALLS: [Saying; 9] = [
         ": assign what you want to see to a global, as `y := x`, since a run ends by writing its \
         globals.",
     ),
-    (&[b"abs", b"fabs"], NONE, ": write `if x < 0 then y := 0 - x else y := x`."),
-    (&[b"max"], NONE, ": write `if a < b then m := b else m := a`."),
-    (&[b"min"], NONE, ": write `if a < b then m := a else m := b`."),
+    (
+        &[b"abs", b"fabs"],
+        NONE,
+        ": write `if x < 0 then y := 0 - x else y := x`.",
+    ),
+    (
+        &[b"max"],
+        NONE,
+        ": write `if a < b then m := b else m := a`.",
+    ),
+    (
+        &[b"min"],
+        NONE,
+        ": write `if a < b then m := a else m := b`.",
+    ),
     (
         &[b"random", b"rand", b"randint", b"time"],
         NONE,
@@ -55,20 +81,51 @@ const CALLS: [Saying; 9] = [
 /// The words that begin or end commands.
 const COMMANDS: [Saying; 12] = [
     (
-        &[b"def", b"fn", b"func", b"function", b"fun", b"void", b"proc", b"procedure", b"sub"],
+        &[
+            b"def",
+            b"fn",
+            b"func",
+            b"function",
+            b"fun",
+            b"void",
+            b"proc",
+            b"procedure",
+            b"sub",
+        ],
         "you can't define a function by ",
         ": write its commands where you need them, as `x := x + 1`.",
     ),
-    (&[b"return", b"yield"], NONE, ": assign the result to a global, as `y := x`."),
     (
-        &[b"break", b"continue", b"exit", b"goto", b"quit", b"stop", b"halt"],
+        &[b"return", b"yield"],
+        NONE,
+        ": assign the result to a global, as `y := x`.",
+    ),
+    (
+        &[
+            b"break",
+            b"continue",
+            b"exit",
+            b"goto",
+            b"quit",
+            b"stop",
+            b"halt",
+        ],
         NONE,
         ": end a loop by its guard, as `while (x < 9) * (found = 0) do x := x + 1`.",
     ),
     (
         &[
-            b"end", b"endif", b"fi", b"done", b"od", b"endwhile", b"endfor", b"wend", b"next",
-            b"esac", b"END",
+            b"end",
+            b"endif",
+            b"fi",
+            b"done",
+            b"od",
+            b"endwhile",
+            b"endfor",
+            b"wend",
+            b"next",
+            b"esac",
+            b"END",
         ],
         "leave ",
         " out: a branch or a loop is one command, and { } make one of several, as `{ x := 1; y := \
@@ -90,21 +147,31 @@ const COMMANDS: [Saying; 12] = [
         ": choose by `if x = 1 then y := 1 else if x = 2 then y := 2 else y := 3`.",
     ),
     (
-        &[b"try", b"catch", b"except", b"finally", b"throw", b"raise", b"assert"],
+        &[
+            b"try", b"catch", b"except", b"finally", b"throw", b"raise", b"assert",
+        ],
         NONE,
         ": nothing fails in a run, so test first, as `if x < 9 then y := x else y := 9`.",
     ),
     (
-        &[b"import", b"include", b"using", b"from", b"package", b"module", b"require", b"extern"],
+        &[
+            b"import", b"include", b"using", b"from", b"package", b"module", b"require", b"extern",
+        ],
         NONE,
         ": a program is one text and uses no other, as `var x : L; x := 1`.",
     ),
     (
-        &[b"class", b"struct", b"record", b"object", b"new", b"enum", b"typedef"],
+        &[
+            b"class", b"struct", b"record", b"object", b"new", b"enum", b"typedef",
+        ],
         NONE,
         ": declare a variable for each field, as `var p_x : L; var p_y : L;`.",
     ),
-    (&[b"unless"], NONE, ": write `if x = 0 then y := 1 else y := 2`."),
+    (
+        &[b"unless"],
+        NONE,
+        ": write `if x = 0 then y := 1 else y := 2`.",
+    ),
     (
         &[b"assume", b"require", b"ensure", b"invariant"],
         NONE,
@@ -126,7 +193,11 @@ const SIGNS: [Saying; 10] = [
         ": subtract as often as you can, as `while 1 < r do r := r - 2` does for the remainder by \
         2.",
     ),
-    (&[b"?"], NONE, ": choose by `if a < b then x := a else x := b`."),
+    (
+        &[b"?"],
+        NONE,
+        ": choose by `if a < b then x := a else x := b`.",
+    ),
     (
         &[b"[", b"]"],
         NONE,
@@ -138,11 +209,27 @@ const SIGNS: [Saying; 10] = [
         NONE,
         ": each variable is one number with a name of its own, as `p_x`.",
     ),
-    (&[b"$", b"@"], "leave ", " out: a name has letters, digits and `_` alone, as `x_1`."),
-    (&[b"\\"], "leave ", " out: a command may go on in the next line."),
-    (&[b"~"], NONE, ": write `0 - 1 - x` for the number with each bit of `x` turned."),
+    (
+        &[b"$", b"@"],
+        "leave ",
+        " out: a name has letters, digits and `_` alone, as `x_1`.",
+    ),
+    (
+        &[b"\\"],
+        "leave ",
+        " out: a command may go on in the next line.",
+    ),
+    (
+        &[b"~"],
+        NONE,
+        ": write `0 - 1 - x` for the number with each bit of `x` turned.",
+    ),
     (&[b"**=", b"^", b"**"], NONE, ": multiply, as `x * x`."),
-    (&[b"xor", b"XOR"], NONE, ": write `1 - (a = b)` where each is 0 or 1."),
+    (
+        &[b"xor", b"XOR"],
+        NONE,
+        ": write `1 - (a = b)` where each is 0 or 1.",
+    ),
 ];
 
 /// The saying of a word or a sign in a table.

@@ -69,9 +69,26 @@ const IDLE: [&[u8]; 6] = [b"skip", b"pass", b"nop", b"noop", b"nothing", b"SKIP"
 
 /// The words that declare a variable.
 const TYPES: [&[u8]; 20] = [
-    b"let", b"const", b"local", b"auto", b"int", b"long", b"unsigned", b"float", b"double",
-    b"bool", b"boolean", b"char", b"string", b"val", b"mut", b"static", b"global", b"integer",
-    b"short", b"dim",
+    b"let",
+    b"const",
+    b"local",
+    b"auto",
+    b"int",
+    b"long",
+    b"unsigned",
+    b"float",
+    b"double",
+    b"bool",
+    b"boolean",
+    b"char",
+    b"string",
+    b"val",
+    b"mut",
+    b"static",
+    b"global",
+    b"integer",
+    b"short",
+    b"dim",
 ];
 
 /// The signs that assign, or declare, after a name.
@@ -299,7 +316,9 @@ fn is_division(look: &Look, at: usize) -> bool {
 /// Whether the value between two pieces has an operator that no expression here has.
 fn is_beyond(look: &Look, at: usize, stop: usize) -> bool {
     for place in at..stop {
-        if sign_saying(look.text(place)).is_some() || look.is(place.saturating_add(1), b"(") && look.is_name(place) {
+        if sign_saying(look.text(place)).is_some()
+            || look.is(place.saturating_add(1), b"(") && look.is_name(place)
+        {
             return true;
         }
     }
@@ -309,7 +328,11 @@ fn is_beyond(look: &Look, at: usize, stop: usize) -> bool {
 /// An assignment by another sign, of which the value begins with a piece.
 fn assigned(look: &Look, at: usize, value: usize, shape: Shape) -> Option<Found> {
     let stop = look.value_stop(value);
-    let next = if is_beyond(look, value, stop) { value } else { stop };
+    let next = if is_beyond(look, value, stop) {
+        value
+    } else {
+        stop
+    };
     Some(make_found(at, next, shape))
 }
 
@@ -408,7 +431,8 @@ fn sign(look: &Look, at: usize) -> Option<Found> {
         Sort::Number => number(piece.text, at),
         _ => {
             if look.is(at, b".") && look.has_sort(next, Sort::Number) {
-                let sentence = "numbers are whole, so count in a smaller unit, as 50 cents for .50.";
+                let sentence =
+                    "numbers are whole, so count in a smaller unit, as 50 cents for .50.";
                 return Some(make_found(at, next, Shape::Tell(sentence)));
             }
             if is_foreign_operator(look, at) {

@@ -112,7 +112,11 @@ fn has_late_else(look: &Look, stop: usize) -> bool {
 /// A `letvar` without its `in`.
 fn unbound(look: &Look, at: usize) -> Option<Found> {
     let sign = at.saturating_add(2);
-    let sign = if look.is(sign, b":") { sign.saturating_add(2) } else { sign };
+    let sign = if look.is(sign, b":") {
+        sign.saturating_add(2)
+    } else {
+        sign
+    };
     if !look.is(sign, b":=") && !look.is(sign, b"=") {
         return None;
     }
@@ -120,7 +124,8 @@ fn unbound(look: &Look, at: usize) -> Option<Found> {
     if look.is(stop, b"in") {
         return None;
     }
-    let rest = ", and { } around the commands that use it, as in `letvar y := 1 in { x := y; z := y \
+    let rest =
+        ", and { } around the commands that use it, as in `letvar y := 1 in { x := y; z := y \
         }`.";
     let shape = Shape::Say("put `in` after the value of this ", rest);
     Some(make_found(at, stop, shape))
@@ -163,7 +168,10 @@ fn unguarded(look: &Look, at: usize, word: &'static str) -> Option<Found> {
         return None;
     }
     let shape = if word.len() == 2 {
-        Shape::Say("put `do` after the guard of this ", ", as in `while x < 9 do { x := x + 1 }`.")
+        Shape::Say(
+            "put `do` after the guard of this ",
+            ", as in `while x < 9 do { x := x + 1 }`.",
+        )
     } else {
         let rest = ", as in `if x < 1 then { y := 1 } else y := 2`.";
         Shape::Say("put `then` after the guard of this ", rest)
@@ -192,5 +200,9 @@ pub(crate) fn structure_at(look: &Look, at: usize) -> Option<Found> {
 
 /// An `if` at a piece that has no `else`.
 pub(crate) fn halved_at(look: &Look, at: usize) -> Option<Found> {
-    if look.is(at, b"if") { halved(look, at) } else { None }
+    if look.is(at, b"if") {
+        halved(look, at)
+    } else {
+        None
+    }
 }

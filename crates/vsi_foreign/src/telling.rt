@@ -21,7 +21,7 @@ fn put_quoted(words: &mut Vec<u8>, text: &[u8]) -> Result<(), AllocError> {
 }
 
 /// The part of a text that pieces are.
-fn part<'a>(source: &'a [u8], look: &Look<'a, '_>, first: usize, next: usize) -> &'a [u8] {
+fn part<'s>(source: &'s [u8], look: &Look, first: usize, next: usize) -> &'s [u8] {
     let (Some(piece), Some(last)) = (look.pieces.get(first), next.checked_sub(1)) else {
         return b"";
     };
@@ -69,8 +69,11 @@ fn put_value(
 }
 
 /// The text, where it could be written and is a program.
-fn program_if(alloc: Global, text: Vec<u8>, is_written: bool) -> Result<Option<Vec<u8>>, AllocError>
-{
+fn program_if(
+    alloc: Global,
+    text: Vec<u8>,
+    is_written: bool,
+) -> Result<Option<Vec<u8>>, AllocError> {
     if is_written && text.len() <= LONGEST {
         program_alone(alloc, text)
     } else {
@@ -94,7 +97,11 @@ fn assignment(
     if !operator.is_empty() {
         text.extend_from_slice(name)?;
         text.extend_from_slice(operator)?;
-        level = if matches!(operator, [_, b'*', ..]) { 3 } else { 2 };
+        level = if matches!(operator, [_, b'*', ..]) {
+            3
+        } else {
+            2
+        };
     }
     let is_written = put_value(alloc, &mut text, look, value, found.next, level)?;
     program_if(alloc, text, is_written)
@@ -102,7 +109,9 @@ fn assignment(
 
 /// Names for a value that is kept, for what is left of one, and for how often it was taken.
 const KEPT: [&[u8]; 4] = [b"t", b"old", b"kept", b"former"];
+
 const LEFT: [&[u8]; 4] = [b"r", b"left", b"rest", b"remainder"];
+
 const TIMES: [&[u8]; 4] = [b"q", b"times", b"count", b"quotient"];
 
 /// The first of these names that no piece is.
@@ -414,4 +423,3 @@ pub(crate) fn put_found(
     }
     put_plain(words, look, found)
 }
-

@@ -202,7 +202,8 @@ fn of_source(
     let mut words = Vec::new(alloc);
     put_source(alloc, &mut words, lattice, source, error)?;
     if let Some(at) = misread_at(error) {
-        put_further(alloc, &mut words, source, at)?;
+        let classes = class_names(alloc, lattice)?;
+        put_further(alloc, &mut words, source, at, &classes)?;
     }
     Ok(words)
 }

@@ -58,12 +58,26 @@ fn put_no_class(
 
 /// The usual names of the lowest class.
 const LOWEST: [&[u8]; 8] = [
-    b"low", b"lo", b"public", b"open", b"bottom", b"untrusted", b"anyone", b"everyone",
+    b"low",
+    b"lo",
+    b"public",
+    b"open",
+    b"bottom",
+    b"untrusted",
+    b"anyone",
+    b"everyone",
 ];
 
 /// The usual names of the highest class.
 const HIGHEST: [&[u8]; 8] = [
-    b"high", b"hi", b"secret", b"private", b"confidential", b"top", b"restricted", b"sensitive",
+    b"high",
+    b"hi",
+    b"secret",
+    b"private",
+    b"confidential",
+    b"top",
+    b"restricted",
+    b"sensitive",
 ];
 
 /// Whether a name is one of these, in capital or small letters.
