@@ -2,7 +2,8 @@
 
 ghost use Rattle.std.specs.Prelude.{◌≡◌, ◌++◌, ℕ, IfOk, IfSome, List, codes, true};
 ghost use Rattle.vsi_syntax.specs.ProgramView.{whole};
-ghost use Rattle.vsi_syntax.specs.Tree.{Named, Tree};
+ghost use Rattle.vsi_syntax.specs.CommandView.{body_of, command};
+ghost use Rattle.vsi_syntax.specs.Tree.{Assign, Done, Named, Then, Tree};
 ghost use Rattle.vsi_foreign.specs.Offered.{IsExpression, IsProgramText, IsTreeOf, assigning};
 
 use std::alloc::{AllocError, Global};
@@ -34,16 +35,39 @@ pub(crate) fn is_program(alloc: Global, text: &[u8]) -> Result<bool, AllocError>
     }
 }
 
-/// Whether a program is one assignment and nothing else.
-fn is_assignment<'a>(program: &Program<'a>) -> bool
-    ensures { result ≡ true → (name : Named) × ((value : Tree) × (whole program.now ≡ assigning name value)) }
+/// Whether a command is an assignment.
+fn is_assignment<'a>(written: &Stmt<'a>) -> bool
+    ensures { result ≡ true → (name : Named) × ((value : Tree) × (command written.now
+        ≡ Assign name value)) }
 {
-    if !program.globals().is_empty() {
+    let Stmt::Assign(_name, _value) = written else {
         return false;
-    }
-    match program.body() {
-        [Stmt::Assign(_, _)] => true,
-        _ => false,
+    };
+    true
+}
+
+/// Whether commands are one assignment.
+fn is_one_assignment<'a>(body: &[Stmt<'a>]) -> bool
+    ensures { result ≡ true → (name : Named) × ((value : Tree) × (body_of body.now
+        ≡ Then (Assign name value) Done)) }
+{
+    let [only] = body else {
+        return false;
+    };
+    is_assignment(only)
+}
+
+/// Whether a program is one assignment and nothing else.
+fn is_alone<'a>(program: &Program<'a>) -> bool
+    ensures { result ≡ true → (name : Named) × ((value : Tree) × (whole program.now
+        ≡ assigning name value)) }
+{
+    let globals = program.globals();
+    let body = program.body();
+    if globals.is_empty() {
+        is_one_assignment(body)
+    } else {
+        false
     }
 }
 
@@ -53,7 +77,7 @@ fn assigns(alloc: Global, text: &[u8]) -> Result<bool, AllocError>
         (name : Named) × ((value : Tree) × IsTreeOf text.now (assigning name value))) }
 {
     match program_of(alloc, text)? {
-        Some(program) => Ok(is_assignment(&program)),
+        Some(program) => Ok(is_alone(&program)),
         None => Ok(false),
     }
 }
