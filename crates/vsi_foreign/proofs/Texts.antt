@@ -20,7 +20,7 @@ pub tree_from : (text : List ℕ) (ts : List Token) (tree : Whole) → length te
 tree_from text ts tree short cut program written =
     record { short = short; tokens = pieces ts; cut = cut; program = program; written = written ∙ words_at ts }
 
--- What is said of a tree holds of an equal one.
+-- An equal tree is that of the text too.
 pub same_tree : (text : List ℕ) (tree other : Whole) → tree ≡ other → IsTreeOf text tree → IsTreeOf text other
 same_tree text tree other same h = subst (IsTreeOf text) same h
 

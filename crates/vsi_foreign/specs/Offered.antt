@@ -1,4 +1,4 @@
--- What is offered in place of a part of a text.
+-- Texts that are offered in place of a part of another text.
 use Rattle.std.specs.Prelude.{◌≡◌, ℕ, ◌≤◌, List, [], ◌++◌, length, map, codes}
 use Rattle.vsi_syntax.specs.Limits.{max_text_length}
 use Rattle.vsi_syntax.specs.Cut.{Piece, IsCut}

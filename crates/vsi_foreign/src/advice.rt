@@ -1,4 +1,4 @@
-//! What is said of the constructs of other languages in a text.
+//! Sentences about the constructs of other languages in a text.
 
 use crate::look::Look;
 use crate::pieces::pieces_of;
@@ -17,6 +17,10 @@ const LONGEST: usize = 40;
 /// The number of the last piece that begins at a place of the text or before it.
 fn piece_number(look: &Look, at: usize) -> usize {
     let mut number: usize = 0;
+    let last = look.pieces.len().saturating_sub(1);
+    if at >= look.stop(last) {
+        return look.pieces.len();
+    }
     for place in 0..look.pieces.len() {
         if look.pieces[place].at > at {
             return number;
@@ -26,7 +30,7 @@ fn piece_number(look: &Look, at: usize) -> usize {
     number
 }
 
-/// What is found at pieces, in their order; none begins within another one.
+/// The constructs of other languages in their order; none begins within another one.
 fn all_shapes(alloc: Global, look: &Look) -> Result<Vec<Found>, AllocError> {
     let mut shapes = Vec::new(alloc);
     let mut next: usize = 0;
@@ -42,7 +46,7 @@ fn all_shapes(alloc: Global, look: &Look) -> Result<Vec<Found>, AllocError> {
     Ok(shapes)
 }
 
-/// What is missing, or one too many, in a text.
+/// The words and signs that are missing, or one too many.
 fn all_structures(alloc: Global, look: &Look) -> Result<Vec<Found>, AllocError> {
     let mut found = Vec::new(alloc);
     for at in 0..look.pieces.len() {
@@ -56,7 +60,7 @@ fn all_structures(alloc: Global, look: &Look) -> Result<Vec<Found>, AllocError> 
     Ok(found)
 }
 
-/// The last of what is found that a piece belongs to, or comes right after.
+/// The last construct that a piece belongs to, or comes right after.
 fn covering(shapes: &[Found], piece: usize) -> Option<Found> {
     let mut last = None;
     for found in shapes {
@@ -91,7 +95,7 @@ pub fn put_hint(
     Ok(true)
 }
 
-/// What makes two shapes the same advice.
+/// Two constructs with the same key have the same advice.
 fn key(look: &Look, found: &Found) -> (u8, usize) {
     match found.shape {
         Shape::Say(before, after) => (
@@ -206,7 +210,7 @@ fn no_classes<'a>(
     let mut names = Vec::new(alloc);
     for at in 0..look.pieces.len() {
         let name = look.text(at);
-        if !look.is_class(at) || classes.contains(&name) || names.contains(&name) {
+        if !look.is_class(at) || (&*classes).contains(&name) || names.contains(&name) {
             continue;
         }
         if names.len() < MOST {
@@ -242,9 +246,42 @@ fn is_said(shapes: &[Found], at: usize) -> bool {
         if found.first <= at && at < found.next {
             match found.shape {
                 Shape::Say(_, _) | Shape::Tell(_) | Shape::Put(_, _) => return true,
-                Shape::Hyphen | Shape::Keyword => return true,
+                Shape::Hyphen | Shape::Keyword | Shape::Listed | Shape::Initial => return true,
                 _ => {}
             }
+        }
+    }
+    false
+}
+
+/// Whether a name is within pieces.
+fn is_within(look: &Look, found: &Found, name: &[u8]) -> bool {
+    for at in found.first..found.next {
+        if look.is(at, name) {
+            return true;
+        }
+    }
+    false
+}
+
+/// Whether a name is a new one for a name that is none here.
+fn is_renaming(old: &[u8], name: &[u8]) -> bool {
+    match name.strip_prefix(old) {
+        Some(rest) => rest.first() == Some(&b'_'),
+        None => false,
+    }
+}
+
+/// Whether a name is declared once the hints of a text are followed.
+fn gets_declared(look: &Look, shapes: &[Found], name: &[u8]) -> bool {
+    for found in shapes {
+        let gets = match found.shape {
+            Shape::Say(_, _) | Shape::Listed | Shape::Initial => is_within(look, found, name),
+            Shape::Hyphen | Shape::Keyword => is_renaming(look.text(found.first), name),
+            _ => false,
+        };
+        if gets {
+            return true;
         }
     }
     false
@@ -268,9 +305,10 @@ fn undeclared<'a>(
         {
             continue;
         }
-        if names.len() < MOST && !names.contains(&name) {
-            names.push(name)?;
+        if names.len() >= MOST || names.contains(&name) || gets_declared(look, shapes, name) {
+            continue;
         }
+        names.push(name)?;
     }
     Ok(names)
 }

@@ -182,7 +182,13 @@ impl<'a, 't> Look<'a, 't> {
 
     /// Whether a piece is a name that is read or assigned to, and no class.
     pub(crate) fn is_variable(&self, at: usize) -> bool {
-        self.is_operand(at) && self.is_name(at) && !self.is_before(at, b":")
+        if !self.is_operand(at) || !self.is_name(at) || self.is_before(at, b":") {
+            return false;
+        }
+        match at.checked_sub(1) {
+            Some(before) => !self.is_operand(before) && !self.is_operand(at.saturating_add(1)),
+            None => !self.is_operand(at.saturating_add(1)),
+        }
     }
 
     /// Whether an operand ends with a piece.

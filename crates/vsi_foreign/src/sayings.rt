@@ -3,7 +3,7 @@
 /// Words or signs of other languages, and a sentence: one of them comes between its two parts.
 pub(crate) type Saying = (&'static [&'static [u8]], &'static str, &'static str);
 
-/// What begins most sentences.
+/// The beginning of most sentences.
 const NONE: &str = "there is no ";
 
 /// The words that call something.

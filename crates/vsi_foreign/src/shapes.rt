@@ -1,4 +1,4 @@
-//! What a piece of another language's text begins, and what replaces it.
+//! The constructs of other languages, and the pieces that each takes.
 
 use crate::expression::{FALSE, TRUE};
 use crate::forms::{form_before, form_between};
@@ -7,7 +7,7 @@ use crate::numbers::number_of;
 use crate::pieces::Sort;
 use crate::sayings::{Saying, call_saying, command_saying, sign_saying};
 
-/// What some pieces are, and so what is said of them.
+/// The construct that some pieces are.
 #[derive(Clone, Copy)]
 pub(crate) enum Shape {
     /// Nothing replaces the first piece: a sentence with it between two parts.
@@ -132,7 +132,7 @@ fn declaring_word(look: &Look, at: usize) -> Option<Found> {
     }
     let word = look.text(at);
     if TYPES.contains(&word) && look.is(at.saturating_add(2), b":") {
-        let after = at.saturating_add(4);
+        let after = at.saturating_add(5);
         return Some(make_found(at, look.value_stop(after), Shape::Initial));
     }
     if TYPES.contains(&word) && look.is_name(at.saturating_add(1)) {
@@ -200,7 +200,7 @@ fn command_word(look: &Look, at: usize) -> Option<Found> {
     Some(make_found(at, stop, said(saying)))
 }
 
-/// What a word begins.
+/// The construct that a word begins.
 fn word(look: &Look, at: usize) -> Option<Found> {
     let text = look.text(at);
     if look.is_declared(text) || ASSIGNING.contains(&look.text(at.saturating_add(1))) {
@@ -262,7 +262,10 @@ fn declaration(look: &Look, at: usize) -> Option<Found> {
     }
     let after = sign.saturating_add(2);
     match look.text(after) {
-        [b'='] | [b':', b'='] => Some(make_found(at, look.value_stop(after), Shape::Initial)),
+        [b'='] | [b':', b'='] => {
+            let value = after.saturating_add(1);
+            Some(make_found(at, look.value_stop(value), Shape::Initial))
+        }
         [b';'] => None,
         [b','] => {
             let rest = " declares one variable with its class, as in `var x : L; var y : L;`.";
@@ -395,9 +398,9 @@ fn is_foreign_operator(look: &Look, at: usize) -> bool {
     }
 }
 
-/// What a character outside of ASCII is.
-fn strange(text: &[u8]) -> Shape {
-    Shape::Tell(match text {
+/// The sentence for a character outside of ASCII, where it is a usual one.
+fn strange(text: &[u8]) -> Option<Shape> {
+    let sentence = match text {
         [0xE2, 0x80, 0x90..=0x95] | [0xE2, 0x88, 0x92] => {
             "write `-` for this dash, as in `x - 1`: outside of comments a text is ASCII."
         }
@@ -411,19 +414,18 @@ fn strange(text: &[u8]) -> Shape {
         [0xE2, 0x89, 0xA5] => "write `1 - (a < b)` where `a` is to be `b` at least.",
         [0xE2, 0x89, 0xA0] => "write `1 - (a = b)` where `a` and `b` are to differ.",
         [0xC3, 0x97] | [0xC2, 0xB7] => "write `*` for the product, as in `2 * x`.",
-        _ => {
-            "write ASCII, as `x_1`: letters with accents and other signs are for comments only."
-        }
-    })
+        _ => return None,
+    };
+    Some(Shape::Tell(sentence))
 }
 
-/// What a sign, a number, a text or a comment begins.
+/// The construct that a sign, a number, a text or a comment begins.
 fn sign(look: &Look, at: usize) -> Option<Found> {
     let next = at.saturating_add(1);
     let piece = look.pieces.get(at)?;
     match piece.sort {
         Sort::Comment => Some(make_found(at, next, Shape::Comment)),
-        Sort::Strange => Some(make_found(at, next, strange(piece.text))),
+        Sort::Strange => Some(make_found(at, next, strange(piece.text)?)),
         Sort::Quoted => {
             let rest = ": each variable holds a whole number, as `x := 1`.";
             Some(make_found(at, next, Shape::Say("there are no texts as ", rest)))
@@ -448,22 +450,19 @@ fn sign(look: &Look, at: usize) -> Option<Found> {
 /// A number that the language writes otherwise, or can't.
 fn number(text: &[u8], at: usize) -> Option<Found> {
     let next = at.saturating_add(1);
+    if text.contains(&b'.') {
+        let before = "numbers are whole, so count in a smaller unit than ";
+        return Some(make_found(at, next, Shape::Say(before, ", as 150 cents for 1.50.")));
+    }
     for byte in text {
-        if byte.is_ascii_digit() {
-            continue;
+        if !byte.is_ascii_digit() && number_of(text).is_some() {
+            return Some(make_found(at, next, Shape::Number));
         }
-        let shape = if number_of(text).is_some() {
-            Shape::Number
-        } else {
-            let rest = ", as 150 cents for 1.50.";
-            Shape::Say("numbers are whole, so count in a smaller unit than ", rest)
-        };
-        return Some(make_found(at, next, shape));
     }
     None
 }
 
-/// What a piece begins that the language lacks.
+/// The construct of another language that a piece begins.
 pub(crate) fn shape_at(look: &Look, at: usize) -> Option<Found> {
     if look.is(at, b"var") {
         return declaration(look, at);

@@ -145,12 +145,12 @@ fn halved(look: &Look, at: usize) -> Option<Found> {
         let shape = Shape::Say("put { } around several commands in a branch of this ", rest);
         return Some(make_found(at, stop, shape));
     }
-    let stop = if look.is(stop, b";") || look.is(stop, b"}") && !look.is(branch, b"{") {
+    let after = if look.is(stop, b";") || look.is(stop, b"}") && !look.is(branch, b"{") {
         stop.saturating_add(1)
     } else {
         stop
     };
-    if ELSE.contains(&look.text(stop)) {
+    if ELSE.contains(&look.text(after)) {
         return None;
     }
     let rest = " an `else`, which may do nothing, as in `if x < 1 then x := 1 else x := x`.";

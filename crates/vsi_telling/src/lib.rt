@@ -201,6 +201,9 @@ fn of_source(
 ) -> Result<Vec<u8>, AllocError> {
     let mut words = Vec::new(alloc);
     put_source(alloc, &mut words, lattice, source, error)?;
+    if hints::file_hint(source).is_some() {
+        return Ok(words);
+    }
     if let Some(at) = misread_at(error) {
         let classes = class_names(alloc, lattice)?;
         put_further(alloc, &mut words, source, at, &classes)?;
