@@ -315,7 +315,7 @@ fn put_reason(words: &mut Vec<u8>, look: &Look, shape: Shape) -> Result<(), Allo
         Shape::Assign(_) => b": `:=` assigns, and `=` compares.",
         Shape::Compound(_) | Shape::Step(_) => b": a command assigns by `:=` alone.",
         Shape::Swap => b": a command assigns to one variable.",
-        Shape::Divide => b": subtract as often as you can, where neither is negative.",
+        Shape::Divide => b": subtract as often as you can, for a divisor above 0.",
         Shape::Number => b": a number has digits alone.",
         Shape::Hyphen => b": a name has letters, digits and `_` alone.",
         Shape::Keyword => b": a keyword is no name.",
