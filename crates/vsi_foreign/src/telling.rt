@@ -1,5 +1,8 @@
 //! Sentences about constructs of other languages.
 
+ghost use Rattle.std.specs.Prelude.{IfOk, IfSome};
+ghost use Rattle.vsi_foreign.specs.Offered.{IsExpression, IsProgramText};
+
 use crate::expression::{read_all, unread};
 use crate::forms::{form_between, pattern_of};
 use crate::look::Look;
@@ -69,11 +72,9 @@ fn put_value(
 }
 
 /// The text, where it could be written and is a program.
-fn program_if(
-    alloc: Global,
-    text: Vec<u8>,
-    is_written: bool,
-) -> Result<Option<Vec<u8>>, AllocError> {
+fn program_if(alloc: Global, text: Vec<u8>, is_written: bool) -> Result<Option<Vec<u8>>, AllocError>
+    ensures { IfOk result (λ found. IfSome found (λ text. IsProgramText text.items)) }
+{
     if is_written && text.len() <= LONGEST {
         program_alone(alloc, text)
     } else {
@@ -88,7 +89,9 @@ fn assignment(
     found: &Found,
     value: usize,
     operator: &[u8],
-) -> Result<Option<Vec<u8>>, AllocError> {
+) -> Result<Option<Vec<u8>>, AllocError>
+    ensures { IfOk result (λ found. IfSome found (λ text. IsProgramText text.items)) }
+{
     let name = look.text(found.first);
     let mut text = Vec::new(alloc);
     text.extend_from_slice(name)?;
@@ -129,7 +132,9 @@ fn fresh(look: &Look, names: &[&'static [u8]]) -> &'static [u8] {
 }
 
 /// The commands that assign two values to two names at once.
-fn swap(alloc: Global, look: &Look, found: &Found) -> Result<Option<Vec<u8>>, AllocError> {
+fn swap(alloc: Global, look: &Look, found: &Found) -> Result<Option<Vec<u8>>, AllocError>
+    ensures { IfOk result (λ found. IfSome found (λ text. IsProgramText text.items)) }
+{
     let first = found.first.saturating_add(4);
     let comma = look.value_stop(first);
     if !look.is(comma, b",") {
@@ -163,7 +168,9 @@ const QUOTIENT: &[u8] =
 const REMAINDER: &[u8] = b"letvar R := P in { while Q - 1 < R do R := R - Q; N := R }";
 
 /// The commands that divide an operand by another one, as often as it can be taken away.
-fn division(alloc: Global, look: &Look, found: &Found) -> Result<Option<Vec<u8>>, AllocError> {
+fn division(alloc: Global, look: &Look, found: &Found) -> Result<Option<Vec<u8>>, AllocError>
+    ensures { IfOk result (λ found. IfSome found (λ text. IsProgramText text.items)) }
+{
     let at = found.first;
     let pattern = match look.text(at.saturating_add(3)) {
         [b'/', ..] | [b'd' | b'D', ..] => QUOTIENT,
@@ -189,7 +196,9 @@ fn step(
     look: &Look,
     found: &Found,
     operator: &str,
-) -> Result<Option<Vec<u8>>, AllocError> {
+) -> Result<Option<Vec<u8>>, AllocError>
+    ensures { IfOk result (λ found. IfSome found (λ text. IsProgramText text.items)) }
+{
     let name = look.text(found.first);
     let mut text = Vec::new(alloc);
     text.extend_from_slice(name)?;
@@ -200,7 +209,9 @@ fn step(
 }
 
 /// The number that a piece is, in the digits of this language.
-fn number(alloc: Global, look: &Look, found: &Found) -> Result<Option<Vec<u8>>, AllocError> {
+fn number(alloc: Global, look: &Look, found: &Found) -> Result<Option<Vec<u8>>, AllocError>
+    ensures { IfOk result (λ found. IfSome found (λ text. IsExpression text.items)) }
+{
     let Some(value) = number_of(look.text(found.first)) else {
         return Ok(None);
     };
@@ -210,7 +221,9 @@ fn number(alloc: Global, look: &Look, found: &Found) -> Result<Option<Vec<u8>>, 
 }
 
 /// A name for one that is none here.
-fn renamed(alloc: Global, look: &Look, found: &Found) -> Result<Option<Vec<u8>>, AllocError> {
+fn renamed(alloc: Global, look: &Look, found: &Found) -> Result<Option<Vec<u8>>, AllocError>
+    ensures { IfOk result (λ found. IfSome found (λ text. IsExpression text.items)) }
+{
     let mut text = Vec::new(alloc);
     text.extend_from_slice(look.text(found.first))?;
     text.extend_from_slice(b"_")?;
@@ -266,7 +279,9 @@ fn valueless(alloc: Global, look: &Look, found: &Found) -> Result<Option<Vec<u8>
 }
 
 /// The expression that pieces mean, if it is one and short.
-fn value(alloc: Global, look: &Look, found: &Found) -> Result<Option<Vec<u8>>, AllocError> {
+fn value(alloc: Global, look: &Look, found: &Found) -> Result<Option<Vec<u8>>, AllocError>
+    ensures { IfOk result (λ found. IfSome found (λ text. IsExpression text.items)) }
+{
     match value_text(alloc, look, found.first, found.next, 0)? {
         Some(text) if text.len() <= LONGEST => expression_alone(alloc, text),
         _ => Ok(None),
