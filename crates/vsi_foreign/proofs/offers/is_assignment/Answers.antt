@@ -8,5 +8,5 @@ use Rattle.vsi_foreign.proofs.offers.is_assignment.Goals as goal
 pub returns : goal.returns
 returns c = λ _.
     let whole : command c.args.written.now ≡ Assign (view.named c.in-Assign._name) (view.tree c.in-Assign._value) =
-        search (rules, the_lemmas) in
+    search (rules, the_lemmas) in
     (view.named c.in-Assign._name, (view.tree c.in-Assign._value, whole))
