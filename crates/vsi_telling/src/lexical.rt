@@ -3,8 +3,9 @@
 use crate::hints::file_hint;
 use crate::names::{Part, part_of, put_parts};
 use crate::operands::{put_division, put_operator};
-use std::alloc::AllocError;
-use vsi_syntax::LexError;
+use std::alloc::{AllocError, Global};
+use vsi_foreign::put_hint;
+use vsi_syntax::{LexError, Span};
 
 /// The largest number of bytes of a name.
 const LONGEST_NAME: usize = 32;
@@ -65,7 +66,12 @@ fn byte_hint(byte: u8, next: Option<u8>) -> &'static str {
 }
 
 /// Adds the explanation of a byte.
-fn put_byte(words: &mut Vec<u8>, source: &[u8], at: usize) -> Result<(), AllocError> {
+fn put_byte(
+    alloc: Global,
+    words: &mut Vec<u8>,
+    source: &[u8],
+    at: usize,
+) -> Result<(), AllocError> {
     let Some(byte) = source.get(at).copied() else {
         return Ok(());
     };
@@ -77,6 +83,9 @@ fn put_byte(words: &mut Vec<u8>, source: &[u8], at: usize) -> Result<(), AllocEr
     put_parts(words, &parts)?;
     if let Some(hint) = file_hint(source) {
         return words.extend_from_slice(hint.as_bytes());
+    }
+    if put_hint(alloc, words, source, at)? {
+        return Ok(());
     }
     if put_operator(words, source, sign_of(byte, next), at)? {
         return Ok(());
@@ -90,12 +99,21 @@ fn put_byte(words: &mut Vec<u8>, source: &[u8], at: usize) -> Result<(), AllocEr
 }
 
 /// Adds the explanation of a word that is none.
-fn put_word(words: &mut Vec<u8>, word: &[u8]) -> Result<(), AllocError> {
+fn put_word(
+    alloc: Global,
+    words: &mut Vec<u8>,
+    source: &[u8],
+    span: Span,
+) -> Result<(), AllocError> {
+    let word = part_of(source, span);
     let parts = [
         Part::Quoted(word),
         Part::Text(b" is no name, keyword or number.\n"),
     ];
     put_parts(words, &parts)?;
+    if put_hint(alloc, words, source, span.start)? {
+        return Ok(());
+    }
     match word.first() {
         Some(b'0'..=b'9') => words.extend_from_slice(
             b"Hint: a number is digits alone, without `_` and letters, and a name begins with a \
@@ -117,6 +135,7 @@ fn put_word(words: &mut Vec<u8>, word: &[u8]) -> Result<(), AllocError> {
 
 /// Adds the explanation of a text without tokens.
 pub(crate) fn put_words(
+    alloc: Global,
     words: &mut Vec<u8>,
     source: &[u8],
     error: LexError,
@@ -127,8 +146,8 @@ pub(crate) fn put_words(
             b"The text has more than 1048576 bytes. Hint: check that this is the file that you \
             meant.\n",
         ),
-        LexError::BadByte(at) => put_byte(words, source, at),
-        LexError::BadWord(span) => put_word(words, part_of(source, span)),
+        LexError::BadByte(at) => put_byte(alloc, words, source, at),
+        LexError::BadWord(span) => put_word(alloc, words, source, span),
         LexError::BadNumber(_) => words.extend_from_slice(
             b"The largest number is 9223372036854775807. Hint: use a smaller one.\n",
         ),

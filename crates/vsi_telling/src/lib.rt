@@ -30,8 +30,10 @@ use std::alloc::{AllocError, Global};
 use vsi_caret::{Manner, put_place_in, put_safe, put_text};
 use vsi_compiler::CompileError;
 use vsi_diagnostics::Fault;
+use vsi_foreign::put_further;
 use vsi_image::Image;
 use vsi_lattice::Lattice;
+use vsi_scope::ScopeError;
 use vsi_store::StoreError;
 use vsi_syntax::{LexError, ParseError, Span};
 
@@ -173,11 +175,20 @@ fn put_source(
     error: &CompileError,
 ) -> Result<(), AllocError> {
     match error {
-        CompileError::Lex(inner) => lexical::put_words(words, source, *inner),
+        CompileError::Lex(inner) => lexical::put_words(alloc, words, source, *inner),
         CompileError::Parse(inner) => syntactic::put_tree(alloc, words, source, inner),
         CompileError::Scope(inner) => scoping::put_scopes(alloc, words, lattice, source, *inner),
         CompileError::Flow(_) => words.extend_from_slice(b"A flow breaks the policy.\n"),
         CompileError::Memory => Err(AllocError),
+    }
+}
+
+/// The place of a refusal after which a text may have constructs of other languages.
+fn misread_at(error: &CompileError) -> Option<usize> {
+    match error {
+        CompileError::Lex(_) | CompileError::Parse(_) => Some(place_of(error)?.start),
+        CompileError::Scope(ScopeError::Unbound(span)) => Some(span.start),
+        _ => None,
     }
 }
 
@@ -190,6 +201,13 @@ fn of_source(
 ) -> Result<Vec<u8>, AllocError> {
     let mut words = Vec::new(alloc);
     put_source(alloc, &mut words, lattice, source, error)?;
+    if hints::file_hint(source).is_some() {
+        return Ok(words);
+    }
+    if let Some(at) = misread_at(error) {
+        let classes = class_names(alloc, lattice)?;
+        put_further(alloc, &mut words, source, at, &classes)?;
+    }
     Ok(words)
 }
 

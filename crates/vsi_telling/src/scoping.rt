@@ -10,7 +10,8 @@ use crate::names::{
 };
 use crate::nearest::{put_nearest, put_nearest_or};
 use std::alloc::{AllocError, Global};
-use vsi_lattice::Lattice;
+use vsi_foreign::put_hint;
+use vsi_lattice::{Classes, Lattice};
 use vsi_scope::ScopeError;
 use vsi_syntax::{Kind, Span, Token};
 
@@ -55,6 +56,74 @@ fn put_no_class(
     )
 }
 
+/// The usual names of the lowest class.
+const LOWEST: [&[u8]; 8] = [
+    b"low",
+    b"lo",
+    b"public",
+    b"open",
+    b"bottom",
+    b"untrusted",
+    b"anyone",
+    b"everyone",
+];
+
+/// The usual names of the highest class.
+const HIGHEST: [&[u8]; 8] = [
+    b"high",
+    b"hi",
+    b"secret",
+    b"private",
+    b"confidential",
+    b"top",
+    b"restricted",
+    b"sensitive",
+];
+
+/// Whether a name is one of these, in capital or small letters.
+fn is_among(names: &[&[u8]], name: &[u8]) -> bool {
+    for other in names {
+        if other.eq_ignore_ascii_case(name) {
+            return true;
+        }
+    }
+    false
+}
+
+/// The class that a usual name of another policy means, and which one of the lattice that is.
+fn usual<'l>(lattice: &'l Lattice, name: &[u8]) -> Option<(&'l [u8], &'static [u8])> {
+    if is_among(&LOWEST, name) {
+        return Some((lattice.name(lattice.bottom()), b"lowest"));
+    }
+    if is_among(&HIGHEST, name) {
+        return Some((lattice.name(lattice.top()), b"highest"));
+    }
+    None
+}
+
+/// Adds which class a usual name of another policy means.
+fn put_usual<'w>(
+    words: &mut Vec<u8>,
+    name: &'w [u8],
+    class: &'w [u8],
+    rank: &'w [u8],
+) -> Result<(), AllocError> {
+    put_parts(
+        words,
+        &[
+            Part::Text(b"The lattice has no class "),
+            Part::Quoted(name),
+            Part::Text(b".\nHint: write "),
+            Part::Quoted(class),
+            Part::Text(b" in place of "),
+            Part::Quoted(name),
+            Part::Text(b": it is the "),
+            Part::Text(rank),
+            Part::Text(b" class of the lattice file.\n"),
+        ],
+    )
+}
+
 /// Adds the explanation of a class that the lattice lacks.
 fn put_class(
     alloc: Global,
@@ -62,6 +131,9 @@ fn put_class(
     lattice: &Lattice,
     name: &[u8],
 ) -> Result<(), AllocError> {
+    if let Some((class, rank)) = usual(lattice, name) {
+        return put_usual(words, name, class, rank);
+    }
     let classes = class_names(alloc, lattice)?;
     put_no_class(alloc, words, name, &classes)
 }
@@ -133,10 +205,14 @@ fn put_unbound(
     words: &mut Vec<u8>,
     source: &[u8],
     tokens: &[Token],
-    name: &[u8],
+    span: Span,
 ) -> Result<(), AllocError> {
+    let name = part_of(source, span);
     put_word_between(words, b"", name, b" isn't declared here.\n")?;
     let Some(local) = declaration(tokens, Kind::Letvar, name) else {
+        if put_hint(alloc, words, source, span.start)? {
+            return Ok(());
+        }
         return put_choices(alloc, words, tokens, name);
     };
     put_parts(
@@ -198,7 +274,7 @@ fn put_name(
     if is_declared {
         return put_duplicate(words, source, &tokens, name);
     }
-    put_unbound(alloc, words, source, &tokens, name)
+    put_unbound(alloc, words, source, &tokens, span)
 }
 
 /// Adds the explanation of a program whose names, number of declarations or size is refused.

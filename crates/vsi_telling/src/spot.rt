@@ -27,6 +27,15 @@ impl<'a, 't> Spot<'a, 't> {
         self.tokens.get(self.at).copied()
     }
 
+    /// Where the token at the place begins in the text, or where the last one ends.
+    pub(crate) fn place(&self) -> usize {
+        match (self.here(), self.before(1)) {
+            (Some(token), _) => token.span.start,
+            (None, Some(token)) => token.span.stop,
+            (None, None) => 0,
+        }
+    }
+
     /// The token so many in front of it.
     pub(crate) fn before(&self, count: usize) -> Option<Token<'a>> {
         let at = self.at.checked_sub(count)?;

@@ -1,0 +1,360 @@
+//! Sentences about the constructs of other languages in a text.
+
+use crate::look::Look;
+use crate::pieces::pieces_of;
+use crate::shapes::{Found, Shape, shape_at};
+use crate::structure::{halved_at, structure_at};
+use crate::telling::put_found;
+use std::alloc::{AllocError, Global};
+use vsi_syntax::put_place;
+
+/// How many further places of a text are named at most.
+const MOST: usize = 12;
+
+/// How many bytes of a name are shown at most.
+const LONGEST: usize = 40;
+
+/// The number of the last piece that begins at a place of the text or before it.
+fn piece_number(look: &Look, at: usize) -> usize {
+    let mut number: usize = 0;
+    let last = look.pieces.len().saturating_sub(1);
+    if at >= look.stop(last) {
+        return look.pieces.len();
+    }
+    for place in 0..look.pieces.len() {
+        if look.pieces[place].at > at {
+            return number;
+        }
+        number = place;
+    }
+    number
+}
+
+/// The constructs of other languages in their order; none begins within another one.
+fn all_shapes(alloc: Global, look: &Look) -> Result<Vec<Found>, AllocError> {
+    let mut shapes = Vec::new(alloc);
+    let mut next: usize = 0;
+    for at in 0..look.pieces.len() {
+        if at < next {
+            continue;
+        }
+        if let Some(found) = shape_at(look, at) {
+            next = found.next;
+            shapes.push(found)?;
+        }
+    }
+    Ok(shapes)
+}
+
+/// The words and signs that are missing, or one too many.
+fn all_structures(alloc: Global, look: &Look) -> Result<Vec<Found>, AllocError> {
+    let mut found = Vec::new(alloc);
+    for at in 0..look.pieces.len() {
+        if let Some(structure) = structure_at(look, at) {
+            found.push(structure)?;
+        }
+        if let Some(structure) = halved_at(look, at) {
+            found.push(structure)?;
+        }
+    }
+    Ok(found)
+}
+
+/// The last construct that a piece belongs to, or comes right after.
+fn covering(shapes: &[Found], piece: usize) -> Option<Found> {
+    let mut last = None;
+    for found in shapes {
+        if found.first <= piece && piece <= found.next {
+            last = Some(*found);
+        }
+    }
+    last
+}
+
+/// Adds a hint for the construct of another language at a place of a text, and answers whether
+/// there is one.
+pub fn put_hint(
+    alloc: Global,
+    words: &mut Vec<u8>,
+    source: &[u8],
+    at: usize,
+) -> Result<bool, AllocError> {
+    let pieces = pieces_of(alloc, source)?;
+    let look = Look { pieces: &pieces };
+    let shapes = all_shapes(alloc, &look)?;
+    let Some(found) = covering(&shapes, piece_number(&look, at)) else {
+        return Ok(false);
+    };
+    let mut sentence = Vec::new(alloc);
+    if !put_found(alloc, &mut sentence, source, &look, &found)? {
+        return Ok(false);
+    }
+    words.extend_from_slice(b"Hint: ")?;
+    words.extend_from_slice(&sentence)?;
+    words.extend_from_slice(b"\n")?;
+    Ok(true)
+}
+
+/// Two constructs with the same key have the same advice.
+fn key(look: &Look, found: &Found) -> (u8, usize) {
+    match found.shape {
+        Shape::Say(before, after) => (
+            0,
+            before
+                .len()
+                .saturating_mul(1000)
+                .saturating_add(after.len()),
+        ),
+        Shape::Tell(sentence) => (1, sentence.len()),
+        Shape::Put(text, _) => (2, text.len()),
+        Shape::Value(cause) => (3, sum(look.text(cause))),
+        Shape::Assign(_) => (4, 0),
+        Shape::Compound(_) => (5, 0),
+        Shape::Step(_) => (6, 0),
+        Shape::Swap => (7, 0),
+        Shape::Number => (8, 0),
+        Shape::Hyphen => (9, 0),
+        Shape::Keyword => (10, 0),
+        Shape::Initial => (11, 0),
+        Shape::Listed => (12, 0),
+        Shape::Comment => (13, 0),
+        Shape::Divide => (14, 0),
+    }
+}
+
+/// A number by which short texts differ.
+fn sum(text: &[u8]) -> usize {
+    let mut total: usize = 0;
+    for byte in text {
+        total = total.wrapping_mul(31).wrapping_add(*byte as usize);
+    }
+    total
+}
+
+/// Adds one further place.
+fn put_further_place(
+    alloc: Global,
+    words: &mut Vec<u8>,
+    source: &[u8],
+    look: &Look,
+    found: &Found,
+) -> Result<(), AllocError> {
+    let mut sentence = Vec::new(alloc);
+    if !put_found(alloc, &mut sentence, source, look, found)? {
+        return Ok(());
+    }
+    let Some(piece) = look.pieces.get(found.first) else {
+        return Ok(());
+    };
+    words.extend_from_slice(b"Also at ")?;
+    put_place(words, source, piece.at)?;
+    words.extend_from_slice(b": ")?;
+    words.extend_from_slice(&sentence)?;
+    words.extend_from_slice(b"\n")
+}
+
+/// Adds the places of these that need advice of their own; `keys` are those given already.
+fn put_each(
+    alloc: Global,
+    words: &mut Vec<u8>,
+    source: &[u8],
+    look: &Look,
+    shapes: &[Found],
+    is_within: bool,
+    piece: usize,
+    keys: &mut Vec<(u8, usize)>,
+) -> Result<(), AllocError> {
+    for found in shapes {
+        let own = key(look, found);
+        if keys.contains(&own) || keys.len() > MOST {
+            continue;
+        }
+        keys.push(own)?;
+        let covers = found.first <= piece && piece <= found.next;
+        if found.first == piece || piece == found.next || is_within && covers {
+            continue;
+        }
+        put_further_place(alloc, words, source, look, found)?;
+    }
+    Ok(())
+}
+
+/// Adds names, each between back quotes, after the first text, and then the last text, if there are
+/// names.
+fn put_list(
+    words: &mut Vec<u8>,
+    first: &[u8],
+    names: &[&[u8]],
+    last: &[u8],
+) -> Result<(), AllocError> {
+    let mut joint = first;
+    for name in names {
+        words.extend_from_slice(joint)?;
+        words.extend_from_slice(b"`")?;
+        words.extend_from_slice(&name[..name.len().min(LONGEST)])?;
+        words.extend_from_slice(b"`")?;
+        joint = b", ";
+    }
+    if names.is_empty() {
+        return Ok(());
+    }
+    words.extend_from_slice(last)
+}
+
+/// The names in the places of classes that are none of these classes, in their order.
+fn no_classes<'a>(
+    alloc: Global,
+    look: &Look<'a, '_>,
+    classes: &[&[u8]],
+) -> Result<Vec<&'a [u8]>, AllocError> {
+    let mut names = Vec::new(alloc);
+    for at in 0..look.pieces.len() {
+        let name = look.text(at);
+        if !look.is_class(at) || (&*classes).contains(&name) || names.contains(&name) {
+            continue;
+        }
+        if names.len() < MOST {
+            names.push(name)?;
+        }
+    }
+    Ok(names)
+}
+
+/// Adds a line with the names of classes that the lattice lacks, if the text has any.
+fn put_no_classes(
+    alloc: Global,
+    words: &mut Vec<u8>,
+    look: &Look,
+    classes: &[&[u8]],
+) -> Result<(), AllocError> {
+    let names = no_classes(alloc, look, classes)?;
+    if names.is_empty() {
+        return Ok(());
+    }
+    put_list(words, b"Also no class: ", &names, b"")?;
+    put_list(
+        words,
+        b": the lattice has ",
+        &classes[..classes.len().min(MOST)],
+        b".\n",
+    )
+}
+
+/// Whether a piece belongs to a construct in whose place no name is left.
+fn is_said(shapes: &[Found], at: usize) -> bool {
+    for found in shapes {
+        if found.first <= at && at < found.next {
+            match found.shape {
+                Shape::Say(_, _) | Shape::Tell(_) | Shape::Put(_, _) => return true,
+                Shape::Hyphen | Shape::Keyword | Shape::Listed | Shape::Initial => return true,
+                _ => {}
+            }
+        }
+    }
+    false
+}
+
+/// Whether a name is within pieces.
+fn is_within(look: &Look, found: &Found, name: &[u8]) -> bool {
+    for at in found.first..found.next {
+        if look.is(at, name) {
+            return true;
+        }
+    }
+    false
+}
+
+/// Whether a name is a new one for a name that is none here.
+fn is_renaming(old: &[u8], name: &[u8]) -> bool {
+    match name.strip_prefix(old) {
+        Some(rest) => rest.first() == Some(&b'_'),
+        None => false,
+    }
+}
+
+/// Whether a name is declared once the hints of a text are followed.
+fn gets_declared(look: &Look, shapes: &[Found], name: &[u8]) -> bool {
+    for found in shapes {
+        let gets = match found.shape {
+            Shape::Say(_, _) | Shape::Listed | Shape::Initial => is_within(look, found, name),
+            Shape::Hyphen | Shape::Keyword => is_renaming(look.text(found.first), name),
+            _ => false,
+        };
+        if gets {
+            return true;
+        }
+    }
+    false
+}
+
+/// The names that a text uses and declares nowhere, in their order.
+fn undeclared<'a>(
+    alloc: Global,
+    look: &Look<'a, '_>,
+    shapes: &[Found],
+    piece: usize,
+) -> Result<Vec<&'a [u8]>, AllocError> {
+    let refused = look.text(piece);
+    let mut names = Vec::new(alloc);
+    for at in 0..look.pieces.len() {
+        let name = look.text(at);
+        if !look.is_variable(at)
+            || look.is_declared(name)
+            || is_said(shapes, at)
+            || name == refused
+        {
+            continue;
+        }
+        if names.len() >= MOST || names.contains(&name) || gets_declared(look, shapes, name) {
+            continue;
+        }
+        names.push(name)?;
+    }
+    Ok(names)
+}
+
+/// Adds a line with the names that a text uses and declares nowhere, if it has any.
+fn put_undeclared(
+    alloc: Global,
+    words: &mut Vec<u8>,
+    look: &Look,
+    shapes: &[Found],
+    piece: usize,
+) -> Result<(), AllocError> {
+    let names = undeclared(alloc, look, shapes, piece)?;
+    let last = b": declare each at the beginning, as `var x : L;`.\n";
+    put_list(words, b"Also undeclared: ", &names, last)
+}
+
+/// Adds a line for each further place of a text where it is written as in another language, the
+/// first one of each sort; then the names that no declaration has, or that are none of the classes.
+pub fn put_further(
+    alloc: Global,
+    words: &mut Vec<u8>,
+    source: &[u8],
+    at: usize,
+    classes: &[&[u8]],
+) -> Result<(), AllocError> {
+    let pieces = pieces_of(alloc, source)?;
+    let look = Look { pieces: &pieces };
+    let piece = piece_number(&look, at);
+    let shapes = all_shapes(alloc, &look)?;
+    let structures = all_structures(alloc, &look)?;
+    let mut keys = Vec::new(alloc);
+    if let Some(found) = covering(&shapes, piece) {
+        keys.push(key(&look, &found))?;
+    }
+    put_each(alloc, words, source, &look, &shapes, true, piece, &mut keys)?;
+    put_each(
+        alloc,
+        words,
+        source,
+        &look,
+        &structures,
+        false,
+        piece,
+        &mut keys,
+    )?;
+    put_no_classes(alloc, words, &look, classes)?;
+    put_undeclared(alloc, words, &look, &shapes, piece)
+}

@@ -1,0 +1,258 @@
+//! The words and signs of other languages that nothing replaces, and what you do in their place.
+
+/// Words or signs of other languages, and a sentence: one of them comes between its two parts.
+pub(crate) type Saying = (&'static [&'static [u8]], &'static str, &'static str);
+
+/// The beginning of most sentences.
+const NONE: &str = "there is no ";
+
+/// The words that call something.
+const CALLS: [Saying; 9] = [
+    (
+        &[
+            b"declassify",
+            b"endorse",
+            b"reveal",
+            b"release",
+            b"sanitize",
+        ],
+        NONE,
+        ": nothing makes a secret public, so compute what you publish from public variables alone, \
+        as `l := l + 1`.",
+    ),
+    (
+        &[
+            b"input",
+            b"raw_input",
+            b"read",
+            b"readln",
+            b"readline",
+            b"scanf",
+            b"gets",
+            b"getchar",
+            b"cin",
+            b"argv",
+        ],
+        NONE,
+        ": declare `var x : L;` and give `x` its value in the store, by a line `x = 5`.",
+    ),
+    (
+        &[
+            b"print", b"printf", b"println", b"puts", b"echo", b"write", b"writeln", b"cout",
+            b"putchar", b"log", b"console", b"display", b"show",
+        ],
+        NONE,
+        ": assign what you want to see to a global, as `y := x`, since a run ends by writing its \
+        globals.",
+    ),
+    (
+        &[b"abs", b"fabs"],
+        NONE,
+        ": write `if x < 0 then y := 0 - x else y := x`.",
+    ),
+    (
+        &[b"max"],
+        NONE,
+        ": write `if a < b then m := b else m := a`.",
+    ),
+    (
+        &[b"min"],
+        NONE,
+        ": write `if a < b then m := a else m := b`.",
+    ),
+    (
+        &[b"random", b"rand", b"randint", b"time"],
+        NONE,
+        ": give a global its value in the store, by a line `x = 5`, since a run computes the same \
+        each time.",
+    ),
+    (
+        &[b"sqrt", b"isqrt"],
+        NONE,
+        ": search for the root, as `letvar r := 0 in { while r * r < x do r := r + 1; y := r }`.",
+    ),
+    (
+        &[b"int", b"float", b"str", b"bool"],
+        NONE,
+        ": each variable holds a whole number, so write the number itself, as `x := 5`.",
+    ),
+];
+
+/// The words that begin or end commands.
+const COMMANDS: [Saying; 12] = [
+    (
+        &[
+            b"def",
+            b"fn",
+            b"func",
+            b"function",
+            b"fun",
+            b"void",
+            b"proc",
+            b"procedure",
+            b"sub",
+        ],
+        "you can't define a function by ",
+        ": write its commands where you need them, as `x := x + 1`.",
+    ),
+    (
+        &[b"return", b"yield"],
+        NONE,
+        ": assign the result to a global, as `y := x`.",
+    ),
+    (
+        &[
+            b"break",
+            b"continue",
+            b"exit",
+            b"goto",
+            b"quit",
+            b"stop",
+            b"halt",
+        ],
+        NONE,
+        ": end a loop by its guard, as `while (x < 9) * (found = 0) do x := x + 1`.",
+    ),
+    (
+        &[
+            b"end",
+            b"endif",
+            b"fi",
+            b"done",
+            b"od",
+            b"endwhile",
+            b"endfor",
+            b"wend",
+            b"next",
+            b"esac",
+            b"END",
+        ],
+        "leave ",
+        " out: a branch or a loop is one command, and { } make one of several, as `{ x := 1; y := \
+        2 }`.",
+    ),
+    (
+        &[b"for", b"foreach", b"FOR"],
+        NONE,
+        ": count by `letvar i := 0 in while i < 9 do { x := x + i; i := i + 1 }`.",
+    ),
+    (
+        &[b"repeat", b"until", b"loop"],
+        NONE,
+        ": write the body before the loop too, as `{ x := x + 1; while x < 9 do x := x + 1 }`.",
+    ),
+    (
+        &[b"switch", b"case", b"match", b"when", b"select", b"default"],
+        NONE,
+        ": choose by `if x = 1 then y := 1 else if x = 2 then y := 2 else y := 3`.",
+    ),
+    (
+        &[
+            b"try", b"catch", b"except", b"finally", b"throw", b"raise", b"assert",
+        ],
+        NONE,
+        ": nothing fails in a run, so test first, as `if x < 9 then y := x else y := 9`.",
+    ),
+    (
+        &[
+            b"import", b"include", b"using", b"from", b"package", b"module", b"require", b"extern",
+        ],
+        NONE,
+        ": a program is one text and uses no other, as `var x : L; x := 1`.",
+    ),
+    (
+        &[
+            b"class", b"struct", b"record", b"object", b"new", b"enum", b"typedef",
+        ],
+        NONE,
+        ": declare a variable for each field, as `var p_x : L; var p_y : L;`.",
+    ),
+    (
+        &[b"unless"],
+        NONE,
+        ": write `if x = 0 then y := 1 else y := 2`.",
+    ),
+    (
+        &[b"assume", b"require", b"ensure", b"invariant"],
+        NONE,
+        ": a program has commands and no claims about them, as `x := x + 1`.",
+    ),
+];
+
+/// The signs between or before operands.
+const SIGNS: [Saying; 10] = [
+    (
+        &[b"/", b"//", b"div", b"DIV", b"/=", b"//="],
+        NONE,
+        ": count how often you can subtract, as `while 1 < r do { r := r - 2; q := q + 1 }` does \
+        for half of r.",
+    ),
+    (
+        &[b"%", b"mod", b"MOD", b"%="],
+        NONE,
+        ": subtract as often as you can, as `while 1 < r do r := r - 2` does for the remainder by \
+        2.",
+    ),
+    (
+        &[b"?"],
+        NONE,
+        ": choose by `if a < b then x := a else x := b`.",
+    ),
+    (
+        &[b"[", b"]"],
+        NONE,
+        ": each variable holds one number, so declare one for each element, as `var x_0 : L; var \
+        x_1 : L;`.",
+    ),
+    (
+        &[b".", b"->", b"=>"],
+        NONE,
+        ": each variable is one number with a name of its own, as `p_x`.",
+    ),
+    (
+        &[b"$", b"@"],
+        "leave ",
+        " out: a name has letters, digits and `_` alone, as `x_1`.",
+    ),
+    (
+        &[b"\\"],
+        "leave ",
+        " out: a command may go on in the next line.",
+    ),
+    (
+        &[b"~"],
+        NONE,
+        ": write `0 - 1 - x` for the number with each bit of `x` turned.",
+    ),
+    (&[b"**=", b"^", b"**"], NONE, ": multiply, as `x * x`."),
+    (
+        &[b"xor", b"XOR"],
+        NONE,
+        ": write `1 - (a = b)` where each is 0 or 1.",
+    ),
+];
+
+/// The saying of a word or a sign in a table.
+fn saying_in(sayings: &[Saying], word: &[u8]) -> Option<Saying> {
+    for saying in sayings {
+        if saying.0.contains(&word) {
+            return Some(*saying);
+        }
+    }
+    None
+}
+
+/// The saying of a word that calls something.
+pub(crate) fn call_saying(word: &[u8]) -> Option<Saying> {
+    saying_in(&CALLS, word)
+}
+
+/// The saying of a word that begins or ends a command.
+pub(crate) fn command_saying(word: &[u8]) -> Option<Saying> {
+    saying_in(&COMMANDS, word)
+}
+
+/// The saying of a sign between or before operands.
+pub(crate) fn sign_saying(sign: &[u8]) -> Option<Saying> {
+    saying_in(&SIGNS, sign)
+}

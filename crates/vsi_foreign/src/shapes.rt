@@ -1,0 +1,493 @@
+//! The constructs of other languages, and the pieces that each takes.
+
+use crate::expression::{FALSE, TRUE};
+use crate::forms::{form_before, form_between};
+use crate::look::Look;
+use crate::numbers::number_of;
+use crate::pieces::Sort;
+use crate::sayings::{Saying, call_saying, command_saying, sign_saying};
+
+/// The construct that some pieces are.
+#[derive(Clone, Copy)]
+pub(crate) enum Shape {
+    /// Nothing replaces the first piece: a sentence with it between two parts.
+    Say(&'static str, &'static str),
+    /// The same, where the piece can't be shown.
+    Tell(&'static str),
+    /// Another text replaces them; the rest of the sentence.
+    Put(&'static str, &'static str),
+    /// An expression, for its piece with this number.
+    Value(usize),
+    /// A name, so many pieces that assign, and a value.
+    Assign(usize),
+    /// A name, a sign that assigns, and a value: the operator in the sign.
+    Compound(&'static str),
+    /// A name and a sign that counts: the operator in the sign.
+    Step(&'static str),
+    /// Two names, a sign that assigns, and two values.
+    Swap,
+    /// A name, a sign that assigns, and one operand divided by another.
+    Divide,
+    /// A number that is written otherwise here.
+    Number,
+    /// A name with a `-` in it.
+    Hyphen,
+    /// A keyword in the place of a name.
+    Keyword,
+    /// A declaration with a value.
+    Initial,
+    /// A declaration of several names.
+    Listed,
+    /// A comment.
+    Comment,
+}
+
+/// Some pieces, from the first one up to the one before the next one, and what they are.
+#[derive(Clone, Copy)]
+pub(crate) struct Found {
+    pub(crate) first: usize,
+    pub(crate) next: usize,
+    pub(crate) shape: Shape,
+}
+
+/// These pieces have this shape.
+pub(crate) fn make_found(first: usize, next: usize, shape: Shape) -> Found {
+    Found { first, next, shape }
+}
+
+/// The words for an `if` in an `else`.
+const ELSE_IF: [&[u8]; 3] = [b"elif", b"elsif", b"elseif"];
+
+/// The words that begin a block.
+const BEGIN: [&[u8]; 2] = [b"begin", b"BEGIN"];
+
+/// The words for no value.
+const NULL: [&[u8]; 5] = [b"null", b"None", b"nil", b"NULL", b"undefined"];
+
+/// The words that do nothing.
+const IDLE: [&[u8]; 6] = [b"skip", b"pass", b"nop", b"noop", b"nothing", b"SKIP"];
+
+/// The words that declare a variable.
+const TYPES: [&[u8]; 20] = [
+    b"let",
+    b"const",
+    b"local",
+    b"auto",
+    b"int",
+    b"long",
+    b"unsigned",
+    b"float",
+    b"double",
+    b"bool",
+    b"boolean",
+    b"char",
+    b"string",
+    b"val",
+    b"mut",
+    b"static",
+    b"global",
+    b"integer",
+    b"short",
+    b"dim",
+];
+
+/// The signs that assign, or declare, after a name.
+const ASSIGNING: [&[u8]; 11] = [
+    b":=", b"=", b":", b",", b"+=", b"-=", b"*=", b"/=", b"%=", b"++", b"--",
+];
+
+/// The signs and words of the language between operands.
+const OWN: [&[u8]; 5] = [b"+", b"-", b"*", b"=", b"<"];
+
+/// The sentence with a saying's parts.
+fn said(saying: Saying) -> Shape {
+    Shape::Say(saying.1, saying.2)
+}
+
+/// A word that another text replaces.
+fn replaced_word(look: &Look, at: usize) -> Option<Found> {
+    let word = look.text(at);
+    let next = at.saturating_add(1);
+    if ELSE_IF.contains(&word) {
+        return Some(make_found(at, next, Shape::Put("else if", ".")));
+    }
+    if BEGIN.contains(&word) {
+        let rest = ": { } hold several commands, as in `{ x := 1; y := 2 }`.";
+        return Some(make_found(at, next, Shape::Put("{", rest)));
+    }
+    let rest = ": each variable holds a whole number.";
+    if TRUE.contains(&word) {
+        return Some(make_found(at, next, Shape::Put("1", rest)));
+    }
+    if FALSE.contains(&word) || NULL.contains(&word) {
+        return Some(make_found(at, next, Shape::Put("0", rest)));
+    }
+    None
+}
+
+/// A word that declares a variable, or does nothing.
+fn declaring_word(look: &Look, at: usize) -> Option<Found> {
+    if !look.is_command_start(at) {
+        return None;
+    }
+    let word = look.text(at);
+    if TYPES.contains(&word) && look.is(at.saturating_add(2), b":") {
+        let after = at.saturating_add(5);
+        return Some(make_found(at, look.value_stop(after), Shape::Initial));
+    }
+    if TYPES.contains(&word) && look.is_name(at.saturating_add(1)) {
+        let rest = ": declare a variable by `var x : L;` at the beginning, where L is a class of \
+            the lattice file, and set its value in the store.";
+        return Some(make_found(at, look.command_stop(at), Shape::Say("there is no ", rest)));
+    }
+    if IDLE.contains(&word) {
+        let rest = ": assign a variable to itself to do nothing, as `x := x`.";
+        return Some(make_found(at, at.saturating_add(1), Shape::Say("there is no ", rest)));
+    }
+    None
+}
+
+/// A call, of which the word with this number is the name.
+fn call(look: &Look, at: usize) -> Option<Found> {
+    let next = at.saturating_add(1);
+    let is_called = look.is(next, b"(") && look.touches(next);
+    let is_command = look.is_command_start(at);
+    if let Some(saying) = call_saying(look.text(at)) {
+        if is_called || look.is(next, b"(") {
+            return Some(make_found(at, look.after_brackets(next), said(saying)));
+        }
+        if is_command {
+            return Some(make_found(at, look.command_stop(at), said(saying)));
+        }
+    }
+    if is_called && look.is_name(at) {
+        let rest = ": you can't call functions, so write its commands in its place, as `y := x * \
+            x`.";
+        let shape = Shape::Say("there is no ", rest);
+        return Some(make_found(at, look.after_brackets(next), shape));
+    }
+    None
+}
+
+/// A word that begins or ends a command.
+fn command_word(look: &Look, at: usize) -> Option<Found> {
+    let is_after_operand = match at.checked_sub(1) {
+        Some(before) => look.ends_operand(before),
+        None => false,
+    };
+    if !is_after_operand && !look.is_command_start(at) {
+        return None;
+    }
+    let saying = command_saying(look.text(at))?;
+    let next = at.saturating_add(1);
+    let stop = match saying.0.first() {
+        Some([b'e', b'n', b'd', ..]) => {
+            if look.is_keyword(next) && !look.is_first(next) {
+                next.saturating_add(1)
+            } else {
+                next
+            }
+        }
+        Some([b'r', b'e', b'p', ..] | [b's', b'w', ..] | [b't', b'r', b'y']) => next,
+        _ => {
+            if look.is(next, b"(") {
+                look.after_brackets(next)
+            } else {
+                look.command_stop(at)
+            }
+        }
+    };
+    Some(make_found(at, stop, said(saying)))
+}
+
+/// The construct that a word begins.
+fn word(look: &Look, at: usize) -> Option<Found> {
+    let text = look.text(at);
+    if look.is_declared(text) || ASSIGNING.contains(&look.text(at.saturating_add(1))) {
+        return None;
+    }
+    if form_between(text).is_some() || form_before(text).is_some() {
+        return None;
+    }
+    if let Some(found) = replaced_word(look, at) {
+        return Some(found);
+    }
+    if let Some(found) = declaring_word(look, at) {
+        return Some(found);
+    }
+    if let Some(found) = command_word(look, at) {
+        return Some(found);
+    }
+    call(look, at)
+}
+
+/// A name with a `-` in it, that begins with a piece.
+fn hyphen(look: &Look, at: usize) -> Option<Found> {
+    if look.is_hyphened(at) {
+        Some(make_found(at, at.saturating_add(3), Shape::Hyphen))
+    } else {
+        None
+    }
+}
+
+/// A declaration of several names by one word.
+fn listed(look: &Look, at: usize) -> Option<Found> {
+    let stop = look.command_stop(at);
+    if look.is(stop, b":") {
+        let class = stop.saturating_add(1);
+        return Some(make_found(at, class.saturating_add(1), Shape::Listed));
+    }
+    let rest = " declares one variable with its class, as in `var x : L; var y : L;`.";
+    Some(make_found(at, stop, Shape::Say("", rest)))
+}
+
+/// A declaration by `var` that isn't one here.
+fn declaration(look: &Look, at: usize) -> Option<Found> {
+    let name = at.saturating_add(1);
+    if look.is_keyword(name) {
+        return Some(make_found(name, name.saturating_add(1), Shape::Keyword));
+    }
+    if let Some(found) = hyphen(look, name) {
+        return Some(found);
+    }
+    let sign = name.saturating_add(1);
+    match look.text(sign) {
+        [b','] => return listed(look, at),
+        [b':'] => {}
+        _ => {
+            let rest = " declares a variable with a class and no value, as in `var x : L;`: set \
+                its value in the store.";
+            return Some(make_found(at, look.command_stop(sign), Shape::Say("", rest)));
+        }
+    }
+    let after = sign.saturating_add(2);
+    match look.text(after) {
+        [b'='] | [b':', b'='] => {
+            let value = after.saturating_add(1);
+            Some(make_found(at, look.value_stop(value), Shape::Initial))
+        }
+        [b';'] => None,
+        [b','] => {
+            let rest = " declares one variable with its class, as in `var x : L; var y : L;`.";
+            Some(make_found(at, look.command_stop(after), Shape::Say("", rest)))
+        }
+        _ => {
+            let rest = " wants a `;` after the class, as in `var x : L;`.";
+            Some(make_found(at, after, Shape::Say("a declaration by ", rest)))
+        }
+    }
+}
+
+/// A declaration by `letvar` that isn't one here.
+fn local(look: &Look, at: usize) -> Option<Found> {
+    let name = at.saturating_add(1);
+    if look.is_keyword(name) {
+        return Some(make_found(name, name.saturating_add(1), Shape::Keyword));
+    }
+    let sign = name.saturating_add(1);
+    let sign = if look.is(sign, b":") {
+        sign.saturating_add(2)
+    } else {
+        sign
+    };
+    if look.is(sign, b"=") {
+        let rest = ": `=` compares, as in `letvar y := x + 1 in z := y`.";
+        return Some(make_found(sign, sign.saturating_add(1), Shape::Put(":=", rest)));
+    }
+    None
+}
+
+/// Whether two names and a sign that assigns begin with a piece.
+fn is_swap(look: &Look, at: usize) -> bool {
+    look.is(at.saturating_add(1), b",")
+        && look.is_name(at.saturating_add(2))
+        && matches!(look.text(at.saturating_add(3)), [b'='] | [b':', b'='])
+}
+
+/// The signs and words that divide.
+const DIVIDING: [&[u8]; 7] = [b"/", b"//", b"div", b"DIV", b"%", b"mod", b"MOD"];
+
+/// Whether an operand divided by another is the whole value that begins with a piece.
+fn is_division(look: &Look, at: usize) -> bool {
+    let last = at.saturating_add(2);
+    look.ends_operand(at)
+        && DIVIDING.contains(&look.text(at.saturating_add(1)))
+        && look.ends_operand(last)
+        && look.value_stop(last) == last.saturating_add(1)
+}
+
+/// Whether the value between two pieces has an operator that no expression here has.
+fn is_beyond(look: &Look, at: usize, stop: usize) -> bool {
+    for place in at..stop {
+        if sign_saying(look.text(place)).is_some()
+            || look.is(place.saturating_add(1), b"(") && look.is_name(place)
+        {
+            return true;
+        }
+    }
+    false
+}
+
+/// An assignment by another sign, of which the value begins with a piece.
+fn assigned(look: &Look, at: usize, value: usize, shape: Shape) -> Option<Found> {
+    let stop = look.value_stop(value);
+    let next = if is_beyond(look, value, stop) {
+        value
+    } else {
+        stop
+    };
+    Some(make_found(at, next, shape))
+}
+
+/// A command that begins with a name and isn't one here.
+fn assignment(look: &Look, at: usize) -> Option<Found> {
+    let sign = at.saturating_add(1);
+    let value = at.saturating_add(2);
+    match look.text(sign) {
+        [b':', b'='] | [b'='] if is_division(look, value) => {
+            Some(make_found(at, value.saturating_add(3), Shape::Divide))
+        }
+        [b'='] | [b'=', b'='] => assigned(look, at, value, Shape::Assign(1)),
+        [b'<'] if look.is(value, b"-") && look.touches(value) => {
+            assigned(look, at, value.saturating_add(1), Shape::Assign(2))
+        }
+        [b':'] if look.is(value, b"=") => {
+            assigned(look, at, value.saturating_add(1), Shape::Assign(2))
+        }
+        [b':'] => {
+            let rest = " by `var`, as `var x : L;`, at the beginning of the text.";
+            Some(make_found(at, look.command_stop(sign), Shape::Say("declare ", rest)))
+        }
+        [b'+', b'='] => assigned(look, at, value, Shape::Compound(" + ")),
+        [b'-', b'='] => assigned(look, at, value, Shape::Compound(" - ")),
+        [b'*', b'='] => assigned(look, at, value, Shape::Compound(" * ")),
+        [b'+', b'+'] => Some(make_found(at, value, Shape::Step(" + 1"))),
+        [b'-', b'-'] => Some(make_found(at, value, Shape::Step(" - 1"))),
+        [b','] if is_swap(look, at) => Some(make_found(at, look.command_stop(at), Shape::Swap)),
+        _ => None,
+    }
+}
+
+/// Whether a sign between operands compares a second time what one before it has compared.
+fn is_chained(look: &Look, at: usize) -> bool {
+    let mut open: usize = 0;
+    for place in look.value_start(at)..at {
+        match look.text(place) {
+            [b'('] => open = open.saturating_add(1),
+            [b')'] => open = open.saturating_sub(1),
+            [b'<'] | [b'='] if open == 0 => return true,
+            _ => {}
+        }
+    }
+    false
+}
+
+/// Whether a piece is an operator that the language lacks in this place.
+fn is_foreign_operator(look: &Look, at: usize) -> bool {
+    let text = look.text(at);
+    let is_after_operand = match at.checked_sub(1) {
+        Some(before) => look.ends_operand(before),
+        None => false,
+    };
+    match text {
+        [b'-'] => !is_after_operand,
+        [b'<'] | [b'='] => is_after_operand && is_chained(look, at),
+        _ => {
+            (form_between(text).is_some() || form_before(text).is_some()) && !OWN.contains(&text)
+        }
+    }
+}
+
+/// The sentence for a character outside of ASCII, where it is a usual one.
+fn strange(text: &[u8]) -> Option<Shape> {
+    let sentence = match text {
+        [0xE2, 0x80, 0x90..=0x95] | [0xE2, 0x88, 0x92] => {
+            "write `-` for this dash, as in `x - 1`: outside of comments a text is ASCII."
+        }
+        [0xE2, 0x80, 0x98..=0x9F] => {
+            "leave this typographic quote out: each variable holds a whole number, as `x := 1`."
+        }
+        [0xC2, 0xA0] | [0xE2, 0x80, 0x80..=0x8F] | [0xE2, 0x80, 0xAF] | [0xE3, 0x80, 0x80] => {
+            "write a common blank for this one, which is a character of its own, as in `x := 1`."
+        }
+        [0xE2, 0x89, 0xA4] => "write `1 - (b < a)` where `a` is to be `b` at most.",
+        [0xE2, 0x89, 0xA5] => "write `1 - (a < b)` where `a` is to be `b` at least.",
+        [0xE2, 0x89, 0xA0] => "write `1 - (a = b)` where `a` and `b` are to differ.",
+        [0xC3, 0x97] | [0xC2, 0xB7] => "write `*` for the product, as in `2 * x`.",
+        _ => return None,
+    };
+    Some(Shape::Tell(sentence))
+}
+
+/// The construct that a sign, a number, a text or a comment begins.
+fn sign(look: &Look, at: usize) -> Option<Found> {
+    let next = at.saturating_add(1);
+    let piece = look.pieces.get(at)?;
+    match piece.sort {
+        Sort::Comment => Some(make_found(at, next, Shape::Comment)),
+        Sort::Strange => Some(make_found(at, next, strange(piece.text)?)),
+        Sort::Quoted => {
+            let rest = ": each variable holds a whole number, as `x := 1`.";
+            Some(make_found(at, next, Shape::Say("there are no texts as ", rest)))
+        }
+        Sort::Number => number(piece.text, at),
+        _ => {
+            if look.is(at, b".") && look.has_sort(next, Sort::Number) {
+                let sentence =
+                    "numbers are whole, so count in a smaller unit, as 50 cents for .50.";
+                return Some(make_found(at, next, Shape::Tell(sentence)));
+            }
+            if is_foreign_operator(look, at) {
+                let start = look.value_start(at);
+                let stop = look.value_stop(start).max(next);
+                return Some(make_found(start, stop, Shape::Value(at)));
+            }
+            Some(make_found(at, next, said(sign_saying(piece.text)?)))
+        }
+    }
+}
+
+/// A number that the language writes otherwise, or can't.
+fn number(text: &[u8], at: usize) -> Option<Found> {
+    let next = at.saturating_add(1);
+    if text.contains(&b'.') {
+        let before = "numbers are whole, so count in a smaller unit than ";
+        return Some(make_found(at, next, Shape::Say(before, ", as 150 cents for 1.50.")));
+    }
+    for byte in text {
+        if !byte.is_ascii_digit() && number_of(text).is_some() {
+            return Some(make_found(at, next, Shape::Number));
+        }
+    }
+    None
+}
+
+/// The construct of another language that a piece begins.
+pub(crate) fn shape_at(look: &Look, at: usize) -> Option<Found> {
+    if look.is(at, b"var") {
+        return declaration(look, at);
+    }
+    if look.is(at, b"letvar") {
+        return local(look, at);
+    }
+    if look.is(at, b"do") && look.is_command_start(at) {
+        let rest = ": write the body before the loop too, as `{ x := x + 1; while x < 9 do x := x \
+            + 1 }`.";
+        let shape = Shape::Say("no loop begins with ", rest);
+        return Some(make_found(at, at.saturating_add(1), shape));
+    }
+    if look.is_name(at) {
+        if let Some(found) = word(look, at) {
+            return Some(found);
+        }
+        if let Some(found) = hyphen(look, at) {
+            return Some(found);
+        }
+        if look.is_command_start(at) {
+            if let Some(found) = assignment(look, at) {
+                return Some(found);
+            }
+        }
+    }
+    sign(look, at)
+}
