@@ -10,7 +10,7 @@ use crate::names::{
 };
 use crate::nearest::{put_nearest, put_nearest_or};
 use std::alloc::{AllocError, Global};
-use vsi_foreign::put_hint;
+use vsi_hints::put_hint;
 use vsi_lattice::{Classes, Lattice};
 use vsi_scope::ScopeError;
 use vsi_syntax::{Kind, Span, Token};
@@ -102,11 +102,11 @@ fn usual<'l>(lattice: &'l Lattice, name: &[u8]) -> Option<(&'l [u8], &'static [u
 }
 
 /// Adds which class a usual name of another policy means.
-fn put_usual(
+fn put_usual<'w>(
     words: &mut Vec<u8>,
-    name: &[u8],
-    class: &[u8],
-    rank: &[u8],
+    name: &'w [u8],
+    class: &'w [u8],
+    rank: &'w [u8],
 ) -> Result<(), AllocError> {
     put_parts(
         words,
