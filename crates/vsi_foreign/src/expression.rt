@@ -14,15 +14,30 @@ pub(crate) enum Node<'a> {
 }
 
 /// The words that are no operands.
-pub(crate) const NO_OPERANDS: [&[u8]; 20] = [
+const NO_OPERANDS: [&[u8]; 20] = [
     b"var", b"letvar", b"in", b"if", b"then", b"else", b"while", b"do", b"and", b"or", b"not",
     b"mod", b"div", b"AND", b"OR", b"NOT", b"MOD", b"DIV", b"is", b"xor",
 ];
 
 /// The words for 1 and for 0.
-pub(crate) const TRUE: [&[u8]; 3] = [b"true", b"True", b"TRUE"];
+const TRUE: [&[u8]; 3] = [b"true", b"True", b"TRUE"];
 
-pub(crate) const FALSE: [&[u8]; 3] = [b"false", b"False", b"FALSE"];
+const FALSE: [&[u8]; 3] = [b"false", b"False", b"FALSE"];
+
+/// Whether a word is no operand.
+pub fn is_no_operand(word: &[u8]) -> bool {
+    NO_OPERANDS.contains(&word)
+}
+
+/// Whether a word is one for 1.
+pub fn is_true(word: &[u8]) -> bool {
+    TRUE.contains(&word)
+}
+
+/// Whether a word is one for 0.
+pub fn is_false(word: &[u8]) -> bool {
+    FALSE.contains(&word)
+}
 
 /// A tree that is being read from the left.
 #[derive(Drop)]
@@ -40,11 +55,11 @@ fn operand_of<'a>(piece: Piece<'a>) -> Option<Node<'a>> {
     match piece.sort {
         Sort::Number => Some(Node::Number(number_of(piece.text)?)),
         Sort::Word => {
-            if TRUE.contains(&piece.text) {
+            if is_true(piece.text) {
                 Some(Node::Number(1))
-            } else if FALSE.contains(&piece.text) {
+            } else if is_false(piece.text) {
                 Some(Node::Number(0))
-            } else if NO_OPERANDS.contains(&piece.text) {
+            } else if is_no_operand(piece.text) {
                 None
             } else {
                 Some(Node::Name(piece.text))

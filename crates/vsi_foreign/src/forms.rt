@@ -77,6 +77,11 @@ pub(crate) fn form_before(sign: &[u8]) -> Option<Form> {
     form_in(&BEFORE, sign)
 }
 
+/// Whether a sign or a word is an operator of this language or another one.
+pub fn is_operator(sign: &[u8]) -> bool {
+    form_between(sign).is_some() || form_before(sign).is_some()
+}
+
 impl Form {
     /// How strongly it binds; 0 for an open bracket.
     pub(crate) fn strength(self) -> u8 {
@@ -162,4 +167,11 @@ pub(crate) fn pattern_of(form: Form, is_left_truth: bool, is_right_truth: bool) 
         Form::Negative => make_pattern(b"0 - P", 1, 2, 2),
         Form::Open => make_pattern(b"P", 3, 0, 0),
     }
+}
+
+/// How the operator between two operands that a sign is is written, where P and Q are its operands
+/// and each of them is 0 or 1.
+pub fn operator_text(sign: &[u8]) -> Option<&'static [u8]> {
+    let form = form_between(sign)?;
+    Some(pattern_of(form, true, true).text)
 }

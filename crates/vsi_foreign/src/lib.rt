@@ -1,23 +1,22 @@
-//! Constructs of other languages in a text: what they are, and what you write in their place.
+//! Texts of other languages: their pieces, and expressions written in this one.
 //!
-//! `put_hint` speaks of the one at a refused place, and `put_further` of the others in the text. A
-//! text that is offered in place of another one has been read by the reader of the language:
-//! `IsOffered` of `specs/Offered` says that it is an expression, or commands.
+//! `pieces_of` cuts a text, and `rewritten` writes an expression of another language in this one.
+//! `expression_alone` and `program_alone` let a text through that the reader of the language has
+//! read: `IsExpression` and `IsProgramText` of `specs/Offered` say what it is.
 //!
 //! To be believed: `specs/Offered`.
 #![tactic(auto)]
 
-mod advice;
 mod expression;
 mod forms;
-mod look;
 mod numbers;
 mod offers;
 mod pieces;
-mod sayings;
-mod shapes;
-mod structure;
-mod telling;
 mod writing;
 
-pub use advice::{put_further, put_hint};
+pub use expression::{is_false, is_no_operand, is_true};
+pub use forms::{is_operator, operator_text};
+pub use numbers::number_of;
+pub use offers::{expression_alone, program_alone};
+pub use pieces::{Piece, Sort, pieces_of};
+pub use writing::rewritten;

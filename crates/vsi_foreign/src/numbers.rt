@@ -22,7 +22,7 @@ fn digit_of(byte: u8) -> Option<u64> {
 }
 
 /// The value of a whole number of another language, where a text of this one can write it.
-pub(crate) fn number_of(text: &[u8]) -> Option<u64> {
+pub fn number_of(text: &[u8]) -> Option<u64> {
     let (digits, base) = digits_of(text);
     let mut value: u64 = 0;
     if digits.is_empty() {

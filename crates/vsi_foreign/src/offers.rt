@@ -26,7 +26,7 @@ fn program_of<'a>(alloc: Global, text: &'a [u8]) -> Result<Option<Program<'a>>, 
 }
 
 /// Whether a text is a program.
-pub(crate) fn is_program(alloc: Global, text: &[u8]) -> Result<bool, AllocError>
+fn is_program(alloc: Global, text: &[u8]) -> Result<bool, AllocError>
     ensures { IfOk result (λ is. is ≡ true → IsProgramText text.now) }
 {
     match program_of(alloc, text)? {
@@ -83,7 +83,7 @@ fn assigns(alloc: Global, text: &[u8]) -> Result<bool, AllocError>
 }
 
 /// Whether a text is an expression.
-pub(crate) fn is_expression(alloc: Global, text: &[u8]) -> Result<bool, AllocError>
+fn is_expression(alloc: Global, text: &[u8]) -> Result<bool, AllocError>
     ensures { IfOk result (λ is. is ≡ true → IsExpression text.now) }
 {
     let mut assignment = Vec::new(alloc);
@@ -93,7 +93,7 @@ pub(crate) fn is_expression(alloc: Global, text: &[u8]) -> Result<bool, AllocErr
 }
 
 /// The text, if it is an expression.
-pub(crate) fn expression_alone(alloc: Global, text: Vec<u8>) -> Result<Option<Vec<u8>>, AllocError>
+pub fn expression_alone(alloc: Global, text: Vec<u8>) -> Result<Option<Vec<u8>>, AllocError>
     ensures { IfOk result (λ found. IfSome found (λ text. IsExpression text.items)) }
 {
     if is_expression(alloc, &text)? {
@@ -104,7 +104,7 @@ pub(crate) fn expression_alone(alloc: Global, text: Vec<u8>) -> Result<Option<Ve
 }
 
 /// The text, if it is a program.
-pub(crate) fn program_alone(alloc: Global, text: Vec<u8>) -> Result<Option<Vec<u8>>, AllocError>
+pub fn program_alone(alloc: Global, text: Vec<u8>) -> Result<Option<Vec<u8>>, AllocError>
     ensures { IfOk result (λ found. IfSome found (λ text. IsProgramText text.items)) }
 {
     if is_program(alloc, &text)? {

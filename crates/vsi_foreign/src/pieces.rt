@@ -7,7 +7,7 @@ const MOST: usize = 4096;
 
 /// The sort of a piece.
 #[derive(Clone, Copy, PartialEq, Eq)]
-pub(crate) enum Sort {
+pub enum Sort {
     /// Letters, digits and `_`, beginning with a letter or `_`.
     Word,
     /// The same and `.`, beginning with a digit.
@@ -24,12 +24,12 @@ pub(crate) enum Sort {
 
 /// A piece of a text, and where it begins.
 #[derive(Clone, Copy)]
-pub(crate) struct Piece<'a> {
-    pub(crate) sort: Sort,
-    pub(crate) text: &'a [u8],
-    pub(crate) at: usize,
+pub struct Piece<'a> {
+    pub sort: Sort,
+    pub text: &'a [u8],
+    pub at: usize,
     /// Whether it is the first piece of its line.
-    pub(crate) is_first: bool,
+    pub is_first: bool,
 }
 
 /// The signs of more than one byte, longer ones first.
@@ -39,7 +39,7 @@ const SIGNS: [&[u8]; 24] = [
 ];
 
 /// Whether a byte belongs to a word.
-pub(crate) fn is_part(byte: u8) -> bool {
+fn is_part(byte: u8) -> bool {
     byte.is_ascii_alphanumeric() || byte == b'_'
 }
 
@@ -71,7 +71,7 @@ fn number_length(rest: &[u8]) -> usize {
 }
 
 /// How many bytes the rest of a line has.
-pub(crate) fn line_length(rest: &[u8]) -> usize {
+fn line_length(rest: &[u8]) -> usize {
     for at in 0..rest.len() {
         if rest[at] == b'\n' {
             return at;
@@ -181,7 +181,7 @@ fn piece_at<'a>(source: &'a [u8], at: usize, is_first: bool, last: Option<&Piece
 }
 
 /// The pieces of a text, without the blanks and the comments of the language.
-pub(crate) fn pieces_of<'a>(alloc: Global, source: &'a [u8]) -> Result<Vec<Piece<'a>>, AllocError> {
+pub fn pieces_of<'a>(alloc: Global, source: &'a [u8]) -> Result<Vec<Piece<'a>>, AllocError> {
     let mut pieces = Vec::new(alloc);
     let mut at: usize = 0;
     let mut is_first = true;

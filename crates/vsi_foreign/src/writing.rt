@@ -1,7 +1,8 @@
 //! A tree of another language's expression, written in this one.
 
-use crate::expression::Node;
+use crate::expression::{Node, read_all, unread};
 use crate::forms::{Form, Pattern, pattern_of};
+use crate::pieces::Piece;
 use std::alloc::{AllocError, Global};
 use vsi_syntax::put_number;
 
@@ -131,7 +132,7 @@ impl<'a, 't> Writing<'a, 't> {
 }
 
 /// The text of a tree in this language, at a level at least, if it has one.
-pub(crate) fn written<'a>(
+fn written<'a>(
     alloc: Global,
     nodes: &[Node<'a>],
     node: usize,
@@ -146,4 +147,17 @@ pub(crate) fn written<'a>(
     let is_whole = writing.write_all()?;
     let Writing { text, .. } = writing;
     Ok(if is_whole { Some(text) } else { None })
+}
+
+/// The expression that pieces are, written in this language at a level at least, if it can be.
+pub fn rewritten(
+    alloc: Global,
+    pieces: &[Piece],
+    level: u8,
+) -> Result<Option<Vec<u8>>, AllocError> {
+    let mut reading = unread(alloc);
+    let Some(node) = read_all(&mut reading, pieces)? else {
+        return Ok(None);
+    };
+    written(alloc, reading.nodes(), node, level)
 }

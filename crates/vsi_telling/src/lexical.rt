@@ -4,7 +4,7 @@ use crate::hints::file_hint;
 use crate::names::{Part, part_of, put_parts};
 use crate::operands::{put_division, put_operator};
 use std::alloc::{AllocError, Global};
-use vsi_foreign::put_hint;
+use vsi_hints::put_hint;
 use vsi_syntax::{LexError, Span};
 
 /// The largest number of bytes of a name.

@@ -30,7 +30,7 @@ use std::alloc::{AllocError, Global};
 use vsi_caret::{Manner, put_place_in, put_safe, put_text};
 use vsi_compiler::CompileError;
 use vsi_diagnostics::Fault;
-use vsi_foreign::put_further;
+use vsi_hints::put_further;
 use vsi_image::Image;
 use vsi_lattice::Lattice;
 use vsi_scope::ScopeError;

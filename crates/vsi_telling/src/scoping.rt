@@ -10,7 +10,7 @@ use crate::names::{
 };
 use crate::nearest::{put_nearest, put_nearest_or};
 use std::alloc::{AllocError, Global};
-use vsi_foreign::put_hint;
+use vsi_hints::put_hint;
 use vsi_lattice::{Classes, Lattice};
 use vsi_scope::ScopeError;
 use vsi_syntax::{Kind, Span, Token};

@@ -9,7 +9,7 @@ use crate::operands::put_operator;
 use crate::spot::{Spot, spot_at};
 use std::alloc::{AllocError, Global};
 use vsi_expected::expected_after;
-use vsi_foreign::put_hint;
+use vsi_hints::put_hint;
 use vsi_syntax::{Kind, ParseError, Span, Token};
 
 /// Whether an `if` among the tokens, in the block that they end in, still wants its `else`.

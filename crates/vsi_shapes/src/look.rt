@@ -1,13 +1,11 @@
 //! The pieces around a place of a text.
 
-use crate::expression::NO_OPERANDS;
-use crate::forms::{form_before, form_between};
-use crate::pieces::{Piece, Sort};
+use vsi_foreign::{Piece, Sort, is_no_operand, is_operator};
 
 /// The pieces of a text.
 #[derive(Clone, Copy)]
-pub(crate) struct Look<'a, 't> {
-    pub(crate) pieces: &'t [Piece<'a>],
+pub struct Look<'a, 't> {
+    pub pieces: &'t [Piece<'a>],
 }
 
 /// The words and signs after which an expression begins.
@@ -31,7 +29,7 @@ const KEYWORDS: [&[u8]; 8] = [
 
 impl<'a, 't> Look<'a, 't> {
     /// The text of a piece; it has no byte where there is none.
-    pub(crate) fn text(&self, at: usize) -> &'a [u8] {
+    pub fn text(&self, at: usize) -> &'a [u8] {
         match self.pieces.get(at) {
             Some(piece) => piece.text,
             None => b"",
@@ -39,7 +37,7 @@ impl<'a, 't> Look<'a, 't> {
     }
 
     /// Whether a piece is this word or sign.
-    pub(crate) fn is(&self, at: usize, text: &[u8]) -> bool {
+    pub fn is(&self, at: usize, text: &[u8]) -> bool {
         self.text(at) == text
     }
 
@@ -60,7 +58,7 @@ impl<'a, 't> Look<'a, 't> {
     }
 
     /// Whether a piece is a word that may be a name.
-    pub(crate) fn is_name(&self, at: usize) -> bool {
+    pub fn is_name(&self, at: usize) -> bool {
         self.has_sort(at, Sort::Word) && !KEYWORDS.contains(&self.text(at))
     }
 
@@ -78,7 +76,7 @@ impl<'a, 't> Look<'a, 't> {
     }
 
     /// The place after a piece.
-    pub(crate) fn stop(&self, at: usize) -> usize {
+    pub fn stop(&self, at: usize) -> usize {
         match self.pieces.get(at) {
             Some(piece) => piece.at.saturating_add(piece.text.len()),
             None => 0,
@@ -96,7 +94,7 @@ impl<'a, 't> Look<'a, 't> {
     /// Whether an expression goes on after a piece.
     fn wants_more(&self, at: usize) -> bool {
         let text = self.text(at);
-        form_between(text).is_some() || form_before(text).is_some() || VALUE_STARTS.contains(&text)
+        is_operator(text) || VALUE_STARTS.contains(&text)
     }
 
     /// Whether a command may begin at a piece.
@@ -110,7 +108,7 @@ impl<'a, 't> Look<'a, 't> {
     }
 
     /// Whether a name is declared somewhere in the text.
-    pub(crate) fn is_declared(&self, name: &[u8]) -> bool {
+    pub fn is_declared(&self, name: &[u8]) -> bool {
         let mut is_after = false;
         for piece in self.pieces {
             if is_after && piece.text == name {
@@ -162,13 +160,12 @@ impl<'a, 't> Look<'a, 't> {
     fn is_operand(&self, at: usize) -> bool {
         let text = self.text(at);
         (self.is_name(at) || self.has_sort(at, Sort::Number))
-            && form_between(text).is_none()
-            && form_before(text).is_none()
-            && !NO_OPERANDS.contains(&text)
+            && !is_operator(text)
+            && !is_no_operand(text)
     }
 
     /// Whether a piece is a name in the place of a class.
-    pub(crate) fn is_class(&self, at: usize) -> bool {
+    pub fn is_class(&self, at: usize) -> bool {
         let Some(word) = at.checked_sub(3) else {
             return false;
         };
@@ -181,7 +178,7 @@ impl<'a, 't> Look<'a, 't> {
     }
 
     /// Whether a piece is a name that is read or assigned to, and no class.
-    pub(crate) fn is_variable(&self, at: usize) -> bool {
+    pub fn is_variable(&self, at: usize) -> bool {
         if !self.is_operand(at) || !self.is_name(at) || self.is_before(at, b":") {
             return false;
         }
@@ -197,7 +194,7 @@ impl<'a, 't> Look<'a, 't> {
     }
 
     /// Whether a name with a `-` in it, which no declaration can have, begins with a piece.
-    pub(crate) fn is_hyphened(&self, at: usize) -> bool {
+    pub fn is_hyphened(&self, at: usize) -> bool {
         let middle = at.saturating_add(1);
         let last = at.saturating_add(2);
         self.is(middle, b"-")
@@ -219,7 +216,7 @@ impl<'a, 't> Look<'a, 't> {
     }
 
     /// The piece after the expression that begins with a piece.
-    pub(crate) fn value_stop(&self, start: usize) -> usize {
+    pub fn value_stop(&self, start: usize) -> usize {
         let mut open: usize = 0;
         for at in start..self.pieces.len() {
             let text = self.text(at);

@@ -1,15 +1,12 @@
 //! The constructs of other languages, and the pieces that each takes.
 
-use crate::expression::{FALSE, TRUE};
-use crate::forms::{form_before, form_between};
 use crate::look::Look;
-use crate::numbers::number_of;
-use crate::pieces::Sort;
 use crate::sayings::{Saying, call_saying, command_saying, sign_saying};
+use vsi_foreign::{Sort, is_false, is_operator, is_true, number_of};
 
 /// The construct that some pieces are.
 #[derive(Clone, Copy)]
-pub(crate) enum Shape {
+pub enum Shape {
     /// Nothing replaces the first piece: a sentence with it between two parts.
     Say(&'static str, &'static str),
     /// The same, where the piece can't be shown.
@@ -44,10 +41,10 @@ pub(crate) enum Shape {
 
 /// Some pieces, from the first one up to the one before the next one, and what they are.
 #[derive(Clone, Copy)]
-pub(crate) struct Found {
-    pub(crate) first: usize,
-    pub(crate) next: usize,
-    pub(crate) shape: Shape,
+pub struct Found {
+    pub first: usize,
+    pub next: usize,
+    pub shape: Shape,
 }
 
 /// These pieces have this shape.
@@ -116,10 +113,10 @@ fn replaced_word(look: &Look, at: usize) -> Option<Found> {
         return Some(make_found(at, next, Shape::Put("{", rest)));
     }
     let rest = ": each variable holds a whole number.";
-    if TRUE.contains(&word) {
+    if is_true(word) {
         return Some(make_found(at, next, Shape::Put("1", rest)));
     }
-    if FALSE.contains(&word) || NULL.contains(&word) {
+    if is_false(word) || NULL.contains(&word) {
         return Some(make_found(at, next, Shape::Put("0", rest)));
     }
     None
@@ -206,7 +203,7 @@ fn word(look: &Look, at: usize) -> Option<Found> {
     if look.is_declared(text) || ASSIGNING.contains(&look.text(at.saturating_add(1))) {
         return None;
     }
-    if form_between(text).is_some() || form_before(text).is_some() {
+    if is_operator(text) {
         return None;
     }
     if let Some(found) = replaced_word(look, at) {
@@ -392,9 +389,7 @@ fn is_foreign_operator(look: &Look, at: usize) -> bool {
     match text {
         [b'-'] => !is_after_operand,
         [b'<'] | [b'='] => is_after_operand && is_chained(look, at),
-        _ => {
-            (form_between(text).is_some() || form_before(text).is_some()) && !OWN.contains(&text)
-        }
+        _ => is_operator(text) && !OWN.contains(&text),
     }
 }
 
@@ -463,7 +458,7 @@ fn number(text: &[u8], at: usize) -> Option<Found> {
 }
 
 /// The construct of another language that a piece begins.
-pub(crate) fn shape_at(look: &Look, at: usize) -> Option<Found> {
+pub fn shape_at(look: &Look, at: usize) -> Option<Found> {
     if look.is(at, b"var") {
         return declaration(look, at);
     }

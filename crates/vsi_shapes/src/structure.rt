@@ -180,7 +180,7 @@ fn unguarded(look: &Look, at: usize, word: &'static str) -> Option<Found> {
 }
 
 /// A word or a sign that is missing or one too many at a piece.
-pub(crate) fn structure_at(look: &Look, at: usize) -> Option<Found> {
+pub fn structure_at(look: &Look, at: usize) -> Option<Found> {
     if look.is_before(at, b"var") || look.is_before(at, b"letvar") {
         return None;
     }
@@ -199,7 +199,7 @@ pub(crate) fn structure_at(look: &Look, at: usize) -> Option<Found> {
 }
 
 /// An `if` at a piece that has no `else`.
-pub(crate) fn halved_at(look: &Look, at: usize) -> Option<Found> {
+pub fn halved_at(look: &Look, at: usize) -> Option<Found> {
     if look.is(at, b"if") {
         halved(look, at)
     } else {

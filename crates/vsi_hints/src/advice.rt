@@ -1,11 +1,9 @@
 //! Sentences about the constructs of other languages in a text.
 
-use crate::look::Look;
-use crate::pieces::pieces_of;
-use crate::shapes::{Found, Shape, shape_at};
-use crate::structure::{halved_at, structure_at};
 use crate::telling::put_found;
 use std::alloc::{AllocError, Global};
+use vsi_foreign::pieces_of;
+use vsi_shapes::{Found, Look, Shape, halved_at, shape_at, structure_at};
 use vsi_syntax::put_place;
 
 /// How many further places of a text are named at most.

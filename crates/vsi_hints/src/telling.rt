@@ -3,14 +3,9 @@
 ghost use Rattle.std.specs.Prelude.{IfOk, IfSome};
 ghost use Rattle.vsi_foreign.specs.Offered.{IsExpression, IsProgramText};
 
-use crate::expression::{read_all, unread};
-use crate::forms::{form_between, pattern_of};
-use crate::look::Look;
-use crate::numbers::number_of;
-use crate::offers::{expression_alone, program_alone};
-use crate::shapes::{Found, Shape};
-use crate::writing::written;
 use std::alloc::{AllocError, Global};
+use vsi_foreign::{expression_alone, number_of, operator_text, program_alone, rewritten};
+use vsi_shapes::{Found, Look, Shape};
 use vsi_syntax::put_number;
 
 /// How many bytes of a text are shown at most.
@@ -46,11 +41,7 @@ fn value_text(
             return Ok(None);
         }
     }
-    let mut reading = unread(alloc);
-    let Some(node) = read_all(&mut reading, &look.pieces[first.min(stop)..stop])? else {
-        return Ok(None);
-    };
-    written(alloc, reading.nodes(), node, level)
+    rewritten(alloc, &look.pieces[first.min(stop)..stop], level)
 }
 
 /// Adds an expression, and answers whether it could be written.
@@ -289,11 +280,7 @@ fn value(alloc: Global, look: &Look, found: &Found) -> Result<Option<Vec<u8>>, A
 }
 
 /// The text that may replace pieces, if there is one.
-pub(crate) fn offer(
-    alloc: Global,
-    look: &Look,
-    found: &Found,
-) -> Result<Option<Vec<u8>>, AllocError> {
+fn offer(alloc: Global, look: &Look, found: &Found) -> Result<Option<Vec<u8>>, AllocError> {
     match found.shape {
         Shape::Value(_) => value(alloc, look, found),
         Shape::Assign(count) => {
@@ -378,11 +365,11 @@ fn put_comment(words: &mut Vec<u8>, text: &[u8]) -> Result<(), AllocError> {
 /// Adds the sentence for an operator whose operands aren't offered, and answers whether there is
 /// one.
 fn put_operator(words: &mut Vec<u8>, sign: &[u8]) -> Result<bool, AllocError> {
-    let Some(form) = form_between(sign) else {
+    let Some(text) = operator_text(sign) else {
         return Ok(false);
     };
     words.extend_from_slice(b"write ")?;
-    put_quoted(words, pattern_of(form, true, true).text)?;
+    put_quoted(words, text)?;
     words.extend_from_slice(b" for `P ")?;
     words.extend_from_slice(sign)?;
     words.extend_from_slice(b" Q`.")?;
