@@ -53,7 +53,7 @@ impl<'a> Disk<'a> {
     /// Whether this request has read the file at the path, under whatever name.
     fn has_read(&self, path: &str) -> bool {
         match fs::metadata(self.rt, path) {
-            Ok(found) => self.read.contains(&identity(found.dev(), found.ino())),
+            Ok(found) => self.read.contains(&identity_of(found.dev(), found.ino())),
             Err(_) => false,
         }
     }
@@ -150,7 +150,7 @@ impl<'a> Disk<'a> {
 }
 
 /// The identity with these two numbers.
-fn identity(device: u64, number: u64) -> Identity {
+fn identity_of(device: u64, number: u64) -> Identity {
     Identity { device, number }
 }
 
@@ -160,7 +160,7 @@ impl Files for Disk<'_> {
     fn open_file(&mut self, path: &str) -> Option<File> {
         let file = File::open(self.rt, path).ok()?;
         let found = file.metadata().ok()?;
-        self.read.push(identity(found.dev(), found.ino())).ok()?;
+        self.read.push(identity_of(found.dev(), found.ino())).ok()?;
         Some(file)
     }
 
