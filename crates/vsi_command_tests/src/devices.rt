@@ -165,10 +165,15 @@ impl Files for Shelf {
         let Page::Blank = self.page else {
             return None;
         };
-        let most = bytes.len().min(self.room);
-        let taken = Vec::from_slice(self.alloc, &bytes[..most]).ok()?;
-        self.page = Page::Filled(Vec::from_slice(self.alloc, path.as_bytes()).ok()?, taken);
-        if most < bytes.len() { None } else { Some(()) }
+        let at = Vec::from_slice(self.alloc, path.as_bytes()).ok()?;
+        if self.room < bytes.len() {
+            let taken = Vec::from_slice(self.alloc, &bytes[..self.room]).ok()?;
+            self.page = Page::Filled(at, taken);
+            return None;
+        }
+        let taken = Vec::from_slice(self.alloc, bytes).ok()?;
+        self.page = Page::Filled(at, taken);
+        Some(())
     }
 }
 

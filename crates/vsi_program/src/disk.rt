@@ -126,11 +126,7 @@ impl<'a> Disk<'a> {
     fn may_replace(&self, path: &str) -> bool {
         match fs::symlink_metadata(self.rt, path) {
             Ok(found) => {
-                found.is_file()
-                    && OpenOptions::new()
-                        .write(true)
-                        .open(self.rt, path)
-                        .is_ok()
+                found.is_file() && OpenOptions::new().write(true).open(self.rt, path).is_ok()
             }
             Err(error) => error.kind() == ErrorKind::NotFound,
         }
