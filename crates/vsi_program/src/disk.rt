@@ -20,6 +20,9 @@ const OPEN_TO_ALL: u32 = 0o666;
 /// The bits of a file's mode that say who may read, write and run it.
 const RIGHTS: u32 = 0o777;
 
+/// How many of the files that a request reads are known by their identities: more than it names.
+const MOST_READ: usize = 8;
+
 /// How many names are tried for the file beside the one that is to be replaced.
 const MOST_NAMES: u8 = 16;
 
@@ -34,8 +37,8 @@ struct Identity {
 #[derive(Drop)]
 pub(crate) struct Disk<'a> {
     rt: &'a HostRuntime,
-    /// The files that this request has opened to read.
-    read: Vec<Identity>,
+    /// The files that this request has opened to read, the first ones if there are more.
+    read: [Option<Identity>; MOST_READ],
     /// Whether a file wasn't written because this request has read it.
     is_spared: bool,
 }
@@ -45,15 +48,27 @@ impl<'a> Disk<'a> {
     pub(crate) fn new(rt: &'a HostRuntime) -> Disk<'a> {
         Disk {
             rt,
-            read: Vec::new(rt.alloc()),
+            read: [None; MOST_READ],
             is_spared: false,
+        }
+    }
+
+    /// Notes a file that was opened to read.
+    fn note(&mut self, identity: Identity) {
+        for place in &mut self.read {
+            if place.is_none() {
+                *place = Some(identity);
+                return;
+            }
         }
     }
 
     /// Whether this request has read the file at the path, under whatever name.
     fn has_read(&self, path: &str) -> bool {
         match fs::metadata(self.rt, path) {
-            Ok(found) => self.read.contains(&identity_of(found.dev(), found.ino())),
+            Ok(found) => self
+                .read
+                .contains(&Some(identity_of(found.dev(), found.ino()))),
             Err(_) => false,
         }
     }
@@ -66,38 +81,53 @@ impl<'a> Disk<'a> {
         }
     }
 
-    /// Makes a file of a new name beside the one to be replaced: never one that is there already, nor
-    /// one that a link leads to.
-    fn create_beside(&self, fresh: &str, mode: u32) -> io::Result<(File, String)> {
-        let mut name = String::from_str(self.rt.alloc(), fresh)?;
+    /// Makes a file with the name, which no file has yet.
+    fn create_new(&self, name: &str, mode: u32) -> io::Result<File> {
+        OpenOptions::new()
+            .write(true)
+            .create_new(true)
+            .mode(mode)
+            .open(self.rt, name)
+    }
+
+    /// Makes a file beside the one to be replaced, with the name `fresh` or that and a number: never
+    /// one that is there already, nor one that a link leads to. It answers the number's name, if any.
+    fn create_beside(&self, fresh: &str, mode: u32) -> io::Result<(File, Option<String>)> {
+        match self.create_new(fresh, mode) {
+            Ok(file) => return Ok((file, None)),
+            Err(error) if error.kind() == ErrorKind::AlreadyExists => {}
+            Err(error) => return Err(error),
+        }
         for number in 1..=MOST_NAMES {
-            let made = OpenOptions::new()
-                .write(true)
-                .create_new(true)
-                .mode(mode)
-                .open(self.rt, name.as_str());
-            match made {
-                Ok(file) => return Ok((file, name)),
-                Err(error) if error.kind() == ErrorKind::AlreadyExists => {
-                    name = format!(in self.rt.alloc(); "{fresh}{number}")?;
-                }
+            let name = format!(in self.rt.alloc(); "{fresh}{number}")?;
+            match self.create_new(name.as_str(), mode) {
+                Ok(file) => return Ok((file, Some(name))),
+                Err(error) if error.kind() == ErrorKind::AlreadyExists => {}
                 Err(error) => return Err(error),
             }
         }
         Err(io::Error::from(ErrorKind::AlreadyExists))
     }
 
+    /// Makes a new file beside the one at the path, and puts it in its place once it is filled.
+    fn replace_by_new(&self, path: &str, fresh: &str, mode: u32, bytes: &[u8]) -> io::Result<()> {
+        let (file, numbered) = self.create_beside(fresh, mode)?;
+        match &numbered {
+            Some(name) => self.replace(path, file, name.as_str(), bytes),
+            None => self.replace(path, file, fresh, bytes),
+        }
+    }
+
     /// Fills a new file with the bytes, gives it the rights and the owner of the one at the path, if
     /// there is one, and puts it in its place once it is on the disk.
-    fn replace(&self, path: &str, made: (File, String), bytes: &[u8]) -> io::Result<()> {
-        let (file, name) = made;
+    fn replace(&self, path: &str, file: File, name: &str, bytes: &[u8]) -> io::Result<()> {
         let filled = self.fill(file, path, bytes);
         let done = match filled {
-            Ok(()) => fs::rename(self.rt, name.as_str(), path),
+            Ok(()) => fs::rename(self.rt, name, path),
             Err(error) => Err(error),
         };
         if done.is_err() {
-            let _ = fs::remove_file(self.rt, name.as_str());
+            let _ = fs::remove_file(self.rt, name);
         }
         done
     }
@@ -133,12 +163,17 @@ impl<'a> Disk<'a> {
     }
 
     /// Fills the file at the path as a whole, by a new one beside it. A device, a pipe, the target of
-    /// a link and a file in a folder that can't be written to are filled where they are.
+    /// a link and a file in a folder that can't be written to are filled where they are, and so is
+    /// any file if there is no memory for a name.
     fn fill_whole(&self, path: &str, bytes: &[u8]) -> io::Result<()> {
         if self.may_replace(path) {
-            let fresh = format!(in self.rt.alloc(); "{path}.new")?;
-            if let Ok(made) = self.create_beside(fresh.as_str(), OPEN_TO_ALL) {
-                return self.replace(path, made, bytes);
+            if let Ok(fresh) = format!(in self.rt.alloc(); "{path}.new") {
+                if let Ok((file, numbered)) = self.create_beside(fresh.as_str(), OPEN_TO_ALL) {
+                    return match &numbered {
+                        Some(name) => self.replace(path, file, name.as_str(), bytes),
+                        None => self.replace(path, file, fresh.as_str(), bytes),
+                    };
+                }
             }
         }
         File::create(self.rt, path)?.write_all(bytes)
@@ -156,7 +191,7 @@ impl Files for Disk<'_> {
     fn open_file(&mut self, path: &str) -> Option<File> {
         let file = File::open(self.rt, path).ok()?;
         let found = file.metadata().ok()?;
-        self.read.push(identity_of(found.dev(), found.ino())).ok()?;
+        self.note(identity_of(found.dev(), found.ino()));
         Some(file)
     }
 
@@ -169,8 +204,7 @@ impl Files for Disk<'_> {
     }
 
     fn replace_file(&mut self, path: &str, fresh: &str, bytes: &[u8]) -> Option<()> {
-        let made = self.create_beside(fresh, OWNER_ALONE).ok()?;
-        self.replace(path, made, bytes).ok()
+        self.replace_by_new(path, fresh, OWNER_ALONE, bytes).ok()
     }
 
     fn trouble(&mut self, path: &str) -> Option<&'static str> {

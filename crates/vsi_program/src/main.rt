@@ -7,7 +7,7 @@ use crate::disk::Disk;
 use std::io::{ErrorKind, Write};
 use std::process::ExitCode;
 use std::{env, io};
-use vsi::{Counted, command, load};
+use vsi::{Counted, command};
 
 /// The status of mistaken arguments.
 const USAGE: u8 = 2;
@@ -24,24 +24,19 @@ fn arguments(rt: &HostRuntime) -> io::Result<Vec<String>> {
     Ok(arguments)
 }
 
-/// Says on standard error that memory ran out.
-fn lacks_memory(rt: &HostRuntime) -> ExitCode {
-    let _ = eprintln!(rt; "out of memory");
-    ExitCode::from(OUT_OF_MEMORY)
-}
-
 fn main(rt: HostRuntime) -> ExitCode {
     let arguments = match arguments(&rt) {
         Ok(arguments) => arguments,
-        Err(error) if error.kind() == ErrorKind::OutOfMemory => return lacks_memory(&rt),
+        Err(error) if error.kind() == ErrorKind::OutOfMemory => {
+            let _ = eprintln!(rt; "out of memory");
+            return ExitCode::from(OUT_OF_MEMORY);
+        }
         Err(_) => {
             let _ = eprintln!(rt; "error: the words are no text");
             return ExitCode::from(USAGE);
         }
     };
-    let Ok(mut files) = load(rt.alloc(), arguments.as_slice(), Disk::new(&rt)) else {
-        return lacks_memory(&rt);
-    };
+    let mut files = Disk::new(&rt);
     let mut input = Counted::new(rt.stdin());
     let mut output = Counted::new(rt.stdout());
     let mut error = Counted::new(rt.stderr());
