@@ -1,5 +1,5 @@
--- A program with a loop in place of each choice. Its flows are those of the program, and each guard flows into the
--- ending of loops.
+-- A program with a loop in place of each choice. Its flows are those of the program, and in addition each guard flows
+-- into the ending of loops.
 use Rattle.std.specs.Prelude.{◌≡◌}
 use Rattle.vsi_scope.specs.Language.{Command, Skip, Assign, Sequence, If, While, Letvar}
 use Rattle.vsi_scope.specs.Program.{Resolved}
