@@ -32,8 +32,8 @@ pub record IsBadWalkOfImage (known : Known) (L : Lattice) (P : Profile) (im : Im
   pub stands : StandsFor read im
   pub shortest : IsShortest L P (program read) steps
 
--- The refusal is for a class name that the lattice lacks, or for a bad walk of the image's program. The absence of a
--- program isn't claimed.
+-- The refusal is for a class name that the lattice lacks, or for a bad walk of the image's program; it doesn't claim
+-- that code has no program.
 abbrev pub Refuses : Known → Lattice → Profile → Image → AuditError → Type 0
 Refuses known L P im (UnknownClass i) = IsUnknownAt known (globals im.globals.items) i
 Refuses known L P im (Unstructured place) = Unit {0}

@@ -1,4 +1,4 @@
-//! What happens at a step, in whole sentences.
+//! The sentences about a step.
 
 use crate::names::put_variable;
 use std::alloc::AllocError;

@@ -5,7 +5,7 @@ use Rattle.std.proofs.lemmas.List.Sums.{sum_by-set}
 use Rattle.vsi_infer.specs.Distances.{Leads, IsGoal, IsAway, AreDistances, Spreads, AtMost, IsSeen, Moved, unreached}
 
 module _ (flows : ℕ → ℕ → Bool) (goals : List Bool) (level : ℕ) (small : level < 65534) where
-  -- If nothing moves, no number changes.
+  -- If no number changes, nothing has moved.
   pub moved_none : (far : List ℕ) → Moved flows level far far false
   moved_none far = record { down = λ v. omega arith; level_kept = λ v e. e; quiet = λ e. refl; fewer = omega arith }
 
@@ -26,7 +26,7 @@ module _ (flows : ℕ → ℕ → Bool) (goals : List Bool) (level : ℕ) (small
       | inr n ↦ omega (arith, other v n)
     ]
 
-    -- A small number was there before.
+    -- A number up to the level was there before.
     old_there : (v x : ℕ) → x ≤ level → get_or (set far from (level + 1)) v 0 ≡ x → get_or far v 0 ≡ x
     old_there v x le e = elim (cases_eq v from) [
       | inl q ↦ absurd (omega (arith, ap (λ (u : ℕ). get_or (set far from (level + 1)) u 0) q, same, e, le))

@@ -39,12 +39,12 @@ mark_on text m lt e i =
     mark text (m.at + 1) m.line (m.column + 1) (omega (arith, lt))
     (stands_on text m.at m.line m.column lt e (stands text m i))
 
--- A mark at the end of the count gives the line.
+-- A mark at a position has the line of the position.
 pub line_at : (text : List ℕ) (m : Mark) (at : ℕ) → m.at ≡ min at (length text) → IsMarkOf text m
     → m.line ≡ 1 + breaks (take at text)
 line_at text m at e i = i.line ∙ ap (λ l. 1 + breaks l) (stop text at m.at e)
 
--- The column of a position counts the bytes before it in its line.
+-- A mark at a position has a column that counts the bytes before it in its line.
 pub column_at : (text : List ℕ) (m : Mark) (at : ℕ) → m.at ≡ min at (length text) → IsMarkOf text m
     → m.column ≡ 1 + length (last_line (take at text))
 column_at text m at e i = i.column ∙ ap (λ l. 1 + length (last_line l)) (stop text at m.at e)

@@ -37,7 +37,7 @@ module _ (ss : List Step) where
   path_push a b [] s p e c = (e ∙ sym p, c, refl)
   path_push a b (x ∷ xs) s p e c = (p.0, p.1, path_push x.target b xs s p.2 e c)
 
-  -- The first steps of a path, up to and including one step, are a path.
+  -- The steps before one of a path are a path to its source, and the step is in the list.
   pub path_at : (a b : ℕ) (xs : List Step) (i : ℕ) (s : Step) → i < length xs → s ≡ get_or xs i s → IsPath ss a xs b
       → (m : ℕ) × IsPath ss a (take i xs) m × (s.source ≡ m) × Contains ss s
   path_at a b [] i s lt is p = absurd (omega arith)
@@ -64,7 +64,7 @@ module _ (ss : List Step) where
       subst (λ l. IsPath ss a l s.target) (ap (λ y. take i xs ++ y ∷ []) is ∙ sym (take_more xs i s lt))
       (path_push a b (take i xs) s p e c)
 
-  -- If the next step starts elsewhere, there is no path.
+  -- If the next step starts elsewhere or isn't in the list, there is no path.
   pub path_turns : (a b m : ℕ) (xs : List Step) (i : ℕ) (s : Step) → i < length xs → s ≡ get_or xs i s
       → IsPath ss a (take i xs) m → (s.source ≡ m → Contains ss s → ⊥) → IsPath ss a xs b → ⊥
   path_turns a b m xs i s lt is p never q =

@@ -247,13 +247,13 @@ and_first : (x y : Bool) → (x && y) ≡ true → x ≡ true
 and_first true y e = refl
 and_first false y e = absurd (false≢true e)
 
--- A member of one set without another isn't in the other.
+-- A member of the difference of two sets isn't in the second.
 and_not : (x y : Bool) → (x && not y) ≡ true → y ≡ false
 and_not true true e = absurd (false≢true e)
 and_not true false e = refl
 and_not false y e = absurd (false≢true e)
 
--- A member of one set that isn't in it without another is in the other.
+-- A member of a set that isn't in its difference with another is in the other.
 one_of : (x y : Bool) → x ≡ true → (x && not y) ≡ false → y ≡ true
 one_of true true e f = refl
 one_of true false e f = absurd (true≢false f)

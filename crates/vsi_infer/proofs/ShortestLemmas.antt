@@ -65,7 +65,7 @@ module _ (L : Lattice) (laws : IsLattice L) (P : Profile) (p : Program) (res : I
   size : length (table L p) ≡ size_of p + 1
   size = table_length L p res.entries res.limit
 
-  -- A class has as many goals entries as the table has entries.
+  -- The list of goals of a class is as long as the table.
   goals_size : (c : ℕ) → length (goals_of L.leq (table L p) c) ≡ size_of p + 1
   goals_size c = length-map (table L p) (is_high L.leq c) ∙ size
 
@@ -97,7 +97,7 @@ module _ (L : Lattice) (laws : IsLattice L) (P : Profile) (p : Program) (res : I
     | inr ge ↦ absurd (none-some h (sym (get_or_past (table L p) v None ge) ∙ e))
   ]
 
-  -- The row of a variable's number is that number.
+  -- The row of the variable at a place is that place.
   pub row_back : (b : ℕ) → b ≤ size_of p → row_of (size_of p) (variable_at (size_of p) b) ≡ b
   row_back b le = elim (cases_eq b (size_of p)) [
     | inl e ↦ ap (λ t. row_of (size_of p) (cond t sink b)) (eq-eqb b (size_of p) e) ∙ sym e
@@ -105,7 +105,7 @@ module _ (L : Lattice) (laws : IsLattice L) (P : Profile) (p : Program) (res : I
         ∙ ap (λ t. cond t (size_of p) b) (ne_eqb b sink (λ e. omega (arith, e, le, are.size)))
   ]
 
-  -- A row before the last one has the number of its variable.
+  -- A row before the last one belongs to the variable with its number.
   pub row_plain : (v : ℕ) → row_of (size_of p) v < size_of p → row_of (size_of p) v ≡ v
   row_plain v lt = elim (cases_eq v sink) [
     | inl e ↦ absurd (let q : row_of (size_of p) v ≡ size_of p = ap (λ t. cond t (size_of p) v) (eq-eqb v sink e) in
@@ -114,7 +114,7 @@ module _ (L : Lattice) (laws : IsLattice L) (P : Profile) (p : Program) (res : I
   ]
 
   module _ (c : ℕ) (row : List ℕ) (d : AreDistances flows (goals_of L.leq (table L p) c) row) where
-    -- A number above 0 has a step that leads one down.
+    -- From a number above 0, a step leads to the next lower number.
     down_at : (i n : ℕ) → get_or row i 0 ≡ suc n → suc n < 65535 → (i < size_of p)
         × ((s : Step) × Contains (steps_of P p) s × (s.source ≡ i) × (get_or row (row_of (size_of p) s.target) 0 ≡ n))
     down_at i n e lt =
@@ -146,7 +146,7 @@ module _ (L : Lattice) (laws : IsLattice L) (P : Profile) (p : Program) (res : I
         let r = down_at (row_of (size_of p) v) n e lt in
         (r.1.0, r.1.1, r.1.2 ∙ row_plain v r.0, r.1.3)
 
-  -- A step is a flow between two places.
+  -- The target of a step is at some place, and the source flows to that place.
   pub step_flow : (x : Step) → Contains (steps_of P p) x → (b : ℕ) × (b ≤ size_of p)
       × (x.target ≡ variable_at (size_of p) b) × (flows x.source b ≡ true)
   step_flow x there =
@@ -163,7 +163,7 @@ module _ (L : Lattice) (laws : IsLattice L) (P : Profile) (p : Program) (res : I
   pub source_within : (x : Step) → Contains (steps_of P p) x → x.source < size_of p
   source_within x there = let f = step_flow x there in (are.within x.source f.0 f.3).0
 
-  -- Equal variables have the same place.
+  -- If the variable at a place is one of the program's, the place is its number.
   pub same_place : (b v : ℕ) → b ≤ size_of p → v < size_of p → variable_at (size_of p) b ≡ v → b ≡ v
   same_place b v le lt e = elim (cases_lt b (size_of p)) [
     | inl l ↦ sym (at_place L p res.entries res.limit b l) ∙ e
@@ -195,7 +195,7 @@ module _ (L : Lattice) (laws : IsLattice L) (P : Profile) (p : Program) (res : I
 
   module _ (rows : List (List ℕ)) (levels : AreLevels L flows (table L p) rows) (n : ℕ)
       (best : IsFewest (table L p) rows n) where
-    -- The distance of the source is a lower bound for the length of a bad walk.
+    -- The fewest steps are a lower bound for the length of a bad walk.
     pub no_shorter : (s : Step) (rest : List Step) → IsBadFrom L P p s rest → n ≤ length (s ∷ rest)
     no_shorter s rest bad =
         let w = chain_leads s rest bad.steps bad.chain in
@@ -213,7 +213,7 @@ module _ (L : Lattice) (laws : IsLattice L) (P : Profile) (p : Program) (res : I
         let b = best.lower s.source bad.low g in
         omega (arith, f.1, b)
 
-    -- A program with a bad walk has a shortest length and a step that begins a walk of that length.
+    -- If there is a bad walk, the number of fewest steps was found.
     pub some_length : HasPlacedBadWalk L.count L.leq flows (table L p) → n < 65535
     some_length has = elim (cases_lt n 65535) [
       | inl lt ↦ lt

@@ -60,19 +60,20 @@ reads_as scope (Operator o a b) v =
     ∙ ap (λ x. x || reads_list (reads scope b) v) (reads_as scope a v)
     ∙ ap (λ x. reads_it scope a v || x) (reads_as scope b v)
 
--- Guards made from reads of one rule read the same by that rule.
+-- Guards made from reads read what the reads do, if the filter takes their rule.
 guarded_as : (F : RuleFilter) (rule : Rule) (rs : List Read) (v : ℕ)
     → guards_read F (guarded rule rs) v ≡ (takes F rule && reads_list rs v)
 guarded_as F rule [] v = sym (and-false (takes F rule))
 guarded_as F rule (r ∷ rs) v = ap (λ x. (takes F rule && (r.variable == v)) || x) (guarded_as F rule rs v)
     ∙ and_out (takes F rule) (r.variable == v) (reads_list rs v)
 
--- By a rule, the guards of an expression read the same as the expression.
+-- The guards of an expression read what the expression reads, if the filter takes their rule.
 guards_as : (F : RuleFilter) (rule : Rule) (scope : List ℕ) (e : Expression) (v : ℕ)
     → guards_read F (guarded rule (reads scope e)) v ≡ reads_by F rule scope e v
 guards_as F rule scope e v = guarded_as F rule (reads scope e) v ∙ ap (λ x. takes F rule && x) (reads_as scope e v)
 
--- Guards followed by those of an expression read by a rule what both read by it.
+-- Guards followed by those of an expression read what the guards read and, if the filter takes the rule, what the
+-- expression reads.
 more_guards : (F : RuleFilter) (gs : List Guard) (rule : Rule) (scope : List ℕ) (e : Expression) (v : ℕ)
     → guards_read F (gs ++ guarded rule (reads scope e)) v ≡ inside F rule (guards_read F gs) scope e v
 more_guards F gs rule scope e v = list_any-append (λ (g : Guard). takes F g.rule && (g.read.variable == v)) gs
@@ -111,7 +112,7 @@ step_append : (F : RuleFilter) (xs ys : List Step) (a b : ℕ)
 step_append F xs ys a b = list_any-append (leads_taken F a b) xs ys
 
 module _ (k : ℕ) (small : k ≤ 1024) where
-  -- The ending has the last number.
+  -- The ending is at the last place.
   at_sink : (b : ℕ) → b ≤ k → (sink == variable_at k b) ≡ (b == k)
   at_sink b le = ⊎_elim
       (λ e. ap (λ t. sink == cond t sink b) (eq-eqb b k e) ∙ sym (eq-eqb b k e))
@@ -119,7 +120,7 @@ module _ (k : ℕ) (small : k ≤ 1024) where
       ∙ sym (ne_eqb b k n))
       (cases_eq b k)
 
-  -- A variable's number is the variable.
+  -- A variable is at the place of its number.
   at_variable : (t b : ℕ) → t < k → (t == variable_at k b) ≡ (b == t)
   at_variable t b lt = ⊎_elim
       (λ e. ap (λ x. t == cond x sink b) (eq-eqb b k e) ∙ ne_eqb t sink (λ q. omega (arith, lt, small, q))
@@ -199,7 +200,7 @@ module _ (k : ℕ) (small : k ≤ 1024) where
         (steps_as gs (scope ++ n ∷ []) (n + 1) c (subst (λ m. HasPlaces m c) (sym size) places.1)
         (omega (arith, limit)) (All-push (λ v. v < k) scope n all lt))
 
-  -- A variable that is read is in the scope.
+  -- A variable that is read is a variable of the program.
   reads_within : (scope : List ℕ) (e : Expression) (v : ℕ) → HasLocations (length scope) e → All (λ v. v < k) scope
       → reads_it scope e v ≡ true → v < k
   reads_within scope (Number z) v places all h = absurd (false≢true h)
@@ -212,7 +213,7 @@ module _ (k : ℕ) (small : k ≤ 1024) where
   Within around = (v : ℕ) → around v ≡ true → v < k
 
   module _ (F : RuleFilter) (P : Profile) (a b : ℕ) where
-    -- A variable read by a rule of the filter is in the scope.
+    -- A variable read by a rule of the filter is a variable of the program.
     taken_within : (rule : Rule) (scope : List ℕ) (e : Expression) (v : ℕ) → HasLocations (length scope) e
         → All (λ v. v < k) scope → reads_by F rule scope e v ≡ true → v < k
     taken_within rule scope e v places all h =
@@ -225,7 +226,7 @@ module _ (k : ℕ) (small : k ≤ 1024) where
     inside_within rule around scope e places all w v h = ⊎_elim (w v) (taken_within rule scope e v places all)
         (or_cases (around v) (reads_by F rule scope e v) h)
 
-    -- An ending observes a variable of the program.
+    -- A flow to the ending of a loop goes from a variable of the program.
     ending_within : (looping : Bool) (scope : List ℕ) (e : Expression)
         → HasLocations (length scope) e → All (λ v. v < k) scope
         → (observes_ending P looping && ((b == k) && reads_by F typing.Loop scope e a)) ≡ true → (a < k) × (b ≤ k)

@@ -115,7 +115,7 @@ module _ (size : ℕ) (leq : ℕ → ℕ → Bool) (bottom top : ℕ) (laws : Or
       ];
     })
 
-  -- A flow needs no raise if it is in order, isn't there, or goes to a declared variable.
+  -- If the flow to a variable needs no raise, the next variable can be looked at.
   pub quiet_waits : (s w : List ℕ) (from to : ℕ) → (slice_get declared to ≡ Some None → flows from to ≡ true
       → leq (get_or s from 0) (get_or s to 0) ≡ true)
       → Waits size leq flows declared s w from to → Waits size leq flows declared s w from (to + 1)
@@ -133,7 +133,7 @@ module _ (size : ℕ) (leq : ℕ → ℕ → Bool) (bottom top : ℕ) (laws : Or
     within = h.within;
   }
 
-  -- A raise leaves fewer raises to do.
+  -- A raise leaves less distance to the top.
   pub raise_nearer : (s s' : List ℕ) (from to : ℕ) → flows from to ≡ true → KeepsDeclared size leq flows declared s
       → IsRaiseOf size leq s s' from to → distance leq size s' < distance leq size s
   raise_nearer s s' from to flow c r =
@@ -149,7 +149,7 @@ module _ (size : ℕ) (leq : ℕ → ℕ → Bool) (bottom top : ℕ) (laws : Or
       (laws.reflexive r.class r.is_join.within) (λ k hk le. laws.transitive k
       (get_or s to 0) r.class hk hs r.is_join.within le r.is_join.right)
 
-  -- The last waiting variable is taken.
+  -- When the last waiting variable is taken, its flows are still to be looked at.
   pub pop_waits : (s w w' : List ℕ) (old from : ℕ) → w ≡ w' ++ from ∷ []
       → Waits size leq flows declared s w old (length declared) → Waits size leq flows declared s w' from 0
   pop_waits s w w' old from e h = record {

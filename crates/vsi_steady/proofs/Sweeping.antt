@@ -42,9 +42,9 @@ first_on L slots code pc i held e lt g =
     record { after = on.0; passes = on.1; code = on.2 }
 
 module _ (known : Known) (L : Lattice) (image : Image) where
-  -- The state of a sweep at a place. If no class has risen so far, the classes are the first ones, and if no
-  -- requirement failed, the code passes whenever its rest does. If the image is steady, the classes are at or below
-  -- those with which it is steady, and no requirement failed.
+  -- A sweep up to a place: if no class has risen, the classes are the first ones; if no requirement failed, the code
+  -- passes whenever its rest does; and if the image is steady, the classes are at or below those with which it is
+  -- steady, and no requirement failed.
   pub record Sweeping (first classes : List ℕ) (pc depth : ℕ) (held : List ℕ) (risen : Bool)
       (flow : Option ℕ) : Type 0 where
     pub standing : Standing L image pc depth held

@@ -49,8 +49,8 @@ pub record IsSteadilyAccepted (known : Known) (L : Lattice) (text : List ℕ) : 
   pub compiled : IsCompiled known L Strict text image
   pub steady : IsSteady known L image
 
--- The text has a tree and its resolution. With a loop in place of each choice, these steps are a strictly bad walk, and
--- no such walk has fewer.
+-- The text has a tree and its resolution, and with a loop in place of each choice, these steps are a strictly bad walk
+-- and no such walk has fewer.
 pub record HasShortestWatchedWalk (known : Known) (L : Lattice) (text : List ℕ) (steps : List Step) : Type 0 where
   pub tree : Whole
   pub commands : List Command

@@ -19,8 +19,8 @@ abbrev pub Stores : Lattice → ℕ → List ℕ → List ℕ → Type 0
 Stores L slot [] left = ⊥
 Stores L slot (c ∷ rest) left = Below L c slot × (left ≡ rest)
 
--- An instruction takes operands of these classes, the top one first, to operands of those, where each slot has its
--- class. At a jump the only operand is that of JZ, which has the bottom class.
+-- An instruction takes operands of these classes, the top one first, to operands of those, given the classes of the
+-- slots; at a jump the only operand is that of JZ, which has the bottom class.
 abbrev pub Passes : Lattice → List ℕ → Instr → List ℕ → List ℕ → Type 0
 Passes L slots (Push n) held left = left ≡ L.bottom ∷ held
 Passes L slots (Load k) held left = left ≡ slice_index slots k ∷ held
