@@ -29,7 +29,7 @@ use vsi_scope::{Cmd, Entry, Resolved, size};
 use vsi_syntax::MAX_DEPTH;
 use vsi_types::Profile;
 
-/// The greatest size of a program's body.
+/// The largest size of a program's body.
 const MAX_SIZE: u32 = 65_534;
 
 /// The entries of letvars without declared classes.
@@ -183,7 +183,8 @@ pub fn audit_in(
 ) -> Result<(), AuditError>
     ensures valid { OnOk result (IsValid image.now) }
     ensures classes { OnOk result (HasKnownClasses (class_named lattice.now) image.now) }
-    // Two stores that agree at and below a class end in agreement there, whenever both runs halt.
+    // Two stores that agree at and below a class still agree there at the end, whenever both runs
+    // halt.
     ensures noninterference { OnOk result
         (IsNoninterfering (class_named lattice.now) (order lattice.now) image.now) }
     // Under the strict profile, of two runs that agree at the bottom class either both halt or

@@ -1,4 +1,4 @@
-//! From events to commands over locations.
+//! Turns events into commands over locations.
 
 use crate::error::Unread;
 use crate::events::{Event, Need, Part};

@@ -34,7 +34,7 @@ with_shown s ms =
     with_natural (codes "column") s.column (with_natural (codes "line") s.line
     (with_text (codes "class") s.class (with_text (codes "name") s.name ms)))
 
--- ---- points.
+-- ---- points as objects.
 
 -- A global that the text lacks.
 abbrev pub missing : Global → Members
@@ -44,7 +44,7 @@ missing g = with_text (codes "class") g.1 (with_text (codes "name") g.0 (kind (c
 abbrev pub unexpected : Shown → Members
 unexpected s = with_shown s (kind (codes "unexpected"))
 
--- A global with another class than this one.
+-- A global with a class other than this one.
 abbrev pub wrong_class : Shown → List ℕ → Members
 wrong_class s class = with_text (codes "expected") class (with_shown s (kind (codes "class")))
 
@@ -90,7 +90,7 @@ members_of_point p (NoWord run n) = wrong_word run (expected p.interface run n) 
 abbrev pub objects_of_points : Page → List Point → List Data
 objects_of_points p points = map (λ point. object (members_of_point p point)) points
 
--- ---- the whole.
+-- ---- the whole answer.
 
 -- The members of the object of a refusal with these lines.
 abbrev pub members_of_refusal : List ℕ → Members

@@ -28,7 +28,7 @@ use Rattle.vsi_conform.specs.declared.point.Point.TheVariants.{Missing, Unexpect
 use Rattle.vsi_conform.specs.Points.{Entry, is_conforming}
 use Rattle.vsi_conform.specs.Shown.{asked, expected, run_number, Declares, Shown, Page, by_name, by_class}
 
--- ---- points.
+-- ---- lines of points.
 
 -- `LINE:COLUMN`
 abbrev pub place : Shown → List ℕ
@@ -124,7 +124,7 @@ abbrev pub AreFirst : Lattice → List ℕ → Interface → Option UnsteadyErro
 AreFirst l text i None out = out ≡ []
 AreFirst l text i (Some e) out = IsRefusalLines l text (is_steady i.judgement) e out
 
--- ---- the whole.
+-- ---- the whole answer.
 
 -- The page of a text with these globals.
 abbrev pub page_of : List ℕ → List Declared → Interface → Page

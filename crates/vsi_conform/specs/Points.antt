@@ -143,7 +143,7 @@ abbrev pub trials_points : Image → ℕ → List Trial → List Point
 trials_points image n [] = []
 trials_points image n (t ∷ ts) = trial_points image n t ++ trials_points image (n + 1) ts
 
--- ---- all.
+-- ---- all points.
 
 -- The differences between the globals and runs of an image and the required ones.
 abbrev pub points_of : Image → Interface → List Point

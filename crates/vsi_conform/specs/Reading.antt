@@ -159,7 +159,7 @@ abbrev pub runs_from : Option Data → Option (List Run)
 runs_from None = Some []
 runs_from (Some d) = option_and_then (all_of run_of) (as_array d)
 
--- ---- the whole.
+-- ---- the whole interface.
 
 -- The lattice is either in the file whose path is at `lattice`, with no lattice table beside it, or in lattice tables,
 -- which have this text.

@@ -89,7 +89,7 @@ abbrev pub shown_of : List ℕ → Bool → Option Declared → Shown
 shown_of text is_class None = record { name = []; class = []; line = 1; column = 1 }
 shown_of text is_class (Some d) = shown_at text d (start_of is_class d)
 
--- ---- both.
+-- ---- the page.
 
 -- A text, the globals that it declares, and the interface for it.
 pub record Page : Type 0 where

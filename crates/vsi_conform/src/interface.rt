@@ -16,7 +16,7 @@ pub enum Judgement {
 pub struct Trial {
     /// Names of globals with their words at the start of the run; every other global starts with 0.
     pub store: Vec<(Vec<u8>, i64)>,
-    /// The greatest number of instructions.
+    /// The largest number of instructions.
     pub budget: u64,
     /// Names of globals with their words at the end.
     pub expect: Vec<(Vec<u8>, i64)>,

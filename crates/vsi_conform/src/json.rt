@@ -67,7 +67,7 @@ fn unexpected(alloc: Global, pages: &Pages, place: usize) -> Result<Map<String, 
     Ok(map)
 }
 
-/// A global with another class.
+/// A global with a class other than the required one.
 fn wrong_class(
     alloc: Global,
     pages: &Pages,

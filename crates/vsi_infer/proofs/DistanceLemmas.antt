@@ -117,7 +117,7 @@ module _ (flows : ℕ → ℕ → Bool) (goals : List Bool) (level : ℕ) (small
         seen b (omega (arith, (within a b f).1, s.len)) e a f in omega (arith, q, e))
   ]
 
-  -- The next level.
+  -- The next level is reached.
   pub level_on : (old new : List ℕ) → AtMost flows goals level old → Spreads flows goals level new
       → ((b : ℕ) → b < length new → get_or new b 0 ≡ level → IsSeen flows level new b)
       → AtMost flows goals (level + 1) new
@@ -132,7 +132,7 @@ module _ (flows : ℕ → ℕ → Bool) (goals : List Bool) (level : ℕ) (small
     within = s.below;
   }
 
-  -- The last level.
+  -- After the last level the numbers are distances.
   pub level_last : (new : List ℕ) → level ≤ length goals → AtMost flows goals level new
       → ((b : ℕ) → b < length new → get_or new b 0 ≡ level → IsSeen flows level new b) → AreDistances flows goals new
   level_last new le w seen = record {

@@ -92,7 +92,7 @@ module _ (ss : List Step) where
       let r = chain_path t rest (All-tail (Contains ss) s (t ∷ rest) all) c.1 in
       (refl, All-head (Contains ss) s (t ∷ rest) all, (sym c.0, r.1, r.2))
 
--- A path between declared variables is a bad walk where their classes are not in order.
+-- A path between declared variables is a bad walk if their classes are not in order.
 pub path_bad : (L : Lattice) (P : Profile) (p : Program) (s : Step) (rest : List Step) (b low high : ℕ)
     → IsPath (steps_of P p) s.source (s ∷ rest) b
     → declared_class L p s.source ≡ Some low → declared_class L p b ≡ Some high → (Below L low high → ⊥)
@@ -147,7 +147,7 @@ bad_parts L P p (x ∷ xs) s e bad =
       down = bad.down;
     })
 
--- Steps that are the same are equal.
+-- Rules that compare as equal are equal.
 rule_is : (r q : Rule) → same_rule r q ≡ true → r ≡ q
 rule_is typing.Assign typing.Assign e = refl
 rule_is typing.If typing.If e = refl

@@ -94,7 +94,7 @@ left_more x w q i = left_shuffle x (nat_lt q i) (q == i) (nat_lt q (i + 1)) w (n
 pub left_start : (x w : Bool) (q : ℕ) → x ≡ (x && not (nat_lt q 0 && w))
 left_start x w q = and_true x ∙ ap (λ t. x && not (t && w)) (sym (le-ltb q 0 (omega arith)))
 
--- A word of no bits.
+-- A word that is 0 has no bits.
 pub no_bits : (words : List ℕ) (v u : ℕ) → get_or words (v / 64) 0 ≡ 0 → u / 64 ≡ v / 64 → flow_has words 0 u ≡ false
 unfolding flow_has
 no_bits words v u z e =
@@ -292,7 +292,7 @@ module _ (flows : ℕ → ℕ → Bool) (count b : ℕ) (few : count ≤ 1025)
   module _ (level : ℕ) (far : List ℕ) (reached front front' reached' : ℕ → Bool)
       (s : IsLevel flows count b level far reached front) (bits : (a : ℕ) → front a ≡ true → a < 1024)
       (left : (a : ℕ) → front' a ≡ (front a && not (reached a))) where
-    -- The places that are new.
+    -- The places of the new set are below the count.
     pub fresh_within : (a : ℕ) → front' a ≡ true → a < count
     fresh_within a h =
         let c = s.sources a (and_first (front a) (not (reached a)) (sym (left a) ∙ h)) in (within a c.0 c.2).0

@@ -1,4 +1,4 @@
--- One raise.
+-- The effect of one raise on the search.
 use Rattle.std.proofs.Common.{◌≡◌, ◌≢◌, ℕ, zero, suc, ◌+◌, ◌<◌, ◌≤◌, Bool, true, false, List, [], ◌∷◌, ◌++◌, length, get_or, set, slice_get, Option, Some, None, refl, sym, ap, ◌∙◌, subst, arith, inl, inr, ◌⊎◌, Contains, get_or-set_other, get_or-set_same, length-set, map}
 use Rattle.std.specs.Prelude.{unwrap_or}
 use Rattle.std.proofs.Common.{take, drop}
@@ -183,7 +183,7 @@ module _ (size : ℕ) (leq : ℕ → ℕ → Bool) (bottom top : ℕ) (laws : Or
       → ((v : ℕ) → Contains w v → v < length declared) → Waits size leq flows declared s w 0 (length declared)
   all_wait s w h k = record { each = λ a b none fl. inl (inl (h a (program.flows_within a b fl).0)); within = k }
 
-  -- ---- what the raised choice is.
+  -- ---- the raised choice.
 
   -- A typable choice rises along a walk.
   walk_climbs : (t : List ℕ) → IsOrderedChoice size leq flows declared t → (n a v : ℕ) → a < length declared

@@ -1,4 +1,4 @@
-//! Texts in pages.
+//! Writes texts into pages.
 
 ghost use Rattle.std.specs.Prelude.{◌≡◌, ◌++◌, OnOk, decimal};
 ghost use Rattle.vsi_report.specs.Escape.{escape, escaped};

@@ -172,7 +172,7 @@ pub(crate) fn name_of(order: &Order, class: usize) -> &[u8]
     }
 }
 
-/// The greatest number of a list.
+/// The largest number of a list.
 pub(crate) fn greatest(list: &[usize]) -> usize {
     let mut most: usize = 0;
     for number in list {
