@@ -4,7 +4,7 @@
 //! why there is none. Its contract is one definition of `specs/Requests`; `specs/Judged` defines
 //! when a file is valid and the report about one that isn't. Nothing here reads or writes a device.
 //!
-//! You trust all files of `specs/`.
+//! To be believed: all files of `specs/`.
 #![tactic(auto)]
 
 mod files;

@@ -6,8 +6,8 @@
 //! commands as a text, reads the text again, and compares both with the code and the commands.
 //! `audit_text` writes why an image is refused.
 //!
-//! You trust `specs/MadeNames`, `specs/Refusal`, `specs/Standing`, `specs/Telling`, `specs/Text`
-//! and `specs/Writing`; the other files of `specs/` are only steps of proofs.
+//! To be believed: `specs/MadeNames`, `specs/Refusal`, `specs/Standing`, `specs/Telling`,
+//! `specs/Text` and `specs/Writing`; the other files of `specs/` are only steps of proofs.
 #![tactic(auto)]
 
 mod audit;

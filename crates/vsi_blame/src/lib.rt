@@ -5,7 +5,7 @@
 //! and its line; and possible fixes. Clause `told` of `refused_flows_of` says which pairs the prose
 //! names, and clause `plain` says that no byte of it controls a terminal.
 //!
-//! You trust all files of `specs/`.
+//! To be believed: all files of `specs/`.
 #![tactic(auto)]
 
 mod blame;

@@ -7,7 +7,7 @@
 //! `points_text` and `points_json` write an answer (`specs/Lines`, `specs/Json`), and
 //! `interface_text` writes why an interface is refused (`specs/Faulty`).
 //!
-//! You trust all files of `specs/`.
+//! To be believed: all files of `specs/`.
 #![tactic(auto)]
 
 mod accepting;

@@ -5,8 +5,8 @@
 //! (clause `refused`). `check_walk_in` decides whether a walk is bad and allocates nothing;
 //! `explain` writes a walk as text. The laws of bad walks are in `laws`.
 //!
-//! You trust `specs/Explanation`, `specs/Inference`, `specs/Laws` and `specs/Paths` for the
-//! functions that users call; and `specs/FlowRows`, `specs/Flowing`, `specs/StepsBetween`,
+//! To be believed: `specs/Explanation`, `specs/Inference`, `specs/Laws` and `specs/Paths` for the
+//! functions that users call; `specs/FlowRows`, `specs/Flowing`, `specs/StepsBetween`,
 //! `specs/Lines`, `specs/Shortest` and `AreLeast` of `specs/Distances` for those that other crates
 //! call. The other definitions are only steps of proofs.
 #![tactic(auto)]

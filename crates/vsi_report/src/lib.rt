@@ -6,8 +6,9 @@
 //! through `put_escaped`, and the panel of a source text shows the text (`Shows` of
 //! `specs/Reading`).
 //!
-//! You trust `specs/Covering`, `specs/Escape`, `specs/FlowsGraph`, `specs/Graph`, `specs/Page`,
-//! `specs/Reading` and `specs/Size`; the other files of `specs/` are only steps of proofs.
+//! To be believed: `specs/Covering`, `specs/Escape`, `specs/FlowsGraph`, `specs/Graph`,
+//! `specs/Page`, `specs/Reading` and `specs/Size`; the other files of `specs/` are only steps of
+//! proofs.
 #![tactic(auto)]
 
 mod bands;

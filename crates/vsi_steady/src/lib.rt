@@ -12,7 +12,7 @@
 //! to a guard; `steady_explanation_of` writes the lines of the walk. `compile_steady` and
 //! `steady_explanation` read the text first.
 //!
-//! You trust all files of `specs/`.
+//! To be believed: all files of `specs/`.
 #![tactic(auto)]
 
 mod chain;
