@@ -42,6 +42,7 @@ pub use command_line::command;
 pub use files::Files;
 pub use loaded::Loaded;
 pub use loaded::Opened;
+pub use loaded::Shared;
 pub use loaded::load;
 pub use vsi_audit::AuditError;
 pub use vsi_audit::audit_in;
