@@ -13,6 +13,7 @@ use vsi_answers::{Cause, Unanswered};
 use vsi_audit::AuditError;
 use vsi_conform::InterfaceError;
 use vsi_devices::{Counted, EngineError, write_out};
+use vsi_report::ReportError;
 use vsi_steady::SteadyError;
 
 /// Standard input and output, in a file fault.
@@ -57,6 +58,15 @@ impl<T: Drop> From<AllocFailed<T>> for Stop<'_> {
     ghost from_gives = { λ _ e. e ≡ Memory };
 
     fn from(_error: AllocFailed<T>) -> Self {
+        Stop::Memory
+    }
+}
+
+impl From<ReportError> for Stop<'_> {
+    ghost from_gives = { λ _ e. e ≡ Memory };
+
+    // A page that is too long has no text of its own.
+    fn from(_error: ReportError) -> Self {
         Stop::Memory
     }
 }
