@@ -10,7 +10,7 @@ use Rattle.vsi_devices.specs.declared.counted.Counted.{Counted}
 use Rattle.vsi.specs.declared.stop.Stop.{Stop}
 use Rattle.vsi.specs.declared.stop.Stop.TheVariants.{Refused, Interface, Audit, Unsteady, Differs, Usage, NoClass, OutOfBudget, FileFault, LostFile, Memory}
 use Rattle.vsi.specs.Stops.{Gets, IsStreamFault, StopsFor, line_of, note_behind, status_of, stop_of, text_of_stop}
-use Rattle.vsi.specs.Input.{Hears, HearsFault, RefusesRun, SpendsRun, StopsRun, TellsStop, greeting}
+use Rattle.vsi.specs.Input.{RefusesRun, SpendsRun, StopsRun, TellsStop}
 
 -- The stop for the reason why there is no answer means that reason.
 pub stop_of_why : (W : Unanswered → Type 0) (reason : Unanswered) → W reason →
@@ -63,10 +63,6 @@ done_at_zero (Err (FileFault path)) status done stopped zero = absurd (omega ari
 done_at_zero (Err (LostFile path)) status done stopped zero = absurd (omega arith)
 done_at_zero (Err Memory) status done stopped zero = absurd (omega arith)
 
--- A writer that wasn't called has got nothing.
-pub Gets-nothing : {E : Type 0} (contents : E → Option (List ℕ)) (error : Counted E) → Gets contents error error []
-Gets-nothing contents error = λ room same. Appends-nil (contents (device_of error))
-
 -- One text after another.
 pub Gets-trans : {E : Type 0} (contents : E → Option (List ℕ)) (old mid new : Counted E) (first second : List ℕ) →
     faults_of old ≤ faults_of mid → faults_of mid ≤ faults_of new → Gets contents old mid first →
@@ -76,17 +72,6 @@ Gets-trans contents old mid new first second up more got gets = λ room same.
     let ended : faults_of new ≡ faults_of mid = omega arith in
     let still : faults_of mid < 2 ^ 64 - 1 = omega arith in
     Appends-trans _ _ _ first second (got room begun) (gets still ended)
-
--- A text after the greeting at a terminal.
-pub Hears-behind : {E : Type 0} (contents : E → Option (List ℕ)) (old mid new : Counted E) (text : List ℕ) →
-    faults_of old ≤ faults_of mid → faults_of mid ≤ faults_of new → Hears contents old mid [] →
-    Gets contents mid new text → Hears contents old new text
-Hears-behind contents old mid new text up more (inl got) gets =
-    inl (Gets-trans contents old mid new [] text up more got gets)
-Hears-behind contents old mid new text up more (inr got) gets =
-    let greeted : Gets contents old mid greeting =
-    subst (Gets contents old mid) (append-nil greeting) got in
-    inr (Gets-trans contents old mid new greeting text up more greeted gets)
 
 -- Nothing follows a text in either case.
 nothing_either : (wants : Bool) (text note : List ℕ) → note ≡ [] →
@@ -111,51 +96,38 @@ told_alone contents old new stop note wants is yes_wants got =
     subst (λ b. Gets contents old new (text_of_stop stop ++ (if b then [] else note))) (sym yes_wants ∙ is)
     (subst (Gets contents old new) (sym (append-nil (text_of_stop stop))) got)
 
--- Nothing keeps the text of a stop back that isn't the fault of a stream which is closed.
-pub never_unheard : {P : Type 0} (stop : Stop) (unheard is_closed : Bool) → (IsTrue unheard → IsTrue is_closed) →
-    (IsTrue unheard → status_of stop ≡ 4) → unheard ≡ true → (status_of stop ≢ 4) ⊎ (is_closed ≡ false) → P
-never_unheard stop unheard is_closed closed fault e (inl other) = absurd (other (fault e))
-never_unheard stop unheard is_closed closed fault e (inr reads) =
-    let shut : is_closed ≡ true = closed e in cc
-
--- The text of a stop is heard after the greeting, if it isn't a fault and nothing follows it.
-pub heard_stop : {T E : Type 0} (contents : E → Option (List ℕ)) (old mid new : Counted E) (note : List ℕ)
-    (is_closed : Bool) (answer : Result T Stop) → faults_of old ≤ faults_of mid → faults_of mid ≤ faults_of new →
-    Hears contents old mid [] → note ≡ [] →
-    IfErr answer (λ stop. (status_of stop ≢ 4) ⊎ (is_closed ≡ false) →
-    Gets contents mid new (text_of_stop stop ++ note_behind stop note)) →
-    IfErr answer (λ stop. status_of stop ≢ 4 → Hears contents old new (text_of_stop stop))
-heard_stop contents old mid new note is_closed (Ok x) up more greeted none told = tt
-heard_stop contents old mid new note is_closed (Err stop) up more greeted none told = λ other.
-    Hears-behind contents old mid new (text_of_stop stop) up more greeted
-    (subst (Gets contents mid new) (nothing_either (status_of stop == 5) (text_of_stop stop) note none)
-    (told (inl other)))
+-- The text of a stop has been written if nothing follows it.
+pub heard_stop : {T E : Type 0} (contents : E → Option (List ℕ)) (old new : Counted E) (note : List ℕ)
+    (answer : Result T Stop) → note ≡ [] →
+    IfErr answer (λ stop. Gets contents old new (text_of_stop stop ++ note_behind stop note)) →
+    IfErr answer (λ stop. Gets contents old new (text_of_stop stop))
+heard_stop contents old new note (Ok x) none told = tt
+heard_stop contents old new note (Err stop) none told =
+    subst (Gets contents old new) (nothing_either (status_of stop == 5) (text_of_stop stop) note none) told
 
 -- At a status of 5 nothing but lack of memory has been reported.
 pub told_memory : {E : Type 0} (contents : E → Option (List ℕ)) (old new : Counted E) (stop : Stop)
-    (note : List ℕ) (is_closed : Bool) (status : ℕ) → status ≡ status_of stop → status ≡ 5 →
-    ((status_of stop ≢ 4) ⊎ (is_closed ≡ false) → Gets contents old new (text_of_stop stop ++ note_behind stop note)) →
+    (note : List ℕ) (status : ℕ) → status ≡ status_of stop → status ≡ 5 →
+    Gets contents old new (text_of_stop stop ++ note_behind stop note) →
     Gets contents old new (codes "out of memory\n")
-told_memory contents old new (Refused text cause) note is_closed status is five told = absurd (omega arith)
-told_memory contents old new (Interface text error) note is_closed status is five told = absurd (omega arith)
-told_memory contents old new (Audit text error) note is_closed status is five told = absurd (omega arith)
-told_memory contents old new (Unsteady text error) note is_closed status is five told = absurd (omega arith)
-told_memory contents old new Differs note is_closed status is five told = absurd (omega arith)
-told_memory contents old new (Usage text) note is_closed status is five told = absurd (omega arith)
-told_memory contents old new (NoClass name) note is_closed status is five told = absurd (omega arith)
-told_memory contents old new OutOfBudget note is_closed status is five told = absurd (omega arith)
-told_memory contents old new (FileFault path) note is_closed status is five told = absurd (omega arith)
-told_memory contents old new (LostFile path) note is_closed status is five told = absurd (omega arith)
-told_memory contents old new Memory note is_closed status is five told = told (inl (λ e. omega arith))
+told_memory contents old new (Refused text cause) note status is five told = absurd (omega arith)
+told_memory contents old new (Interface text error) note status is five told = absurd (omega arith)
+told_memory contents old new (Audit text error) note status is five told = absurd (omega arith)
+told_memory contents old new (Unsteady text error) note status is five told = absurd (omega arith)
+told_memory contents old new Differs note status is five told = absurd (omega arith)
+told_memory contents old new (Usage text) note status is five told = absurd (omega arith)
+told_memory contents old new (NoClass name) note status is five told = absurd (omega arith)
+told_memory contents old new OutOfBudget note status is five told = absurd (omega arith)
+told_memory contents old new (FileFault path) note status is five told = absurd (omega arith)
+told_memory contents old new (LostFile path) note status is five told = absurd (omega arith)
+told_memory contents old new Memory note status is five told = told
 
--- Nothing is heard but the greeting where all was done and the note is empty.
-pub heard_nothing : {T E : Type 0} (contents : E → Option (List ℕ)) (old mid new : Counted E) (note : List ℕ)
-    (answer : Result T Stop) (status : ℕ) → faults_of old ≤ faults_of mid → faults_of mid ≤ faults_of new →
-    Hears contents old mid [] → note ≡ [] → OnOk answer (Gets contents mid new note) →
-    IfErr answer (λ stop. status ≡ status_of stop) → status ≡ 0 → Hears contents old new []
-heard_nothing contents old mid new note answer status up more greeted none noted is zero =
-    Hears-behind contents old mid new [] up more greeted
-    (subst (Gets contents mid new) none (done_at_zero answer status noted is zero))
+-- Nothing has been written where all was done and the note is empty.
+pub heard_nothing : {T E : Type 0} (contents : E → Option (List ℕ)) (old new : Counted E) (note : List ℕ)
+    (answer : Result T Stop) (status : ℕ) → note ≡ [] → OnOk answer (Gets contents old new note) →
+    IfErr answer (λ stop. status ≡ status_of stop) → status ≡ 0 → Gets contents old new []
+heard_nothing contents old new note answer status none noted is zero =
+    subst (Gets contents old new) none (done_at_zero answer status noted is zero)
 
 -- The text of a stop with a status of 4 says that a standard stream failed.
 stream_text : (W : Unanswered → Type 0) (F : Type 0) (stop : Stop) → StopsFor W (IsStreamFault F) stop →
@@ -172,57 +144,42 @@ stream_text W F (FileFault path) why four = ap (line_of (codes "file fault: ")) 
 stream_text W F (LostFile path) why four = absurd why
 stream_text W F Memory why four = absurd (omega arith)
 
--- If the fault of a standard stream is reported or passed over, it is heard, or nothing but the greeting is.
-pub heard_fault : {T E : Type 0} (contents : E → Option (List ℕ)) (old mid new : Counted E) (note : List ℕ)
-    (W : Unanswered → Type 0) (F : Type 0) (answer : Result T Stop) (status : ℕ) →
-    faults_of old ≤ faults_of mid → faults_of mid ≤ faults_of new → Hears contents old mid [] → note ≡ [] →
+-- The fault of a standard stream is reported.
+pub heard_fault : {T E : Type 0} (contents : E → Option (List ℕ)) (old new : Counted E) (note : List ℕ)
+    (W : Unanswered → Type 0) (F : Type 0) (answer : Result T Stop) (status : ℕ) → note ≡ [] →
     IfOk answer (λ _. status ≡ 0) → IfErr answer (λ stop. status ≡ status_of stop) →
     IfErr answer (StopsFor W (IsStreamFault F)) →
-    IfErr answer (λ stop. ((status_of stop ≡ 4) × Gets contents mid new [])
-    ⊎ Gets contents mid new (text_of_stop stop ++ note_behind stop note)) →
-    status ≡ 4 → HearsFault contents old new
-heard_fault contents old mid new note W F (Ok x) status up more greeted none done is why told four =
-    absurd (omega arith)
-heard_fault contents old mid new note W F (Err stop) status up more greeted none done is why (inl nothing) four =
-    inl (Hears-behind contents old mid new [] up more greeted nothing.1)
-heard_fault contents old mid new note W F (Err stop) status up more greeted none done is why (inr told) four =
-    inr (Hears-behind contents old mid new _ up more greeted
-    (subst (Gets contents mid new)
+    IfErr answer (λ stop. Gets contents old new (text_of_stop stop ++ note_behind stop note)) →
+    status ≡ 4 → Gets contents old new (codes "file fault: -\n")
+heard_fault contents old new note W F (Ok x) status none done is why told four = absurd (omega arith)
+heard_fault contents old new note W F (Err stop) status none done is why told four =
+    subst (Gets contents old new)
     (nothing_either (status_of stop == 5) (text_of_stop stop) note none
-    ∙ stream_text W F stop why (sym is ∙ four)) told))
+    ∙ stream_text W F stop why (sym is ∙ four)) told
 
--- If a stop is reported, or a file fault passed over, the stop is reported at a status that isn't 0.
-pub tells_stop : {T E : Type 0} (So : Stop → Type 0) (contents : E → Option (List ℕ)) (old mid new : Counted E)
-    (note : List ℕ) (answer : Result T Stop) (status : ℕ) → IfErr answer So → faults_of old ≤ faults_of mid →
-    faults_of mid ≤ faults_of new → Hears contents old mid [] → IfOk answer (λ _. status ≡ 0) →
+-- If a stop is reported, it is reported at a status that isn't 0.
+pub tells_stop : {T E : Type 0} (So : Stop → Type 0) (contents : E → Option (List ℕ)) (old new : Counted E)
+    (note : List ℕ) (answer : Result T Stop) (status : ℕ) → IfErr answer So → IfOk answer (λ _. status ≡ 0) →
     IfErr answer (λ stop. status ≡ status_of stop) →
-    IfErr answer (λ stop. ((status_of stop ≡ 4) × Gets contents mid new [])
-    ⊎ Gets contents mid new (text_of_stop stop ++ note_behind stop note)) →
+    IfErr answer (λ stop. Gets contents old new (text_of_stop stop ++ note_behind stop note)) →
     status ≢ 0 → TellsStop So status contents old new
-tells_stop So contents old mid new note (Ok x) status so up more greeted done is told other = absurd (other done)
-tells_stop So contents old mid new note (Err stop) status so up more greeted done is (inl nothing) other = record {
+tells_stop So contents old new note (Ok x) status so done is told other = absurd (other done)
+tells_stop So contents old new note (Err stop) status so done is told other = record {
   stop = stop;
   note = note;
   so = so;
   stopped = is;
-  told = inr (is ∙ nothing.0, Hears-behind contents old mid new [] up more greeted nothing.1);
-}
-tells_stop So contents old mid new note (Err stop) status so up more greeted done is (inr all) other = record {
-  stop = stop;
-  note = note;
-  so = so;
-  stopped = is;
-  told = inl (Hears-behind contents old mid new _ up more greeted all);
+  told = told;
 }
 
 -- A status of 1 means a refusal, whose text is written.
 pub refused_at_one : {T : Type 0} (remaining : Option (List ℕ)) (F : List ℕ → Type 0) (told : List ℕ → Type 0)
     (answer : Result T Stop) (status : ℕ) → IfOk answer (λ _. status ≡ 0) →
     IfErr answer (λ stop. status ≡ status_of stop) → IfErr answer (StopsFor (StopsRun remaining) F) →
-    IfErr answer (λ stop. status_of stop ≢ 4 → told (text_of_stop stop)) → status ≡ 1 → RefusesRun remaining told
+    IfErr answer (λ stop. told (text_of_stop stop)) → status ≡ 1 → RefusesRun remaining told
 refused_at_one r F told (Ok x) status done is why tells one = absurd (omega arith)
 refused_at_one r F told (Err (Refused text (Some cause))) status done is why tells one =
-    (text, cause, why, tells (λ e. omega arith))
+    (text, cause, why, tells)
 refused_at_one r F told (Err (Refused text None)) status done is why tells one = absurd why
 refused_at_one r F told (Err (Interface text error)) status done is why tells one = absurd why
 refused_at_one r F told (Err (Audit text error)) status done is why tells one = absurd why
@@ -239,7 +196,7 @@ refused_at_one r F told (Err Memory) status done is why tells one = absurd (omeg
 pub spent_at_three : {T : Type 0} (remaining : Option (List ℕ)) (F : List ℕ → Type 0) (told : List ℕ → Type 0)
     (answer : Result T Stop) (status : ℕ) → IfOk answer (λ _. status ≡ 0) →
     IfErr answer (λ stop. status ≡ status_of stop) → IfErr answer (StopsFor (StopsRun remaining) F) →
-    IfErr answer (λ stop. status_of stop ≢ 4 → told (text_of_stop stop)) → status ≡ 3 → SpendsRun remaining told
+    IfErr answer (λ stop. told (text_of_stop stop)) → status ≡ 3 → SpendsRun remaining told
 spent_at_three r F told (Ok x) status done is why tells three = absurd (omega arith)
 spent_at_three r F told (Err (Refused text cause)) status done is why tells three = absurd (omega arith)
 spent_at_three r F told (Err (Interface text error)) status done is why tells three = absurd why
@@ -248,7 +205,7 @@ spent_at_three r F told (Err (Unsteady text error)) status done is why tells thr
 spent_at_three r F told (Err Differs) status done is why tells three = absurd why
 spent_at_three r F told (Err (Usage text)) status done is why tells three = absurd why
 spent_at_three r F told (Err (NoClass name)) status done is why tells three = absurd why
-spent_at_three r F told (Err OutOfBudget) status done is why tells three = (why, tells (λ e. omega arith))
+spent_at_three r F told (Err OutOfBudget) status done is why tells three = (why, tells)
 spent_at_three r F told (Err (FileFault path)) status done is why tells three = absurd (omega arith)
 spent_at_three r F told (Err (LostFile path)) status done is why tells three = absurd why
 spent_at_three r F told (Err Memory) status done is why tells three = absurd (omega arith)

@@ -59,26 +59,12 @@ RefusesRun remaining told =
 abbrev pub SpendsRun : Option (List ℕ) → (List ℕ → Type 0) → Type 0
 SpendsRun remaining told = StopsRun remaining OutOfBudget × told (codes "out of budget\n")
 
--- The greeting at a terminal.
-abbrev pub greeting : List ℕ
-greeting = codes "vsi reads a source text from the terminal until Ctrl-D; `vsi --help` tells more.\n"
-
--- A writer has got this text, after the greeting or alone, unless a call of it failed.
-abbrev pub Hears : {E : Type 0} → (E → Option (List ℕ)) → Counted E → Counted E → List ℕ → Type 0
-Hears contents old new text = Gets contents old new text ⊎ Gets contents old new (greeting ++ text)
-
--- A writer has got the message that a standard stream failed, or nothing, as when nobody is there to take the output.
-abbrev pub HearsFault : {E : Type 0} → (E → Option (List ℕ)) → Counted E → Counted E → Type 0
-HearsFault contents old new = Hears contents old new [] ⊎ Hears contents old new (codes "file fault: -\n")
-
--- A writer has got the text of a stop with this property and this status, followed by a note, or nothing at a file
--- fault.
+-- A writer has got the text of a stop with this property and this status, followed by a note, unless a call of it
+-- failed.
 pub record TellsStop {E : Type 0} (So : Stop → Type 0) (status : ℕ) (contents : E → Option (List ℕ))
     (old new : Counted E) : Type 0 where
   pub stop : Stop
   pub note : List ℕ
   pub so : So stop
   pub stopped : status ≡ status_of stop
-  pub told :
-      Hears contents old new (text_of_stop stop ++ note_behind stop note)
-      ⊎ ((status ≡ 4) × Hears contents old new [])
+  pub told : Gets contents old new (text_of_stop stop ++ note_behind stop note)

@@ -1,5 +1,5 @@
 -- The output of each subcommand that ends well, given the contents of its files.
-use Rattle.std.specs.Prelude.{◌≡◌, ℕ, ◌++◌, ℤ, Bool, true, false, List, [], Option, Some, None, Ok, codes, decimal, if◌then◌else◌}
+use Rattle.std.specs.Prelude.{◌≡◌, ℕ, ◌++◌, ℤ, Bool, true, false, List, [], Option, Some, None, Ok, codes, decimal, if◌then◌else◌, IsSomeAnd}
 use Rattle.std.specs.Borrow.{Bor}
 use Rattle.std.specs.Global.{Vec}
 use Rattle.std.specs.Io.KnownBytes.{Appends, Keeps}
@@ -24,6 +24,7 @@ use Rattle.vsi_steady.specs.Steady.{IsSteady}
 use Rattle.vsi_drive.specs.Control.{Control}
 use Rattle.vsi_drive.specs.Starts.{Begins}
 use Rattle.vsi_devices.specs.Running.{RunsApart}
+use Rattle.vsi_leak.specs.declared.whole.Wanted.{Wanted}
 use Rattle.vsi_audit.specs.Standing.{HasKnownClasses}
 use Rattle.vsi_audit.specs.Text.{IsSourceText}
 use Rattle.vsi_report.specs.FlowsGraph.{IsFlowsGraph}
@@ -236,6 +237,20 @@ pub record DrawsFiles (holds : Holding) (d : Drawing) (text : Vec ℕ) : Type 0 
   pub flows : List ℕ
   pub of_flows : ToldFlowsGraph holds d.source d.is_strict lattice flows
   pub parts : text.items ≡ classes ++ flows
+
+-- A search is at this class: that of the name that is given, or each class if none is given.
+abbrev pub LooksFor : Lattice → Option (Bor (List ℕ)) → Option ℕ → Type 0
+LooksFor l None viewer = viewer ≡ None
+LooksFor l (Some name) viewer = IsSomeAnd viewer (λ a. class_named l name.now ≡ Some a)
+
+-- What a text is searched for at this class, or at each.
+abbrev pub wanted_of : Search → Option ℕ → Wanted
+wanted_of s viewer = record {
+  class = viewer;
+  endings = s.has_endings;
+  steps = s.has_steps;
+  effort = record { budget = s.budget; tries = s.tries; seed = s.seed };
+}
 
 -- No leak was found in this many pairs of runs of a text that has a program, which says nothing about other pairs.
 pub record SearchesFiles (holds : Holding) (s : Search) (text : Vec ℕ) : Type 0 where

@@ -16,13 +16,15 @@ use Rattle.vsi_store.specs.declared.views.ViewError.TheVariants as views
 use Rattle.vsi_diagnostics.specs.declared.fault.Fault.{Fault}
 use Rattle.vsi_diagnostics.specs.declared.fault.Fault.TheVariants as fault
 use Rattle.vsi_compiler.specs.Headline.{IsImageOf}
+use Rattle.vsi_compiler.specs.Readable.{HasProgram}
 use Rattle.vsi_audit.specs.Refusal as audited
 use Rattle.vsi_audit.specs.Telling.{IsAuditText}
 use Rattle.vsi_audit.specs.declared.error.AuditError.{AuditError}
 use Rattle.vsi_steady.specs.Refusal as steady
 use Rattle.vsi_steady.specs.Telling.{IsUnsteadyText}
-use Rattle.vsi_leak.specs.Leaks.{IsLeak}
+use Rattle.vsi_leak.specs.Leaks.{IsLeak, IsWanted}
 use Rattle.vsi_leak.specs.Texts.{IsLeakText}
+use Rattle.vsi_leak.specs.declared.found.Finding.TheVariants as finding
 use Rattle.vsi_leak.specs.declared.found.Leak.{Leak}
 use Rattle.vsi_devices.specs.Running.{RunsApart}
 use Rattle.vsi_conform.specs.Faulty.{interface_line}
@@ -55,7 +57,7 @@ use Rattle.vsi.specs.declared.stop.Stop.TheVariants as stops
 use Rattle.vsi.specs.Holding.{Holding, IsImageAt, IsLatticeAt, IsReadAt, IsStoreAt}
 use Rattle.vsi.specs.Input.{two_classes}
 use Rattle.vsi.specs.Tried.{AreTried, BeginsSet, IsMade, IsTriedUnder, RunsMade, policy_path}
-use Rattle.vsi.specs.Performed.{AreFiles, BeginsAt, ComparesFiles, ConformsFiles, IsAskedAt, LooksAt, OfFiles, Writes, compilation_of, judgement_of, named_path, profile_of}
+use Rattle.vsi.specs.Performed.{AreFiles, BeginsAt, ComparesFiles, ConformsFiles, IsAskedAt, LooksAt, LooksFor, OfFiles, Writes, compilation_of, judgement_of, named_path, profile_of, wanted_of}
 
 -- ---- the meaning of a stop.
 
@@ -310,16 +312,21 @@ abbrev pub HasNoText : Holding → List ℕ → Stop → Type 0
 HasNoText holds path (stops.Audit text error) = LacksText holds path error text.items
 HasNoText holds path stop = ⊥
 
--- A leak of the image of a source text, and the text that describes the leak.
+-- A leak of the image of a source text that has a program, at the requested class and by a requested sign, and the text
+-- that describes the leak.
 pub record TellsLeak (holds : Holding) (s : Search) (text : List ℕ) : Type 0 where
   pub lattice : Lattice
   pub declared : IsLatticeAt holds s.lattice.now lattice
   pub source : List ℕ
   pub read : IsReadAt holds s.source.now source
+  pub program : HasProgram (class_named lattice) source
   pub image : Image
   pub of_source : IsImageOf (class_named lattice) source image
   pub leak : Leak
   pub leaks : IsLeak (class_named lattice) (order lattice) image s.budget leak
+  pub viewer : Option ℕ
+  pub looks : LooksFor lattice s.class viewer
+  pub wanted : IsWanted (wanted_of s viewer) (finding.Leak leak)
   pub told : IsLeakText lattice (globals image.globals.items) leak text
 
 -- `leak`: a leak has been found.

@@ -3,7 +3,7 @@
 ghost use Rattle.std.specs.Prelude.{◌≡◌, ◌≢◌, ◌<◌, ◌≤◌, ◌⊎◌, ◌++◌, [], false, Ok, Err, IfOk, IfErr, OnOk, codes};
 ghost use Rattle.std.specs.Io.KnownBytes.{Keeps};
 ghost use Rattle.vsi.specs.Done.{Done, Stopped, StopsAt};
-ghost use Rattle.vsi.specs.Input.{AnswersInput, Hears, HearsFault, RefusesRun, SpendsRun, StopsRun, TellsStop, WritesRun, WritesRunOf};
+ghost use Rattle.vsi.specs.Input.{AnswersInput, RefusesRun, SpendsRun, StopsRun, TellsStop, WritesRun, WritesRunOf};
 ghost use Rattle.vsi.specs.Partly.{BytesOf, Partly};
 ghost use Rattle.vsi.specs.Stops.{note_behind, status_of, text_of_stop, Gets, IsStreamFault, StopsFor, TellsFault};
 ghost use Rattle.vsi.specs.Words as spec;
@@ -14,7 +14,7 @@ use crate::files::Files;
 use crate::obeying::obey;
 use crate::reading::{answered, device_stop, two_classes};
 use crate::stop::{STREAM, Stop, write};
-use crate::telling::{Told, say, tell_stop};
+use crate::telling::{Told, tell_stop};
 use std::alloc::Global;
 use std::io::{Read, Write};
 use vsi_devices::{Counted, read_all};
@@ -22,11 +22,6 @@ use vsi_lattice::Lattice;
 
 /// The budget of a run without arguments, in instructions.
 const DEFAULT_BUDGET: u64 = 1_000_000;
-
-/// The greeting at a terminal.
-const GREETING: &[u8] = b"\
-vsi reads a source text from the terminal until Ctrl-D; `vsi --help` tells more.
-";
 
 /// The input of every subcommand except the one that reads the input.
 const NOTHING: &[u8] = b"";
@@ -65,16 +60,16 @@ pub fn command<F: Files, R: Read, W: Write, E: Write>(
     ensures ran { words.now ≡ [] → result ≡ 0 → WritesRun (R.remaining (device_of input.old))
         (W.contents (device_of output.old)) (W.contents (device_of output.new)) }
     ensures refused { words.now ≡ [] → result ≡ 1
-        → RefusesRun (R.remaining (device_of input.old)) (Hears E.contents error.old error.new) }
+        → RefusesRun (R.remaining (device_of input.old)) (Gets E.contents error.old error.new) }
     ensures usage { words.now ≡ [] → result ≢ 2 }
     ensures spent { words.now ≡ [] → result ≡ 3
-        → SpendsRun (R.remaining (device_of input.old)) (Hears E.contents error.old error.new) }
+        → SpendsRun (R.remaining (device_of input.old)) (Gets E.contents error.old error.new) }
     ensures faulted { words.now ≡ [] → result ≡ 4 → (faults_of input.old < faults_of input.new)
         ⊎ (faults_of output.old < faults_of output.new) }
     ensures fault_told { words.now ≡ [] → result ≡ 4
-        → HearsFault E.contents error.old error.new }
-    ensures quiet { words.now ≡ [] → result ≡ 0 → Hears E.contents error.old error.new [] }
-    ensures memory { result ≡ 5 → Hears E.contents error.old error.new (codes "out of memory\n") }
+        → Gets E.contents error.old error.new (codes "file fault: -\n") }
+    ensures quiet { words.now ≡ [] → result ≡ 0 → Gets E.contents error.old error.new [] }
+    ensures memory { result ≡ 5 → Gets E.contents error.old error.new (codes "out of memory\n") }
     ensures told { result ≢ 0 → TellsStop (StopsAt (F.holds files.old)
         (spec.given_to words.now (R.remaining (device_of input.old))) words.now
         (W.contents (device_of output.old)) (W.contents (device_of output.new)))
@@ -85,17 +80,16 @@ pub fn command<F: Files, R: Read, W: Write, E: Write>(
         (W.contents (device_of output.old)) (W.contents (device_of output.new)) }
 {
     if words.is_empty() {
-        return without_words(alloc, files, input, output, error);
+        return without_words(alloc, input, output, error);
     }
     let mut told = Told::new(alloc);
     let answer = obeyed(alloc, words, files, input, output, &mut told);
-    ended(answer, &told, output.is_closed(), error)
+    ended(answer, &told, error)
 }
 
 /// Does the run without arguments, and returns the status.
-fn without_words<F: Files, R: Read, W: Write, E: Write>(
+fn without_words<R: Read, W: Write, E: Write>(
     alloc: Global,
-    files: &mut F,
     input: &mut Counted<R>,
     output: &mut Counted<W>,
     error: &mut Counted<E>,
@@ -110,24 +104,23 @@ fn without_words<F: Files, R: Read, W: Write, E: Write>(
         → Keeps (W.contents (device_of output.old)) (W.contents (device_of output.new)) }
     ensures partly { result ≢ 0 → Partly (AnswersInput (R.remaining (device_of input.old)))
         (W.contents (device_of output.old)) (W.contents (device_of output.new)) }
-    ensures kept { F.holds files.new ≡ F.holds files.old }
     ensures ran { result ≡ 0 → WritesRun (R.remaining (device_of input.old))
         (W.contents (device_of output.old)) (W.contents (device_of output.new)) }
     ensures refused { result ≡ 1
-        → RefusesRun (R.remaining (device_of input.old)) (Hears E.contents error.old error.new) }
+        → RefusesRun (R.remaining (device_of input.old)) (Gets E.contents error.old error.new) }
     ensures usage { result ≢ 2 }
     ensures spent { result ≡ 3
-        → SpendsRun (R.remaining (device_of input.old)) (Hears E.contents error.old error.new) }
+        → SpendsRun (R.remaining (device_of input.old)) (Gets E.contents error.old error.new) }
     ensures faulted { result ≡ 4 → (faults_of input.old < faults_of input.new)
         ⊎ (faults_of output.old < faults_of output.new) }
-    ensures fault_told { result ≡ 4 → HearsFault E.contents error.old error.new }
-    ensures quiet { result ≡ 0 → Hears E.contents error.old error.new [] }
-    ensures memory { result ≡ 5 → Hears E.contents error.old error.new (codes "out of memory\n") }
+    ensures fault_told { result ≡ 4
+        → Gets E.contents error.old error.new (codes "file fault: -\n") }
+    ensures quiet { result ≡ 0 → Gets E.contents error.old error.new [] }
+    ensures memory { result ≡ 5 → Gets E.contents error.old error.new (codes "out of memory\n") }
     ensures told { result ≢ 0 → TellsStop (λ stop. Unit {0}) result E.contents error.old error.new }
 {
-    greet(files, error);
     let answer = run_input(alloc, input, output);
-    ended(answer, &Told::new(alloc), output.is_closed(), error)
+    ended(answer, &Told::new(alloc), error)
 }
 
 /// Obeys the arguments, and gives them the input only if they name the subcommand that reads it.
@@ -161,24 +154,14 @@ fn obeyed<'a, F: Files, R: Read, W: Write>(
 }
 
 /// Writes the message of an answer to standard error, and returns the status.
-fn ended<E: Write>(
-    answer: Result<(), Stop<'_>>,
-    told: &Told,
-    is_closed: bool,
-    error: &mut Counted<E>,
-) -> u8
+fn ended<E: Write>(answer: Result<(), Stop<'_>>, told: &Told, error: &mut Counted<E>) -> u8
     ensures bound { result ≤ 5 }
     ensures done { IfOk answer.entry (λ _. result ≡ 0) }
     ensures stopped { IfErr answer.entry (λ stop. result ≡ status_of stop) }
     ensures count { faults_of error.old ≤ faults_of error.new }
     ensures noted { IfOk answer.entry
         (λ _. Gets E.contents error.old error.new told.now.note.items) }
-    ensures told { IfErr answer.entry (λ stop. (status_of stop ≢ 4) ⊎ (is_closed ≡ false)
-        → Gets E.contents error.old error.new
-        (text_of_stop stop ++ note_behind stop told.now.note.items)) }
-    ensures shut { IfErr answer.entry (λ stop.
-        ((status_of stop ≡ 4) × Gets E.contents error.old error.new [])
-        ⊎ Gets E.contents error.old error.new
+    ensures told { IfErr answer.entry (λ stop. Gets E.contents error.old error.new
         (text_of_stop stop ++ note_behind stop told.now.note.items)) }
     ensures memory { result ≡ 5
         → Gets E.contents error.old error.new (codes "out of memory\n") }
@@ -189,25 +172,12 @@ fn ended<E: Write>(
             0
         }
         Err(stop) => {
-            if !stop.is_unheard(is_closed) {
-                tell_stop(&stop, error);
-                if !stop.wants_memory() {
-                    told.tell(error);
-                }
+            tell_stop(&stop, error);
+            if !stop.wants_memory() {
+                told.tell(error);
             }
             stop.status()
         }
-    }
-}
-
-/// Says at a terminal that the program waits for a text.
-fn greet<F: Files, E: Write>(files: &mut F, error: &mut Counted<E>)
-    ensures kept { F.holds files.new ≡ F.holds files.old }
-    ensures count { faults_of error.old ≤ faults_of error.new }
-    ensures told { Hears E.contents error.old error.new [] }
-{
-    if files.reads_terminal() {
-        say(GREETING, error);
     }
 }
 

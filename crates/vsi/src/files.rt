@@ -51,11 +51,4 @@ pub trait Files {
     {
         false
     }
-
-    /// Whether standard input is a terminal, at which a person may wait.
-    fn reads_terminal(&mut self) -> bool
-        ensures kept { holds self.new ≡ holds self.old }
-    {
-        false
-    }
 }

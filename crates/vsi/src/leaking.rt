@@ -1,7 +1,7 @@
 //! The search for leaks.
 
 ghost use Rattle.std.specs.Prelude.{◌≡◌, ◌⊎◌, IfErr, IfOk, IfSome, IsSomeAnd};
-ghost use Rattle.vsi.specs.Performed.{SearchesFiles};
+ghost use Rattle.vsi.specs.Performed.{LooksFor, SearchesFiles};
 ghost use Rattle.vsi_lattice.specs.LatticeView.{order};
 ghost use Rattle.vsi_lattice.specs.Order.{IsClass};
 ghost use Rattle.vsi.specs.Reasons.{LacksClass, OtherLeak, RefusesLattice, RefusesSource, StopsBy};
@@ -18,6 +18,7 @@ use vsi_leak::{Effort, Finding, Wanted, leak_of_text, leak_text};
 /// The class of the viewer, if one is named.
 fn looking<'a>(lattice: &Lattice, name: Option<&'a str>) -> Result<Option<Class>, Stop<'a>>
     ensures within { IfOk result (λ class. IfSome class (IsClass (order lattice.now))) }
+    ensures looks { IfOk result (LooksFor lattice.now name.entry) }
     ensures stopped { IfErr result (StopsBy (λ reason. ⊥)
         (λ stop. IsSomeAnd name.entry (λ n. LacksClass lattice.now n.now stop))) }
 {

@@ -135,6 +135,7 @@ pub use vsi_leak::leak_text;
 pub use vsi_machine::Machine;
 pub use vsi_machine::Outcome;
 pub use vsi_machine::StartError;
+pub use vsi_report::ReportError;
 pub use vsi_report::flows_dot;
 pub use vsi_report::lattice_dot;
 pub use vsi_report::put_escaped;

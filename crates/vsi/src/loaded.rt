@@ -225,8 +225,4 @@ impl<F: Files> Files for Loaded<F> {
     fn wants_colour(&mut self) -> bool {
         self.system.wants_colour()
     }
-
-    fn reads_terminal(&mut self) -> bool {
-        self.system.reads_terminal()
-    }
 }

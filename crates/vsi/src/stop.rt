@@ -1,6 +1,6 @@
 //! The reasons why a command line ends early, each with its status and its text.
 
-ghost use Rattle.std.specs.Prelude.{◌≡◌, ◌<◌, ◌≤◌, ◌⊎◌, ◌==◌, true, false, IfErr, OnOk, OnErr, IsTrue};
+ghost use Rattle.std.specs.Prelude.{◌≡◌, ◌<◌, ◌≤◌, ◌⊎◌, ◌==◌, true, false, IfErr, OnOk, OnErr};
 ghost use Rattle.std.specs.Io.KnownBytes.{Appends};
 ghost use Rattle.vsi.specs.Stops.{line_of, status_of, text_of_stop, IsStreamFault, StopsFor, TellsFault};
 ghost use Rattle.vsi.specs.Partly.{WritesPart};
@@ -13,6 +13,7 @@ use vsi_answers::{Cause, Unanswered};
 use vsi_audit::AuditError;
 use vsi_conform::InterfaceError;
 use vsi_devices::{Counted, EngineError, write_out};
+use vsi_report::ReportError;
 use vsi_steady::SteadyError;
 
 /// Standard input and output, in a file fault.
@@ -61,6 +62,15 @@ impl<T: Drop> From<AllocFailed<T>> for Stop<'_> {
     }
 }
 
+impl From<ReportError> for Stop<'_> {
+    ghost from_gives = { λ _ e. e ≡ Memory };
+
+    // A page that is too long has no text of its own.
+    fn from(_error: ReportError) -> Self {
+        Stop::Memory
+    }
+}
+
 impl From<Unanswered> for Stop<'_> {
     ghost use Rattle.vsi.specs.Stops.{stop_of};
 
@@ -97,17 +107,6 @@ impl Stop<'_> {
         ensures { result ≡ (status_of self.now == 5) }
     {
         matches!(self, Stop::Memory)
-    }
-
-    /// Whether nobody is there to hear that standard output takes no more.
-    pub(crate) fn is_unheard(&self, is_closed: bool) -> bool
-        ensures closed { IsTrue result → IsTrue is_closed }
-        ensures fault { IsTrue result → status_of self.now ≡ 4 }
-    {
-        match self {
-            Stop::FileFault(path) => is_closed && *path == STREAM,
-            _ => false,
-        }
     }
 
     /// This stop if an explanation could be added; otherwise lack of memory is the stop, unless

@@ -6,7 +6,7 @@ ghost use Rattle.std.specs.Io.KnownBytes.{Keeps, ReadConsumes, WriteAppends};
 ghost use Rattle.vsi_devices.specs.Counted.{device_of, faults_of, CountsReads, CountsWrites};
 
 use std::io;
-use std::io::{ErrorKind, Read, Write};
+use std::io::{Read, Write};
 
 /// A reader or a writer, with the number of its calls that failed. The number stops at its greatest
 /// value.
@@ -14,7 +14,6 @@ use std::io::{ErrorKind, Read, Write};
 pub struct Counted<D> {
     device: D,
     faults: u64,
-    is_closed: bool,
 }
 
 impl<D> Counted<D> {
@@ -23,11 +22,7 @@ impl<D> Counted<D> {
         ensures device { device_of result ≡ device }
         ensures faults { faults_of result ≡ 0 }
     {
-        Counted {
-            device,
-            faults: 0,
-            is_closed: false,
-        }
+        Counted { device, faults: 0 }
     }
 
     /// The device without the count.
@@ -42,11 +37,6 @@ impl<D> Counted<D> {
         ensures { result ≡ faults_of self.now }
     {
         self.faults
-    }
-
-    /// Whether a write reported that nobody reads the output, as a closed pipe does.
-    pub fn is_closed(&self) -> bool {
-        self.is_closed
     }
 }
 
@@ -80,10 +70,7 @@ impl<W: Write> Write for Counted<W> {
         let result = self.device.write(buf);
         let is_fault = match &result {
             Ok(count) => *count == 0 && !buf.is_empty(),
-            Err(error) => {
-                self.is_closed = self.is_closed || error.kind() == ErrorKind::BrokenPipe;
-                true
-            }
+            Err(_) => true,
         };
         if is_fault {
             self.faults = self.faults.saturating_add(1);

@@ -230,8 +230,4 @@ impl Files for Disk<'_> {
     fn wants_colour(&mut self) -> bool {
         env::var(self.rt, "NO_COLOR").is_err() && self.is_terminal("/proc/self/fd/2")
     }
-
-    fn reads_terminal(&mut self) -> bool {
-        self.is_terminal("/proc/self/fd/0")
-    }
 }

@@ -1,5 +1,5 @@
 -- The length of the page of a text.
-use Rattle.std.proofs.Common.{ℕ, ◌≤◌, List, [], length, inl, inr, refl, Result}
+use Rattle.std.proofs.Common.{ℕ, ◌≤◌, List, [], length, inl, inr, refl, arith, Result}
 use Rattle.std.specs.Prelude.{IfOk}
 use Rattle.std.specs.Global.{Vec}
 use Rattle.std.proofs.lemmas.Result.{IfOk-weaker}
@@ -54,4 +54,14 @@ module _ (l : Lattice) (P : Profile) (text : List ℕ) where
   short_without r h =
       IfOk-weaker r (λ page. length page.items ≤ most_bytes (length text) 0 0) (λ page. IsShort l P text [] page.items)
       (λ page short. record { pairs = []; flows = inr refl; short = short })
+      h
+
+  -- A page that is short enough for neither flows nor a listing is so for any listing.
+  pub short_for_less : {E : Type 0} (lines : List ℕ) (r : Result (Vec ℕ) E) →
+      IfOk r (λ page. length page.items ≤ most_bytes (length text) 0 0) →
+      IfOk r (λ page. IsShort l P text lines page.items)
+  short_for_less lines r h =
+      IfOk-weaker r (λ page. length page.items ≤ most_bytes (length text) 0 0)
+      (λ page. IsShort l P text lines page.items)
+      (λ page short. record { pairs = []; flows = inr refl; short = omega (arith, short) })
       h

@@ -6,6 +6,7 @@ ghost use Rattle.vsi_lattice.specs.Order.{IsClass};
 use crate::facts::is_strict;
 use crate::page::{Page, Part};
 use std::alloc::{AllocError, Global};
+use vsi_compiler::CompileError;
 use vsi_image::Verified;
 use vsi_lattice::{Classes, Lattice};
 use vsi_leak::{Effort, Finding, Leak, Wanted, leak_of_text, leak_text};
@@ -46,12 +47,12 @@ pub(crate) fn put_leak(
         steps: false,
         effort: effort(lattice),
     };
-    let Ok((verified, finding)) = leak_of_text(alloc, lattice, source, &wanted) else {
-        return Err(AllocError);
-    };
-    match &finding {
-        Finding::Leak(leak) => put_found(alloc, page, lattice, &verified, leak),
-        Finding::Nothing { pairs } => put_none(page, *pairs),
+    match leak_of_text(alloc, lattice, source, &wanted) {
+        Ok((verified, Finding::Leak(leak))) => put_found(alloc, page, lattice, &verified, &leak),
+        Ok((_, Finding::Nothing { pairs })) => put_none(page, pairs),
+        Err(CompileError::Memory) => Err(AllocError),
+        // A text without a program has no section.
+        Err(_) => Ok(()),
     }
 }
 

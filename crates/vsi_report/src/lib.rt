@@ -14,6 +14,7 @@
 mod bands;
 mod by_rule;
 mod dot;
+mod error;
 mod escape;
 mod facts;
 mod flows_graph;
@@ -36,6 +37,7 @@ mod telling;
 mod walking;
 
 pub use dot::lattice_dot;
+pub use error::ReportError;
 pub use escape::put_escaped;
 pub use flows_graph::flows_dot;
 pub use report::report_page;

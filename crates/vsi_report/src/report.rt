@@ -7,6 +7,7 @@ ghost use Rattle.vsi_report.specs.Page.{HasPanel};
 ghost use Rattle.vsi_report.specs.Reading.{Shows};
 ghost use Rattle.vsi_report.specs.Size.{IsShort, IsBounded, most_bytes};
 
+use crate::error::ReportError;
 use crate::facts::{Facts, facts_of};
 use crate::frame::{front, put_behind_source, put_foot, refusal};
 use crate::leak_section::put_leak;
@@ -90,7 +91,7 @@ fn joined(
     source: &[u8],
     flows: usize,
     lines: &[u8],
-) -> Result<Vec<u8>, AllocError>
+) -> Result<Vec<u8>, ReportError>
     requires { Shows panel.now.items source.now }
     ensures panel { IfOk result (λ page. HasPanel page.items source.now) }
     ensures short { IfOk result (λ page.
@@ -111,7 +112,7 @@ fn program_page(
     walk: &[Step],
     source: &[u8],
     lines: &[u8],
-) -> Result<Vec<u8>, AllocError>
+) -> Result<Vec<u8>, ReportError>
     ensures panel { IfOk result (λ page. HasPanel page.items source.now) }
     ensures short { IfOk result (λ page. length page.items
         ≤ most_bytes (length source.now) (length facts.now.pairs.items) (length lines.now)) }
@@ -128,7 +129,7 @@ fn page_with_image(
     facts: &Facts,
     source: &[u8],
     lines: &[u8],
-) -> Result<Vec<u8>, AllocError>
+) -> Result<Vec<u8>, ReportError>
     ensures panel { IfOk result (λ page. HasPanel page.items source.now) }
     ensures short { IfOk result (λ page. length page.items
         ≤ most_bytes (length source.now) (length facts.now.pairs.items) (length lines.now)) }
@@ -147,16 +148,18 @@ fn accepted_page(
     lattice: &Lattice,
     source: &[u8],
     verified: &Verified,
-) -> Result<Vec<u8>, AllocError>
+) -> Result<Vec<u8>, ReportError>
     ensures panel { IfOk result (λ page. HasPanel page.items source.now) }
     ensures bounded { IfOk result (λ page.
         IsShort lattice.now profile source.now (listing_of (fields verified.now)) page.items) }
 {
-    let Ok(facts) = facts_of(alloc, profile, lattice, source) else {
-        return Err(AllocError);
-    };
-    let lines = listing(alloc, verified.image())?;
-    page_with_image(alloc, profile, lattice, &facts, source, &lines)
+    match facts_of(alloc, profile, lattice, source) {
+        Ok(facts) => {
+            let lines = listing(alloc, verified.image())?;
+            page_with_image(alloc, profile, lattice, &facts, source, &lines)
+        }
+        Err(error) => faulty_page(alloc, profile, lattice, source, &error),
+    }
 }
 
 /// The page of a text with a refused flow, with the facts of its program.
@@ -167,7 +170,7 @@ fn page_with_walk(
     facts: &Facts,
     source: &[u8],
     walk: &[Step],
-) -> Result<Vec<u8>, AllocError>
+) -> Result<Vec<u8>, ReportError>
     ensures panel { IfOk result (λ page. HasPanel page.items source.now) }
     ensures short { IfOk result (λ page. length page.items
         ≤ most_bytes (length source.now) (length facts.now.pairs.items) 0) }
@@ -195,14 +198,14 @@ fn refused_page(
     lattice: &Lattice,
     source: &[u8],
     walk: &[Step],
-) -> Result<Vec<u8>, AllocError>
+) -> Result<Vec<u8>, ReportError>
     ensures panel { IfOk result (λ page. HasPanel page.items source.now) }
     ensures bounded { IfOk result (λ page.
         IsShort lattice.now profile source.now [] page.items) }
 {
     match facts_of(alloc, profile, lattice, source) {
         Ok(facts) => page_with_walk(alloc, profile, lattice, &facts, source, walk),
-        Err(_) => Err(AllocError),
+        Err(error) => faulty_page(alloc, profile, lattice, source, &error),
     }
 }
 
@@ -213,7 +216,7 @@ fn page_with_refusal(
     lattice: &Lattice,
     source: &[u8],
     text: &[u8],
-) -> Result<Vec<u8>, AllocError>
+) -> Result<Vec<u8>, ReportError>
     ensures panel { IfOk result (λ page. HasPanel page.items source.now) }
     ensures short { IfOk result (λ page.
         length page.items ≤ most_bytes (length source.now) 0 0) }
@@ -233,11 +236,16 @@ fn faulty_page(
     lattice: &Lattice,
     source: &[u8],
     error: &CompileError,
-) -> Result<Vec<u8>, AllocError>
+) -> Result<Vec<u8>, ReportError>
     ensures panel { IfOk result (λ page. HasPanel page.items source.now) }
+    ensures short { IfOk result (λ page.
+        length page.items ≤ most_bytes (length source.now) 0 0) }
     ensures bounded { IfOk result (λ page.
         IsShort lattice.now profile source.now [] page.items) }
 {
+    if let CompileError::Memory = error {
+        return Err(ReportError::Memory);
+    }
     let text = refusal_text(alloc, lattice, source, error)?;
     page_with_refusal(alloc, profile, lattice, source, &text)
 }
@@ -248,21 +256,20 @@ fn faulty_page(
 ///
 /// # Errors
 ///
-/// Only if memory runs out. A page that is longer than its source, its flows and its listing allow
-/// (`specs/Size`) counts as out of memory too; no measured text has such a page.
+/// `TooLong` for a page that is longer than its source, its flows and its listing allow, as
+/// `specs/Size` says, though no measured text has such a page; or `Memory`.
 pub fn report_page(
     alloc: Global,
     profile: Profile,
     lattice: &Lattice,
     source: &[u8],
-) -> Result<Vec<u8>, AllocError>
+) -> Result<Vec<u8>, ReportError>
     ensures panel { IfOk result (λ page. HasPanel page.items source.now) }
     ensures bounded { IfOk result (λ page.
         IsBounded lattice.now profile source.now page.items) }
 {
     match compile_in(alloc, profile, lattice, source) {
         Ok(verified) => accepted_page(alloc, profile, lattice, source, &verified),
-        Err(CompileError::Memory) => Err(AllocError),
         Err(CompileError::Flow(walk)) => {
             refused_page(alloc, profile, lattice, source, walk.steps.as_slice())
         }

@@ -8,7 +8,7 @@ use crate::order::{Order, name_of};
 use crate::panel::{Panel, advanced, begun, closed, ended, opened};
 use crate::walking::Use;
 use std::alloc::{AllocError, Global};
-use vsi_syntax::{Kind, Token, lex, put_number};
+use vsi_syntax::{Kind, LexError, Token, lex, put_number};
 use vsi_types::Step;
 
 /// The names of the colours of classes.
@@ -214,12 +214,15 @@ pub(crate) fn source_panel(
 ) -> Result<Vec<u8>, AllocError>
     ensures { IfOk result (λ page. Shows page.items source.now) }
 {
-    let Ok(tokens) = lex(alloc, source) else {
-        return Err(AllocError);
-    };
-    let panel = begun(alloc, source)?;
-    let panel = with_tokens(alloc, panel, order, facts, walk, &tokens)?;
-    ended(panel)
+    match lex(alloc, source) {
+        Ok(tokens) => {
+            let panel = begun(alloc, source)?;
+            let panel = with_tokens(alloc, panel, order, facts, walk, &tokens)?;
+            ended(panel)
+        }
+        Err(LexError::Memory) => Err(AllocError),
+        Err(_) => plain_panel(alloc, source),
+    }
 }
 
 /// The panel of a text without known facts.

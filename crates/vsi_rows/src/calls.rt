@@ -4,8 +4,8 @@ use crate::compiling::Shown;
 use crate::row::Row;
 use crate::wrong::Wrong;
 use crate::{
-    code, compiling, faults, flows, forms, lattices, machines, requests, scopes, stores, texts,
-    walks,
+    code, compiling, engines, faults, flows, forms, lattices, machines, requests, scopes, stores,
+    texts, walks,
 };
 use std::alloc::Global;
 use vsi_lattice::Lattice;
@@ -50,6 +50,7 @@ fn answer_of_image(alloc: Global, call: &str, row: &mut Row<'_>) {
         "cuts" => code::cuts(alloc, row),
         "verify" => code::verified(alloc, row),
         "machine" => machines::machine(alloc, row),
+        "run_image" => engines::ran(alloc, row),
         "store" => stores::read(alloc, row),
         "store_text" => stores::printed(alloc, row),
         "fault" => faults::told(alloc, row),
@@ -111,7 +112,9 @@ fn answer_of_compiler(
         "judge" => compiling::image(alloc, row, profile, lattice, Shown::Nothing),
         "sizes" => compiling::image(alloc, row, profile, lattice, Shown::Sizes),
         "compile" => compiling::image(alloc, row, profile, lattice, Shown::Listing),
-        "build" => compiling::image(alloc, row, profile, lattice, Shown::Bytes),
+        "bytes" => compiling::image(alloc, row, profile, lattice, Shown::Bytes),
+        "build" => engines::built(alloc, row, lattice),
+        "build_in" => engines::built_in(alloc, row, profile, lattice),
         "classes" => compiling::classes(alloc, row, profile, lattice),
         "refusal" => compiling::refusal(alloc, row, profile, lattice, true),
         "explain" => compiling::refusal(alloc, row, profile, lattice, false),

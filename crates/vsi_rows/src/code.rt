@@ -20,7 +20,7 @@ fn digits(byte: u8) -> [u8; 2] {
 }
 
 /// Adds the bytes in hexadecimal digits, 16 on a line, with a blank between every two.
-fn put_hexadecimal(row: &mut Row<'_>, bytes: &[u8]) {
+pub(crate) fn put_hexadecimal(row: &mut Row<'_>, bytes: &[u8]) {
     for (place, byte) in bytes.iter().enumerate() {
         if place % 16 != 0 {
             row.put(" ");

@@ -46,7 +46,7 @@ fn put_image(alloc: Global, row: &mut Row<'_>, shown: Shown, verified: &Verified
     }
 }
 
-/// `judge`, `sizes`, `compile` or `build`, then `PROFILE LATTICE TEXT`: that the text is accepted,
+/// `judge`, `sizes`, `compile` or `bytes`, then `PROFILE LATTICE TEXT`: that the text is accepted,
 /// how large its code is and how it ends, the listing, or the bytes of the image; or the fault.
 pub(crate) fn image(
     alloc: Global,

@@ -15,6 +15,7 @@ mod bodies;
 mod calls;
 mod code;
 mod compiling;
+mod engines;
 mod escapes;
 mod faults;
 mod flows;

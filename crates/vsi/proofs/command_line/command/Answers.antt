@@ -1,11 +1,10 @@
-use Rattle.std.proofs.Common.{inl, arith}
 use Rattle.std.proofs.lemmas.Result.{IfErr-weaker}
 use Rattle.vsi_devices.specs.Counted.{device_of}
 use Rattle.vsi.specs.Done.{StopsAt}
 use Rattle.vsi.specs.Words.{given_to}
 use Rattle.vsi.proofs.Filled.{unfilled_at}
 use Rattle.vsi.proofs.Obeyed.{stops_at}
-use Rattle.vsi.proofs.Stopped.{Gets-nothing, done_at_zero, tells_stop}
+use Rattle.vsi.proofs.Stopped.{done_at_zero, tells_stop}
 use Rattle.vsi.proofs.command_line.command.Goals as goal
 
 pub returns-clause-told : goal.returns-clause-told
@@ -14,11 +13,10 @@ returns-clause-told g c =
     let given = given_to c.args.words.now (g.R.Read.remaining (device_of c.args.input.now)) in
     let old = g.W.Write.contents (device_of c.args.output.now) in
     let new = g.W.Write.contents (device_of c.obeyed-answer.new.output) in
-    tells_stop (StopsAt holds given c.args.words.now old new) g.E.Write.contents c.args.error.now c.args.error.now
+    tells_stop (StopsAt holds given c.args.words.now old new) g.E.Write.contents c.args.error.now
     c.ended.new.error c.obeyed-answer.new.told.note.items c.obeyed-answer.result c.ended.result
     (IfErr-weaker c.obeyed-answer.result _ _ (stops_at holds given c.args.words.now old new) c.obeyed-answer.ensures.stopped)
-    (omega arith) c.ended.ensures.count (inl (Gets-nothing g.E.Write.contents c.args.error.now)) c.ended.ensures.done
-    c.ended.ensures.stopped c.ended.ensures.shut
+    c.ended.ensures.done c.ended.ensures.stopped c.ended.ensures.told
 
 pub returns-clause-done : goal.returns-clause-done
 returns-clause-done g c = λ some.

@@ -1,9 +1,10 @@
 use Rattle.std.proofs.Common.{◌<◌, ◌⊎◌}
-use Rattle.vsi.specs.Input.{Hears, StopsRun}
+use Rattle.vsi.specs.Input.{StopsRun}
+use Rattle.vsi.specs.Stops.{Gets}
 use Rattle.vsi_devices.specs.Counted.{device_of, faults_of}
 use Rattle.vsi.proofs.Leaving.{partly_at}
 use Rattle.vsi.proofs.Obeyed.{each_stop}
-use Rattle.vsi.proofs.Stopped.{Hears-behind, done_at_zero, heard_fault, heard_nothing, heard_stop, refused_at_one, spent_at_three, tells_stop}
+use Rattle.vsi.proofs.Stopped.{done_at_zero, heard_fault, heard_nothing, heard_stop, refused_at_one, spent_at_three, tells_stop}
 use Rattle.vsi.proofs.command_line.without_words.Goals as goal
 
 pub returns-clause-ran : goal.returns-clause-ran
@@ -13,48 +14,39 @@ returns-clause-ran g c =
 pub returns-clause-refused : goal.returns-clause-refused
 returns-clause-refused g c =
     refused_at_one (g.R.Read.remaining (device_of c.args.input.now)) _
-    (Hears g.E.Write.contents c.args.error.now c.ended.new.error) c.run_input-answer.result c.ended.result
+    (Gets g.E.Write.contents c.args.error.now c.ended.new.error) c.run_input-answer.result c.ended.result
     c.ended.ensures.done c.ended.ensures.stopped c.run_input-answer.ensures.stopped
-    (heard_stop g.E.Write.contents c.args.error.now c.greet.new.error c.ended.new.error c.new.result.note.items
-    c.is_closed.result c.run_input-answer.result c.greet.ensures.count c.ended.ensures.count
-    c.greet.ensures.told c.new.ensures c.ended.ensures.told)
+    (heard_stop g.E.Write.contents c.args.error.now c.ended.new.error c.new.result.note.items
+    c.run_input-answer.result c.new.ensures c.ended.ensures.told)
 
 pub returns-clause-spent : goal.returns-clause-spent
 returns-clause-spent g c =
     spent_at_three (g.R.Read.remaining (device_of c.args.input.now)) _
-    (Hears g.E.Write.contents c.args.error.now c.ended.new.error) c.run_input-answer.result c.ended.result
+    (Gets g.E.Write.contents c.args.error.now c.ended.new.error) c.run_input-answer.result c.ended.result
     c.ended.ensures.done c.ended.ensures.stopped c.run_input-answer.ensures.stopped
-    (heard_stop g.E.Write.contents c.args.error.now c.greet.new.error c.ended.new.error c.new.result.note.items
-    c.is_closed.result c.run_input-answer.result c.greet.ensures.count c.ended.ensures.count
-    c.greet.ensures.told c.new.ensures c.ended.ensures.told)
+    (heard_stop g.E.Write.contents c.args.error.now c.ended.new.error c.new.result.note.items
+    c.run_input-answer.result c.new.ensures c.ended.ensures.told)
 
 pub returns-clause-quiet : goal.returns-clause-quiet
 returns-clause-quiet g c =
-    heard_nothing g.E.Write.contents c.args.error.now c.greet.new.error c.ended.new.error c.new.result.note.items
-    c.run_input-answer.result c.ended.result c.greet.ensures.count c.ended.ensures.count c.greet.ensures.told
-    c.new.ensures c.ended.ensures.noted c.ended.ensures.stopped
-
-pub returns-clause-memory : goal.returns-clause-memory
-returns-clause-memory g c = λ five.
-    Hears-behind g.E.Write.contents c.args.error.now c.greet.new.error c.ended.new.error _ c.greet.ensures.count
-    c.ended.ensures.count c.greet.ensures.told (c.ended.ensures.memory five)
+    heard_nothing g.E.Write.contents c.args.error.now c.ended.new.error c.new.result.note.items
+    c.run_input-answer.result c.ended.result c.new.ensures c.ended.ensures.noted c.ended.ensures.stopped
 
 pub returns-clause-fault_told : goal.returns-clause-fault_told
 returns-clause-fault_told g c =
-    heard_fault g.E.Write.contents c.args.error.now c.greet.new.error c.ended.new.error c.new.result.note.items
+    heard_fault g.E.Write.contents c.args.error.now c.ended.new.error c.new.result.note.items
     (StopsRun (g.R.Read.remaining (device_of c.args.input.now)))
     ((faults_of c.args.input.now < faults_of c.run_input-answer.new.input)
     ⊎ (faults_of c.args.output.now < faults_of c.run_input-answer.new.output))
-    c.run_input-answer.result c.ended.result c.greet.ensures.count c.ended.ensures.count c.greet.ensures.told
-    c.new.ensures c.ended.ensures.done c.ended.ensures.stopped c.run_input-answer.ensures.stopped
-    c.ended.ensures.shut
+    c.run_input-answer.result c.ended.result c.new.ensures c.ended.ensures.done c.ended.ensures.stopped
+    c.run_input-answer.ensures.stopped c.ended.ensures.told
 
 pub returns-clause-told : goal.returns-clause-told
 returns-clause-told g c =
-    tells_stop (λ stop. Unit {0}) g.E.Write.contents c.args.error.now c.greet.new.error c.ended.new.error
-    c.new.result.note.items c.run_input-answer.result c.ended.result
-    (each_stop (λ stop. Unit {0}) c.run_input-answer.result (λ stop. tt)) c.greet.ensures.count
-    c.ended.ensures.count c.greet.ensures.told c.ended.ensures.done c.ended.ensures.stopped c.ended.ensures.shut
+    tells_stop (λ stop. Unit {0}) g.E.Write.contents c.args.error.now c.ended.new.error c.new.result.note.items
+    c.run_input-answer.result c.ended.result
+    (each_stop (λ stop. Unit {0}) c.run_input-answer.result (λ stop. tt)) c.ended.ensures.done
+    c.ended.ensures.stopped c.ended.ensures.told
 
 pub returns-clause-partly : goal.returns-clause-partly
 returns-clause-partly g c =

@@ -1,9 +1,11 @@
 use Rattle.std.proofs.Common.{inr, rules, sym, subst, append_assoc}
 use Rattle.vsi_image.specs.Fields.{globals}
 use Rattle.vsi_lattice.specs.LatticeView.{class_named, order}
-use Rattle.vsi_leak.specs.Leaks.{IsFinding}
+use Rattle.vsi_leak.specs.Leaks.{IsFinding, IsWanted}
+use Rattle.vsi_leak.specs.declared.found.Finding.{Finding}
 use Rattle.vsi_leak.specs.Texts.{IsLeakText}
 use Rattle.vsi.specs.Holding.{IsReadAt}
+use Rattle.vsi.specs.Performed.{wanted_of}
 use Rattle.vsi.proofs.Refused.{leak_lattice, leak_lacking, leak_program}
 use Rattle.vsi.proofs.leaking.leak.Goals as goal
 
@@ -52,12 +54,17 @@ returns-in-Leak-clause-stopped g c = inr (record {
       (subst (IsReadAt (g.F.Files.holds c.lattice_in.new.files) c.args.search.source.now)
       (sym c.as_slice.ensures.value) c.in_ok-text.ensures.read);
   image = c.in-Ok.found.0;
+  program = c.in-Ok.ensures.found;
   of_source = c.in-Ok.ensures.image;
   leak = c.in-Leak.leak;
   leaks = subst
       (λ f. IsFinding (class_named c.in_ok-classes.classes) (order c.in_ok-classes.classes) c.in-Ok.found.0
       c.args.search.budget f)
       c.in-Leak.is c.in-Ok.ensures.leak;
+  viewer = c.in_ok-class.class;
+  looks = c.in_ok-class.ensures.looks;
+  wanted = subst (λ (f : Finding). IsWanted (wanted_of c.args.search c.in_ok-class.class) f) c.in-Leak.is
+      c.in-Ok.ensures.asked;
   told = subst
       (λ im. IsLeakText c.in_ok-classes.classes (globals im.globals.items) c.in-Leak.leak
       c.in_ok-shown-in-Leak.shown.items)

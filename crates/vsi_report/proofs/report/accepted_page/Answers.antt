@@ -3,11 +3,11 @@ use Rattle.std.specs.Prelude.{IfOk}
 use Rattle.vsi_image.specs.Fields.{fields}
 use Rattle.vsi_image.specs.Listing.{listing}
 use Rattle.vsi_report.specs.Size.{most_bytes}
-use Rattle.vsi_report.proofs.SizeLemmas.{short_with}
+use Rattle.vsi_report.proofs.SizeLemmas.{short_for_less, short_with}
 use Rattle.vsi_report.proofs.report.accepted_page.Goals as goal
 
-pub returns-clause-bounded : goal.returns-clause-bounded
-returns-clause-bounded c =
+pub returns-in-Ok-clause-bounded : goal.returns-in-Ok-clause-bounded
+returns-in-Ok-clause-bounded c =
     let lines = listing (fields c.args.verified.now) in
     let pairs = c.in-Ok.facts.pairs.items in
     short_with c.args.lattice.now c.args.profile c.args.source.now pairs lines c.page_with_image.result c.in-Ok.ensures
@@ -16,3 +16,8 @@ returns-clause-bounded c =
     length page.items ≤ most_bytes (length c.args.source.now) (length pairs) (length told)))
     (c.deref.ensures.value ∙ c.in_ok-lines.ensures ∙ ap (λ i. listing (fields i)) c.image.ensures.same)
     c.page_with_image.ensures.short)
+
+pub returns-in-Err-clause-bounded : goal.returns-in-Err-clause-bounded
+returns-in-Err-clause-bounded c =
+    short_for_less c.args.lattice.now c.args.profile c.args.source.now (listing (fields c.args.verified.now))
+    c.faulty_page.result c.faulty_page.ensures.short
