@@ -103,7 +103,7 @@ unseen_stopped holds lattice image so other result stop of_lattice of_image is t
     ])
     (λ s lacks. lacks) stop told)
 
--- An image and words that it begins with, of what the files hold.
+-- An image and the words with which it begins, from the contents of the files.
 pub begins_at : (holds : Holding) (e : Execution) (o : Outset) (image : Image) (file given : List ℕ)
     (words : List ℤ) → IsImageAt holds e.image.now image → IsStoreAt holds e.store file → given ≡ file →
     Begins image given (texts o.settings.items) o.is_full words → length words ≡ length image.globals.items →
@@ -116,7 +116,7 @@ begins_at holds e o image file given words held read same begins whole = record 
   whole = whole;
 }
 
--- The words that a run begins with are refused of what the files hold.
+-- The words with which a run would begin are refused for the contents of the files.
 pub start_stopped : {T : Type 0} (holds : Holding) (e : Execution) (o : Outset) (so : Unanswered → Type 0)
     (other : Stop → Type 0) (image : Image) (file given : List ℕ) (result : Result T Stop) (stop : Stop) →
     IsImageAt holds e.image.now image → IsStoreAt holds e.store file → given ≡ file →

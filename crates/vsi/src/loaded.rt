@@ -109,7 +109,7 @@ impl<F> Loaded<F> {
 }
 
 impl<F: Files> Loaded<F> {
-    /// Reads the file at the path, and answers whether that was possible.
+    /// Reads the file at the path, and returns whether that was possible.
     fn take(&mut self, path: &str) -> Result<bool, AllocError>
         ensures kept { F.holds self.new.system ≡ F.holds self.old.system }
         ensures told { AreRead (F.holds self.old.system) self.old.texts.items
@@ -129,8 +129,8 @@ impl<F: Files> Loaded<F> {
         Ok(true)
     }
 
-    /// Reads the file at the path, unless it is a store that the request replaces. It answers whether
-    /// nothing is lost.
+    /// Reads the file at the path, unless it is a store that the request replaces. It returns
+    /// whether nothing is lost.
     fn take_unless_state(&mut self, request: &Request<'_>, path: &str) -> Result<bool, AllocError>
         ensures kept { F.holds self.new.system ≡ F.holds self.old.system }
         ensures told { AreRead (F.holds self.old.system) self.old.texts.items
