@@ -48,6 +48,7 @@ cut_within (request.List image) = omega arith
 cut_within (request.Audit asked) = omega arith
 cut_within (request.Source image) = omega arith
 cut_within (request.EmitC asked) = omega arith
+cut_within (request.Bound asked) = omega arith
 cut_within (request.Run e o has_trace has_count) = omega arith
 cut_within (request.View lattice class e o) = omega arith
 cut_within (request.Drive driving) = omega arith

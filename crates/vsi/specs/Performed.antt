@@ -43,9 +43,12 @@ use Rattle.vsi_conform.specs.declared.interface.Interface.{Interface}
 use Rattle.vsi_conform.specs.declared.interface.Judgement.{Judgement}
 use Rattle.vsi_conform.specs.declared.interface.Judgement.TheVariants as judgement
 use Rattle.vsi_conform.specs.Checking.{TellsAccepted}
+use Rattle.vsi_answers.specs.Bounds.{TellsBound}
 use Rattle.vsi_answers.specs.Judged.{AreImage, Declares}
 use Rattle.vsi_answers.specs.Requests.{BuildsTo, ChecksSteadyTo, ChecksTo, ClassesTo, ComparesTo, FlowsTo, ListsTo, ViewsTo, WalksTo}
+use Rattle.vsi_answers.specs.declared.bounds.BoundAnswer.{BoundAnswer}
 use Rattle.vsi_arguments.specs.declared.request.Audit.{Audit}
+use Rattle.vsi_arguments.specs.declared.request.Bounding.{Bounding}
 use Rattle.vsi_arguments.specs.declared.request.Comparison.{Comparison}
 use Rattle.vsi_arguments.specs.declared.request.Compilation.{Compilation}
 use Rattle.vsi_arguments.specs.declared.request.Conformance.{Conformance}
@@ -288,6 +291,16 @@ pub record EmitsFile (holds : Holding) (asked : Emission) (text : Vec ℕ) : Typ
   pub held : IsEmittedFrom holds asked.lattice asked.file image
   pub is : IsWrittenInC asked.is_header image (function_name asked.name asked.file.now) text.items
 
+-- The answer about the bound of an image of this kind.
+pub record BoundsImage (Kind : Image → Type 0) (told : BoundAnswer) : Type 0 where
+  pub image : Image
+  pub held : Kind image
+  pub is : TellsBound image told
+
+-- The answer about the bound of the requested image.
+abbrev pub BoundsFile : Holding → Bounding → BoundAnswer → Type 0
+BoundsFile holds asked = BoundsImage (IsEmittedFrom holds asked.lattice asked.file)
+
 -- The request of an interface, its lattice and a source text, as the files hold them.
 pub record AreAsked (holds : Holding) (c : Conformance) (asked : Asked) (l : Lattice) (source : List ℕ) : Type 0 where
   pub interface : IsAskedAt holds c.interface.now asked
@@ -346,6 +359,13 @@ pub record PerformsBuild (holds : Holding) (c : Compilation) (image : List ℕ) 
 pub record PerformsAudit (holds : Holding) (a : Audit) (old new : Option (List ℕ)) : Type 0 where
   pub audits : AuditsFiles holds a
   pub written : Appends old new (codes "accepted\n")
+
+-- `bound`: the image has a bound, and the line that says so has been written.
+pub record PerformsBound (holds : Holding) (asked : Bounding) (old new : Option (List ℕ)) : Type 0 where
+  pub told : BoundAnswer
+  pub bounds : BoundsFile holds asked told
+  pub bounded : told.is_bounded ≡ true
+  pub written : Appends old new told.text.items
 
 -- `run`: the trace, followed by the text of the store, which goes to a file if one is given.
 pub record PerformsRun (holds : Holding) (e : Execution) (o : Outset) (traced : Bool) (left : Holding)
@@ -410,6 +430,7 @@ Performs holds given (request.List image) left = Alone (Writes (OfFile holds ima
 Performs holds given (request.Audit asked) left = Alone (PerformsAudit holds asked) holds left
 Performs holds given (request.Source image) left = Alone (Writes (SourceOfFile holds image.now)) holds left
 Performs holds given (request.EmitC asked) left = Alone (Writes (EmitsFile holds asked)) holds left
+Performs holds given (request.Bound asked) left = Alone (PerformsBound holds asked) holds left
 Performs holds given (request.Run e o has_trace has_count) left = PerformsRun holds e o has_trace left
 Performs holds given (request.View lattice class e o) left = PerformsView holds lattice.now class.now e o left
 Performs holds given (request.Drive driving) left = PerformsDrive holds driving given left

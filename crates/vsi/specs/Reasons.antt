@@ -36,10 +36,12 @@ use Rattle.vsi_answers.specs.Judged.{Declares, IsProgramFault, IsStoreFault, IsV
 use Rattle.vsi_answers.specs.Requests.{Answer, BeginsWith, BuildsTo, ChecksSteadyTo, ChecksTo, ClassesTo, ComparesTo, FlowsTo, FormatsTo, ListsTo, ReadsImage, ReadsLattice, ViewsTo, WalksTo}
 use Rattle.vsi_answers.specs.declared.unanswered.Unanswered.{Unanswered}
 use Rattle.vsi_answers.specs.declared.unanswered.Unanswered.TheVariants as unanswered
+use Rattle.vsi_answers.specs.declared.bounds.BoundAnswer.{BoundAnswer}
 use Rattle.vsi_types.specs.declared.rules.Profile.TheVariants.{Base}
 use Rattle.vsi_policy.specs.Named.{named_policy}
 use Rattle.vsi_arguments.specs.declared.request.Attempt.{Attempt}
 use Rattle.vsi_arguments.specs.declared.request.Audit.{Audit}
+use Rattle.vsi_arguments.specs.declared.request.Bounding.{Bounding}
 use Rattle.vsi_arguments.specs.declared.request.Comparison.{Comparison}
 use Rattle.vsi_arguments.specs.declared.request.Compilation.{Compilation}
 use Rattle.vsi_arguments.specs.declared.request.Conformance.{Conformance}
@@ -55,7 +57,7 @@ use Rattle.vsi.specs.declared.stop.Stop.TheVariants as stops
 use Rattle.vsi.specs.Holding.{Holding, IsImageAt, IsLatticeAt, IsReadAt, IsStoreAt}
 use Rattle.vsi.specs.Input.{two_classes}
 use Rattle.vsi.specs.Tried.{AreTried, BeginsSet, IsMade, IsTriedUnder, RunsMade, policy_path}
-use Rattle.vsi.specs.Performed.{AreFiles, BeginsAt, ComparesFiles, ConformsFiles, IsAskedAt, LooksAt, OfFiles, Writes, compilation_of, judgement_of, named_path, profile_of}
+use Rattle.vsi.specs.Performed.{AreFiles, BeginsAt, BoundsFile, ComparesFiles, ConformsFiles, IsAskedAt, LooksAt, OfFiles, Writes, compilation_of, judgement_of, named_path, profile_of}
 
 -- ---- what a stop tells.
 
@@ -332,10 +334,17 @@ abbrev pub OtherLeak : Holding → Search → Stop → Type 0
 OtherLeak holds s stop =
     IsSomeAnd s.class (λ class. LacksClassAt holds s.lattice.now class.now stop) ⊎ ToldLeak holds s stop
 
--- `emit-c`: the image is refused, or with a lattice the lattice or the source text.
+-- `emit-c` and `bound`: the image is refused, or with a lattice the lattice or the source text.
 abbrev pub WhyEmit : Holding → Option (Bor (List ℕ)) → Bor (List ℕ) → Unanswered → Type 0
 WhyEmit holds None file = RefusesImage holds file.now
 WhyEmit holds (Some lattice) file = RefusesFiles holds (compilation_of lattice file) (AsksImage false)
+
+-- `bound`: no bound was found for the image, and the line that says why has been written.
+pub record DiffersBound (holds : Holding) (asked : Bounding) (old new : Option (List ℕ)) : Type 0 where
+  pub told : BoundAnswer
+  pub bounds : BoundsFile holds asked told
+  pub unbounded : told.is_bounded ≡ false
+  pub written : Appends old new told.text.items
 
 -- `draw`: the lattice is refused, or a source text without a program.
 abbrev pub WhyDraw : Holding → List ℕ → Option (Bor (List ℕ)) → Unanswered → Type 0
@@ -427,6 +436,8 @@ Why holds (request.Audit asked) old new =
     (RefusesAudit holds asked)
 Why holds (request.Source image) old new = StopsBy (RefusesImage holds image.now) (HasNoText holds image.now)
 Why holds (request.EmitC asked) old new = StopsBy (WhyEmit holds asked.lattice asked.file) NoOther
+Why holds (request.Bound asked) old new =
+    StopsBy (WhyEmit holds asked.lattice asked.file) (IsDifference (DiffersBound holds asked old new))
 Why holds (request.Run e o has_trace has_count) old new = StopsBy (WhyRun holds e o has_trace old new) NoOther
 Why holds (request.View lattice class e o) old new =
     StopsBy (WhyView holds lattice.now class.now e o) (LacksClassAt holds lattice.now class.now)

@@ -172,6 +172,7 @@ fn requested<'a>(name: &str, inner: &ArgMatches<'a>) -> Request<'a> {
         "list" => Request::List(text(inner, "IMAGE")),
         "audit" => Request::Audit(audit_in(inner)),
         "source" => Request::Source(text(inner, "IMAGE")),
+        "bound" => Request::Bound(bounding_in(inner)),
         "drive" => Request::Drive(driving_in(inner)),
         "leak" => Request::Leak(search_in(inner)),
         "report" => Request::Report(compilation_in(inner)),
@@ -330,6 +331,21 @@ fn emission_request<'a>(matches: &ArgMatches<'a>) -> Result<Request<'a>, Mistake
         name,
         is_header: matches.get_flag("header"),
     }))
+}
+
+/// With a second operand the first one is a lattice file.
+fn bounding_in<'a>(matches: &ArgMatches<'a>) -> Bounding<'a> {
+    let first = text(matches, "FILE");
+    match matches.get_str("SOURCE") {
+        Some(source) => Bounding {
+            lattice: Some(first),
+            file: source,
+        },
+        None => Bounding {
+            lattice: None,
+            file: first,
+        },
+    }
 }
 
 fn execution_in<'a>(matches: &ArgMatches<'a>) -> Execution<'a> {

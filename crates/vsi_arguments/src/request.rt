@@ -102,6 +102,14 @@ pub struct Emission<'a> {
     pub is_header: bool,
 }
 
+/// The image or the text whose bound is asked for: the path of an image or, with that of a lattice
+/// file, of a source text.
+#[derive(Clone, Copy)]
+pub struct Bounding<'a> {
+    pub lattice: Option<&'a str>,
+    pub file: &'a str,
+}
+
 /// What a source text is judged for: its flows, by the profile that `Compilation` names, or also
 /// whether its image is steady; and whether the answer is written as JSON.
 #[derive(Clone, Copy)]
@@ -164,6 +172,7 @@ pub enum Request<'a> {
     Audit(Audit<'a>),
     Source(&'a str),
     EmitC(Emission<'a>),
+    Bound(Bounding<'a>),
     Run {
         execution: Execution<'a>,
         outset: Outset<'a>,

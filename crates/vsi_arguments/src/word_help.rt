@@ -60,6 +60,17 @@ The path of the image, the bytes that `vsi build` writes, or with
 --lattice the path of a source text. Any bytes may be given: they are
 verified before they are used.";
 
+/// The file whose bound is printed.
+pub(crate) const BOUNDED: &str = "\
+The path of the image, the bytes that `vsi build` writes, or with SOURCE
+the path of the lattice file. Any bytes may be given: they are verified
+before they are used.";
+
+/// The source text whose bound is printed.
+pub(crate) const BOUNDED_SOURCE: &str = "\
+The path of the source text, which is judged and compiled under the
+lattice file FILE. The image isn't written.";
+
 /// The name in C.
 pub(crate) const NAME: &str = "\
 A letter, then letters, digits and underscores, and no keyword of C or

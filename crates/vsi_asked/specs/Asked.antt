@@ -9,7 +9,7 @@ use Rattle.vsi_arguments.specs.declared.request.Compilation.{Compilation}
 use Rattle.vsi_arguments.specs.declared.request.Execution.{Execution}
 use Rattle.vsi_arguments.specs.declared.request.Outset.{Outset}
 use Rattle.vsi_arguments.specs.declared.request.Request.{Request}
-use Rattle.vsi_arguments.specs.declared.request.Request.TheVariants.{Try, Check, Conform, Classes, Flows, Build, List as Listing, Audit, Source, EmitC, Run, View, Drive, Compare, Leak, Report, Draw, Format, Lattice as Shaped, Explain}
+use Rattle.vsi_arguments.specs.declared.request.Request.TheVariants.{Try, Check, Conform, Classes, Flows, Build, List as Listing, Audit, Source, EmitC, Bound, Run, View, Drive, Compare, Leak, Report, Draw, Format, Lattice as Shaped, Explain}
 use Rattle.vsi_arguments.specs.declared.request.TheConstants.{SEARCH, TRY_BUDGET}
 use Rattle.vsi_explain.specs.Pages.{page_of}
 use Rattle.vsi_explain.specs.Subjects.{subject_page}
@@ -28,6 +28,7 @@ name_of (Listing image) = codes "list"
 name_of (Audit audit) = codes "audit"
 name_of (Source image) = codes "source"
 name_of (EmitC emission) = codes "emit-c"
+name_of (Bound bounding) = codes "bound"
 name_of (Run execution outset has_trace has_count) = codes "run"
 name_of (View lattice class execution outset) = codes "view"
 name_of (Drive driving) = codes "drive"
@@ -60,6 +61,7 @@ operands_of (Listing image) = image.now ∷ []
 operands_of (Audit audit) = audit.lattice.now ∷ audit.image.now ∷ []
 operands_of (Source image) = image.now ∷ []
 operands_of (EmitC emission) = emission.file.now ∷ []
+operands_of (Bound bounding) = given bounding.lattice ++ bounding.file.now ∷ []
 operands_of (Run execution outset has_trace has_count) = execution.image.now ∷ []
 operands_of (View lattice class execution outset) = lattice.now ∷ execution.image.now ∷ []
 operands_of (Drive driving) = driving.execution.image.now ∷ driving.lattice.now ∷ []
@@ -86,6 +88,7 @@ flags_of (Listing image) = []
 flags_of (Audit audit) = (codes "--strict", audit.is_strict) ∷ (codes "--steady", audit.is_steady) ∷ []
 flags_of (Source image) = []
 flags_of (EmitC emission) = (codes "--header", emission.is_header) ∷ []
+flags_of (Bound bounding) = []
 flags_of (Run execution outset has_trace has_count) =
     (codes "--full-store", outset.is_full) ∷ (codes "--trace", has_trace) ∷ (codes "--count", has_count) ∷ []
 flags_of (View lattice class execution outset) = (codes "--full-store", outset.is_full) ∷ []

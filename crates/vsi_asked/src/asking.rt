@@ -9,8 +9,8 @@ use crate::numbers::{has_number, number_in, only_operand};
 use crate::own::has_own_alone;
 use crate::reading::{has_flag, has_operands, has_values};
 use vsi_arguments::{
-    Attempt, Audit, Comparison, Compilation, Conformance, Drawing, Driving, Emission, Execution,
-    Judging, Outset, Request, SEARCH, Search, TRY_BUDGET,
+    Attempt, Audit, Bounding, Comparison, Compilation, Conformance, Drawing, Driving, Emission,
+    Execution, Judging, Outset, Request, SEARCH, Search, TRY_BUDGET,
 };
 use vsi_explain::{page, subject_page};
 
@@ -301,6 +301,19 @@ fn asks_emission(words: &[String], emission: &Emission<'_>) -> bool
     has_value(rest, "--lattice", emission.lattice) && has_value(rest, "--name", emission.name)
 }
 
+/// Whether words ask for a bound.
+fn asks_bound(words: &[String], bounding: &Bounding<'_>) -> bool
+    ensures { result ≡ true → spec.Spells words.now (request.Bound bounding.now) }
+{
+    match bounding.lattice {
+        Some(lattice) => {
+            let operands = [lattice.as_bytes(), bounding.file.as_bytes()];
+            asks(words, "bound", operands.as_slice(), &[])
+        }
+        None => asks(words, "bound", [bounding.file.as_bytes()].as_slice(), &[]),
+    }
+}
+
 /// Whether words ask for what a compilation judges by its profile alone.
 fn asks_judged(words: &[String], name: &str, compilation: &Compilation<'_>) -> bool
     ensures { result ≡ true → spec.Asks words.now name.now (spec.compiled compilation.now)
@@ -361,6 +374,7 @@ fn spells(words: &[String], request: &Request<'_>) -> bool
         Request::Audit(audit) => asks_audit(words, audit),
         Request::Source(image) => asks_file(words, "source", image),
         Request::EmitC(emission) => asks_emission(words, emission),
+        Request::Bound(bounding) => asks_bound(words, bounding),
         Request::Run {
             execution,
             outset,
