@@ -22,7 +22,7 @@ use Rattle.vsi.specs.declared.stop.Stop.{Stop}
 use Rattle.vsi.specs.declared.stop.Stop.TheVariants.{Differs}
 use Rattle.vsi.specs.Driven.{lines_of}
 use Rattle.vsi.specs.Holding.{Holding, IsImageAt}
-use Rattle.vsi.specs.Performed.{AuditsFiles, BeginsAt, BoundsFile, ComparesFiles, ConformsFiles, DrawsFiles, EmitsFile, IsStoredAt, LooksAt, OfFile, OfFiles, RunsFiles, SearchesFiles, SourceOfFile, ToldAccepted, ToldCanonical, ToldClasses, ToldFlows, ToldJson, ToldListing, ToldPage, ViewsFiles, control_of, judgement_of, shown}
+use Rattle.vsi.specs.Performed.{AuditsFiles, BeginsAt, BoundsFile, ComparesFiles, ConformsFiles, DrawsFiles, EmitsFile, IsBudgetOf, IsStoredAt, LooksAt, OfFile, OfFiles, RunsFiles, SearchesFiles, SourceOfFile, ToldAccepted, ToldCanonical, ToldClasses, ToldFlows, ToldJson, ToldListing, ToldPage, ViewsFiles, control_of, judgement_of, shown}
 use Rattle.vsi.specs.Reasons.{ToldRefusal}
 use Rattle.vsi.specs.Shaping.{ShapedText}
 use Rattle.vsi.specs.Stops.{status_of}
@@ -57,7 +57,9 @@ pub record TracesRun (holds : Holding) (e : Execution) (o : Outset) (traced : Bo
   pub image : Image
   pub words : List ℤ
   pub begins : BeginsAt holds e o image words
-  pub is : bytes ≡ trace_of traced image.code.items e.budget (start image words)
+  pub budget : ℕ
+  pub within : IsBudgetOf e.budget image budget
+  pub is : bytes ≡ trace_of traced image.code.items budget (start image words)
 
 -- `run`: the trace of a run that halts, and after it the text of the store.
 pub record ShowsRun (holds : Holding) (e : Execution) (o : Outset) (traced : Bool) (bytes : List ℕ) : Type 0 where
@@ -90,7 +92,9 @@ pub record AnswersDrive (holds : Holding) (d : Driving) (given : Option (List �
   pub held : IsImageAt holds d.execution.image.now image
   pub first : List ℤ
   pub stored : IsStoredAt holds d.execution.store image first
-  pub driven : DrivenText (control_of lattice driver image d.execution.budget) first given text
+  pub budget : ℕ
+  pub within : IsBudgetOf d.execution.budget image budget
+  pub driven : DrivenText (control_of lattice driver image budget) first given text
 
 -- `compare`: what the class sees of both runs, the same or not.
 abbrev pub AnswersCompare : Holding → Comparison → List ℕ → Type 0

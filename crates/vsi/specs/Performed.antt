@@ -43,12 +43,14 @@ use Rattle.vsi_conform.specs.declared.interface.Interface.{Interface}
 use Rattle.vsi_conform.specs.declared.interface.Judgement.{Judgement}
 use Rattle.vsi_conform.specs.declared.interface.Judgement.TheVariants as judgement
 use Rattle.vsi_conform.specs.Checking.{TellsAccepted}
-use Rattle.vsi_answers.specs.Bounds.{TellsBound}
+use Rattle.vsi_answers.specs.Bounds.{IsBound, TellsBound}
 use Rattle.vsi_answers.specs.Judged.{AreImage, Declares}
 use Rattle.vsi_answers.specs.Requests.{BuildsTo, ChecksSteadyTo, ChecksTo, ClassesTo, ComparesTo, FlowsTo, ListsTo, ViewsTo, WalksTo}
 use Rattle.vsi_answers.specs.declared.bounds.BoundAnswer.{BoundAnswer}
 use Rattle.vsi_arguments.specs.declared.request.Audit.{Audit}
 use Rattle.vsi_arguments.specs.declared.request.Bounding.{Bounding}
+use Rattle.vsi_arguments.specs.declared.request.Budget.{Budget}
+use Rattle.vsi_arguments.specs.declared.request.Budget.TheVariants.{Number, Auto}
 use Rattle.vsi_arguments.specs.declared.request.Comparison.{Comparison}
 use Rattle.vsi_arguments.specs.declared.request.Compilation.{Compilation}
 use Rattle.vsi_arguments.specs.declared.request.Conformance.{Conformance}
@@ -121,6 +123,12 @@ pub record LooksAt (holds : Holding) (path name : List ℕ) (l : Lattice) (class
   pub named : class_named l name ≡ Some class
   pub is : IsClass (order l) class
 
+-- The number of instructions of a budget: the given one, or with `auto` one within which the image halts from every
+-- store.
+abbrev pub IsBudgetOf : Budget → Image → ℕ → Type 0
+IsBudgetOf (Number given) image number = number ≡ given
+IsBudgetOf Auto image number = IsBound image number
+
 -- ---- what is told.
 
 -- The profile that judges.
@@ -173,7 +181,9 @@ pub record RunsFiles (holds : Holding) (e : Execution) (o : Outset) (traced : Bo
   pub image : Image
   pub words : List ℤ
   pub begins : BeginsAt holds e o image words
-  pub ran : RunsApart traced image words e.budget (Some text) trace
+  pub budget : ℕ
+  pub within : IsBudgetOf e.budget image budget
+  pub ran : RunsApart traced image words budget (Some text) trace
 
 -- The lines of the final store of a halting run that a class sees.
 pub record ViewsFiles (holds : Holding) (path class : List ℕ) (e : Execution) (o : Outset) (text : Vec ℕ)
@@ -184,7 +194,9 @@ pub record ViewsFiles (holds : Holding) (path class : List ℕ) (e : Execution) 
   pub image : Image
   pub words : List ℤ
   pub begins : BeginsAt holds e o image words
-  pub views : ViewsTo lattice viewer image words e.budget (Ok text)
+  pub budget : ℕ
+  pub within : IsBudgetOf e.budget image budget
+  pub views : ViewsTo lattice viewer image words budget (Ok text)
 
 -- The comparison that a class makes of the runs of an image from two store files.
 pub record ComparesFiles (holds : Holding) (c : Comparison) (told : found.Comparison) : Type 0 where
@@ -197,7 +209,9 @@ pub record ComparesFiles (holds : Holding) (c : Comparison) (told : found.Compar
   pub from_first : IsStoredAt holds (Some c.stores.0) image first
   pub second : List ℤ
   pub from_second : IsStoredAt holds (Some c.stores.1) image second
-  pub compares : ComparesTo lattice viewer image first second c.budget (Ok told)
+  pub budget : ℕ
+  pub within : IsBudgetOf c.budget image budget
+  pub compares : ComparesTo lattice viewer image first second budget (Ok told)
 
 -- The text of the image of a file: the canonical text of a program whose commands are those of the image's code.
 pub record SourceOfFile (holds : Holding) (path : List ℕ) (text : Vec ℕ) : Type 0 where
@@ -401,7 +415,9 @@ pub record PerformsDrive (holds : Holding) (d : Driving) (given : Option (List �
   pub first : List ℤ
   pub stored : IsStoredAt holds d.execution.store image first
   pub words : List ℤ
-  pub drives : DrivesInput (control_of lattice driver image d.execution.budget) first words given old new
+  pub budget : ℕ
+  pub within : IsBudgetOf d.execution.budget image budget
+  pub drives : DrivesInput (control_of lattice driver image budget) first words given old new
   pub saved : Delivers d.save (store_text_of (globals image.globals.items) words) holds left
 
 -- `compare`: the class sees no difference, and what it sees has been written.

@@ -14,6 +14,7 @@
 
 mod auditing;
 mod bounding;
+mod budgets;
 mod command_line;
 mod comparing;
 mod conformance;

@@ -1,11 +1,11 @@
 -- The answer about the bound of an image.
-use Rattle.std.specs.Prelude.{◌≡◌, ℕ, ◌++◌, Bool, true, false, List, Option, Some, None, codes, decimal}
+use Rattle.std.specs.Prelude.{◌≡◌, ℕ, ◌≤◌, ◌++◌, Bool, true, false, List, Option, Some, None, codes, decimal}
 use Rattle.vsi_image.specs.declared.instr.Image.{Image}
 use Rattle.vsi_machine.specs.Counting.{Halts as HaltsRun}
 use Rattle.vsi_machine.specs.Runs.{run_of}
 use Rattle.vsi_compiler.specs.Observation.{IsStoreOf}
 use Rattle.vsi_scope.specs.Meaning.{Store}
-use Rattle.vsi_bound.specs.Bound.{Answers}
+use Rattle.vsi_bound.specs.Bound.{AlwaysHalts, Answers}
 use Rattle.vsi_bound.specs.declared.bound.Bound.{Bound}
 use Rattle.vsi_bound.specs.declared.bound.Bound.TheVariants.{Halts, Endless, Unstructured, TooLarge}
 use Rattle.vsi_bound.specs.declared.error.Reason.{Reason}
@@ -71,3 +71,14 @@ pub record HaltsWithin (image : Image) (text : List ℕ) : Type 0 where
   pub most : ℕ
   pub says : text ≡ halts_line most
   pub halts : (m : Store) (budget : ℕ) → IsStoreOf image m → most ≤ budget → HaltsRun (run_of image m budget)
+
+-- From every store the image halts within this number of instructions.
+abbrev pub IsBound : Image → ℕ → Type 0
+IsBound image most = (least : ℕ) × AlwaysHalts image least most
+
+-- The line of an answer that is right for the image, and that has no number of instructions.
+pub record LacksBound (image : Image) (line : List ℕ) : Type 0 where
+  pub answer : Bound
+  pub is : Answers image answer
+  pub unbounded : is_bounded answer ≡ false
+  pub says : line ≡ bound_line None answer

@@ -1,6 +1,6 @@
 //! The answer about the bound of an image.
 
-ghost use Rattle.std.specs.Prelude.{◌≡◌, ◌++◌, IfOk, OnOk};
+ghost use Rattle.std.specs.Prelude.{◌≡◌, ◌++◌, IfOk, MatchResult, OnOk};
 ghost use Rattle.vsi_answers.specs.Bounds as spec;
 
 use crate::places::{Place, loop_place};
@@ -173,4 +173,24 @@ pub fn bound_in(
         text,
         is_bounded: is_bounded(found),
     })
+}
+
+/// A number of instructions within which an image halts from every store, or the line that says why
+/// none was found. A loop without a bound is named as by `bound`.
+///
+/// # Errors
+///
+/// There was no memory.
+pub fn enough_budget(alloc: Global, verified: &Verified) -> Result<Result<u64, Vec<u8>>, AllocError>
+    ensures budget { IfOk result (λ answer. MatchResult answer
+        (spec.IsBound verified.now) (λ line. spec.LacksBound verified.now line.items)) }
+{
+    let found = bound_of(alloc, verified)?;
+    match found {
+        Bound::Halts { least: _, most } => Ok(Ok(most)),
+        _ => {
+            let line = bound_line(alloc, None, found)?;
+            Ok(Err(line))
+        }
+    }
 }

@@ -17,7 +17,7 @@ mod steady;
 mod texts;
 mod unanswered;
 
-pub use bounds::{BoundAnswer, bound, bound_in};
+pub use bounds::{BoundAnswer, bound, bound_in, enough_budget};
 pub use files::{declared_lattice, judged_image, list};
 pub use places::Place;
 pub use refusing::{refused_file, refused_source};

@@ -223,7 +223,7 @@ pub(crate) const LOOKING: Argument = Argument {
 pub(crate) const BUDGET: Argument = Argument {
     name: "budget",
     form: Form::NeededNumber("N"),
-    line: "The most instructions that are done",
+    line: "The most instructions that are done, or `auto`",
     whole: word_help::BUDGET,
 };
 

@@ -1,7 +1,7 @@
 //! Reads what the arguments of a command line ask for.
 
 use crate::error::ArgumentsError;
-use crate::numbers::{Limit, number_of, wrong_number};
+use crate::numbers::{Limit, budget_of, number_of, wrong_number};
 use crate::request::*;
 use crate::tips::retold;
 use crate::usage::program;
@@ -121,7 +121,7 @@ fn judged<'a>(
     let Some((name, inner)) = matches.subcommand() else {
         return Ok(Err(Mistake::NoSubcommand));
     };
-    if let Some(limit) = wrong_number(inner) {
+    if let Some(limit) = wrong_number(name, inner) {
         return Ok(Err(Mistake::NoNumber(limit)));
     }
     let manner = manner_in(inner);
@@ -256,7 +256,7 @@ fn compare_request<'a>(matches: &ArgMatches<'a>) -> Result<Request<'a>, Mistake>
             lattice: text(matches, "LATTICE"),
             image: text(matches, "IMAGE"),
             class: text(matches, "class"),
-            budget: number_of(matches, "budget").unwrap_or(0),
+            budget: budget_of(matches),
             stores: (*first, *second),
         })),
         _ => Err(Mistake::NoTwoStores),
@@ -351,7 +351,7 @@ fn bounding_in<'a>(matches: &ArgMatches<'a>) -> Bounding<'a> {
 fn execution_in<'a>(matches: &ArgMatches<'a>) -> Execution<'a> {
     Execution {
         image: text(matches, "IMAGE"),
-        budget: number_of(matches, "budget").unwrap_or(0),
+        budget: budget_of(matches),
         store: matches.get_str("store"),
     }
 }

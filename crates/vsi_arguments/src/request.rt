@@ -9,12 +9,20 @@ pub struct Compilation<'a> {
     pub is_strict: bool,
 }
 
+/// The most instructions of a run.
+#[derive(Clone, Copy, Debug, PartialEq, Eq)]
+pub enum Budget {
+    Number(u64),
+    /// The bound of the image, within which it halts from every store.
+    Auto,
+}
+
 /// What is run: the path of an image, the most instructions that are done, and the path of a store
 /// file, without which the run begins from zeros.
 #[derive(Clone, Copy)]
 pub struct Execution<'a> {
     pub image: &'a str,
-    pub budget: u64,
+    pub budget: Budget,
     pub store: Option<&'a str>,
 }
 
@@ -45,7 +53,7 @@ pub struct Comparison<'a> {
     pub lattice: &'a str,
     pub image: &'a str,
     pub class: &'a str,
-    pub budget: u64,
+    pub budget: Budget,
     pub stores: (&'a str, &'a str),
 }
 

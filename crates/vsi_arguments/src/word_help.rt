@@ -134,7 +134,10 @@ The name of the class that looks, one of LATTICE.";
 /// What a budget is.
 pub(crate) const BUDGET: &str = "\
 The most instructions that are done, the halt included: a whole number
-from 0 to 18446744073709551615, in digits alone.";
+from 0 to 18446744073709551615, in digits alone, or `auto`, which is the
+number that `vsi bound` prints for the image. No run spends that. If no
+bound is found, `auto` runs nothing: the line of `vsi bound` is printed,
+with status 1.";
 
 /// What a store file is.
 pub(crate) const STORE: &str = "\

@@ -5,6 +5,8 @@ use Rattle.std.specs.Option.{option_and_then, option_or}
 use Rattle.std.specs.declared.alloc.Global.{Global}
 use Rattle.std.specs.Borrow.{Bor}
 use Rattle.vsi_arguments.specs.declared.request.Attempt.{Attempt}
+use Rattle.vsi_arguments.specs.declared.request.Budget.{Budget}
+use Rattle.vsi_arguments.specs.declared.request.Budget.TheVariants.{Number}
 use Rattle.vsi_arguments.specs.declared.request.Compilation.{Compilation}
 use Rattle.vsi_arguments.specs.declared.request.Execution.{Execution}
 use Rattle.vsi_arguments.specs.declared.request.Outset.{Outset}
@@ -13,7 +15,7 @@ use Rattle.vsi_arguments.specs.declared.request.Request.TheVariants.{Try, Check,
 use Rattle.vsi_arguments.specs.declared.request.TheConstants.{SEARCH, TRY_BUDGET}
 use Rattle.vsi_explain.specs.Pages.{page_of}
 use Rattle.vsi_explain.specs.Subjects.{subject_page}
-use Rattle.vsi_asked.specs.Numbers.{Gives, number_in}
+use Rattle.vsi_asked.specs.Numbers.{GivesBudget, number_in}
 use Rattle.vsi_asked.specs.Words.{dashed_in, has_flag, is_own, operands_in, shown, texts, values_in}
 
 -- The word of the subcommand.
@@ -126,19 +128,20 @@ options_of (Leak search) = (codes "--class", given search.class) ∷ []
 options_of request = []
 
 -- The budget of a run, which must be given.
-abbrev pub budgeted : ℕ → List (List ℕ × Option ℕ × ℕ)
+abbrev pub budgeted : Budget → List (List ℕ × Option ℕ × Budget)
 budgeted budget = (codes "--budget", None, budget) ∷ []
 
--- The options of a request that give numbers, each with the number that counts where none is given, and the request's.
-abbrev pub numbers_of : Request → List (List ℕ × Option ℕ × ℕ)
-numbers_of (Try attempt) = (codes "--budget", Some TRY_BUDGET, attempt.budget) ∷ []
+-- The options of a request that give numbers, each with the number that counts where none is given, and the request's,
+-- which is `auto` for some budgets.
+abbrev pub numbers_of : Request → List (List ℕ × Option ℕ × Budget)
+numbers_of (Try attempt) = (codes "--budget", Some TRY_BUDGET, Number attempt.budget) ∷ []
 numbers_of (Run execution outset has_trace has_count) = budgeted execution.budget
 numbers_of (View lattice class execution outset) = budgeted execution.budget
 numbers_of (Drive driving) = budgeted driving.execution.budget
 numbers_of (Compare comparison) = budgeted comparison.budget
 numbers_of (Leak search) =
-    (codes "--budget", Some SEARCH, search.budget) ∷ (codes "--tries", Some SEARCH, search.tries)
-    ∷ (codes "--seed", Some 0, search.seed) ∷ []
+    (codes "--budget", Some SEARCH, Number search.budget) ∷ (codes "--tries", Some SEARCH, Number search.tries)
+    ∷ (codes "--seed", Some 0, Number search.seed) ∷ []
 numbers_of request = []
 
 -- Each of these flags is among the words exactly where it is set.
@@ -152,15 +155,15 @@ HasOptions words [] = Unit {0}
 HasOptions words (option ∷ options) = (values_in option.0 false words ≡ option.1) × HasOptions words options
 
 -- The words give each of these options its number.
-abbrev pub HasNumbers : List (List ℕ) → List (List ℕ × Option ℕ × ℕ) → Type 0
+abbrev pub HasNumbers : List (List ℕ) → List (List ℕ × Option ℕ × Budget) → Type 0
 HasNumbers words [] = Unit {0}
 HasNumbers words (option ∷ options) =
-    Gives (values_in option.0 false words) option.1 option.2 × HasNumbers words options
+    GivesBudget (values_in option.0 false words) option.1 option.2 × HasNumbers words options
 
 -- The first word is the name, and those behind it have exactly these operands, flags, values of options and numbers.
 pub record Asks (words : List (String Global)) (name : List ℕ) (operands : List (List ℕ))
     (flags : List (List ℕ × Bool)) (options : List (List ℕ × List (List ℕ)))
-    (numbers : List (List ℕ × Option ℕ × ℕ)) : Type 0 where
+    (numbers : List (List ℕ × Option ℕ × Budget)) : Type 0 where
   pub rest : List (List ℕ)
   pub named : texts words ≡ name ∷ rest
   pub has_operands : operands_in false rest ≡ operands

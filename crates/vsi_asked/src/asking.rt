@@ -5,7 +5,7 @@ ghost use Rattle.vsi_arguments.specs.declared.request.Request.TheVariants as req
 ghost use Rattle.vsi_asked.specs.Asked as spec;
 ghost use Rattle.vsi_asked.specs.Words.{operands_in, shown, texts, values_in};
 
-use crate::numbers::{has_number, number_in, only_operand};
+use crate::numbers::{has_budget, has_number, number_in, only_operand};
 use crate::own::has_own_alone;
 use crate::reading::{has_flag, has_operands, has_values};
 use vsi_arguments::{
@@ -142,7 +142,7 @@ fn asks_run(
     let Some(rest) = behind(words, "run", operands.as_slice(), flags.as_slice()) else {
         return false;
     };
-    has_outset(rest, execution, outset) && has_number(rest, "--budget", None, execution.budget)
+    has_outset(rest, execution, outset) && has_budget(rest, execution.budget)
 }
 
 /// Whether words ask for a view.
@@ -163,7 +163,7 @@ fn asks_view(
     };
     has_value(rest, "--class", Some(class))
         && has_outset(rest, execution, outset)
-        && has_number(rest, "--budget", None, execution.budget)
+        && has_budget(rest, execution.budget)
 }
 
 /// Whether words ask to drive a controller.
@@ -180,7 +180,7 @@ fn asks_drive(words: &[String], driving: &Driving<'_>) -> bool
     has_value(rest, "--class", Some(driving.class))
         && has_value(rest, "--store", driving.execution.store)
         && has_value(rest, "--save", driving.save)
-        && has_number(rest, "--budget", None, driving.execution.budget)
+        && has_budget(rest, driving.execution.budget)
 }
 
 /// Whether words ask for a comparison.
@@ -195,7 +195,7 @@ fn asks_compare(words: &[String], comparison: &Comparison<'_>) -> bool
     let stores = [first.as_bytes(), second.as_bytes()];
     has_value(rest, "--class", Some(comparison.class))
         && has_values(rest, b"--store", stores.as_slice())
-        && has_number(rest, "--budget", None, comparison.budget)
+        && has_budget(rest, comparison.budget)
 }
 
 /// Whether words ask for a search.
