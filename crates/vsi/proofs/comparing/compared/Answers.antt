@@ -39,8 +39,8 @@ pub returns-in_err-classes-clause-stopped : goal.returns-in_err-classes-clause-s
 returns-in_err-classes-clause-stopped g c =
     let holds = g.F.Files.holds c.args.files.now in
     let why = WhyCompare holds c.args.asked in
-    more_stopped why (LacksClassAt holds c.args.asked.lattice.now c.args.asked.class.now) (LacksCompare holds c.args.asked)
-    c.from_residual.result (λ stop lacks. inl lacks)
+    more_stopped why (LacksClassAt holds c.args.asked.lattice.now c.args.asked.class.now)
+    (LacksCompare holds c.args.asked) c.from_residual.result (λ stop lacks. inl lacks)
     (unseen_stopped holds c.args.asked.lattice.now c.args.asked.image.now why
     (LacksClassAt holds c.args.asked.lattice.now c.args.asked.class.now) c.from_residual.result
     c.in_err-classes.field-0.0 (λ reason is. inl is) (λ reason is. inr (inl is)) c.from_residual.ensures.1

@@ -40,8 +40,8 @@ returns-clause-performed g c =
       budget = c.in_ok-budget.budget;
       within = c.in_ok-budget.ensures.budget;
       drives = subst (λ k. DrivesInput k c.in_ok-words.words.items c.deref.result.now given old new)
-          (control_is (control c.in-Ok.controller) c.in_ok-classes.classes c.in_ok-classes.driver image c.in_ok-budget.budget
-          c.in-Ok.ensures.known c.in-Ok.ensures.order c.in-Ok.ensures.class c.in-Ok.ensures.image
+          (control_is (control c.in-Ok.controller) c.in_ok-classes.classes c.in_ok-classes.driver image
+          c.in_ok-budget.budget c.in-Ok.ensures.known c.in-Ok.ensures.order c.in-Ok.ensures.class c.in-Ok.ensures.image
           c.in-Ok.ensures.budget)
           (subst (λ m. DrivesInput (control c.in-Ok.controller) m c.deref.result.now given old new)
           c.deref_mut.ensures.value
@@ -60,8 +60,9 @@ returns-clause-performed g c =
 pub returns-in_err-classes-clause-stopped : goal.returns-in_err-classes-clause-stopped
 returns-in_err-classes-clause-stopped g c =
     let holds = g.F.Files.holds c.args.files.now in
-    more_stopped (WhyDrive holds c.args.driving) (LacksClassAt holds c.args.driving.lattice.now c.args.driving.class.now) (LacksDrive holds c.args.driving)
-    c.from_residual.result (λ stop lacks. inl lacks)
+    more_stopped (WhyDrive holds c.args.driving)
+    (LacksClassAt holds c.args.driving.lattice.now c.args.driving.class.now)
+    (LacksDrive holds c.args.driving) c.from_residual.result (λ stop lacks. inl lacks)
     (unseen_stopped holds c.args.driving.lattice.now c.args.driving.execution.image.now (WhyDrive holds c.args.driving)
     (LacksClassAt holds c.args.driving.lattice.now c.args.driving.class.now) c.from_residual.result
     c.in_err-classes.field-0.0 (λ reason is. inl is) (λ reason is. inr (inl is)) c.from_residual.ensures.1
@@ -131,7 +132,8 @@ returns-in_err-drive_input-in-Ok-clause-left g c =
     (driven_answers holds c.args.driving given old new c.in_ok-classes.classes c.in_ok-classes.driver image words
     c.in_ok-budget.budget drives c.in_ok-budget.ensures.budget c.in_ok-classes.ensures.looks c.in_ok-classes.ensures.held
     (subst (λ h. IsStoredAt h asked.store image words) c.in_ok-classes.ensures.kept c.in_ok-words.ensures.stored)
-    (control_is drives c.in_ok-classes.classes c.in_ok-classes.driver image c.in_ok-budget.budget c.in-Ok.ensures.known
+    (control_is drives c.in_ok-classes.classes c.in_ok-classes.driver image
+    c.in_ok-budget.budget c.in-Ok.ensures.known
     c.in-Ok.ensures.order c.in-Ok.ensures.class c.in-Ok.ensures.image c.in-Ok.ensures.budget)
     (subst (λ m. Partly (DrivenText drives m given) old new) c.deref_mut.ensures.value
     c.in_err-drive_input-in-Ok.ensures.cut))
@@ -150,7 +152,8 @@ returns-clause-left g c =
     (driven_answers holds c.args.driving given old new c.in_ok-classes.classes c.in_ok-classes.driver image words
     c.in_ok-budget.budget drives c.in_ok-budget.ensures.budget c.in_ok-classes.ensures.looks c.in_ok-classes.ensures.held
     (subst (λ h. IsStoredAt h asked.store image words) c.in_ok-classes.ensures.kept c.in_ok-words.ensures.stored)
-    (control_is drives c.in_ok-classes.classes c.in_ok-classes.driver image c.in_ok-budget.budget c.in-Ok.ensures.known
+    (control_is drives c.in_ok-classes.classes c.in_ok-classes.driver image
+    c.in_ok-budget.budget c.in-Ok.ensures.known
     c.in-Ok.ensures.order c.in-Ok.ensures.class c.in-Ok.ensures.image c.in-Ok.ensures.budget)
     (subst (λ m. Partly (DrivenText drives m given) old new) c.deref_mut.ensures.value
     (input_driven drives c.deref_mut.result.now _ given old new c.in_ok-drive_input-in-Ok.ensures.driven)))

@@ -74,7 +74,8 @@ returns-in-Ok-Some-clause-stopped g c =
     let why = WhyRun holds c.args.asked.now.execution c.args.asked.now.outset c.args.asked.now.has_trace
     (g.W.Write.contents (device_of c.args.output.now)) (g.W.Write.contents (device_of c.deliver.new.output)) in
     handed_late why
-    (LacksBoundAt holds c.args.asked.now.execution.image.now c.args.asked.now.execution.budget) c.deliver.result c.deliver.ensures.stop
+    (LacksBoundAt holds c.args.asked.now.execution.image.now c.args.asked.now.execution.budget)
+    c.deliver.result c.deliver.ensures.stop
 
 pub returns-in_err-put_count-in-Ok-Some-clause-stopped : goal.returns-in_err-put_count-in-Ok-Some-clause-stopped
 returns-in_err-put_count-in-Ok-Some-clause-stopped g c =
@@ -143,7 +144,8 @@ returns-in-Ok-Some-clause-left g c =
     (g.W.Write.contents (device_of c.deliver.new.output)) c.deliver.result c.deliver.ensures.stop
     (shown_part holds asked.execution asked.outset asked.has_trace c.in_ok-verified.verified c.deref.result.now _
     c.in_ok-budget.budget c.in-Ok-Some.text.items c.deref-in-Ok-Some-2.result.now ran.0 old mid
-    (g.W.Write.contents (device_of c.deliver.new.output)) c.in_ok-budget.ensures.budget c.in_ok-verified.ensures.begins c.deref.ensures.value ran.1
+    (g.W.Write.contents (device_of c.deliver.new.output)) c.in_ok-budget.ensures.budget
+    c.in_ok-verified.ensures.begins c.deref.ensures.value ran.1
     ran.2 c.deref-in-Ok-Some-2.ensures.value c.deliver.ensures.part)
 
 pub returns-in_err-put_count-in-Ok-Some-clause-left : goal.returns-in_err-put_count-in-Ok-Some-clause-left
@@ -157,7 +159,8 @@ returns-in_err-put_count-in-Ok-Some-clause-left g c =
     c.from_residual-in_err-put_count-in-Ok-Some.result c.in_err-put_count-in-Ok-Some.field-0.0
     c.from_residual-in_err-put_count-in-Ok-Some.ensures.1 c.in_err-put_count-in-Ok-Some.ensures
     (traced_part holds asked.execution asked.outset asked.has_trace c.in_ok-verified.verified c.deref.result.now _
-    c.in_ok-budget.budget _ ran.0 old mid c.in_ok-budget.ensures.budget c.in_ok-verified.ensures.begins c.deref.ensures.value ran.1 ran.2)
+    c.in_ok-budget.budget _ ran.0 old mid c.in_ok-budget.ensures.budget
+    c.in_ok-verified.ensures.begins c.deref.ensures.value ran.1 ran.2)
 
 pub returns-in_err-put_count-in-Ok-None-clause-left : goal.returns-in_err-put_count-in-Ok-None-clause-left
 returns-in_err-put_count-in-Ok-None-clause-left g c =
@@ -170,7 +173,8 @@ returns-in_err-put_count-in-Ok-None-clause-left g c =
     c.from_residual-in_err-put_count-in-Ok-None.result c.in_err-put_count-in-Ok-None.field-0.0
     c.from_residual-in_err-put_count-in-Ok-None.ensures.1 c.in_err-put_count-in-Ok-None.ensures
     (traced_part holds asked.execution asked.outset asked.has_trace c.in_ok-verified.verified c.deref.result.now _
-    c.in_ok-budget.budget _ ran.0 old mid c.in_ok-budget.ensures.budget c.in_ok-verified.ensures.begins c.deref.ensures.value ran.1 ran.2)
+    c.in_ok-budget.budget _ ran.0 old mid c.in_ok-budget.ensures.budget
+    c.in_ok-verified.ensures.begins c.deref.ensures.value ran.1 ran.2)
 
 pub returns-in-Ok-None-clause-left : goal.returns-in-Ok-None-clause-left
 returns-in-Ok-None-clause-left g c =
@@ -181,7 +185,8 @@ returns-in-Ok-None-clause-left g c =
     let ran = rw c.in-Ok-None.field-0-is at c.in-Ok-None.ensures.ran in
     spent_leaf (AnswersRun holds asked.execution asked.outset asked.has_trace) old mid _ (omega arith)
     (traced_part holds asked.execution asked.outset asked.has_trace c.in_ok-verified.verified c.deref.result.now _
-    c.in_ok-budget.budget _ ran.0 old mid c.in_ok-budget.ensures.budget c.in_ok-verified.ensures.begins c.deref.ensures.value ran.1 ran.2)
+    c.in_ok-budget.budget _ ran.0 old mid c.in_ok-budget.ensures.budget
+    c.in_ok-verified.ensures.begins c.deref.ensures.value ran.1 ran.2)
 
 pub returns-clause-left : goal.returns-clause-left
 returns-clause-left g c =
@@ -192,5 +197,6 @@ returns-clause-left g c =
     device_leaf (AnswersRun holds asked.execution asked.outset asked.has_trace) c.in-Err.error old mid
     c.device_stop.result c.in-Err.ensures.only c.device_stop.ensures.write c.device_stop.ensures.memory
     (cut_part holds asked.execution asked.outset asked.has_trace c.in_ok-verified.verified c.deref.result.now _
-    c.in_ok-budget.budget c.in-Err.error old mid c.in_ok-budget.ensures.budget c.in_ok-verified.ensures.begins c.deref.ensures.value c.in-Err.ensures.only
+    c.in_ok-budget.budget c.in-Err.error old mid c.in_ok-budget.ensures.budget
+    c.in_ok-verified.ensures.begins c.deref.ensures.value c.in-Err.ensures.only
     (λ e. c.in-Err.ensures.prefix (ap Err e)) (λ e. c.in-Err.ensures.memory (ap Err e)))
