@@ -237,7 +237,7 @@ shown_of holds l m x y e f o p left old new same done =
         image = is.image;
         words = is.words;
         begins = begins_of holds l m x y e f o p is.image is.words same is.begins;
-        budget = f.budget;
+        budget = is.budget;
         views = is.views;
       };
       shows = record {

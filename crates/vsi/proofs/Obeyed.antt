@@ -50,6 +50,7 @@ memory_why holds (request.List image) old new = tt
 memory_why holds (request.Audit asked) old new = tt
 memory_why holds (request.Source image) old new = tt
 memory_why holds (request.EmitC asked) old new = tt
+memory_why holds (request.Bound asked) old new = tt
 memory_why holds (request.Run e o has_trace has_count) old new = tt
 memory_why holds (request.View lattice class e o) old new = tt
 memory_why holds (request.Drive driving) old new = tt

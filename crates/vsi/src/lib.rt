@@ -13,6 +13,8 @@
 #![tactic(auto)]
 
 mod auditing;
+mod bounding;
+mod budgets;
 mod command_line;
 mod comparing;
 mod conformance;

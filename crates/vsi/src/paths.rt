@@ -19,6 +19,7 @@ pub(crate) fn paths_of<'a>(request: &Request<'a>) -> [Option<&'a str>; MOST_READ
         Request::Format(source) => one(source),
         Request::Audit(asked) => two(asked.lattice, asked.image),
         Request::EmitC(asked) => [asked.lattice, Some(asked.file), None, None],
+        Request::Bound(asked) => [asked.lattice, Some(asked.file), None, None],
         Request::Run { execution, .. } => [execution.store, Some(execution.image), None, None],
         Request::View {
             lattice,

@@ -9,6 +9,7 @@ ghost use Rattle.vsi_devices.specs.Counted.{device_of, faults_of};
 ghost use Rattle.vsi.specs.Reasons.{Why, WhyCheck};
 
 use crate::auditing::{audit, source};
+use crate::bounding::bound;
 use crate::comparing::compare;
 use crate::conformance::conform;
 use crate::desk::Desk;
@@ -132,6 +133,7 @@ pub(crate) fn perform<'a, F: Files, R: Read, W: Write>(
         Request::Audit(asked) => accept(audit(desk, asked, files), output),
         Request::Source(image) => put(source(desk, image, files), output),
         Request::EmitC(asked) => put(emit(desk, asked, files), output),
+        Request::Bound(asked) => bound(desk, asked, files, output),
         Request::Run {
             execution,
             outset,

@@ -35,7 +35,7 @@ pub(crate) fn profile(is_strict: bool) -> Profile
 }
 
 /// The lattice, which is judged, and the bytes of the source text, which are read after it.
-fn policy_and_text<'a, F: Files>(
+pub(crate) fn policy_and_text<'a, F: Files>(
     desk: &mut Desk,
     compilation: Compilation<'a>,
     files: &mut F,

@@ -94,6 +94,20 @@ pub(crate) const EMITTED: Argument = Argument {
     whole: word_help::EMITTED,
 };
 
+pub(crate) const BOUNDED: Argument = Argument {
+    name: "FILE",
+    form: Form::Place,
+    line: "The image file, or the lattice file of SOURCE",
+    whole: word_help::BOUNDED,
+};
+
+pub(crate) const BOUNDED_SOURCE: Argument = Argument {
+    name: "SOURCE",
+    form: Form::FreePlace,
+    line: "The source text",
+    whole: word_help::BOUNDED_SOURCE,
+};
+
 pub(crate) const NAME: Argument = Argument {
     name: "name",
     form: Form::Value("NAME"),
@@ -209,7 +223,7 @@ pub(crate) const LOOKING: Argument = Argument {
 pub(crate) const BUDGET: Argument = Argument {
     name: "budget",
     form: Form::NeededNumber("N"),
-    line: "The most instructions that are done",
+    line: "The most instructions that are done, or `auto`",
     whole: word_help::BUDGET,
 };
 

@@ -258,6 +258,32 @@ Example:
 
   #endif";
 
+/// The long help of `bound`.
+pub(crate) const BOUND: &str = "\
+Prints a number of instructions within which every run halts.
+
+Reads and verifies the image, or with a lattice file reads, judges and compiles
+the source text. If there is a bound, prints `halts within N instructions`: with
+a budget of N or more the run from every store halts. Otherwise the line begins
+with `no bound: ` and names the first loop for which none was found, and why. A
+loop has a bound if it counts from a known number to a known limit by the same
+step at each turn.
+
+Statuses: 0 there is a bound, 1 refused, or no bound was found, 2 usage,
+4 file fault, 5 out of memory.";
+
+/// An example of `bound`.
+pub(crate) const BOUND_EXAMPLE: &str = "\
+Example:
+  $ cat count.vsi
+  var n : L; letvar i := 0 in while i < 3 do { n := n + i; i := i + 1 }
+  $ vsi bound two.toml count.vsi
+  halts within 46 instructions
+  $ cat wait.vsi
+  var n : L; while n < 3 do n := n + 1
+  $ vsi bound two.toml wait.vsi
+  no bound: 1:12: the loop's variable begins with a number that isn't known";
+
 /// The long help of `report`.
 pub(crate) const REPORT: &str = "\
 Prints a page of a source text, its lattice and its flows.

@@ -9,12 +9,20 @@ pub struct Compilation<'a> {
     pub is_strict: bool,
 }
 
+/// The most instructions of a run.
+#[derive(Clone, Copy, Debug, PartialEq, Eq)]
+pub enum Budget {
+    Number(u64),
+    /// The bound of the image, within which it halts from every store.
+    Auto,
+}
+
 /// A run: the path of an image, the budget of instructions, and the path of a store file. Without a
 /// store file the run begins with zeros.
 #[derive(Clone, Copy)]
 pub struct Execution<'a> {
     pub image: &'a str,
-    pub budget: u64,
+    pub budget: Budget,
     pub store: Option<&'a str>,
 }
 
@@ -45,7 +53,7 @@ pub struct Comparison<'a> {
     pub lattice: &'a str,
     pub image: &'a str,
     pub class: &'a str,
-    pub budget: u64,
+    pub budget: Budget,
     pub stores: (&'a str, &'a str),
 }
 
@@ -100,6 +108,14 @@ pub struct Emission<'a> {
     pub file: &'a str,
     pub name: Option<&'a str>,
     pub is_header: bool,
+}
+
+/// A search for a bound: the path of an image or, with the path of a lattice file, of a source
+/// text.
+#[derive(Clone, Copy)]
+pub struct Bounding<'a> {
+    pub lattice: Option<&'a str>,
+    pub file: &'a str,
 }
 
 /// A judgement of a source text: its compilation, whether its image must also be steady, and
@@ -163,6 +179,7 @@ pub enum Request<'a> {
     Audit(Audit<'a>),
     Source(&'a str),
     EmitC(Emission<'a>),
+    Bound(Bounding<'a>),
     Run {
         execution: Execution<'a>,
         outset: Outset<'a>,

@@ -46,7 +46,7 @@ const TIPS: [(&str, &str); 3] = [
     ),
     (
         "  --budget <N>",
-        "how many instructions may be done, as in `--budget 1000`",
+        "how many instructions may be done, as in `--budget 1000` or `--budget auto`",
     ),
     (
         ", by digits alone",

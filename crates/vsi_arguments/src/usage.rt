@@ -19,7 +19,7 @@ struct Subcommand {
 }
 
 /// The subcommands whose refusals can be explained, in the order of the help.
-const SUBCOMMANDS: [Subcommand; 18] = [
+const SUBCOMMANDS: [Subcommand; 19] = [
     Subcommand {
         name: "try",
         line: "Judges a source text and runs it",
@@ -89,6 +89,13 @@ const SUBCOMMANDS: [Subcommand; 18] = [
         whole: help::EMIT_C,
         example: help::EMIT_C_EXAMPLE,
         arguments: &[EMITTED, NAME, HEADER, LATTICE_OPTION],
+    },
+    Subcommand {
+        name: "bound",
+        line: "Prints a number of instructions within which every run halts",
+        whole: help::BOUND,
+        example: help::BOUND_EXAMPLE,
+        arguments: &[BOUNDED, BOUNDED_SOURCE],
     },
     Subcommand {
         name: "run",

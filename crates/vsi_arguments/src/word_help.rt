@@ -60,6 +60,17 @@ The path of the image, the bytes that `vsi build` writes, or with
 --lattice the path of a source text. Any bytes may be given: they are
 verified before they are used.";
 
+/// The file whose bound is printed.
+pub(crate) const BOUNDED: &str = "\
+The path of the image, the bytes that `vsi build` writes, or with SOURCE
+the path of the lattice file. Any bytes may be given: they are verified
+before they are used.";
+
+/// The source text whose bound is printed.
+pub(crate) const BOUNDED_SOURCE: &str = "\
+The path of the source text, which is judged and compiled under the
+lattice file FILE. The image isn't written.";
+
 /// The name in C.
 pub(crate) const NAME: &str = "\
 A letter, then letters, digits and underscores, and no keyword of C or
@@ -123,7 +134,10 @@ The name of the class that looks, one of LATTICE.";
 /// A budget.
 pub(crate) const BUDGET: &str = "\
 The most instructions that are done, the halt included: a whole number
-from 0 to 18446744073709551615, in digits alone.";
+from 0 to 18446744073709551615, in digits alone, or `auto`, which is the
+number that `vsi bound` prints for the image. No run spends that. If no
+bound is found, `auto` runs nothing: the line of `vsi bound` is printed,
+with status 1.";
 
 /// A store file.
 pub(crate) const STORE: &str = "\

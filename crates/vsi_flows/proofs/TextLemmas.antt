@@ -63,7 +63,7 @@ only_source : (n : ℕ) (pairs : List Pair) (a b : ℕ) → a < n → (a ≡ b �
 only_source n pairs a b lt apart none x there =
     subst (λ (y : ℕ). (y < n) × (y ≡ b → ⊥) × (HasPair pairs y b → ⊥)) (contained_is a x there) (lt, apart, none)
 
--- What no pair of the table joins is independent.
+-- Two globals that no pair of the table joins are independent.
 pub shows_dependence : (l : Lattice) (P : Profile) (text : List ℕ) (r : Resolved) → IsSource (source_of l text r) →
     (pairs : List Pair) → IsTable (order l) P (program r) pairs → ShowDependence l text r pairs
 shows_dependence l P text r is pairs table a b la lb apart none im keeps m₁ m₂ m₁' m₂' b₁ b₂ l₁ l₂ out h₁ h₂ =

@@ -76,6 +76,10 @@ pub returns-in-Conform-clause-performed : goal.returns-in-Conform-clause-perform
 returns-in-Conform-clause-performed g c = rw c.in-Conform.is
     (alone _ c.conform.result _ _ c.conform.ensures.kept c.conform.ensures.performed)
 
+pub returns-in-Bound-clause-performed : goal.returns-in-Bound-clause-performed
+returns-in-Bound-clause-performed g c = rw c.in-Bound.is
+    (alone _ c.bound.result _ _ c.bound.ensures.kept c.bound.ensures.performed)
+
 pub returns-in-Compare-clause-performed : goal.returns-in-Compare-clause-performed
 returns-in-Compare-clause-performed g c = rw c.in-Compare.is
     (alone _ c.compare.result _ _ c.compare.ensures.kept c.compare.ensures.performed)
@@ -174,6 +178,9 @@ returns-in-Check-clause-left g c = rw c.in-Check.is c.put_check.ensures.left
 
 pub returns-in-Conform-clause-left : goal.returns-in-Conform-clause-left
 returns-in-Conform-clause-left g c = rw c.in-Conform.is c.conform.ensures.left
+
+pub returns-in-Bound-clause-left : goal.returns-in-Bound-clause-left
+returns-in-Bound-clause-left g c = rw c.in-Bound.is c.bound.ensures.left
 
 pub returns-in-Compare-clause-left : goal.returns-in-Compare-clause-left
 returns-in-Compare-clause-left g c = rw c.in-Compare.is c.compare.ensures.left
@@ -274,6 +281,9 @@ returns-in-View-clause-stopped g c = rw c.in-View.is c.view.ensures.stopped
 
 pub returns-in-Drive-clause-stopped : goal.returns-in-Drive-clause-stopped
 returns-in-Drive-clause-stopped g c = rw c.in-Drive.is c.drive.ensures.stopped
+
+pub returns-in-Bound-clause-stopped : goal.returns-in-Bound-clause-stopped
+returns-in-Bound-clause-stopped g c = rw c.in-Bound.is c.bound.ensures.stopped
 
 pub returns-in-Compare-clause-stopped : goal.returns-in-Compare-clause-stopped
 returns-in-Compare-clause-stopped g c = rw c.in-Compare.is c.compare.ensures.stopped

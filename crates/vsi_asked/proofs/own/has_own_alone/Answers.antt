@@ -44,6 +44,10 @@ pub returns-in-EmitC : goal.returns-in-EmitC
 returns-in-EmitC c =
     rw c.in-EmitC.is (rw (c.as_slice-in-EmitC.ensures, c.as_slice-in-EmitC-2.ensures) at c.are_own-in-EmitC.ensures)
 
+pub returns-in-Bound : goal.returns-in-Bound
+returns-in-Bound c =
+    rw c.in-Bound.is (rw (c.as_slice-in-Bound.ensures, c.as_slice-in-Bound-2.ensures) at c.are_own-in-Bound.ensures)
+
 pub returns-in-Run : goal.returns-in-Run
 returns-in-Run c =
     rw c.in-Run.is (rw (c.as_slice-in-Run.ensures, c.as_slice-in-Run-2.ensures) at c.are_own-in-Run.ensures)
