@@ -1,18 +1,20 @@
 #!/usr/bin/env python3
 """Runs emitted C beside the machine, as many C compilers build it and on several processors.
 
-usage: tools/emitted.py [PROGRAM] [--count N] [--first N]
+usage: tools/emitted.py [PROGRAM] [--count N] [--first N] [--builds N]
 
 PROGRAM is crates/vsi_program/out/vsi_program unless another is named. Half of the images are compiled from texts by the
 generator of tools/generated.py, half are valid images that no compiler made (tools/emitted_images.py). Each is printed
 by `vsi emit-c`, and run from three stores with the budgets 0, 1, one below what the run takes, what it takes, and a
 large one: the answers and the globals must be those of `vsi run`. A hundred images are compiled at a time, without a
 warning: by gcc and clang at each level with the sanitizer of undefined behaviour, and by the compilers for other
-processors, whose programs run under qemu-user. What isn't installed is left out, and named in a line. A difference ends
-the trial with its case; else nothing is written.
+processors, whose programs run under qemu-user. With `--builds` each hundred is compiled only N times, in turn by each
+compiler at each of its levels. What isn't installed is left out, and named in a line. A difference ends the trial with
+its case; else nothing is written.
 """
 
 import argparse
+import itertools
 import os
 import random
 import shutil
@@ -145,13 +147,16 @@ def read_options():
     parser.add_argument("program", nargs="?", default=built)
     parser.add_argument("--count", type=int, default=100)
     parser.add_argument("--first", type=int, default=0)
+    parser.add_argument("--builds", type=int)
     return parser.parse_args()
 
 
 def main():
     options = read_options()
     program = os.path.abspath(options.program)
-    targets = installed(HOSTS + OTHERS)
+    builds = [(target, level) for target in installed(HOSTS + OTHERS) for level in target.levels]
+    wanted = min(options.builds or len(builds), len(builds))
+    turns = itertools.cycle(builds)
     end = options.first + options.count
     with tempfile.TemporaryDirectory() as folder:
         os.chdir(folder)
@@ -159,9 +164,8 @@ def main():
             batch = [Emitted(program, folder, number) for number in range(first, min(first + BATCH, end))]
             write_harness(folder, batch)
             compile_headers(folder, batch)
-            for target in targets:
-                for level in target.levels:
-                    compare(target, level, folder, batch)
+            for target, level in itertools.islice(turns, wanted):
+                compare(target, level, folder, batch)
         os.chdir("/")
 
 
