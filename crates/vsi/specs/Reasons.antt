@@ -1,5 +1,5 @@
 -- The reason why a request has stopped early, given the contents of its files.
-use Rattle.std.specs.Prelude.{◌≡◌, ◌≢◌, ◌⊎◌, ℕ, ℤ, Bool, true, false, List, Option, Some, None, Result, Err, IsSomeAnd}
+use Rattle.std.specs.Prelude.{◌≡◌, ◌≢◌, ◌⊎◌, ◌++◌, ℕ, ℤ, Bool, true, false, List, Option, Some, None, Result, Err, IsSomeAnd, codes, decimal}
 use Rattle.std.specs.Global.{Vec}
 use Rattle.std.specs.Borrow.{Bor}
 use Rattle.std.specs.Io.KnownBytes.{Appends}
@@ -15,6 +15,9 @@ use Rattle.vsi_store.specs.declared.error.StoreError.TheVariants as store
 use Rattle.vsi_store.specs.declared.views.ViewError.TheVariants as views
 use Rattle.vsi_diagnostics.specs.declared.fault.Fault.{Fault}
 use Rattle.vsi_diagnostics.specs.declared.fault.Fault.TheVariants as fault
+use Rattle.vsi_bound.specs.Bound.{Answers}
+use Rattle.vsi_bound.specs.declared.bound.Bound.{Bound}
+use Rattle.vsi_bound.specs.declared.bound.Bound.TheVariants as bound
 use Rattle.vsi_compiler.specs.Headline.{IsImageOf}
 use Rattle.vsi_compiler.specs.Readable.{HasProgram}
 use Rattle.vsi_audit.specs.Refusal as audited
@@ -51,6 +54,7 @@ use Rattle.vsi_arguments.specs.declared.request.Comparison.{Comparison}
 use Rattle.vsi_arguments.specs.declared.request.Compilation.{Compilation}
 use Rattle.vsi_arguments.specs.declared.request.Conformance.{Conformance}
 use Rattle.vsi_arguments.specs.declared.request.Driving.{Driving}
+use Rattle.vsi_arguments.specs.declared.request.Emission.{Emission}
 use Rattle.vsi_arguments.specs.declared.request.Execution.{Execution}
 use Rattle.vsi_arguments.specs.declared.request.Judging.{Judging}
 use Rattle.vsi_arguments.specs.declared.request.Outset.{Outset}
@@ -62,7 +66,7 @@ use Rattle.vsi.specs.declared.stop.Stop.TheVariants as stops
 use Rattle.vsi.specs.Holding.{Holding, IsImageAt, IsLatticeAt, IsReadAt, IsStoreAt}
 use Rattle.vsi.specs.Input.{two_classes}
 use Rattle.vsi.specs.Tried.{AreTried, BeginsSet, IsMade, IsTriedUnder, RunsMade, policy_path}
-use Rattle.vsi.specs.Performed.{AreFiles, BeginsAt, BoundsFile, ComparesFiles, ConformsFiles, IsAskedAt, IsBudgetOf, LooksAt, LooksFor, OfFiles, Writes, compilation_of, judgement_of, named_path, profile_of, wanted_of}
+use Rattle.vsi.specs.Performed.{AreFiles, BeginsAt, BoundsFile, ComparesFiles, ConformsFiles, IsAskedAt, IsBudgetOf, IsEmittedFrom, LooksAt, LooksFor, OfFiles, Writes, compilation_of, judgement_of, named_path, profile_of, wanted_of}
 
 -- ---- the meaning of a stop.
 
@@ -373,6 +377,36 @@ abbrev pub WhyEmit : Holding → Option (Bor (List ℕ)) → Bor (List ℕ) → 
 WhyEmit holds None file = RefusesImage holds file.now
 WhyEmit holds (Some lattice) file = RefusesFiles holds (compilation_of lattice file) (AsksImage false)
 
+-- The stop says that there is no bound because of the instruction of this number.
+abbrev pub SaysNoBound : ℕ → Stop → Type 0
+SaysNoBound place (stops.Refused text None) =
+    text.items ≡ codes "no bound: instruction " ++ decimal place ++ codes "\n"
+SaysNoBound place stop = ⊥
+
+-- The stop says that a run may have more instructions than 64 bits can count.
+abbrev pub SaysTooLarge : Stop → Type 0
+SaysTooLarge (stops.Refused text None) =
+    text.items ≡ codes "no bound: more than 18446744073709551615 instructions\n"
+SaysTooLarge stop = ⊥
+
+-- The stop reports the answer about an image that has no bound: it names an instruction, or says that a run may be long.
+abbrev pub SaysBound : Bound → Stop → Type 0
+SaysBound (bound.Halts least most) stop = ⊥
+SaysBound (bound.Endless test reason) stop = SaysNoBound test stop
+SaysBound (bound.Unstructured place) stop = SaysNoBound place stop
+SaysBound bound.TooLarge stop = SaysTooLarge stop
+
+-- The stop says that an image has no bound.
+abbrev pub IsUnbounded : Image → Stop → Type 0
+IsUnbounded image stop = (found : Bound) × Answers image found × SaysBound found stop
+
+-- `emit-c --bounded`: the image has no bound.
+pub record LacksEmitBound (holds : Holding) (asked : Emission) (stop : Stop) : Type 0 where
+  pub bounded : asked.is_bounded ≡ true
+  pub image : Image
+  pub held : IsEmittedFrom holds asked.lattice asked.file image
+  pub is : IsUnbounded image stop
+
 -- `bound`: no bound was found for the image, and the line that says why has been written.
 pub record DiffersBound (holds : Holding) (asked : Bounding) (old new : Option (List ℕ)) : Type 0 where
   pub told : BoundAnswer
@@ -473,7 +507,7 @@ Why holds (request.Audit asked) old new =
     (λ reason. RefusesLattice holds asked.lattice.now reason ⊎ RefusesImage holds asked.image.now reason)
     (RefusesAudit holds asked)
 Why holds (request.Source image) old new = StopsBy (RefusesImage holds image.now) (HasNoText holds image.now)
-Why holds (request.EmitC asked) old new = StopsBy (WhyEmit holds asked.lattice asked.file) NoOther
+Why holds (request.EmitC asked) old new = StopsBy (WhyEmit holds asked.lattice asked.file) (LacksEmitBound holds asked)
 Why holds (request.Bound asked) old new =
     StopsBy (WhyEmit holds asked.lattice asked.file) (IsDifference (DiffersBound holds asked old new))
 Why holds (request.Run e o has_trace has_count) old new =

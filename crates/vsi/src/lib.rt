@@ -13,6 +13,7 @@
 #![tactic(auto)]
 
 mod auditing;
+mod bounded;
 mod bounding;
 mod budgets;
 mod command_line;

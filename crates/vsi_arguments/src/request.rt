@@ -101,13 +101,15 @@ pub struct Drawing<'a> {
 }
 
 /// An emission of C: the path of an image, or of a source text together with the path of a lattice
-/// file; the prefix of the function's name, if one is given; and whether the header is written.
+/// file; the prefix of the function's name, if one is given; whether the header is written; and
+/// whether the function takes no budget.
 #[derive(Clone, Copy)]
 pub struct Emission<'a> {
     pub lattice: Option<&'a str>,
     pub file: &'a str,
     pub name: Option<&'a str>,
     pub is_header: bool,
+    pub is_bounded: bool,
 }
 
 /// A search for a bound: the path of an image or, with the path of a lattice file, of a source

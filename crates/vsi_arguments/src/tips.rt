@@ -4,7 +4,8 @@ use std::alloc::{AllocError, Global};
 
 /// The options that only some subcommands have, as a mistake quotes them, and the subcommands that
 /// have each.
-const OWNERS: [(&str, &str); 22] = [
+const OWNERS: [(&str, &str); 23] = [
+    ("'--bounded'", "emit-c"),
     ("'--budget'", "try, run, view, drive, compare and leak"),
     ("'--class'", "try, view, drive, compare and leak"),
     (
