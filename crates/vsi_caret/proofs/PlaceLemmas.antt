@@ -1,4 +1,4 @@
--- Parts written one behind another, and that a place is plain.
+-- The concatenation of parts, and the plainness of a position.
 use Rattle.std.proofs.Common.{◌≡◌, ℕ, Bool, true, ◌&&◌, List, [], ◌++◌, ap, ◌∙◌, refl, length, replicate, append_assoc, if◌then◌else◌, false, zero, suc, max}
 use Rattle.std.specs.Prelude.{codes, decimal, slice_range}
 use Rattle.vsi_caret.specs.declared.manner.Manner.TheVariants.{Plain}
@@ -9,7 +9,7 @@ use Rattle.vsi_caret.specs.Window.{begins_line, ends_line}
 use Rattle.vsi_caret.specs.Place.{heading_at, margin, before, standing, behind, carets, lines_at}
 use Rattle.vsi_caret.proofs.SafeLemmas.{both_pass, shown_plain}
 
--- Seven parts behind a text are one part behind it.
+-- Seven parts appended to a text one by one are one part appended to it.
 pub seven_parts : (o a b c d e f g : List ℕ)
     → o ++ a ++ b ++ c ++ d ++ e ++ f ++ g ≡ o ++ (a ++ b ++ c ++ d ++ e ++ f ++ g)
 seven_parts o a b c d e f g =
@@ -20,12 +20,12 @@ seven_parts o a b c d e f g =
     ∙ ap (λ x. x ++ g) (append_assoc o (a ++ b ++ c ++ d ++ e) f)
     ∙ append_assoc o (a ++ b ++ c ++ d ++ e ++ f) g
 
--- One plain byte again and again is plain.
+-- A repeated plain byte is plain.
 same_plain : (n b : ℕ) → is_plain b ≡ true → all_plain (replicate n b) ≡ true
 same_plain zero b h = refl
 same_plain (suc n) b h = ap (λ x. x && all_plain (replicate n b)) h ∙ same_plain n b h
 
--- Plain bytes behind plain bytes are plain.
+-- Plain bytes appended to plain bytes are plain.
 both_plain : (a b : List ℕ) → all_plain a ≡ true → all_plain b ≡ true → all_plain (a ++ b) ≡ true
 both_plain a b ha hb = both_pass is_plain a b ha hb
 
@@ -82,14 +82,14 @@ lines_plain source w line =
     let five = both_plain (a ++ b ++ d ++ e ++ f) (codes "\n") four refl in
     both_plain (a ++ b ++ d ++ e ++ f ++ codes "\n") h five (carets_plain (length a) (length d) (length e))
 
--- Behind plain bytes the heading and both lines are plain.
+-- The heading and both lines are plain after plain bytes.
 pub place_plain : (o path source : List ℕ) (w : Window) (line column : ℕ) → all_plain o ≡ true
     → all_plain (o ++ heading_at path line column ++ lines_at Plain source w line) ≡ true
 place_plain o path source w line column h =
     both_plain (o ++ heading_at path line column) (lines_at Plain source w line)
     (both_plain o (heading_at path line column) h (heading_plain path line column)) (lines_plain source w line)
 
--- The line of the carets goes by three numbers.
+-- The line of the carets depends only on three numbers.
 pub same_carets : (manner : Manner) (m m' n n' k k' : ℕ) → m ≡ m' → n ≡ n' → k ≡ k'
     → carets manner m n k ≡ carets manner m' n' k'
 same_carets manner m m' n n' k k' hm hn hk =

@@ -1,14 +1,14 @@
--- The fixed sequences of bytes of colours.
+-- The fixed byte sequences for colours.
 use Rattle.std.specs.Prelude.{ℕ, List, [], ◌∷◌, codes}
 use Rattle.vsi_caret.specs.declared.manner.Manner.{Manner}
 use Rattle.vsi_caret.specs.declared.manner.Manner.TheVariants.{Plain, Coloured}
 
--- What turns a colour on.
+-- The sequence that turns a colour on.
 abbrev pub turned_on : Manner → List ℕ
 turned_on Plain = []
 turned_on Coloured = 27 ∷ codes "[1;31m"
 
--- What turns every colour off.
+-- The sequence that turns all colours off.
 abbrev pub turned_off : Manner → List ℕ
 turned_off Plain = []
 turned_off Coloured = 27 ∷ codes "[0m"

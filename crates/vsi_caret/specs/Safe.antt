@@ -1,4 +1,4 @@
--- How bytes are shown, so that no text drives a terminal.
+-- The shown form of bytes, with which no text can control a terminal.
 use Rattle.std.specs.Prelude.{ℕ, ◌+◌, ◌/◌, ◌%◌, ◌==◌, nat_lt, nat_le, Bool, ◌&&◌, ◌||◌, if◌then◌else◌, List, [], ◌∷◌, codes}
 use Rattle.std.specs.List.{flat_map, list_all}
 
@@ -10,11 +10,11 @@ is_printable b = nat_le 32 b && nat_le b 126
 abbrev pub is_plain : ℕ → Bool
 is_plain b = b == 10 || is_printable b
 
--- Whether each byte is printable ASCII.
+-- Whether every byte is printable ASCII.
 abbrev pub all_printable : List ℕ → Bool
 all_printable bytes = list_all is_printable bytes
 
--- Whether each byte is printable ASCII or a line feed.
+-- Whether every byte is printable ASCII or a line feed.
 abbrev pub all_plain : List ℕ → Bool
 all_plain bytes = list_all is_plain bytes
 
@@ -26,11 +26,11 @@ hex_digit n = if nat_lt (n % 16) 10 then 48 + n % 16 else 87 + n % 16
 abbrev pub by_digits : ℕ → List ℕ
 by_digits b = 92 ∷ 120 ∷ hex_digit (b / 16) ∷ hex_digit b ∷ []
 
--- A tab is two blanks, printable ASCII stays as it is, any other byte is told by its digits.
+-- A tab becomes two blanks, printable ASCII stays as it is, and any other byte is written with its digits.
 abbrev pub shown_byte : ℕ → List ℕ
 shown_byte b = if b == 9 then codes "  " else if is_printable b then b ∷ [] else by_digits b
 
--- Bytes of which none may end a line.
+-- The shown form of bytes, none of which ends a line.
 abbrev pub shown : List ℕ → List ℕ
 shown bytes = flat_map shown_byte bytes
 
@@ -38,6 +38,6 @@ shown bytes = flat_map shown_byte bytes
 abbrev pub told_byte : ℕ → List ℕ
 told_byte b = if b == 10 then 10 ∷ [] else shown_byte b
 
--- Bytes in lines.
+-- The shown form of a text with lines.
 abbrev pub told : List ℕ → List ℕ
 told bytes = flat_map told_byte bytes

@@ -1,9 +1,9 @@
-//! Places of a text shown to a person.
+//! Shows positions of a text to a person.
 //!
-//! A path, a text and a part of it come in. `put_place` writes `PATH:LINE:COLUMN`, the line of the
+//! Given a path, a text and a part of it, `put_place` writes `PATH:LINE:COLUMN`, the line of the
 //! text, and carets below that part; `placed` of `specs/Place` is that layout. Every byte of a path
-//! or a text comes into an answer by `put_safe`, whose clause `printable` says that it can't drive
-//! a terminal; the clauses `plain` say the same of whole answers.
+//! or a text is written by `put_safe`, whose clause `printable` says that it can't control a
+//! terminal; the clauses `plain` say the same of whole answers.
 //!
 //! To be believed: all files of `specs/`.
 #![tactic(auto)]

@@ -1,4 +1,4 @@
-//! With colours or without.
+//! Output with colours or without.
 
 ghost use Rattle.std.specs.Prelude.{◌≡◌, ◌++◌, OnOk};
 ghost use Rattle.vsi_caret.specs.Colours as spec;
@@ -10,11 +10,11 @@ use std::alloc::AllocError;
 pub enum Manner {
     /// Without colours: every byte is printable ASCII or a line feed.
     Plain,
-    /// With the fixed sequences of bytes that turn colours of a terminal on and off.
+    /// With the fixed byte sequences that turn a terminal's colours on and off.
     Coloured,
 }
 
-/// Adds what turns a colour on.
+/// Appends the sequence that turns a colour on.
 pub(crate) fn put_on(text: &mut Vec<u8>, manner: Manner) -> Result<(), AllocError>
     ensures { OnOk result (text.new.items ≡ text.old.items ++ spec.turned_on manner) }
 {
@@ -24,7 +24,7 @@ pub(crate) fn put_on(text: &mut Vec<u8>, manner: Manner) -> Result<(), AllocErro
     }
 }
 
-/// Adds what turns every colour off.
+/// Appends the sequence that turns all colours off.
 pub(crate) fn put_off(text: &mut Vec<u8>, manner: Manner) -> Result<(), AllocError>
     ensures { OnOk result (text.new.items ≡ text.old.items ++ spec.turned_off manner) }
 {

@@ -1,4 +1,4 @@
-//! A place of a text, its line and its carets.
+//! A position of a text, its line and its carets.
 
 ghost use Rattle.std.specs.Prelude.{◌≡◌, ◌++◌, ◌≤◌, ◌<◌, OnOk, IfOk, true, length, replicate, ℕ};
 ghost use Rattle.std.specs.Prelude.{max};
@@ -14,7 +14,7 @@ use crate::window::{Window, begins_line, ends_line, window_at};
 use std::alloc::AllocError;
 use vsi_syntax::line_column;
 
-/// Adds a byte again and again.
+/// Appends a byte repeatedly.
 fn put_repeated(text: &mut Vec<u8>, byte: u8, count: usize) -> Result<(), AllocError>
     ensures { OnOk result (text.new.items ≡ text.old.items ++ replicate count byte) }
 {
@@ -24,7 +24,7 @@ fn put_repeated(text: &mut Vec<u8>, byte: u8, count: usize) -> Result<(), AllocE
     Ok(())
 }
 
-/// Adds the path, the line and the column.
+/// Appends the path, the line and the column.
 fn put_heading(
     text: &mut Vec<u8>,
     path: &[u8],
@@ -42,7 +42,7 @@ fn put_heading(
     text.extend_from_slice(b"\n")
 }
 
-/// Adds the margin of a line, and answers how many bytes it has.
+/// Appends the margin of a line, and returns its length.
 fn put_margin(text: &mut Vec<u8>, line: usize) -> Result<usize, AllocError>
     ensures items { OnOk result (text.new.items ≡ text.old.items ++ spec.margin line) }
     ensures width { IfOk result (λ width. width ≡ length (spec.margin line)) }
@@ -53,7 +53,7 @@ fn put_margin(text: &mut Vec<u8>, line: usize) -> Result<usize, AllocError>
     Ok(text.len() - begin)
 }
 
-/// Adds what of a line stands before the place, and answers how many bytes that is.
+/// Appends the part of the line before the position, and returns its length as shown.
 fn put_before(text: &mut Vec<u8>, source: &[u8], window: Window) -> Result<usize, AllocError>
     requires from { window.from ≤ window.start }
     requires start { window.start ≤ length source.now }
@@ -68,7 +68,7 @@ fn put_before(text: &mut Vec<u8>, source: &[u8], window: Window) -> Result<usize
     Ok(text.len() - begin)
 }
 
-/// Adds what stands at the place, and answers how many bytes that is.
+/// Appends the part of the line at the position, and returns its length as shown.
 fn put_standing(text: &mut Vec<u8>, source: &[u8], window: Window) -> Result<usize, AllocError>
     requires start { window.start ≤ window.stop }
     requires stop { window.stop ≤ length source.now }
@@ -81,7 +81,7 @@ fn put_standing(text: &mut Vec<u8>, source: &[u8], window: Window) -> Result<usi
     Ok(text.len() - begin)
 }
 
-/// Adds what of a line stands behind the place.
+/// Appends the part of the line after the position.
 fn put_behind(text: &mut Vec<u8>, source: &[u8], window: Window) -> Result<(), AllocError>
     requires stop { window.stop ≤ window.end }
     requires end { window.end ≤ length source.now }
@@ -94,7 +94,7 @@ fn put_behind(text: &mut Vec<u8>, source: &[u8], window: Window) -> Result<(), A
     Ok(())
 }
 
-/// Adds the line of the carets.
+/// Appends the line of the carets.
 fn put_carets(
     text: &mut Vec<u8>,
     manner: Manner,
@@ -115,7 +115,7 @@ fn put_carets(
     Ok(())
 }
 
-/// Adds the line of a window and the line of the carets.
+/// Appends the line of a window and the line of the carets.
 fn put_lines(
     text: &mut Vec<u8>,
     manner: Manner,
@@ -140,10 +140,10 @@ fn put_lines(
     Ok(())
 }
 
-/// Adds a place of a text in a manner: `PATH:LINE:COLUMN`, the line behind a margin with its
-/// number, and carets below the bytes from `start` up to before `stop`, one at least. Of a long
-/// line a part round the place is shown, with `..` where it is cut. A place beyond the text is its
-/// end.
+/// Appends a position of a text in a manner: `PATH:LINE:COLUMN`, the line after a margin with its
+/// number, and carets below the bytes from `start` up to but not including `stop`, at least one. If
+/// a line is long, only the part around the position is shown, with `..` where it is cut. A
+/// position beyond the text counts as its end.
 pub fn put_place_in(
     text: &mut Vec<u8>,
     manner: Manner,
@@ -164,7 +164,7 @@ pub fn put_place_in(
     Ok(())
 }
 
-/// Adds a place of a text without colours.
+/// Appends a position of a text without colours.
 pub fn put_place(
     text: &mut Vec<u8>,
     path: &[u8],

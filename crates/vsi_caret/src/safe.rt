@@ -1,4 +1,4 @@
-//! Bytes that drive no terminal.
+//! Bytes that can't control a terminal.
 
 ghost use Rattle.std.specs.Prelude.{◌≡◌, ◌++◌, OnOk, true, decimal};
 ghost use Rattle.vsi_caret.specs.Safe as spec;
@@ -14,7 +14,7 @@ fn hex_digit(number: u8) -> u8
     if digit < 10 { 48 + digit } else { 87 + digit }
 }
 
-/// Adds a byte as it is shown.
+/// Appends a byte in its shown form.
 fn put_byte(text: &mut Vec<u8>, byte: u8) -> Result<(), AllocError>
     ensures { OnOk result (text.new.items ≡ text.old.items ++ spec.shown_byte byte) }
 {
@@ -28,8 +28,8 @@ fn put_byte(text: &mut Vec<u8>, byte: u8) -> Result<(), AllocError>
     }
 }
 
-/// Adds bytes such that they can't drive a terminal, nor end a line: a tab as blanks, printable
-/// ASCII as it is, and any other byte as `\x` and its two digits.
+/// Appends bytes so that they can neither control a terminal nor end a line: a tab as blanks,
+/// printable ASCII as it is, and any other byte as `\x` and its two digits.
 pub fn put_safe(text: &mut Vec<u8>, bytes: &[u8]) -> Result<(), AllocError>
     ensures shown { OnOk result (text.new.items ≡ text.old.items ++ spec.shown bytes.now) }
     ensures printable { spec.all_printable (spec.shown bytes.now) ≡ true }
@@ -42,7 +42,7 @@ pub fn put_safe(text: &mut Vec<u8>, bytes: &[u8]) -> Result<(), AllocError>
     Ok(())
 }
 
-/// Adds a byte as it stands in a text of several lines.
+/// Appends a byte of a text with several lines.
 fn put_told_byte(text: &mut Vec<u8>, byte: u8) -> Result<(), AllocError>
     ensures { OnOk result (text.new.items ≡ text.old.items ++ spec.told_byte byte) }
 {
@@ -53,7 +53,7 @@ fn put_told_byte(text: &mut Vec<u8>, byte: u8) -> Result<(), AllocError>
     }
 }
 
-/// Adds the bytes of a text: a line feed ends a line, any other byte is shown as by `put_safe`.
+/// Appends the bytes of a text: a line feed ends a line, any other byte is shown as by `put_safe`.
 pub fn put_text(text: &mut Vec<u8>, bytes: &[u8]) -> Result<(), AllocError>
     ensures told { OnOk result (text.new.items ≡ text.old.items ++ spec.told bytes.now) }
     ensures plain { spec.all_plain text.old.items ≡ true
@@ -65,7 +65,7 @@ pub fn put_text(text: &mut Vec<u8>, bytes: &[u8]) -> Result<(), AllocError>
     Ok(())
 }
 
-/// Adds a number in decimal.
+/// Appends a number in decimal.
 pub fn put_number(text: &mut Vec<u8>, number: usize) -> Result<(), AllocError>
     ensures shown { OnOk result
         (text.new.items ≡ text.old.items ++ spec.shown (decimal number)) }

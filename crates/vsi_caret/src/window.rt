@@ -3,13 +3,13 @@
 ghost use Rattle.std.specs.Prelude.{◌≡◌, ◌≢◌, ◌≤◌, ◌<◌, ℕ, length, slice_index};
 ghost use Rattle.vsi_caret.specs.Window as spec;
 
-/// How many bytes of a line are shown at most.
+/// The most bytes of a line that are shown.
 const WIDTH: usize = 68;
 
-/// How many of them stand before the place where the line is long on both sides.
+/// The number of them before the position if the line is long on both sides.
 const BEFORE: usize = 34;
 
-/// A part of a line, and a part of that: from `start` up to before `stop`.
+/// A part of a line, and a part of that: from `start` up to but not including `stop`.
 #[derive(Clone, Copy, Debug)]
 pub struct Window {
     pub from: usize,
@@ -18,7 +18,7 @@ pub struct Window {
     pub end: usize,
 }
 
-/// Whether a line of the text begins at this place.
+/// Whether a line of the text begins at this position.
 pub(crate) fn begins_line(source: &[u8], at: usize) -> bool
     requires { at ≤ length source.now }
     ensures { result ≡ spec.begins_line source.now at }
@@ -26,7 +26,7 @@ pub(crate) fn begins_line(source: &[u8], at: usize) -> bool
     at == 0 || source[at - 1] == b'\n'
 }
 
-/// Whether the bytes of a line end before this place.
+/// Whether the bytes of a line end before this position.
 pub(crate) fn ends_line(source: &[u8], at: usize) -> bool
     ensures { result ≡ spec.ends_line source.now at }
 {
@@ -38,7 +38,8 @@ pub(crate) fn ends_line(source: &[u8], at: usize) -> bool
     }
 }
 
-/// Where the line of a place begins, or a place of that line that is far enough before it.
+/// The beginning of the line of a position, or a position of that line that is far enough before
+/// it.
 fn line_from(source: &[u8], start: usize) -> usize
     requires { start ≤ length source.now }
     ensures before { result ≤ start }
@@ -55,7 +56,7 @@ fn line_from(source: &[u8], start: usize) -> usize
     from
 }
 
-/// Where the line of a place ends, or a place of that line that is far enough behind it.
+/// The end of the line of a position, or a position of that line that is far enough after it.
 fn line_end(source: &[u8], start: usize) -> usize
     requires { start ≤ length source.now }
     ensures behind { start ≤ result }
@@ -73,7 +74,7 @@ fn line_end(source: &[u8], start: usize) -> usize
     end
 }
 
-/// The window round a part of a text. A place beyond the text is its end.
+/// The window around a part of a text. A position beyond the text counts as its end.
 pub(crate) fn window_at(source: &[u8], start: usize, stop: usize) -> Window
     ensures { spec.IsWindow source.now start result }
 {

@@ -8,8 +8,8 @@ ghost use Rattle.vsi_devices.specs.Counted.{device_of, faults_of, CountsReads, C
 use std::io;
 use std::io::{Read, Write};
 
-/// A reader or a writer, with the number of its calls that failed. At its greatest value the number
-/// stays.
+/// A reader or a writer, with the number of its calls that failed. The number stops at its greatest
+/// value.
 #[derive(Drop)]
 pub struct Counted<D> {
     device: D,
@@ -17,7 +17,7 @@ pub struct Counted<D> {
 }
 
 impl<D> Counted<D> {
-    /// Around a device, of which no call has failed yet.
+    /// Wraps a device, with a count of 0.
     pub fn new(device: D) -> Counted<D>
         ensures device { device_of result ≡ device }
         ensures faults { faults_of result ≡ 0 }
@@ -25,14 +25,14 @@ impl<D> Counted<D> {
         Counted { device, faults: 0 }
     }
 
-    /// The device, and no count.
+    /// The device without the count.
     pub fn into_inner(self) -> D
         ensures { result ≡ device_of self }
     {
         self.device
     }
 
-    /// How many calls answered an error, or took no byte of some.
+    /// The number of calls that returned an error, or accepted no byte of some.
     pub fn faults(&self) -> u64
         ensures { result ≡ faults_of self.now }
     {

@@ -1,4 +1,4 @@
--- What a program writes is read.
+-- The lexemes that a program writes are read.
 use Rattle.std.proofs.Common.{◌≡◌, ◌≤◌, Bool, true, false, List, [], ◌∷◌, ◌++◌, map, Option, Some, None, refl, sym, ap, subst, ◌∙◌, append_assoc, arith}
 use Rattle.std.proofs.lemmas.List.{append-nil}
 use Rattle.vsi_syntax.specs.declared.token.Kind.TheVariants as k
@@ -13,12 +13,12 @@ use Rattle.vsi_expected.specs.Sorts.{lexeme_sort}
 use Rattle.vsi_expected.specs.Rules.{rules, parts_of, may_be_empty, step, can_end, run, start}
 use Rattle.vsi_expected.proofs.Joining.{weaken, left_sum, right_sum}
 
--- A step was made, and what it came to is so.
+-- A step succeeded, and its result has this property.
 abbrev pub Steps : Option (List Wanted) → (List Wanted → Type 0) → Type 0
 Steps None P = ⊥
 Steps (Some xs) P = P xs
 
--- The lexemes are read to their end, and all that is wanted then may be left out.
+-- The lexemes are read to their end, and all parts that are pending then may be omitted.
 abbrev pub Accepts : List Wanted → List Lexeme → Type 0
 Accepts xs [] = can_end xs ≡ true
 Accepts xs (y ∷ ys) = Steps (step xs (lexeme_sort y)) (λ zs. Accepts zs ys)
@@ -28,25 +28,25 @@ abbrev pub Passes : Wanted → List Lexeme → Type 0
 Passes x [] = Unit {0}
 Passes x (y ∷ ys) = parts_of (lexeme_sort y) (rules x) ≡ None
 
--- A part that is not begun is left out.
+-- A part that is not begun is omitted.
 leave : (x : Wanted) (xs : List Wanted) (ws : List Lexeme) → may_be_empty x ≡ true → Passes x ws → Accepts xs ws →
     Accepts (x ∷ xs) ws
 leave x xs [] e p h = rw e h
 leave x xs (y ∷ ys) e p h = rw (p, e) h
 
--- No expression goes on with the first of the lexemes.
+-- No expression continues with the first of the lexemes.
 pub record IsOver (ws : List Lexeme) : Type 0 where
   pub expression : Passes w.Operators ws
   pub sum : Passes w.SumOperators ws
 
 -- ---- expressions.
 
--- What is wanted for an expression, and where a comparison may not be read for a sum.
+-- The part for an expression, or for a sum if a comparison is not allowed.
 abbrev value : Bool → Wanted
 value true = w.Expression
 value false = w.Sum
 
--- What is wanted behind an operand.
+-- The part that is pending after an operand.
 abbrev behind : Bool → Wanted
 behind true = w.Operators
 behind false = w.SumOperators
@@ -63,14 +63,14 @@ name_goes : (b : Bool) (x : Lexeme) (xs : List Wanted) (rest : List Lexeme) → 
 name_goes true x xs rest e h = rw e h
 name_goes false x xs rest e h = rw e h
 
--- A bracket is read where the expression in it is.
+-- A bracket is read if the expression in it is.
 bracket_goes : (b : Bool) (e : Tree) (xs : List Wanted) (rest : List Lexeme) →
     Accepts (w.Expression ∷ w.Token s.Close ∷ behind b ∷ xs) (write e ++ Sign k.Close ∷ rest) →
     Accepts (value b ∷ xs) (write (Bracket e) ++ rest)
 bracket_goes true e xs rest h = rw (append_assoc (write e) (Sign k.Close ∷ []) rest) h
 bracket_goes false e xs rest h = rw (append_assoc (write e) (Sign k.Close ∷ []) rest) h
 
--- An operator of arithmetic is read.
+-- An arithmetic operator is read.
 operator_goes : (b : Bool) (op : Op) (xs : List Wanted) (ws : List Lexeme) → 1 ≤ level op → Accepts (value b ∷ xs) ws →
     Accepts (behind b ∷ xs) (Sign (sign op) ∷ ws)
 operator_goes true o.Add xs ws sum h = h
@@ -84,7 +84,7 @@ operator_goes false o.Mul xs ws sum h = h
 operator_goes false o.Eq xs ws sum h = absurd (omega (arith, sum))
 operator_goes false o.Lt xs ws sum h = absurd (omega (arith, sum))
 
--- Any operator is read where a comparison may be.
+-- Any operator is read if a comparison is allowed.
 any_goes : (op : Op) (xs : List Wanted) (ws : List Lexeme) → Accepts (w.Expression ∷ xs) ws → Accepts (w.Sum ∷ xs) ws →
     Accepts (w.Operators ∷ xs) (Sign (sign op) ∷ ws)
 any_goes o.Add xs ws h i = h
@@ -93,7 +93,7 @@ any_goes o.Mul xs ws h i = h
 any_goes o.Eq xs ws h i = i
 any_goes o.Lt xs ws h i = i
 
--- What an operator and its parts write, from the left.
+-- The lexemes of an operator and its operands, regrouped from the left.
 regroup : (a : List Lexeme) (y : Lexeme) (b rest : List Lexeme) (xs : List Wanted) →
     Accepts xs (a ++ y ∷ (b ++ rest)) → Accepts xs ((a ++ y ∷ b) ++ rest)
 regroup a y b rest xs h = subst (Accepts xs) (sym (append_assoc a (y ∷ b) rest)) h
@@ -128,7 +128,7 @@ mutual
       (sum_goes a true xs (Sign (sign op) ∷ (write c ++ rest)) (weaken (left_level op) 1 a lt.1 (left_sum op))
       (any_goes op xs (write c ++ rest) (sum_goes c true xs rest lc h) (sum_goes c false xs rest lc i)))
 
--- An expression is read where it is over behind it.
+-- An expression is read if it ends before the rest.
 value_goes : (t : Tree) (xs : List Wanted) (rest : List Lexeme) → IsLevelled 0 t → IsOver rest → Accepts xs rest →
     Accepts (w.Expression ∷ xs) (write t ++ rest)
 value_goes t xs rest lt over h =
@@ -137,12 +137,12 @@ value_goes t xs rest lt over h =
 
 -- ---- commands.
 
--- Behind a command no expression goes on, where none does behind all commands.
+-- No expression continues after a command if none continues after all commands.
 rest_over : (cs : Body) (rest : List Lexeme) → IsOver rest → IsOver (write_rest cs ++ rest)
 rest_over Done rest over = over
 rest_over (Then c cs) rest over = record { expression = refl; sum = refl }
 
--- A class is read, or left out.
+-- A class is read, or omitted.
 class_goes : (class : Option Named) (xs : List Wanted) (rest : List Lexeme) →
     Accepts (w.Token s.Assign ∷ xs) (Sign k.Assign ∷ rest) →
     Accepts (w.Class ∷ w.Token s.Assign ∷ xs) (write_class class ++ Sign k.Assign ∷ rest)
@@ -196,7 +196,7 @@ mutual
       (command_goes c (w.Rest ∷ xs) (write_rest cs ++ rest) lc.0 (rest_over cs rest over)
       (rest_goes cs xs rest lc.1 over p h))
 
-  -- The commands behind the first are read.
+  -- The commands after the first are read.
   rest_goes : (cs : Body) (xs : List Wanted) (rest : List Lexeme) → IsRestLevelled cs → IsOver rest →
       Passes w.Rest rest → Accepts xs rest → Accepts (w.Rest ∷ xs) (write_rest cs ++ rest)
   rest_goes Done xs rest lc over p h = leave w.Rest xs rest refl p h
@@ -207,7 +207,7 @@ mutual
 
 -- ---- programs.
 
--- A command begins with no `var`.
+-- A command does not begin with `var`.
 command_passes : (c : Command) (rest : List Lexeme) → Passes w.Globals (write_command c ++ rest)
 command_passes (Assign x e) rest = refl
 command_passes (If e c d) rest = refl
@@ -215,7 +215,7 @@ command_passes (While e c) rest = refl
 command_passes (Letvar x class e c) rest = refl
 command_passes (Block cs) rest = refl
 
--- A sequence begins with no `var`.
+-- A sequence does not begin with `var`.
 body_passes : (cs : Body) → IsBodyLevelled cs → Passes w.Globals (write_body cs)
 body_passes Done lc = absurd lc
 body_passes (Then c cs) lc = command_passes c (write_rest cs)
@@ -226,7 +226,7 @@ globals_go : (gs : List Declared) (xs : List Wanted) (rest : List Lexeme) → Pa
 globals_go [] xs rest p h = leave w.Globals xs rest refl p h
 globals_go (g ∷ gs) xs rest p h = globals_go gs xs rest p h
 
--- A program is read from the start on.
+-- A program is read from the start.
 pub program_goes : (p : Whole) → IsBodyLevelled p.body → Accepts start (write_program p)
 program_goes p lb =
     globals_go p.globals (w.Command ∷ w.Rest ∷ []) (write_body p.body) (body_passes p.body lb)
@@ -235,13 +235,13 @@ program_goes p lb =
 
 -- ---- beginnings.
 
--- Where a step was made it came to something.
+-- A step that succeeded has a result.
 pub steps_some : (found : Option (List Wanted)) (P : List Wanted → Type 0) → Steps found P →
     (xs : List Wanted) × (found ≡ Some xs) × P xs
 steps_some None P h = absurd h
 steps_some (Some xs) P h = (xs, refl, h)
 
--- What is accepted is read up to each place of it.
+-- Accepted lexemes are read up to any position in them.
 pub prefix_goes : (xs : List Wanted) (ws rest : List Lexeme) → Accepts xs (ws ++ rest) →
     (ys : List Wanted) × (run xs (map lexeme_sort ws) ≡ Some ys) × Accepts ys rest
 prefix_goes xs [] rest h = (xs, refl, h)

@@ -1,4 +1,4 @@
--- What is told behind tokens is exactly what may stand there.
+-- The sorts listed after tokens are exactly those that may come next.
 use Rattle.std.proofs.Common.{◌≡◌, true, List, [], ◌∷◌, ◌++◌, map, Option, Some, None, refl, sym, ap, subst, ◌∙◌}
 use Rattle.std.proofs.lemmas.List.{append-nil}
 use Rattle.std.specs.Prelude.{is_some}
@@ -15,12 +15,12 @@ use Rattle.vsi_expected.proofs.Languages.{is_sort, some_lexeme, tokens_proper, W
 use Rattle.vsi_expected.proofs.Sound.{end_writes, step_sound, run_sound, all_write, start_writes}
 use Rattle.vsi_expected.proofs.Complete.{Accepts, steps_some, program_goes, prefix_goes}
 
--- What is there is something.
+-- An option that is present has a value.
 some_there : (found : Option (List Wanted)) → is_some found ≡ true → (xs : List Wanted) × (found ≡ Some xs)
 some_there None e = absurd cc
 some_there (Some xs) e = (xs, refl)
 
--- What was told may follow.
+-- A listed sort may come next.
 pub follow_sound : (ts : List Token) (xs : List Wanted) (a : Sort) →
     run start (map lexeme_sort (lexemes ts)) ≡ Some xs → is_some (step xs a) ≡ true → CanFollow (lexemes ts) a
 follow_sound ts xs a read e =
@@ -36,12 +36,12 @@ follow_sound ts xs a read e =
           (step_sound xs s.0 a x.0 u.0 s.1 x.1 u.2)),
     )
 
--- What is written from these lexemes on is read behind them.
+-- A written continuation of these lexemes is read after them.
 behind_goes : (ws rest : List Lexeme) → IsWritten (ws ++ rest) →
     (ys : List Wanted) × (run start (map lexeme_sort ws) ≡ Some ys) × Accepts ys rest
 behind_goes ws rest p = prefix_goes start ws rest (subst (Accepts start) p.2 (program_goes p.0 p.1))
 
--- What may follow was read up to there, and is told.
+-- If a sort may come next, the lexemes before it are read and the sort is listed.
 follow_goes : (ws : List Lexeme) (a : Sort) → CanFollow ws a →
     (ys : List Wanted) × (run start (map lexeme_sort ws) ≡ Some ys) × (is_some (step ys a) ≡ true)
 follow_goes ws a f =
@@ -49,18 +49,18 @@ follow_goes ws a f =
     let s = steps_some (step b.0 (lexeme_sort f.0)) (λ zs. Accepts zs f.1) b.2 in
     (b.0, b.1, ap (λ (c : Sort). is_some (step b.0 c)) (sym f.2) ∙ ap is_some s.1)
 
--- What may follow is told.
+-- A sort that may come next is listed.
 pub follow_complete : (ws : List Lexeme) (xs : List Wanted) (a : Sort) → run start (map lexeme_sort ws) ≡ Some xs →
     CanFollow ws a → is_some (step xs a) ≡ true
 follow_complete ws xs a read f =
     let g = follow_goes ws a f in
     ap (λ (ys : List Wanted). is_some (step ys a)) (some_is xs g.0 (sym read ∙ g.1)) ∙ g.2
 
--- Nothing may follow what cannot be read.
+-- Nothing may follow lexemes that cannot be read.
 pub follow_none : (ws : List Lexeme) (a : Sort) → run start (map lexeme_sort ws) ≡ None → CanFollow ws a → ⊥
 follow_none ws a read f = let g = follow_goes ws a f in let e = g.1 in cc
 
--- Where all that is wanted may be left out a program ends.
+-- If all pending parts may be omitted, a program ends there.
 pub end_sound : (ts : List Token) (xs : List Wanted) → run start (map lexeme_sort (lexemes ts)) ≡ Some xs →
     can_end xs ≡ true → IsWritten (lexemes ts)
 end_sound ts xs read e =
@@ -68,17 +68,17 @@ end_sound ts xs read e =
     (subst (WritesAll start) (append-nil (lexemes ts))
     (run_sound start xs (lexemes ts) [] read (tokens_proper ts) (end_writes xs e)))
 
--- Where a program ends it was read up to there, and all that is wanted may be left out.
+-- If a program ends after the lexemes, they are read, and all parts that are pending then may be omitted.
 end_goes : (ws : List Lexeme) → IsWritten ws →
     (ys : List Wanted) × (run start (map lexeme_sort ws) ≡ Some ys) × (can_end ys ≡ true)
 end_goes ws p = behind_goes ws [] (subst IsWritten (sym (append-nil ws)) p)
 
--- Where a program ends all that is wanted may be left out.
+-- If a program ends after the lexemes, all pending parts may be omitted.
 pub end_complete : (ws : List Lexeme) (xs : List Wanted) → run start (map lexeme_sort ws) ≡ Some xs → IsWritten ws →
     can_end xs ≡ true
 end_complete ws xs read p =
     let g = end_goes ws p in ap can_end (some_is xs g.0 (sym read ∙ g.1)) ∙ g.2
 
--- No program ends where it cannot be read.
+-- No program ends after lexemes that cannot be read.
 pub end_none : (ws : List Lexeme) → run start (map lexeme_sort ws) ≡ None → IsWritten ws → ⊥
 end_none ws read p = let g = end_goes ws p in let e = g.1 in cc

@@ -1,4 +1,4 @@
--- What may be written where something is wanted, and that it may be written behind each token that a rule names.
+-- The lexemes that a pending part may write, and the proof that every rule is right about them.
 use Rattle.std.proofs.Common.{◌≡◌, ℕ, ◌≤◌, ℤ, pos, List, [], ◌∷◌, ◌++◌, Option, Some, refl, sym, ap, subst, ◌∙◌, append_assoc, arith}
 use Rattle.std.proofs.lemmas.List.{append-nil}
 use Rattle.vsi_syntax.specs.declared.token.Kind.{Kind}
@@ -45,16 +45,16 @@ Is s.CloseBrace x = x ≡ Sign k.CloseBrace
 Is s.Name x = (name : Named) × (x ≡ Called name)
 Is s.Number x = (n : ℤ) × (x ≡ Sign (k.Number n))
 
--- A name.
+-- A sample name.
 abbrev pub a_name : Named
 a_name = record { text = 120 ∷ []; span = record { start = 0; stop = 0 } }
 
--- A letter is a name.
+-- A single letter is a name.
 pub a_name_is : IsNamed a_name
 unfolding is_name keyword
 a_name_is = refl
 
--- There is a lexeme of each sort, and a text can have it.
+-- There is a lexeme of every sort, and a text can contain it.
 pub some_lexeme : (a : Sort) → (x : Lexeme) × Is a x × IsLexemeSpelled x
 some_lexeme s.Var = (Sign k.Var, refl, tt)
 some_lexeme s.Letvar = (Sign k.Letvar, refl, tt)
@@ -79,40 +79,40 @@ some_lexeme s.CloseBrace = (Sign k.CloseBrace, refl, tt)
 some_lexeme s.Name = (Called a_name, (a_name, refl), a_name_is)
 some_lexeme s.Number = (Sign (k.Number (pos 0)), (pos 0, refl), omega arith)
 
--- A lexeme of a sort has that sort.
+-- A lexeme of this sort has the sort as its own.
 pub is_sort : (a : Sort) (x : Lexeme) → Is a x → lexeme_sort x ≡ a
 is_sort s.Name x i = ap lexeme_sort i.1
 is_sort s.Number x i = ap lexeme_sort i.1
 is_sort _ x i = ap lexeme_sort i
 
--- Lexemes that are of the sorts that they have.
+-- Each lexeme is one of its own sort.
 abbrev pub AreProper : List Lexeme → Type 0
 AreProper [] = Unit {0}
 AreProper (x ∷ xs) = Is (lexeme_sort x) x × AreProper xs
 
--- The lexeme of a token is of the sort that it has.
+-- The lexeme of a token is one of its own sort.
 proper : (kind : Kind) (text : List ℕ) (span : Span) →
     Is (lexeme_sort (lexeme_of kind text span)) (lexeme_of kind text span)
 proper k.Name text span = (record { text = text; span = span }, refl)
 proper (k.Number n) text span = (n, refl)
 proper _ text span = refl
 
--- The lexemes of tokens are of the sorts that they have.
+-- The lexemes of tokens are each of their own sort.
 pub tokens_proper : (ts : List Token) → AreProper (lexemes ts)
 tokens_proper [] = tt
 tokens_proper (t ∷ ts) = (proper t.kind t.text.now t.span, tokens_proper ts)
 
--- ---- what may be written where something is wanted.
+-- ---- the lexemes that pending parts may write.
 
 -- An expression of this level.
 abbrev pub Value : ℕ → List Lexeme → Type 0
 Value l ws = (t : Tree) × IsLevelled l t × (write t ≡ ws)
 
--- What goes on behind any sum to an expression of this level.
+-- The lexemes that continue any sum to an expression of this level.
 abbrev pub Behind : ℕ → List Lexeme → Type 0
 Behind l ws = (t : Tree) → IsLevelled 1 t → (u : Tree) × IsLevelled l u × (write u ≡ write t ++ ws)
 
--- What may be written where this is wanted.
+-- The lexemes that this pending part may write.
 abbrev pub Writes : Wanted → List Lexeme → Type 0
 Writes w.Globals ws = (gs : List Declared) × (write_globals gs ≡ ws)
 Writes w.Command ws = (c : Command) × IsCommandLevelled c × (write_command c ≡ ws)
@@ -124,12 +124,12 @@ Writes w.Operators ws = Behind 0 ws
 Writes w.SumOperators ws = Behind 1 ws
 Writes (w.Token a) ws = (x : Lexeme) × Is a x × (ws ≡ x ∷ [])
 
--- What may be written where these are wanted one behind the other.
+-- The lexemes that these pending parts may write one after the other.
 abbrev pub WritesAll : List Wanted → List Lexeme → Type 0
 WritesAll [] ws = ws ≡ []
 WritesAll (x ∷ xs) ws = (u : List Lexeme) × (v : List Lexeme) × (ws ≡ u ++ v) × Writes x u × WritesAll xs v
 
--- A token, and what is behind it.
+-- A token, and the lexemes after it.
 pub record IsTokenThen (a : Sort) (xs : List Wanted) (ws : List Lexeme) : Type 0 where
   pub token : Lexeme
   pub behind : List Lexeme
@@ -137,7 +137,7 @@ pub record IsTokenThen (a : Sort) (xs : List Wanted) (ws : List Lexeme) : Type 0
   pub parts : ws ≡ token ∷ behind
   pub writes : WritesAll xs behind
 
--- Where a token is wanted first there is one.
+-- If a token is pending first, the lexemes begin with one.
 token_first : (a : Sort) (xs : List Wanted) (ws : List Lexeme) → WritesAll (w.Token a ∷ xs) ws → IsTokenThen a xs ws
 token_first a xs ws p =
     record {
@@ -148,17 +148,17 @@ token_first a xs ws p =
       writes = p.4;
     }
 
--- The last that is wanted is all that is written.
+-- A single pending part writes all the lexemes.
 last : (x : Wanted) (ws : List Lexeme) → WritesAll (x ∷ []) ws → Writes x ws
 last x ws p = subst (Writes x) (sym (p.2 ∙ ap (λ (y : List Lexeme). p.0 ++ y) p.4 ∙ append-nil p.0)) p.3
 
 -- ---- rules.
 
--- Behind a lexeme of the rule's sort its parts make up what is wanted.
+-- A lexeme of the rule's sort, followed by the rule's parts, is a form of the pending part.
 abbrev pub RuleHolds : Wanted → Rule → Type 0
 RuleHolds x r = (y : Lexeme) (u : List Lexeme) → Is r.sort y → WritesAll r.parts u → Writes x (y ∷ u)
 
--- All these rules do.
+-- All these rules hold.
 abbrev pub AllHold : Wanted → List Rule → Type 0
 AllHold x [] = Unit {0}
 AllHold x (r ∷ rs) = RuleHolds x r × AllHold x rs
@@ -246,7 +246,7 @@ block_holds y u i p =
           let e₇ = append_assoc (write_command p.3.0) (write_rest q.3.0) (Sign k.CloseBrace ∷ []) in cc,
     )
 
--- A command more.
+-- Another command.
 rest_holds : (y : Lexeme) (u : List Lexeme) → Is s.Semicolon y → WritesAll (w.Command ∷ w.Rest ∷ []) u →
     Writes w.Rest (y ∷ u)
 rest_holds y u i p =
@@ -262,17 +262,17 @@ class_holds : (y : Lexeme) (u : List Lexeme) → Is s.Colon y → WritesAll (w.T
 class_holds y u i p =
     let a = last (w.Token s.Name) u p in (Some a.1.0, let e₁ = a.2 in let e₂ = a.1.1 in cc)
 
--- A name, and what goes on behind it.
+-- A name, and its continuation.
 name_value : (l : ℕ) (y : Lexeme) (u : List Lexeme) → Is s.Name y → Behind l u → Value l (y ∷ u)
 name_value l y u i b =
     let r = b (Name i.0) tt in (r.0, r.1, r.2 ∙ ap (λ (x : Lexeme). x ∷ u) (sym i.1))
 
--- A number, and what goes on behind it.
+-- A number, and its continuation.
 number_value : (l : ℕ) (y : Lexeme) (u : List Lexeme) → Is s.Number y → Behind l u → Value l (y ∷ u)
 number_value l y u i b =
     let r = b (Number i.0) tt in (r.0, r.1, r.2 ∙ ap (λ (x : Lexeme). x ∷ u) (sym i.1))
 
--- A bracket, and what goes on behind it.
+-- A bracket, and its continuation.
 bracket_value : (l : ℕ) (y close : Lexeme) (u v r : List Lexeme) → Is s.Open y → Is s.Close close → Value 0 v →
     u ≡ v ++ close ∷ r → Behind l r → Value l (y ∷ u)
 bracket_value l y close u v r i j e parts b =
@@ -283,13 +283,13 @@ bracket_value l y close u v r i j e parts b =
           ∙ rw (i, parts, j, e.2) refl,
     )
 
--- An operator, and an expression behind it.
+-- An operator followed by an expression.
 operator_value : (l : ℕ) (op : Op) (y : Lexeme) (u : List Lexeme) → l ≤ 1 → 1 ≤ level op → y ≡ Sign (sign op) →
     Value l u → Behind l (y ∷ u)
 operator_value l op y u low sum i e t lt =
     (join op t e.0, join_levelled l op t e.0 low sum lt e.1, join_writes op t e.0 ∙ rw (i, e.2) refl)
 
--- A comparison, and a sum behind it.
+-- A comparison operator followed by a sum.
 comparison_value : (op : Op) (y : Lexeme) (u : List Lexeme) → left_level op ≡ 1 → right_level op ≡ 1 →
     y ≡ Sign (sign op) → Value 1 u → Behind 0 (y ∷ u)
 comparison_value op y u left right i e t lt =
@@ -327,7 +327,7 @@ sum_holds = (
   ),
 )
 
--- The rules behind an operand.
+-- The rules after an operand.
 operators_hold : AllHold w.Operators (rules w.Operators)
 operators_hold = (
   λ y u i p. operator_value 0 o.Add y u (omega arith) (omega arith) i (last w.Expression u p),
@@ -346,7 +346,7 @@ operators_hold = (
   ),
 )
 
--- The rules behind an operand where a comparison was read.
+-- The rules after an operand if a comparison was read.
 sum_operators_hold : AllHold w.SumOperators (rules w.SumOperators)
 sum_operators_hold = (
   λ y u i p. operator_value 1 o.Add y u (omega arith) (omega arith) i (last w.Sum u p),

@@ -11,7 +11,7 @@ use Rattle.vsi_expected.specs.declared.wanted.Wanted.TheVariants as w
 use Rattle.vsi_expected.specs.Sorts.{same}
 use Rattle.vsi_expected.specs.Told.{told}
 
--- One part more is put, from the last to the first.
+-- One more part is put, from the last to the first.
 pub put_more : (old items parts : List Wanted) (i : ℕ) → i < length parts → items ≡ old ++ take i (reverse parts) →
     items ++ get_or parts (length parts - 1 - i) w.Globals ∷ [] ≡ old ++ take (i + 1) (reverse parts)
 put_more old items parts i lt e =
@@ -20,7 +20,7 @@ put_more old items parts i lt e =
     rw (e, more, get_or-reverse parts i w.Globals lt)
     (append_assoc old (take i (reverse parts)) (get_or parts (length parts - 1 - i) w.Globals ∷ []))
 
--- Two sorts with one answer are the same.
+-- Two sorts that compare as the same are the same.
 pub same_is : (a b : Sort) → same a b ≡ true → a ≡ b
 same_is a b e = same_true the_type (search rules) a b e
 
@@ -29,7 +29,7 @@ pub same_self : (a : Sort) → same a a ≡ true
 same_self s.Var = refl
 same_self _ = refl
 
--- One of two lists of sorts tells it.
+-- The joined list contains a sort exactly if one of the two lists does.
 pub told_append : (ts us : List Sort) (a : Sort) → told (ts ++ us) a ≡ (told ts a || told us a)
 told_append [] us a = refl
 told_append (t ∷ ts) us a = rw (told_append ts us a) (or_assoc (same t a) (told ts a) (told us a))
@@ -38,7 +38,7 @@ told_append (t ∷ ts) us a = rw (told_append ts us a) (or_assoc (same t a) (tol
     or_assoc true y z = refl
     or_assoc false y z = refl
 
--- A test more that is told.
+-- One more test, which adds to the list.
 push_case : (a b c o : Bool) → a ≡ (b && o) → (c ≡ true → o ≡ true) → (a || c) ≡ ((b || c) && o)
 push_case a true c true e f = rw e refl
 push_case a false true true e f = rw e refl
@@ -47,14 +47,14 @@ push_case a b true false e f = absurd (let g = f refl in cc)
 push_case a true false false e f = rw e refl
 push_case a false false false e f = rw e refl
 
--- A test more that is not told.
+-- One more test, which does not add to the list.
 skip_case : (a b c o : Bool) → a ≡ (b && o) → (c ≡ true → o ≡ false) → a ≡ ((b || c) && o)
 skip_case a true c o e f = e
 skip_case a false true true e f = absurd (let g = f refl in cc)
 skip_case a false true false e f = e
 skip_case a false false o e f = e
 
--- The next sort is told.
+-- The next sort is listed.
 pub told_push : (all ts : List Sort) (stands : Sort → Bool) (i : ℕ) → i < length all →
     ((a : Sort) → told ts a ≡ (told (take i all) a && stands a)) → stands (get_or all i s.Var) ≡ true →
     (a : Sort) → told (ts ++ get_or all i s.Var ∷ []) a ≡ (told (take (i + 1) all) a && stands a)
@@ -68,7 +68,7 @@ told_push all ts stands i lt e holds a =
     or_false true h = refl
     or_false false h = h
 
--- The next sort is not told.
+-- The next sort is not listed.
 pub told_skip : (all ts : List Sort) (stands : Sort → Bool) (i : ℕ) → i < length all →
     ((a : Sort) → told ts a ≡ (told (take i all) a && stands a)) → stands (get_or all i s.Var) ≡ false →
     (a : Sort) → told ts a ≡ (told (take (i + 1) all) a && stands a)
@@ -82,7 +82,7 @@ told_skip all ts stands i lt e fails a =
     or_false true h = refl
     or_false false h = h
 
--- Every sort is one of all sorts.
+-- Every sort is in the list of all sorts.
 pub all_told : (a : Sort) → told SORTS a ≡ true
 all_told s.Var = refl
 all_told _ = refl

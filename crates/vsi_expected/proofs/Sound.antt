@@ -1,4 +1,4 @@
--- What is read goes on to some program.
+-- Lexemes that are read continue to some program.
 use Rattle.std.proofs.Common.{◌≡◌, ◌&&◌, Bool, true, false, cond, List, [], ◌∷◌, ◌++◌, map, Option, Some, None, refl, sym, ap, subst, ◌∙◌, append_assoc, arith}
 use Rattle.std.proofs.lemmas.List.{append-nil}
 use Rattle.vsi_syntax.specs.Tree.{Lexeme, Name, Assign, Done, Then, write, write_command}
@@ -14,7 +14,7 @@ use Rattle.vsi_expected.proofs.Lists.{same_is}
 use Rattle.vsi_expected.proofs.Joining.{weaken}
 use Rattle.vsi_expected.proofs.Languages.{Is, a_name, a_name_is, some_lexeme, AreProper, Writes, WritesAll, AllHold, rules_hold}
 
--- The rule that was found holds, where its test came out so.
+-- The rule that was found holds, by the result of its test.
 found_case : (x : Wanted) (r : Rule) (rs : List Rule) (a : Sort) (parts : List Wanted) (b : Bool) (y : Lexeme)
     (u : List Lexeme) → AllHold x (r ∷ rs) → same r.sort a ≡ b → cond b (Some r.parts) (parts_of a rs) ≡ Some parts →
     (parts_of a rs ≡ Some parts → Writes x (y ∷ u)) → Is a y → WritesAll parts u → Writes x (y ∷ u)
@@ -31,7 +31,7 @@ found_holds x (r ∷ rs) a parts y u hold f i p =
     found_case x r rs a parts (same r.sort a) y u hold refl f
     (λ g. found_holds x rs a parts y u hold.1 g i p) i p
 
--- What is written where two lists are wanted is written in two parts.
+-- Lexemes written by two lists of parts consist of two parts.
 split : (xs ys : List Wanted) (ws : List Lexeme) → WritesAll (xs ++ ys) ws →
     (u : List Lexeme) × (v : List Lexeme) × (ws ≡ u ++ v) × WritesAll xs u × WritesAll ys v
 split [] ys ws p = ([], ws, refl, refl, p)
@@ -44,7 +44,7 @@ split (x ∷ xs) ys ws p =
       q.4,
     )
 
--- What may be left out may be written by nothing.
+-- A part that may be omitted may write no lexemes.
 empty_writes : (x : Wanted) → may_be_empty x ≡ true → Writes x []
 empty_writes w.Globals e = ([], refl)
 empty_writes w.Command e = absurd cc
@@ -56,17 +56,17 @@ empty_writes w.Operators e = λ t lt. (t, weaken 1 0 t lt (omega arith), sym (ap
 empty_writes w.SumOperators e = λ t lt. (t, lt, sym (append-nil (write t)))
 empty_writes (w.Token a) e = absurd cc
 
--- The first of two tests that both hold.
+-- If two tests hold together, the first holds.
 and_left : (a b : Bool) → (a && b) ≡ true → a ≡ true
 and_left true b h = refl
 and_left false b h = h
 
--- The second of two tests that both hold.
+-- If two tests hold together, the second holds.
 and_right : (a b : Bool) → (a && b) ≡ true → b ≡ true
 and_right true b h = h
 and_right false b h = absurd cc
 
--- Where all may be left out nothing need be written.
+-- If all parts may be omitted, they may write no lexemes.
 pub end_writes : (xs : List Wanted) → can_end xs ≡ true → WritesAll xs []
 end_writes [] e = refl
 end_writes (x ∷ xs) e = (
@@ -77,7 +77,7 @@ end_writes (x ∷ xs) e = (
   end_writes xs (and_right (may_be_empty x) (can_end xs) e),
 )
 
--- A step that was made by the first part, or by those behind it.
+-- A step was made by the first part, or by the parts after it.
 step_case : (x : Wanted) (xs ys : List Wanted) (a : Sort) (y : Lexeme) (u : List Lexeme)
     (found : Option (List Wanted)) (empty : Bool) → parts_of a (rules x) ≡ found → may_be_empty x ≡ empty →
     begun found empty xs (step xs a) ≡ Some ys → (step xs a ≡ Some ys → WritesAll xs (y ∷ u)) → Is a y →
@@ -93,7 +93,7 @@ step_case x xs ys a y u (Some parts) empty f e h later i p =
 step_case x xs ys a y u None true f e h later i p = ([], y ∷ u, refl, empty_writes x e, later h)
 step_case x xs ys a y u None false f e h later i p = absurd cc
 
--- What may be written behind a step may be written with its token in front of it.
+-- Lexemes that the parts after a step may write are also allowed with the step's token in front.
 pub step_sound : (xs ys : List Wanted) (a : Sort) (y : Lexeme) (u : List Lexeme) → step xs a ≡ Some ys → Is a y →
     WritesAll ys u → WritesAll xs (y ∷ u)
 step_sound [] ys a y u h i p = absurd cc
@@ -101,7 +101,7 @@ step_sound (x ∷ xs) ys a y u h i p =
     step_case x xs ys a y u (parts_of a (rules x)) (may_be_empty x) refl refl h
     (λ g. step_sound xs ys a y u g i p) i p
 
--- What may be written behind lexemes that were read may be written with them in front of it.
+-- Lexemes that the parts after a reading may write are also allowed with the lexemes read in front.
 pub run_sound : (xs ys : List Wanted) (ws u : List Lexeme) → run xs (map lexeme_sort ws) ≡ Some ys → AreProper ws →
     WritesAll ys u → WritesAll xs (ws ++ u)
 run_sound xs ys [] u h proper p = subst (λ (c : List Wanted). WritesAll c u) (sym (some_is xs ys h)) p
@@ -109,11 +109,11 @@ run_sound xs ys (y ∷ ws) u h proper p =
     let q = bind_some (step xs (lexeme_sort y)) (λ zs. run zs (map lexeme_sort ws)) ys h in
     step_sound xs q.0 (lexeme_sort y) y (ws ++ u) q.1 proper.0 (run_sound q.0 ys ws u q.2 proper.1 p)
 
--- What may be written is written by lexemes that a text can have.
+-- Lexemes that a text can contain are among those allowed.
 abbrev pub SomeWrites : (List Lexeme → Type 0) → Type 0
 SomeWrites P = (u : List Lexeme) × AreSpelled u × P u
 
--- Something may be written wherever something is wanted.
+-- Every pending part may write some lexemes that a text can contain.
 some_writes : (x : Wanted) → SomeWrites (Writes x)
 some_writes w.Globals = ([], tt, empty_writes w.Globals refl)
 some_writes w.Command = (
@@ -129,19 +129,19 @@ some_writes w.Operators = ([], tt, empty_writes w.Operators refl)
 some_writes w.SumOperators = ([], tt, empty_writes w.SumOperators refl)
 some_writes (w.Token a) = let x = some_lexeme a in (x.0 ∷ [], (x.2, tt), (x.0, x.1, refl))
 
--- What a text can have in two parts it can have.
+-- If a text can contain each of two lists of lexemes, it can contain both joined.
 spelled_append : (us vs : List Lexeme) → AreSpelled us → AreSpelled vs → AreSpelled (us ++ vs)
 spelled_append [] vs h i = i
 spelled_append (u ∷ us) vs h i = (h.0, spelled_append us vs h.1 i)
 
--- Something may be written whatever is wanted.
+-- Every list of pending parts may write some lexemes that a text can contain.
 pub all_write : (xs : List Wanted) → SomeWrites (WritesAll xs)
 all_write [] = ([], tt, refl)
 all_write (x ∷ xs) =
     let a = some_writes x in let b = all_write xs in
     (a.0 ++ b.0, spelled_append a.0 b.0 a.1 b.1, (a.0, b.0, refl, a.2, b.2))
 
--- What may be written from the start on is a program.
+-- Lexemes that the parts at the start may write are a program.
 pub start_writes : (ws : List Lexeme) → WritesAll start ws → IsWritten ws
 start_writes ws p =
     let q = p.4 in let r = q.4 in (

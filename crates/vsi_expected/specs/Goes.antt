@@ -1,4 +1,4 @@
--- What may stand behind the tokens of a text.
+-- The tokens that may follow the tokens of a text.
 use Rattle.std.specs.Prelude.{◌≡◌, List, [], ◌∷◌, ◌++◌}
 use Rattle.vsi_syntax.specs.declared.token.Kind.{Kind}
 use Rattle.vsi_syntax.specs.declared.token.Kind.TheVariants as k
@@ -16,17 +16,17 @@ abbrev pub IsKindSpelled : Kind → Type 0
 IsKindSpelled (k.Number n) = IsLiteral n
 IsKindSpelled _ = Unit {0}
 
--- A text can have this lexeme: a name is a name, and a number can be written.
+-- A text can contain this lexeme: a name is valid, and a number can be written.
 abbrev pub IsLexemeSpelled : Lexeme → Type 0
 IsLexemeSpelled (Called x) = IsNamed x
 IsLexemeSpelled (Sign kind) = IsKindSpelled kind
 
--- A text can have these lexemes.
+-- A text can contain these lexemes.
 abbrev pub AreSpelled : List Lexeme → Type 0
 AreSpelled [] = Unit {0}
 AreSpelled (w ∷ ws) = IsLexemeSpelled w × AreSpelled ws
 
--- Behind these lexemes some program goes on with one of this sort, and then with others that a text can have.
+-- Some program continues these lexemes with one of this sort, followed by others that a text can contain.
 abbrev pub CanFollow : List Lexeme → Sort → Type 0
 CanFollow before s =
     (w : Lexeme) × (rest : List Lexeme) × (lexeme_sort w ≡ s) × AreSpelled (w ∷ rest) × IsWritten (before ++ w ∷ rest)

@@ -8,7 +8,7 @@ use Rattle.vsi_expected.specs.contracts.sort.Sort.{the_type}
 use Rattle.vsi_expected.specs.declared.sort.Sort.{Sort}
 use Rattle.vsi_expected.specs.declared.sort.Sort.TheVariants as s
 
--- Two sorts are the same.
+-- The two sorts are the same.
 abbrev pub same : Sort → Sort → Bool
 same a b = sameb the_type a b
 

@@ -1,4 +1,4 @@
--- Which sorts a list tells.
+-- The sorts that a list contains.
 use Rattle.std.specs.Prelude.{Bool, false, ◌||◌, List, [], ◌∷◌}
 use Rattle.vsi_expected.specs.declared.sort.Sort.{Sort}
 use Rattle.vsi_expected.specs.Sorts.{same}

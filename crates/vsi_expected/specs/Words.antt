@@ -1,11 +1,11 @@
--- What could stand at a place, in words.
+-- The tokens that may come next, as a sentence.
 use Rattle.std.specs.Prelude.{ℕ, Bool, true, false, if◌then◌else◌, List, [], ◌∷◌, ◌++◌, length, ◌==◌, codes}
 use Rattle.vsi_expected.specs.declared.sort.Sort.{Sort}
 use Rattle.vsi_expected.specs.declared.sort.Sort.TheVariants as s
 use Rattle.vsi_expected.specs.declared.words.TheConstants.{VALUES, OPERATORS, SIGNS}
 use Rattle.vsi_expected.specs.Told.{told}
 
--- A sort in words: a token as it is written, in back quotes, or what it is.
+-- A sort in a sentence: a token as it is written, in back quotes, or a description.
 abbrev pub word_of : Sort → List ℕ
 word_of s.Var = codes "`var`"
 word_of s.Letvar = codes "`letvar`"
@@ -30,40 +30,40 @@ word_of s.CloseBrace = codes "`}`"
 word_of s.Name = codes "a name"
 word_of s.Number = codes "a number"
 
--- The words of those of some sorts that are told.
+-- The items for those of some sorts that are listed.
 abbrev pub words_of : List Sort → List Sort → List (List ℕ)
 words_of ts [] = []
 words_of ts (a ∷ bs) = if told ts a then word_of a ∷ words_of ts bs else words_of ts bs
 
--- What stands in front of the last word, or of one between.
+-- The text before an item: before the last, or before one in between.
 abbrev pub joint : Bool → List ℕ
 joint true = codes " or "
 joint false = codes ", "
 
--- The words behind the first.
+-- The items after the first, with their separators.
 abbrev pub further : List (List ℕ) → List ℕ
 further [] = []
 further (w ∷ ws) = joint (length ws == 0) ++ (w ++ further ws)
 
--- Words as a sentence lists them: commas between them, and "or" before the last.
+-- Items as a sentence lists them: with commas between them, and "or" before the last.
 abbrev pub listed : List (List ℕ) → List ℕ
 listed [] = []
 listed (w ∷ ws) = w ++ further ws
 
--- The operators as one word, where there are any.
+-- The operators as one item, if there are any.
 abbrev pub together : List (List ℕ) → List (List ℕ)
 together [] = []
 together (w ∷ ws) = (codes "an operator (" ++ (listed (w ∷ ws) ++ codes ")")) ∷ []
 
--- The operators that are told, as one word.
+-- The listed operators, as one item.
 abbrev pub operators_of : List Sort → List (List ℕ)
 operators_of ts = together (words_of ts OPERATORS)
 
--- The end of the text, where it is told.
+-- An item for the end of the text, if it may come next.
 abbrev pub end_of : Bool → List (List ℕ)
 end_of true = codes "the end of the text" ∷ []
 end_of false = []
 
--- All that is told: names and numbers, the operators, the other tokens, and the end of the text.
+-- The whole sentence: names and numbers, the operators, the other tokens, and the end of the text.
 abbrev pub sentence : List Sort → Bool → List ℕ
 sentence ts end = listed (words_of ts VALUES ++ (operators_of ts ++ (words_of ts SIGNS ++ end_of end)))

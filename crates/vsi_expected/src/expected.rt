@@ -1,4 +1,4 @@
-//! The sorts of tokens with which a program goes on.
+//! The sorts of tokens that may follow the beginning of a program.
 
 ghost use Rattle.std.specs.Prelude.{◌≡◌, ◌↔◌, IfOk, is_some, reverse, true};
 ghost use Rattle.vsi_syntax.specs.View.{lexemes};
@@ -13,7 +13,7 @@ use crate::wanted::Wanted;
 use std::alloc::{AllocError, Global};
 use vsi_syntax::Token;
 
-/// What could stand at a place: tokens of these sorts, and the end of the text where `end` is set.
+/// The tokens that may come next: tokens of these sorts, and the end of the text if `end` is set.
 #[derive(Debug, Drop)]
 pub struct Expected {
     pub sorts: Vec<Sort>,
@@ -21,7 +21,7 @@ pub struct Expected {
 }
 
 impl Expected {
-    /// Whether a token of this sort could stand there.
+    /// Whether a token of this sort may come next.
     pub fn has(&self, sort: Sort) -> bool
         ensures { result ≡ told self.now.sorts.items sort }
     {
@@ -34,7 +34,7 @@ impl Expected {
     }
 }
 
-/// The sorts that may stand where this is wanted.
+/// The sorts of tokens that may come next before these pending parts.
 fn sorts_of(alloc: Global, ahead: &[Wanted]) -> Result<Vec<Sort>, AllocError>
     ensures { IfOk result (λ sorts. (s : Sort) → told sorts.items s
         ≡ is_some (step (reverse ahead.now) s)) }
@@ -48,14 +48,14 @@ fn sorts_of(alloc: Global, ahead: &[Wanted]) -> Result<Vec<Sort>, AllocError>
     Ok(sorts)
 }
 
-/// What could stand behind these tokens: the sorts of tokens with which some program goes on
-/// behind them, and whether some program ends there. Where no program begins with these tokens,
-/// that is nothing.
+/// The tokens that may follow these tokens: the sorts of the next token in some program that begins
+/// with them, and whether some program ends there. If no program begins with these tokens, the
+/// answer is empty.
 pub fn expected_after<'a>(alloc: Global, tokens: &[Token<'a>]) -> Result<Expected, AllocError>
-    // A sort is told exactly where some program begins with the tokens and then one of this sort.
+    // A sort is listed exactly if some program begins with the tokens and then one of this sort.
     ensures sorts { IfOk result (λ e. (s : Sort) → (told e.sorts.items s ≡ true)
         ↔ CanFollow (lexemes tokens.now) s) }
-    // The end is told exactly where some program writes the tokens and no more.
+    // `end` is set exactly if some program writes the tokens and no more.
     ensures end { IfOk result (λ e. (e.end ≡ true) ↔ IsWritten (lexemes tokens.now)) }
 {
     match read(alloc, tokens)? {

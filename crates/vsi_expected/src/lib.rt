@@ -1,8 +1,9 @@
-//! What could stand at a place of a text.
+//! The tokens that may come next at a position of a text.
 //!
-//! The tokens in front of a place come in; out comes the set of the sorts of tokens with which
-//! some program goes on there, and whether one may end there (clauses `sorts` and `end` of
-//! `expected_after`). The tokens are read once, with a list of what is still wanted.
+//! Given the tokens before a position, `expected_after` returns the set of the sorts of tokens that
+//! may follow in some program, and whether a program may end there (clauses `sorts` and `end` of
+//! `expected_after`). It reads the tokens once and keeps a list of the parts that are still
+//! pending.
 //!
 //! To be believed: `specs/Goes`, `specs/Sorts`, `specs/Told` and `specs/Words`; `specs/Rules` is a
 //! stepping stone of proofs.

@@ -1,4 +1,4 @@
-//! Reads tokens, with what is still wanted behind them.
+//! Reads tokens and keeps a list of the parts that are pending after them.
 
 ghost use Rattle.std.specs.Prelude.{◌≡◌, ◌∷◌, [], IfOk, is_some, reverse, map, option_map};
 ghost use Rattle.vsi_syntax.specs.View.{lexemes};
@@ -11,7 +11,7 @@ use crate::wanted::Wanted;
 use std::alloc::{AllocError, Global};
 use vsi_syntax::Token;
 
-/// Reads a token of this sort, and tells whether one may stand here.
+/// Reads a token of this sort, and returns whether one may come next.
 fn step(ahead: &mut Vec<Wanted>, sort: Sort) -> Result<bool, AllocError>
     ensures { IfOk result (λ stands. spec.step (reverse ahead.old.items) sort
         ≡ spec.reached stands (reverse ahead.new.items)) }
@@ -27,7 +27,7 @@ fn step(ahead: &mut Vec<Wanted>, sort: Sort) -> Result<bool, AllocError>
     Ok(false)
 }
 
-/// Whether a token of this sort may stand here.
+/// Whether a token of this sort may come next.
 pub(crate) fn may_stand(alloc: Global, ahead: &[Wanted], sort: Sort) -> Result<bool, AllocError>
     ensures { IfOk result (λ stands. is_some (spec.step (reverse ahead.now) sort) ≡ stands) }
 {
@@ -44,7 +44,7 @@ pub(crate) fn may_stand(alloc: Global, ahead: &[Wanted], sort: Sort) -> Result<b
     Ok(false)
 }
 
-/// Whether all that is wanted may be left out.
+/// Whether all pending parts may be omitted.
 pub(crate) fn can_end(ahead: Vec<Wanted>) -> bool
     ensures { result ≡ spec.can_end (reverse ahead.items) }
 {
@@ -57,7 +57,7 @@ pub(crate) fn can_end(ahead: Vec<Wanted>) -> bool
     true
 }
 
-/// What is wanted behind these tokens, or nothing where no program begins with them.
+/// The parts that are pending after these tokens, or nothing if no program begins with them.
 pub(crate) fn read<'a>(
     alloc: Global,
     tokens: &[Token<'a>],

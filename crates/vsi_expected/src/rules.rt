@@ -1,7 +1,7 @@
-//! The rules: how each part of a program may begin, and what is wanted then.
+//! The rules: how each part of a program may begin, and which parts are pending then.
 //!
-//! What is wanted stands in a list with what comes first at its end. Where there is a rule its
-//! parts are put there; the answer tells whether there is one.
+//! The pending parts are in a list whose last element comes first in the text. If there is a rule,
+//! its parts are appended; the answer says whether there is one.
 
 ghost use Rattle.std.specs.Prelude.{◌≡◌, ◌++◌, ◌∷◌, [], IfOk, OnOk, IsTrue, reverse};
 ghost use Rattle.vsi_expected.specs.Rules.{Puts, arithmetic, operand, parts_of, rules};
@@ -11,7 +11,7 @@ use crate::sort::Sort;
 use crate::wanted::Wanted;
 use std::alloc::AllocError;
 
-/// These parts are wanted first, in this order.
+/// Makes these parts the first pending ones, in this order.
 fn put(ahead: &mut Vec<Wanted>, parts: &[Wanted]) -> Result<bool, AllocError>
     ensures truth { IfOk result (λ put. IsTrue put) }
     ensures items { OnOk result (ahead.new.items ≡ ahead.old.items ++ reverse parts.now) }
@@ -22,7 +22,7 @@ fn put(ahead: &mut Vec<Wanted>, parts: &[Wanted]) -> Result<bool, AllocError>
     Ok(true)
 }
 
-/// A global, from its `var`.
+/// The parts of a global after its `var`.
 fn put_globals(ahead: &mut Vec<Wanted>, sort: Sort) -> Result<bool, AllocError>
     ensures { IfOk result (λ put. Puts (parts_of sort (rules w.Globals)) put
         (reverse ahead.old.items) (reverse ahead.new.items)) }
@@ -42,7 +42,7 @@ fn put_globals(ahead: &mut Vec<Wanted>, sort: Sort) -> Result<bool, AllocError>
     }
 }
 
-/// A command.
+/// The parts of a command after its first token.
 fn put_command(ahead: &mut Vec<Wanted>, sort: Sort) -> Result<bool, AllocError>
     ensures { IfOk result (λ put. Puts (parts_of sort (rules w.Command)) put
         (reverse ahead.old.items) (reverse ahead.new.items)) }
@@ -86,7 +86,7 @@ fn put_command(ahead: &mut Vec<Wanted>, sort: Sort) -> Result<bool, AllocError>
     }
 }
 
-/// A command more, behind its semicolon.
+/// The parts of another command after its semicolon.
 fn put_rest(ahead: &mut Vec<Wanted>, sort: Sort) -> Result<bool, AllocError>
     ensures { IfOk result (λ put. Puts (parts_of sort (rules w.Rest)) put
         (reverse ahead.old.items) (reverse ahead.new.items)) }
@@ -97,7 +97,7 @@ fn put_rest(ahead: &mut Vec<Wanted>, sort: Sort) -> Result<bool, AllocError>
     }
 }
 
-/// A class, behind its colon.
+/// The parts of a class after its colon.
 fn put_class(ahead: &mut Vec<Wanted>, sort: Sort) -> Result<bool, AllocError>
     ensures { IfOk result (λ put. Puts (parts_of sort (rules w.Class)) put
         (reverse ahead.old.items) (reverse ahead.new.items)) }
@@ -108,7 +108,7 @@ fn put_class(ahead: &mut Vec<Wanted>, sort: Sort) -> Result<bool, AllocError>
     }
 }
 
-/// A number, a name or a bracket, and then what goes on behind it.
+/// The parts of an operand, which is a number, a name or a bracket, followed by this part.
 fn put_operand(ahead: &mut Vec<Wanted>, sort: Sort, behind: Wanted) -> Result<bool, AllocError>
     ensures { IfOk result (λ put. Puts (parts_of sort (operand behind)) put
         (reverse ahead.old.items) (reverse ahead.new.items)) }
@@ -124,7 +124,7 @@ fn put_operand(ahead: &mut Vec<Wanted>, sort: Sort, behind: Wanted) -> Result<bo
     }
 }
 
-/// What goes on behind a number, a name or a bracket.
+/// The parts of the continuation after an operand.
 fn put_operators(ahead: &mut Vec<Wanted>, sort: Sort) -> Result<bool, AllocError>
     ensures { IfOk result (λ put. Puts (parts_of sort (rules w.Operators)) put
         (reverse ahead.old.items) (reverse ahead.new.items)) }
@@ -139,7 +139,7 @@ fn put_operators(ahead: &mut Vec<Wanted>, sort: Sort) -> Result<bool, AllocError
     }
 }
 
-/// What goes on behind a number, a name or a bracket where a comparison was read.
+/// The parts of the continuation after an operand if a comparison was read.
 fn put_sum_operators(ahead: &mut Vec<Wanted>, sort: Sort) -> Result<bool, AllocError>
     ensures { IfOk result (λ put. Puts (parts_of sort (rules w.SumOperators)) put
         (reverse ahead.old.items) (reverse ahead.new.items)) }
@@ -152,7 +152,7 @@ fn put_sum_operators(ahead: &mut Vec<Wanted>, sort: Sort) -> Result<bool, AllocE
     }
 }
 
-/// Behind a token of this sort, which begins this part, the parts of the rule are wanted.
+/// Makes the parts of the rule pending after a token of this sort that begins the given part.
 pub(crate) fn put_rule(
     ahead: &mut Vec<Wanted>,
     wanted: Wanted,

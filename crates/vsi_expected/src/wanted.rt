@@ -1,35 +1,35 @@
-//! What may still be wanted of a program behind the tokens that were read.
+//! The parts of a program that may still be pending after the tokens that were read.
 
 ghost use Rattle.std.specs.Prelude.{◌≡◌};
 ghost use Rattle.vsi_expected.specs.Rules.{may_be_empty};
 
 use crate::sort::Sort;
 
-/// A part of a program that is still to be read.
+/// A pending part of a program.
 #[derive(Clone, Copy, Debug)]
 pub(crate) enum Wanted {
     /// Globals, any number of them.
     Globals,
     /// A command.
     Command,
-    /// The commands behind a command, each behind its semicolon.
+    /// The commands after a command, each after its semicolon.
     Rest,
-    /// The class of a local variable, which may be left out.
+    /// The class of a local variable, which may be omitted.
     Class,
     /// An expression.
     Expression,
-    /// An expression that is no comparison.
+    /// An expression that is not a comparison.
     Sum,
-    /// What goes on behind a number, a name or a bracket to an expression.
+    /// The continuation of an expression after an operand.
     Operators,
-    /// The same where a comparison was read.
+    /// The continuation of an expression after an operand if a comparison was read.
     SumOperators,
     /// A token of this sort.
     Token(Sort),
 }
 
 impl Wanted {
-    /// Whether nothing at all will do.
+    /// Whether the part may be omitted.
     pub(crate) fn may_be_empty(self) -> bool
         ensures { result ≡ may_be_empty self }
     {

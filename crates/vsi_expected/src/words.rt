@@ -1,4 +1,4 @@
-//! What could stand at a place, in words.
+//! The tokens that may come next, as a sentence.
 
 ghost use Rattle.std.specs.Prelude.{◌≡◌, ◌++◌, IfOk, OnOk, map};
 ghost use Rattle.vsi_expected.specs.Words as spec;
@@ -7,13 +7,13 @@ use crate::expected::Expected;
 use crate::sort::Sort;
 use std::alloc::{AllocError, Global};
 
-/// The sorts that stand for a value, as a sentence lists them.
+/// The sorts of operands, in the order of a sentence.
 static VALUES: [Sort; 2] = [Sort::Name, Sort::Number];
 
-/// The operators, as a sentence lists them.
+/// The operators, in the order of a sentence.
 static OPERATORS: [Sort; 5] = [Sort::Plus, Sort::Minus, Sort::Star, Sort::Equal, Sort::Less];
 
-/// All other sorts, as a sentence lists them.
+/// All other sorts, in the order of a sentence.
 static SIGNS: [Sort; 15] = [
     Sort::Open,
     Sort::Var,
@@ -32,7 +32,7 @@ static SIGNS: [Sort; 15] = [
     Sort::CloseBrace,
 ];
 
-/// A sort in words: a token as it is written, in back quotes, or what it is.
+/// A sort in a sentence: a token as it is written, in back quotes, or a description.
 fn word_of(sort: Sort) -> &'static [u8]
     ensures { result.now ≡ spec.word_of sort }
 {
@@ -62,7 +62,7 @@ fn word_of(sort: Sort) -> &'static [u8]
     }
 }
 
-/// A text of these bytes.
+/// A text with these bytes.
 fn text_of(alloc: Global, bytes: &[u8]) -> Result<Vec<u8>, AllocError>
     ensures { IfOk result (λ text. text.items ≡ bytes.now) }
 {
@@ -71,7 +71,7 @@ fn text_of(alloc: Global, bytes: &[u8]) -> Result<Vec<u8>, AllocError>
     Ok(text)
 }
 
-/// Adds words as a sentence lists them: commas between them, and "or" before the last.
+/// Appends items as a sentence lists them: with commas between them, and "or" before the last.
 fn put_listed(text: &mut Vec<u8>, words: &[Vec<u8>]) -> Result<(), AllocError>
     ensures { OnOk result (text.new.items ≡ text.old.items
         ++ spec.listed (map (λ word. word.items) words.now)) }
@@ -87,7 +87,7 @@ fn put_listed(text: &mut Vec<u8>, words: &[Vec<u8>]) -> Result<(), AllocError>
     Ok(())
 }
 
-/// Adds the words of those of these sorts that are told.
+/// Appends the items for those of these sorts that are listed.
 fn add_words(
     alloc: Global,
     words: &mut Vec<Vec<u8>>,
@@ -106,7 +106,7 @@ fn add_words(
     Ok(())
 }
 
-/// Adds the operators that are told, as one word.
+/// Appends the listed operators as one item.
 fn add_operators(alloc: Global, words: &mut Vec<Vec<u8>>, told: &Expected) -> Result<(), AllocError>
     ensures { OnOk result (map (λ word. word.items) words.new.items
         ≡ map (λ word. word.items) words.old.items ++ spec.operators_of told.now.sorts.items) }
@@ -123,7 +123,7 @@ fn add_operators(alloc: Global, words: &mut Vec<Vec<u8>>, told: &Expected) -> Re
     Ok(())
 }
 
-/// Adds the end of the text, where it is told.
+/// Appends an item for the end of the text, if it may come next.
 fn add_end(alloc: Global, words: &mut Vec<Vec<u8>>, end: bool) -> Result<(), AllocError>
     ensures { OnOk result (map (λ word. word.items) words.new.items
         ≡ map (λ word. word.items) words.old.items ++ spec.end_of end) }
@@ -134,7 +134,7 @@ fn add_end(alloc: Global, words: &mut Vec<Vec<u8>>, end: bool) -> Result<(), All
     Ok(())
 }
 
-/// What stands in front of the last word, or of one between.
+/// The text before an item: before the last, or before one in between.
 fn between(last: bool) -> &'static [u8]
     ensures { result.now ≡ spec.joint last }
 {
@@ -142,8 +142,8 @@ fn between(last: bool) -> &'static [u8]
 }
 
 impl Expected {
-    /// What could stand there, as a sentence lists it: names and numbers, the operators together,
-    /// the other tokens as they are written, in back quotes, and the end of the text.
+    /// The tokens that may come next, as a sentence lists them: names and numbers, the operators
+    /// together, the other tokens as they are written, in back quotes, and the end of the text.
     pub fn words(&self, alloc: Global) -> Result<Vec<u8>, AllocError>
         ensures { IfOk result (λ text. text.items
             ≡ spec.sentence self.now.sorts.items self.now.end) }

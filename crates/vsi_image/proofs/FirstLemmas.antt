@@ -1,4 +1,4 @@
--- The first fault that a judgement finds, from one instruction to the next.
+-- The first fault that a check finds, from one instruction to the next.
 use Rattle.std.proofs.Common.{◌≡◌, ℕ, zero, suc, ◌+◌, ◌<◌, ◌≤◌, List, [], ◌∷◌, length, get_or, drop, Option, Some, None, ap, ◌∙◌, sym, subst, refl, arith}
 use Rattle.std.specs.Prelude.{slice_get}
 use Rattle.std.proofs.lemmas.Option.{none-some, same_Some}
@@ -7,16 +7,16 @@ use Rattle.vsi_image.specs.declared.instr.Instr.{Instr}
 use Rattle.vsi_image.specs.declared.verifier.VerifyError.{VerifyError}
 use Rattle.vsi_image.specs.Faults.{◌orelse◌, first_from}
 
--- A judgement of the instruction of a number.
+-- A check of the instruction with a number.
 abbrev pub Judge : Type 0
 Judge = ℕ → Instr → Option VerifyError
 
--- Where neither of two faults is there, both are none.
+-- If the first of two faults is none, both are none.
 pub orelse-none : {X : Type 0} (a b : Option X) → (a orelse b) ≡ None → (a ≡ None) × (b ≡ None)
 orelse-none (Some x) b h = absurd (none-some _ (sym h))
 orelse-none None b h = (refl, h)
 
--- The rest of the code is an instruction and what follows it.
+-- The rest of the code is an instruction followed by those after it.
 at_rest :
     (judge : Judge) (code : List Instr) (pc : ℕ) (i d : Instr) → pc < length code → get_or code pc d ≡ i
     → first_from judge pc (drop pc code) ≡ (judge pc i orelse first_from judge (pc + 1) (drop (pc + 1) code))
@@ -24,7 +24,7 @@ at_rest judge code pc i d h e =
     ap (first_from judge pc) (drop_more code pc d h)
     ∙ ap (λ x. judge pc x orelse first_from judge (pc + 1) (drop (pc + 1) code)) e
 
--- An instruction without a fault leaves the search to those behind it.
+-- If an instruction has no fault, the first fault is that of the instructions after it.
 pub first_from-passes :
     (judge : Judge) (code : List Instr) (pc : ℕ) (i d : Instr) → pc < length code → get_or code pc d ≡ i
     → judge pc i ≡ None
@@ -40,12 +40,12 @@ pub first_from-stops :
 first_from-stops judge code pc i d x h e f =
     at_rest judge code pc i d h e ∙ ap (λ o. o orelse first_from judge (pc + 1) (drop (pc + 1) code)) f
 
--- Behind the last instruction nothing is found.
+-- No fault is found after the last instruction.
 pub first_from-ends :
     (judge : Judge) (code : List Instr) (pc : ℕ) → length code ≤ pc → first_from judge pc (drop pc code) ≡ None
 first_from-ends judge code pc h = ap (first_from judge pc) (drop_all pc code h)
 
--- Where nothing is found from pc on, each instruction from there on is without a fault.
+-- If no fault is found from pc on, no instruction from there on has a fault.
 each_from :
     (judge : Judge) (is : List Instr) (pc k : ℕ) (i : Instr) → first_from judge pc is ≡ None
     → slice_get is k ≡ Some i → judge (pc + k) i ≡ None
@@ -59,7 +59,7 @@ each_from judge (x ∷ is) pc (suc k) i f e =
     let further : pc + suc k ≡ (pc + 1) + k = omega arith in
     rw further (each_from judge is (pc + 1) k i o.1 e)
 
--- Where nothing is found, each instruction is without a fault.
+-- If no fault is found, no instruction has a fault.
 pub first_from-none :
     (judge : Judge) (code : List Instr) (k : ℕ) (i : Instr) → first_from judge 0 code ≡ None
     → slice_get code k ≡ Some i → judge k i ≡ None
@@ -67,7 +67,7 @@ first_from-none judge code k i f e =
     let same : 0 + k ≡ k = omega arith in
     subst (λ n. judge n i ≡ None) same (each_from judge code 0 k i f e)
 
--- Where each instruction from pc on is without a fault, nothing is found from there on.
+-- If no instruction from pc on has a fault, none is found from there on.
 none_from :
     (judge : Judge) (is : List Instr) (pc : ℕ)
     → ((k : ℕ) (i : Instr) → slice_get is k ≡ Some i → judge (pc + k) i ≡ None)
@@ -81,7 +81,7 @@ none_from judge (x ∷ is) pc h =
     let further : pc + suc k ≡ (pc + 1) + k = omega arith in
     subst (λ n. judge n i ≡ None) further (h (suc k) i e))
 
--- Where each instruction is without a fault, nothing is found.
+-- If no instruction has a fault, none is found.
 pub first_from-clear :
     (judge : Judge) (code : List Instr)
     → ((k : ℕ) (i : Instr) → slice_get code k ≡ Some i → judge k i ≡ None)

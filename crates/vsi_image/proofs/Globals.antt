@@ -1,4 +1,4 @@
--- Globals that are read are spelled so, and what is spelled so is read.
+-- The bytes of globals that are read are their spelling, and a spelling is read back.
 use Rattle.std.proofs.Common.{◌≡◌, ℕ, zero, suc, ◌≤◌, ◌&&◌, Bool, true, false, List, [], ◌∷◌, ◌++◌, length, Ok, refl, sym, ap, ◌∙◌, append_assoc, arith, nat_le, if◌then◌else◌}
 use Rattle.std.specs.Prelude.{IfOk}
 use Rattle.std.specs.List.{flat_map}
@@ -19,16 +19,16 @@ name_short (b ∷ bs) h =
     let q = (both_true letters (nat_le (length (b ∷ bs)) 32) p.0).1 in
     (omega arith, grind (arith, nat_tests, q))
 
--- What is not true is false.
+-- A test that is not true is false.
 not_true : (b : Bool) → (if b then false else true) ≡ true → b ≡ false
 not_true true h = absurd cc
 not_true false h = refl
 
--- A name that was read behind these.
+-- A name that was read after these globals.
 abbrev pub Named : List Global → List ℕ → List ℕ × List ℕ → Type 0
 Named before bytes x = Takes bytes (string x.0) x.1 × (is_name x.0 ≡ true) × (is_taken before x.0 ≡ false)
 
--- A name that is read is spelled so, and unlike those before it.
+-- The bytes of a name that is read are its spelling, and it differs from those before it.
 pub name_found :
     (before : List Global) (whole : ℕ) (bytes : List ℕ) → IsBytes bytes
     → IfOk (name_at before whole bytes) (Named before bytes)
@@ -48,7 +48,7 @@ name_found before whole bytes fits =
     let parts = length_first ∙ ap (λ (b : List ℕ). length name.0 ∷ b) u.0.parts in
     (record { parts = parts; rest_fits = u.0.rest_fits }, p.0, not_true (is_taken before name.0) p.1))))))
 
--- A name that is spelled so, and unlike those before it, is read.
+-- The spelling of a name that differs from those before it is read back.
 pub name_again :
     (before : List Global) (whole : ℕ) (name rest : List ℕ) → is_name name ≡ true → is_taken before name ≡ false
     → name_at before whole (string name ++ rest) ≡ Ok (name, rest)
@@ -59,12 +59,12 @@ name_again before whole name rest h free =
     let high : nat_le (length name) 32 ≡ true = let l = s.1 in grind (arith, nat_tests, l) in
     rw (low, high, text_again whole name rest, h, free) refl
 
--- A global that was read behind these.
+-- A global that was read after these.
 pub record Reads (before : List Global) (bytes : List ℕ) (x : Global × List ℕ) : Type 0 where
   pub taken : Takes bytes (global_bytes x.0) x.1
   pub fits : IsGlobal before x.0
 
--- A global that is read is spelled so.
+-- The bytes of a global that is read are its spelling.
 pub global_found :
     (before : List Global) (whole : ℕ) (bytes : List ℕ) → IsBytes bytes
     → IfOk (global_at before whole bytes) (Reads before bytes)
@@ -77,7 +77,7 @@ global_found before whole bytes fits =
       fits = record { name = t.1; unlike = t.2; class = u.1 };
     }))
 
--- A global that is spelled so is read.
+-- The spelling of a global is read back.
 pub global_again :
     (before : List Global) (whole : ℕ) (g : Global) (rest : List ℕ) → IsGlobal before g
     → global_at before whole (global_bytes g ++ rest) ≡ Ok (g, rest)
@@ -87,13 +87,13 @@ global_again before whole g rest h =
     ap (global_at before whole) (append_assoc (string g.0) (string g.1) rest)
     ∙ rw (name_again before whole g.0 class h.name h.unlike, name_again [] whole g.1 rest h.class refl) refl
 
--- What was read of this many globals behind these.
+-- This many globals that were read after these.
 pub record AllRead (n : ℕ) (before : List Global) (bytes : List ℕ) (x : List Global × List ℕ) : Type 0 where
   pub len : length x.0 ≡ n
   pub taken : Takes bytes (flat_map global_bytes x.0) x.1
   pub fit : AreGlobals before x.0
 
--- Globals that are read are spelled so.
+-- The bytes of globals that are read are their spelling.
 pub globals_found :
     (n whole : ℕ) (before : List Global) (bytes : List ℕ) → IsBytes bytes
     → IfOk (globals_at n before whole bytes) (AllRead n before bytes)
@@ -111,7 +111,7 @@ globals_found (suc n) whole before bytes fits =
       fit = (t.fits, c.fit);
     }))
 
--- Globals that are spelled so are read.
+-- The spelling of globals is read back.
 pub globals_again :
     (whole : ℕ) (gs before : List Global) (rest : List ℕ) → AreGlobals before gs
     → globals_at (length gs) before whole (flat_map global_bytes gs ++ rest) ≡ Ok (gs, rest)

@@ -1,4 +1,4 @@
--- A head that is read is spelled so, and what is spelled so is read.
+-- The bytes of a head that is read are its spelling, and a spelling is read back.
 use Rattle.std.proofs.Common.{◌≡◌, ℕ, ◌^◌, ◌<◌, ◌≤◌, true, eqb, List, [], ◌∷◌, ◌++◌, Ok, refl, ap, subst, ◌∙◌, append_assoc, arith, nat_le, bytes_eq}
 use Rattle.std.specs.Prelude.{IfOk}
 use Rattle.std.specs.Int.{Width, w16, w32, to_be_bytes}
@@ -29,7 +29,7 @@ is_bounded low high n a b =
     let q : nat_le n high ≡ true = grind (arith, nat_tests, b) in
     rw (p, q) refl
 
--- A number that is read is spelled so, and within its bounds.
+-- The bytes of a number that is read are its spelling, and it is within its bounds.
 field_found :
     (w : Width) (limit : ℕ) (wide : IsWide w limit) (low high whole : ℕ) (bytes : List ℕ) → IsBytes bytes
     → IfOk (field_at w low high whole bytes) (Bounded w low high bytes)
@@ -41,7 +41,7 @@ field_found w limit wide low high whole bytes fits =
     let p = bounds low high n.0 h in
     record { taken = t.0; above = p.0; below = p.1 }))
 
--- A number that is spelled so, within its bounds, is read.
+-- The spelling of a number within its bounds is read back.
 field_again :
     (w : Width) (limit : ℕ) (wide : IsWide w limit) (low high whole n : ℕ) (rest : List ℕ)
     → n < limit → low ≤ n → n ≤ high
@@ -50,7 +50,7 @@ unfolding field_at
 field_again w limit wide low high whole n rest lt a b =
     rw (number_again w limit wide whole n rest lt, is_bounded low high n a b) refl
 
--- Texts that compare equal are the same.
+-- Texts that compare as equal are equal.
 same_bytes : (xs ys : List ℕ) → bytes_eq xs ys ≡ true → xs ≡ ys
 same_bytes [] [] h = refl
 same_bytes [] (y ∷ ys) h = absurd cc
@@ -63,7 +63,7 @@ same_bytes (x ∷ xs) (y ∷ ys) h =
 abbrev magic : List ℕ
 magic = 86 ∷ 83 ∷ 73 ∷ []
 
--- The magic bytes that are read stand there.
+-- If the magic bytes are read, they are at the front.
 magic_found :
     (whole : ℕ) (bytes : List ℕ) → IsBytes bytes
     → IfOk (magic_at whole bytes) (λ x. Takes bytes magic x.1)
@@ -81,7 +81,7 @@ pub record Versioned (bytes : List ℕ) (x : ℕ × List ℕ) : Type 0 where
   pub low : 1 ≤ x.0
   pub high : x.0 ≤ 2
 
--- A version that is read stands there, and is 1 or 2.
+-- A version that is read is at the front, and is 1 or 2.
 version_found : (whole : ℕ) (bytes : List ℕ) → IsBytes bytes → IfOk (version_at whole bytes) (Versioned bytes)
 unfolding version_at
 version_found whole bytes fits =
@@ -105,7 +105,7 @@ pub record Headed (bytes : List ℕ) (x : Head × List ℕ) : Type 0 where
   pub taken : Takes bytes (head_bytes x.0.version x.0.globals x.0.slots x.0.stack x.0.count) x.1
   pub fits : HeadFits x.0
 
--- A head that is read is spelled so, within its bounds.
+-- The bytes of a head that is read are its spelling, and its numbers are within their bounds.
 pub head_found : (whole : ℕ) (bytes : List ℕ) → IsBytes bytes → IfOk (head_at whole bytes) (Headed bytes)
 unfolding head_at
 head_found whole bytes fits =
@@ -154,7 +154,7 @@ version_again whole version rest low high =
     let q : nat_le version 2 ≡ true = grind (arith, nat_tests, high) in
     rw (p, q) refl
 
--- A head that is spelled so, within its bounds, is read.
+-- The spelling of a head whose numbers are within their bounds is read back.
 pub head_again :
     (whole : ℕ) (h : Head) (rest : List ℕ) → HeadFits h
     → head_at whole (head_bytes h.version h.globals h.slots h.stack h.count ++ rest) ≡ Ok (h, rest)

@@ -1,4 +1,4 @@
--- What is read is spelled so, and what is spelled so is read.
+-- The bytes of an image that is read are its spelling, and a spelling is read back.
 use Rattle.std.proofs.Common.{◌≡◌, ℕ, suc, Bool, false, eqb, List, [], ◌∷◌, ◌++◌, length, Result, Ok, Err, refl, sym, ap, subst, ◌∙◌, arith, append_assoc, if◌then◌else◌, ◌==◌}
 use Rattle.std.specs.Prelude.{IfOk, Some, slice_get}
 use Rattle.std.specs.List.{flat_map}
@@ -16,11 +16,11 @@ use Rattle.vsi_image.proofs.Globals.{globals_found, globals_again}
 use Rattle.vsi_image.proofs.Instrs.{code_found, code_again}
 use Rattle.vsi_image.proofs.Heads.{HeadFits, head_found, head_again}
 
--- A refusal of bytes.
+-- The refusal of bytes.
 abbrev refused : DecodeError → Result Fields DecodeError
 refused e = Err e
 
--- An image that is read is spelled so.
+-- The bytes of an image that is read are its spelling.
 pub image_found : (whole : ℕ) (bytes : List ℕ) → IsBytes bytes → IfOk (image_at whole bytes) (Spells bytes)
 unfolding image_at
 image_found whole bytes fits =
@@ -61,7 +61,7 @@ image_found whole bytes fits =
       spelled = rw (← n, ← m) all;
     }) (λ _. tt))))
 
--- An image that is spelled so in a version is read, and bytes behind it are refused.
+-- The spelling of an image in a version is read back, and bytes after it are refused.
 image_again :
     (whole version : ℕ) (f : Fields) (rest : List ℕ) → HasBytes version f
     → image_at whole (bytes_of version f ++ rest)
@@ -97,18 +97,18 @@ image_again whole version f rest h =
     ap (image_at whole) regrouped
     ∙ rw (head_again whole head (named ++ (codes ++ rest)) fits, globals, code) refl
 
--- What is spelled is read.
+-- The spelling of an image is read back.
 pub spelled-is_read : (bytes : List ℕ) (f : Fields) → Spells bytes f → image_of bytes ≡ Ok f
 spelled-is_read bytes f s =
     let bare = bytes_of s.version f in
     ap (image_at (length bytes)) (s.spelled ∙ sym (append-nil bare))
     ∙ image_again (length bytes) s.version f [] s.fits
 
--- One more than a number isn't 0.
+-- The successor of a number isn't 0.
 not_none : (n : ℕ) → (suc n == 0) ≡ false
 not_none n = grind (arith, nat_tests)
 
--- Bytes behind what is spelled are left over.
+-- Bytes after a spelling are left over.
 pub spelled-ends : (bytes : List ℕ) (f : Fields) → Spells bytes f → EndsThere bytes
 spelled-ends bytes f s next rest =
     let whole = length (bytes ++ next ∷ rest) in
@@ -118,7 +118,7 @@ spelled-ends bytes f s next rest =
     ∙ ap (λ (b : Bool). if b then Ok f else refused (Trailing (place whole (next ∷ rest)))) (not_none (length rest))
     ∙ ap (λ (n : ℕ). refused (Trailing n)) at
 
--- What a function returns that reads so is spelled so.
+-- If a function returns the image that reading gives, the bytes spell that image.
 pub read-is_spelled :
     (bytes : List ℕ) (r : Result Image DecodeError) → IsBytes bytes → Gives fields r (image_of bytes)
     → IfOk r (λ i. Spells bytes (fields i))
@@ -126,7 +126,7 @@ read-is_spelled bytes (Ok v) fits given =
     subst (λ (s : Result Fields DecodeError). IfOk s (Spells bytes)) given (image_found (length bytes) bytes fits)
 read-is_spelled bytes (Err e) fits given = tt
 
--- The bytes of an image are the one spelling in the version that byte 3 says.
+-- The bytes of an image are its only spelling in the version that is in byte 3.
 pub spelled-by_version :
     (bytes : List ℕ) (f : Fields) (version : ℕ) → Spells bytes f → slice_get bytes 3 ≡ Some version
     → bytes ≡ bytes_of version f
@@ -134,28 +134,28 @@ spelled-by_version bytes f version s e =
     let third = ap (λ (b : List ℕ). slice_get b 3) (sym s.spelled) in
     s.spelled ∙ ap (λ (v : ℕ). bytes_of v f) (same_Some _ _ (third ∙ e))
 
--- What a function returns that reads so has one spelling in its version.
+-- If a function returns the image that reading gives, it has one spelling in its version.
 pub read-by_version :
     (bytes : List ℕ) (r : Result Image DecodeError) → IfOk r (λ i. Spells bytes (fields i))
     → IfOk r (λ i. (version : ℕ) → slice_get bytes 3 ≡ Some version → bytes ≡ bytes_of version (fields i))
 read-by_version bytes (Ok v) s = λ version e. spelled-by_version bytes (fields v) version s e
 read-by_version bytes (Err e) s = tt
 
--- Two spellings of an image that agree on the version are the same.
+-- Two spellings of an image that agree on the version are equal.
 pub spellings-agree :
     (f : Fields) (a b : List ℕ) → Spells a f → Spells b f → slice_get a 3 ≡ slice_get b 3 → a ≡ b
 spellings-agree f a b s t e =
     let third = ap (λ (x : List ℕ). slice_get x 3) s.spelled in
     spelled-by_version a f s.version s third ∙ sym (spelled-by_version b f s.version t (sym e ∙ third))
 
--- What reading an image gives.
+-- The result of reading that is an image.
 abbrev given : Fields → Result Fields DecodeError
 given f = Ok f
 
--- Reading gives one image.
+-- Equal results of reading are of equal images.
 same_image : (f g : Fields) → given f ≡ given g → f ≡ g
 same_image f g e = cc
 
--- The bytes of two images are apart.
+-- Bytes that spell two images spell equal ones.
 pub images-agree : (bytes : List ℕ) (f g : Fields) → Spells bytes f → Spells bytes g → f ≡ g
 images-agree bytes f g s t = same_image f g (sym (spelled-is_read bytes f s) ∙ spelled-is_read bytes g t)

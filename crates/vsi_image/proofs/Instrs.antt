@@ -1,4 +1,4 @@
--- Instructions that are read are spelled so, and what is spelled so is read.
+-- The bytes of instructions that are read are their spelling, and a spelling is read back.
 use Rattle.std.proofs.Common.{◌≡◌, ℕ, zero, suc, ◌^◌, ◌&&◌, true, eqb, List, [], ◌∷◌, ◌++◌, length, Ok, refl, sym, ap, subst, ◌∙◌, append_assoc}
 use Rattle.std.specs.Prelude.{IfOk}
 use Rattle.std.specs.List.{flat_map, AllByRecursion}
@@ -17,7 +17,7 @@ use Rattle.vsi_image.proofs.Numbers.{IsBytes, bind_found, test_found, Takes, Tak
 abbrev pub Read : ℕ → List ℕ → Instr × List ℕ → Type 0
 Read version bytes x = Takes bytes (instr_bytes x.0) x.1 × HasOpcode version x.0
 
--- An operand that is read is spelled so behind its opcode.
+-- The bytes of an operand that is read, after its opcode, are its spelling.
 operand_found :
     (version op at whole : ℕ) (bytes : List ℕ) → IsBytes bytes
     → IfOk (operand_at version op at whole bytes) (Read version (op ∷ bytes))
@@ -49,7 +49,7 @@ operand_found version op at whole bytes fits =
     let p = both_true _ _ e in
     (plain 11 p.0, eqb-true _ _ p.1)) (λ _. tt)))))))))))
 
--- An instruction that is read is spelled so.
+-- The bytes of an instruction that is read are its spelling.
 pub instr_found :
     (version whole : ℕ) (bytes : List ℕ) → IsBytes bytes
     → IfOk (instr_at version whole bytes) (Read version bytes)
@@ -60,7 +60,7 @@ instr_found version whole bytes fits =
     subst (λ (b : List ℕ). IfOk (operand_at version op.0 at whole op.1) (Read version b)) (sym t.0)
     (operand_found version op.0 at whole op.1 t.1))
 
--- An instruction that is spelled so is read.
+-- The spelling of an instruction is read back.
 pub instr_again :
     (version whole : ℕ) (i : Instr) (rest : List ℕ) → HasOpcode version i
     → instr_at version whole (instr_bytes i ++ rest) ≡ Ok (i, rest)
@@ -79,13 +79,13 @@ instr_again version whole (Jz t) rest h = rw (number_again w32 (2 ^ 32) wide32 w
 instr_again version whole (Jmp t) rest h = rw (number_again w32 (2 ^ 32) wide32 whole t rest h) refl
 instr_again version whole Halt rest h = refl
 
--- What was read of this many instructions.
+-- This many instructions that were read.
 pub record Codes (version n : ℕ) (bytes : List ℕ) (x : List Instr × List ℕ) : Type 0 where
   pub len : length x.0 ≡ n
   pub taken : Takes bytes (flat_map instr_bytes x.0) x.1
   pub fit : AllByRecursion (HasOpcode version) x.0
 
--- Instructions that are read are spelled so.
+-- The bytes of instructions that are read are their spelling.
 pub code_found :
     (n version whole : ℕ) (bytes : List ℕ) → IsBytes bytes
     → IfOk (code_at n version whole bytes) (Codes version n bytes)
@@ -102,7 +102,7 @@ code_found (suc n) version whole bytes fits =
       fit = (t.1, c.fit);
     }))
 
--- Instructions that are spelled so are read.
+-- The spelling of instructions is read back.
 pub code_again :
     (version whole : ℕ) (is : List Instr) (rest : List ℕ) → AllByRecursion (HasOpcode version) is
     → code_at (length is) version whole (flat_map instr_bytes is ++ rest) ≡ Ok (is, rest)

@@ -1,4 +1,4 @@
--- Reading one after the other, as a loop does.
+-- Reading one element after another, as a loop does.
 use Rattle.std.proofs.Common.{◌≡◌, ℕ, suc, ◌-◌, ◌+◌, ◌≤◌, ◌<◌, List, [], ◌∷◌, ◌++◌, Ok, Err, refl, ap, sym, append_assoc, arith}
 use Rattle.std.proofs.lemmas.List.{append-nil}
 use Rattle.vsi_image.specs.declared.instr.Instr.{Instr}
@@ -6,23 +6,23 @@ use Rattle.vsi_image.specs.declared.decoder.DecodeError.{DecodeError}
 use Rattle.vsi_image.specs.Fields.{Global}
 use Rattle.vsi_image.specs.Reading.{◌>>=◌, Field, instr_at, code_at, global_at, globals_at}
 
--- What was read before, and what is read now behind it.
+-- The elements read before, followed by those read now.
 abbrev pub behind : {A : Type 0} → List A → Field (List A) → Field (List A)
 behind before read = read >>= λ x. Ok (before ++ x.0, x.1)
 
--- Behind nothing stands what is read.
+-- With no elements before, the result is unchanged.
 pub behind-none : {A : Type 0} (read : Field (List A)) → behind [] read ≡ read
 behind-none (Ok x) = refl
 behind-none (Err e) = refl
 
--- The first of what is read joins what was read before.
+-- The first element that is read joins those read before.
 pub behind-joins :
     {A : Type 0} (before : List A) (x : A) (read : Field (List A))
     → behind before (read >>= λ xs. Ok (x ∷ xs.0, xs.1)) ≡ behind (before ++ x ∷ []) read
 behind-joins before x (Ok xs) = ap (λ l. Ok (l, xs.1)) (sym (append_assoc before (x ∷ []) xs.0))
 behind-joins before x (Err e) = refl
 
--- An instruction that is read is one of those before.
+-- An instruction that is read joins those before.
 pub code-goes_on :
     (count i version whole : ℕ) (before : List Instr) (bytes : List ℕ) (x : Instr) (after : List ℕ) → i < count
     → instr_at version whole bytes ≡ Ok (x, after)
@@ -43,7 +43,7 @@ code-fails count i version whole before bytes e lt h =
     let k : count - i ≡ suc (count - (i + 1)) = omega arith in
     rw (k, h) refl
 
--- With all instructions read, these are the code.
+-- When all instructions are read, they are the code.
 pub code-ends :
     (count i version whole : ℕ) (before : List Instr) (bytes : List ℕ) → count ≤ i
     → behind before (code_at (count - i) version whole bytes) ≡ Ok (before, bytes)
@@ -52,7 +52,7 @@ code-ends count i version whole before bytes le =
     let k : count - i ≡ 0 = omega arith in
     rw k (ap (λ l. Ok (l, bytes)) (append-nil before))
 
--- A global that is read is one of those before.
+-- A global that is read joins those before.
 pub globals-go_on :
     (count i whole : ℕ) (before : List Global) (bytes : List ℕ) (x : Global) (after : List ℕ) → i < count
     → global_at before whole bytes ≡ Ok (x, after)
@@ -73,7 +73,7 @@ globals-fail count i whole before bytes e lt h =
     let k : count - i ≡ suc (count - (i + 1)) = omega arith in
     rw (k, h) refl
 
--- With all globals read, these are the globals.
+-- When all globals are read, they are all the globals.
 pub globals-end :
     (count i whole : ℕ) (before : List Global) (bytes : List ℕ) → count ≤ i
     → behind before (globals_at (count - i) before whole bytes) ≡ Ok (before, bytes)

@@ -21,7 +21,7 @@ mark_here words at h =
     ap (λ n. nat_eq (bit_at n (at % 64)) 1) (get_or-set_same words (at / 64) word 0 within)
     ∙ ap (λ n. nat_eq n 1) (bit_at_set_same w64 (get_or words (at / 64) 0) (at % 64) low)
 
--- The other bits are as they were.
+-- The other bits are unchanged.
 pub mark_other :
     (words : List ℕ) (at k : ℕ) → at < 64 * length words → k ≢ at
     → marked (with_mark words at) k ≡ marked words k
@@ -39,12 +39,12 @@ mark_other words at k h o =
       | inr e ↦ ap (λ n. nat_eq (bit_at n (k % 64)) 1) (get_or-set_other words (at / 64) (k / 64) word 0 e)
     ]
 
--- Each of many zeros is 0.
+-- Every element of a list of zeros is 0.
 zeros : (n k : ℕ) → ◌≡◌ {A = ℕ} (get_or (replicate n 0) k 0) 0
 zeros zero k = refl
 zeros (suc n) zero = refl
 zeros (suc n) (suc k) = zeros n k
 
--- In a row of zeros no bit is set.
+-- No bit is set in a row of zeros.
 pub no_marks : (n k : ℕ) → marked (replicate n 0) k ≡ false
 no_marks n k = ap (λ x. nat_eq (bit_at x (k % 64)) 1) (zeros n (k / 64)) ∙ ap (λ x. nat_eq x 1) (bit_at-zero (k % 64))

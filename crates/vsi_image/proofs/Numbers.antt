@@ -1,4 +1,4 @@
--- A number that is read is the number that was written, and what was written is read again.
+-- The bytes of a number that is read are its spelling, and a spelling is read back.
 use Rattle.std.proofs.Common.{◌≡◌, ℕ, suc, ◌+◌, ◌^◌, ◌<◌, ◌≤◌, ◌&&◌, Bool, true, false, cond, ltb, List, [], ◌∷◌, ◌++◌, length, get_or, take, drop, Result, Ok, Err, refl, sym, ap, ◌∙◌, append_assoc, arith, inl, inr}
 use Rattle.std.specs.Prelude.{IfOk}
 use Rattle.std.specs.Int.{Width, w16, w32, w64, byte_len, from_be_bytes, to_be_bytes}
@@ -8,7 +8,7 @@ use Rattle.std.proofs.lemmas.Nat.{be_bytes_2, be_bytes_4, be_bytes_8, from_be_by
 use Rattle.vsi_image.specs.declared.decoder.DecodeError.{DecodeError}
 use Rattle.vsi_image.specs.Reading.{◌>>=◌, number_at, text_at, byte_at, allowed}
 
--- Each number is a byte.
+-- Every number is a byte.
 abbrev pub IsBytes : List ℕ → Type 0
 IsBytes bytes = (i : ℕ) → get_or bytes i 0 < 256
 
@@ -16,7 +16,7 @@ IsBytes bytes = (i : ℕ) → get_or bytes i 0 < 256
 pub IsBytes-drop : (n : ℕ) (bytes : List ℕ) → IsBytes bytes → IsBytes (drop n bytes)
 IsBytes-drop n bytes h i = rw get_or-drop (h (n + i))
 
--- The front of bytes is bytes.
+-- The prefix of bytes is bytes.
 pub IsBytes-take : (n : ℕ) (bytes : List ℕ) → IsBytes bytes → IsBytes (take n bytes)
 IsBytes-take n bytes h i =
     elim (cases_lt i n) [
@@ -24,7 +24,7 @@ IsBytes-take n bytes h i =
       | inr le ↦ rw (get_or_past (take n bytes) i 0 (omega (arith, length-take n bytes))) (omega arith)
     ]
 
--- What is read after a field that was read has what follows from both.
+-- If a field was read, the next result has the properties that follow from both.
 pub bind_found :
     {A B : Type 0} (r : Result A DecodeError) (f : A → Result B DecodeError) (P : A → Type 0) (Q : B → Type 0)
     → IfOk r P → ((x : A) → P x → IfOk (f x) Q)
@@ -32,7 +32,7 @@ pub bind_found :
 bind_found (Ok x) f P Q h g = g x h
 bind_found (Err e) f P Q h g = tt
 
--- What is read after a test has what follows on both sides.
+-- A result that depends on a test has the properties that follow in both cases.
 pub test_found :
     {B : Type 0} (b : Bool) (r s : Result B DecodeError) (Q : B → Type 0)
     → (b ≡ true → IfOk r Q) → (b ≡ false → IfOk s Q)
@@ -40,23 +40,23 @@ pub test_found :
 test_found true r s Q h g = h refl
 test_found false r s Q h g = g refl
 
--- A value that is allowed has what follows from the test.
+-- A value that is allowed has the properties that follow from the test.
 pub allowed_found :
     {A : Type 0} (b : Bool) (at : ℕ) (x : A) (Q : A → Type 0) → (b ≡ true → Q x) → IfOk (allowed b at x) Q
 allowed_found true at x Q h = h refl
 allowed_found false at x Q h = tt
 
--- Where two tests are both passed, each is.
+-- If two tests are passed together, each is.
 pub both_true : (a b : Bool) → (a && b) ≡ true → (a ≡ true) × (b ≡ true)
 both_true true b h = (refl, h)
 both_true false b h = absurd cc
 
--- What a reader took from the front, and the bytes behind it.
+-- The bytes that a reader took from the front, and the bytes after them.
 pub record Takes (bytes text rest : List ℕ) : Type 0 where
   pub parts : bytes ≡ text ++ rest
   pub rest_fits : IsBytes rest
 
--- What two readers took stands together.
+-- The bytes that two readers took, one after the other, are taken together.
 pub Takes-then : (a x b y c : List ℕ) → Takes a x b → Takes b y c → Takes a (x ++ y) c
 Takes-then a x b y c p q =
     record {
@@ -64,7 +64,7 @@ Takes-then a x b y c p q =
       rest_fits = q.rest_fits;
     }
 
--- A byte before what was taken is taken too.
+-- A byte in front of those taken is taken too.
 pub Takes-behind : (n m : ℕ) (a x b : List ℕ) → n ≡ m → Takes a x b → Takes (n ∷ a) (m ∷ x) b
 Takes-behind n m a x b e p =
     record {
@@ -76,7 +76,7 @@ Takes-behind n m a x b e p =
 pub Takes-none : (a : List ℕ) → IsBytes a → Takes a [] a
 Takes-none a h = record { parts = refl; rest_fits = h }
 
--- Numbers of a width, below a limit, are spelled in one way.
+-- Numbers of a width, below a limit, have one spelling.
 pub record IsWide (w : Width) (limit : ℕ) : Type 0 where
   pub len : (n : ℕ) → length (to_be_bytes w n) ≡ byte_len w
   pub back :
@@ -112,9 +112,9 @@ wide64 = record {
   below = λ bytes fits. omega (arith, fits 0, fits 1, fits 2, fits 3, fits 4, fits 5, fits 6, fits 7);
 }
 
--- ---- found.
+-- ---- reading is sound.
 
--- A text that is read stands at the front.
+-- A text that is read is at the front.
 pub text_found :
     (n whole : ℕ) (bytes : List ℕ) → IsBytes bytes
     → IfOk (text_at n whole bytes) (λ x. Takes bytes x.0 x.1 × (length x.0 ≡ n))
@@ -125,7 +125,7 @@ text_found n whole bytes fits =
     record { parts = sym (take-append-drop n bytes); rest_fits = IsBytes-drop n bytes fits } in
     (takes, omega (arith, length-take n bytes)))
 
--- A number that is read is spelled so, and fits its width.
+-- The bytes of a number that is read are its spelling, and it fits its width.
 pub number_found :
     (w : Width) (limit : ℕ) (wide : IsWide w limit) (whole : ℕ) (bytes : List ℕ) → IsBytes bytes
     → IfOk (number_at w whole bytes) (λ x. Takes bytes (to_be_bytes w x.0) x.1 × (x.0 < limit))
@@ -143,14 +143,14 @@ number_found w limit wide whole bytes fits =
     } in
     (takes, wide.below front front_fits))
 
--- A byte that is read stands at the front.
+-- A byte that is read is at the front.
 pub byte_found :
     (whole : ℕ) (bytes : List ℕ) → IsBytes bytes
     → IfOk (byte_at whole bytes) (λ x. (bytes ≡ x.0 ∷ x.1) × IsBytes x.1)
 byte_found whole [] fits = tt
 byte_found whole (b ∷ bytes) fits = (refl, λ i. fits (suc i))
 
--- ---- again.
+-- ---- spellings are read back.
 
 -- A text at the front is read.
 pub text_again : (whole : ℕ) (text rest : List ℕ) → text_at (length text) whole (text ++ rest) ≡ Ok (text, rest)
@@ -159,7 +159,7 @@ text_again whole text rest =
     le-ltb _ _ (omega (arith, length-append text rest)) in
     rw (long, take_at text rest (length text) refl, drop_at text rest (length text) refl) refl
 
--- A number that is spelled so, and fits its width, is read.
+-- The spelling of a number that fits its width is read back.
 pub number_again :
     (w : Width) (limit : ℕ) (wide : IsWide w limit) (whole n : ℕ) (rest : List ℕ) → n < limit
     → number_at w whole (to_be_bytes w n ++ rest) ≡ Ok (n, rest)

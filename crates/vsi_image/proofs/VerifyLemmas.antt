@@ -1,4 +1,4 @@
--- What the verifier's tests mean.
+-- The meaning of the verifier's checks.
 use Rattle.std.proofs.Common.{◌≡◌, ◌≢◌, ℕ, ◌+◌, ◌-◌, ◌<◌, ◌≤◌, List, length, get_or, Option, Some, None, Bool, true, false, ap, ◌∙◌, sym, subst, refl, arith, inl, inr, nat_lt, nat_le, nat_eq, if◌then◌else◌, ◌&&◌, ◌==◌}
 use Rattle.std.specs.Prelude.{slice_get, IfSome, IsTrue, IsSomeAnd}
 use Rattle.std.specs.Option.{option_map_or, option_map}
@@ -20,13 +20,13 @@ use Rattle.vsi_image.specs.Valid.{IsFine, IsValid}
 use Rattle.vsi_image.proofs.Limited.{limits, no_limits}
 use Rattle.vsi_image.proofs.FirstLemmas.{orelse-none, first_from-none, first_from-clear}
 
--- The depth behind an instruction follows from the depth at it.
+-- The depth after an instruction follows from the depth at it.
 pub depth_at-more :
     (code : List Instr) (pc : ℕ) (i d : Instr) → pc < length code → get_or code pc d ≡ i
     → depth_at code (pc + 1) ≡ depth_after (depth_at code pc) i
 depth_at-more code pc i d h e = fold_more depth_after 0 code pc d h ∙ ap (depth_after (depth_at code pc)) e
 
--- What an instruction without a fault has.
+-- The properties of an instruction without a fault.
 pub record NoFault (image : Image) (depth : ℕ) (i : Instr) : Type 0 where
   pub slot : option_map_or (nat_le image.slots) (slot_of i) false ≡ false
   pub target : option_map_or (nat_le (length image.code.items)) (target_of i) false ≡ false
@@ -34,13 +34,13 @@ pub record NoFault (image : Image) (depth : ℕ) (i : Instr) : Type 0 where
   pub room : left i depth ≤ image.stack
   pub empty : leaves_none i ≡ true → left i depth ≡ 0
 
--- The five tests of an instruction in turn.
+-- The five checks of an instruction in turn.
 abbrev tested : (a b c d e f : Bool) (w x y z u : VerifyError) → Option VerifyError
 tested a b c d e f w x y z u =
     if a then Some w else if b then Some x else if c then Some y else if d then Some z
     else if e && f then Some u else None
 
--- Where the tests in turn find nothing, each was passed.
+-- If the checks in turn find nothing, each was passed.
 tested-none :
     (a b c d e f : Bool) (w x y z u : VerifyError) → tested a b c d e f w x y z u ≡ None
     → (a ≡ false) × (b ≡ false) × (c ≡ false) × (d ≡ false) × (e ≡ true → f ≡ false)
@@ -52,7 +52,7 @@ tested-none false false false false true true w x y z u h = absurd (none-some _ 
 tested-none false false false false true false w x y z u h = (refl, refl, refl, refl, λ _. refl)
 tested-none false false false false false f w x y z u h = (refl, refl, refl, refl, λ e. absurd (cc))
 
--- Where each test is passed, the tests in turn find nothing.
+-- If every check is passed, the checks in turn find nothing.
 tested-clear :
     (a b c d e f : Bool) (w x y z u : VerifyError) → a ≡ false → b ≡ false → c ≡ false → d ≡ false
     → (e ≡ true → f ≡ false)
@@ -65,7 +65,7 @@ tested-clear false true c d e f w x y z u ha hb hc hd he = absurd (cc)
 tested-clear false false true d e f w x y z u ha hb hc hd he = absurd (cc)
 tested-clear false false false true e f w x y z u ha hb hc hd he = absurd (cc)
 
--- No fault of an instruction means that each test was passed.
+-- If an instruction has no fault, every check was passed.
 pub fault_at-none :
     (image : Image) (pc depth : ℕ) (i : Instr) → fault_at image pc depth i ≡ None → NoFault image depth i
 fault_at-none image pc depth i h =
@@ -102,7 +102,7 @@ by_mark :
 by_mark code marks None m = refl
 by_mark code marks (Some t) m = m t refl
 
--- What the marks say of a jump's target decides whether it has a fault.
+-- The mark of a jump's target decides whether the jump has a fault.
 pub target_fault-by_mark :
     (code : List Instr) (pc : ℕ) (i : Instr) (marks : ℕ → Bool) (b : Bool)
     → ((t : ℕ) → target_of i ≡ Some t → marks t ≡ (depth_at code t == 0))
@@ -111,7 +111,7 @@ pub target_fault-by_mark :
 target_fault-by_mark code pc i marks b m y =
     ap (λ b. if b then None else Some (NotEmpty pc)) (sym (by_mark code marks (target_of i) m) ∙ y)
 
--- The depth behind an instruction without a fault is within the limit.
+-- The depth after an instruction without a fault is within the limit.
 pub depth_after-small :
     (image : Image) (depth : ℕ) (i : Instr) → image.stack ≤ 256 → NoFault image depth i
     → depth_after depth i ≤ 256
@@ -121,22 +121,22 @@ depth_after-small image depth i s f = by_goes_off (goes_off i)
     by_goes_off true = omega arith
     by_goes_off false = omega (arith, f.room)
 
--- Where no limit is refused, there is none.
+-- If no limit is reported, no limit is exceeded.
 no_map : (o : Option Limit) → option_map Unencodable o ≡ None → o ≡ None
 no_map None h = refl
 no_map (Some x) h = absurd (none-some _ (sym h))
 
--- A test that passed gives no fault.
+-- A check that is passed reports no fault.
 by_pass : (b : Bool) (x : VerifyError) → (if b then None else Some x) ≡ None → b ≡ true
 by_pass true x h = refl
 by_pass false x h = absurd (none-some _ (sym h))
 
--- A slot that passed the test exists.
+-- A slot that passes the check exists.
 slot_fine : (slots : ℕ) (o : Option ℕ) → option_map_or (nat_le slots) o false ≡ false → IfSome o (λ s. s < slots)
 slot_fine slots None h = tt
 slot_fine slots (Some s) h = grind (arith, nat_tests, h)
 
--- A target that passed both tests exists, and is met without operands.
+-- A target that passes both checks exists, and is reached without operands.
 target_fine :
     (code : List Instr) (o : Option ℕ) → option_map_or (nat_le (length code)) o false ≡ false
     → option_map_or (λ t. nat_eq (depth_at code t) 0) o true ≡ true
@@ -144,12 +144,12 @@ target_fine :
 target_fine code None h d = tt
 target_fine code (Some t) h d = (grind (arith, nat_tests, h), grind (arith, nat_tests, d))
 
--- An end that passed the test never goes on.
+-- An end that passes the check never continues.
 end_fine : (o : Option Instr) → option_map_or goes_off o false ≡ true → IsSomeAnd o (λ i. IsTrue (goes_off i))
 end_fine None h = absurd (cc)
 end_fine (Some i) h = h
 
--- No fault means validity.
+-- An image without a fault is valid.
 pub valid_from : (image : Image) → first_fault image ≡ None → IsValid image
 valid_from image h =
     let code = image.code.items in
@@ -171,14 +171,14 @@ valid_from image h =
       ends = end_fine (slice_get code (length code - 1)) (by_pass _ _ c.0);
     }
 
--- A target that passed the test is within the code.
+-- A target that passes the check is within the code.
 some_below :
     (code : List Instr) (o : Option ℕ) (t : ℕ) → option_map_or (nat_le (length code)) o false ≡ false
     → o ≡ Some t → t < length code
 some_below code o t h e =
     let h' = subst (λ o. option_map_or (nat_le (length code)) o false ≡ false) e h in grind (arith, nat_tests, h')
 
--- Where no instruction has a fault of its own, the marks serve for each target.
+-- If no instruction has a fault of its own, the marks are right for every target.
 pub targets-marked :
     (image : Image) (code : List Instr) (marks : ℕ → Bool) → code ≡ image.code.items
     → first_limit (fields image) ≡ None → first_from (own_fault image) 0 image.code.items ≡ None
@@ -192,12 +192,12 @@ targets-marked image code marks same l f m =
     let a = limits (fields image) l in
     (omega (arith, below, a.count), m t below))
 
--- A slot that exists passes the test.
+-- A slot that exists passes the check.
 no_slot : (slots : ℕ) (o : Option ℕ) → IfSome o (λ s. s < slots) → option_map_or (nat_le slots) o false ≡ false
 no_slot slots None h = refl
 no_slot slots (Some s) h = grind (arith, nat_tests, h)
 
--- A target that exists passes the test.
+-- A target that exists passes the check.
 no_target :
     (code : List Instr) (o : Option ℕ) → IfSome o (λ t. (t < length code) × (depth_at code t ≡ 0))
     → option_map_or (nat_le (length code)) o false ≡ false
@@ -218,19 +218,19 @@ fault_at-clear image pc depth i f =
     (let h = f.room in grind (arith, nat_tests, h))
     (λ e. let h = f.empty e in grind (arith, nat_tests, h))
 
--- A target that is met without operands passes the test.
+-- A target that is reached without operands passes the check.
 target_empty :
     (code : List Instr) (o : Option ℕ) → IfSome o (λ t. (t < length code) × (depth_at code t ≡ 0))
     → option_map_or (λ t. nat_eq (depth_at code t) 0) o true ≡ true
 target_empty code None h = refl
 target_empty code (Some t) h = let l = h.1 in grind (arith, nat_tests, l)
 
--- An end that never goes on passes the test.
+-- An end that never continues passes the check.
 no_end_fault : (o : Option Instr) → IsSomeAnd o (λ i. IsTrue (goes_off i)) → option_map_or goes_off o false ≡ true
 no_end_fault None h = absurd h
 no_end_fault (Some i) h = h
 
--- Validity means no fault.
+-- A valid image has no fault.
 pub none_from : (image : Image) → IsValid image → first_fault image ≡ None
 none_from image v =
     let code = image.code.items in

@@ -1,11 +1,11 @@
--- The first thing of an image that has no bytes.
+-- The first limit that an image exceeds.
 use Rattle.std.specs.Prelude.{ℕ, ◌+◌, List, [], ◌∷◌, ◌++◌, length, Option, Some, None, true, false, if◌then◌else◌, ◌&&◌, nat_lt}
 use Rattle.vsi_image.specs.declared.limits.Limit.{Limit}
 use Rattle.vsi_image.specs.declared.limits.Limit.TheVariants.{Globals, Slots, Stack, Count, Name, Class}
 use Rattle.vsi_syntax.specs.Words.{is_name}
 use Rattle.vsi_image.specs.Fields.{Global, Fields, is_taken, max_globals, max_slots, max_operands, max_instructions}
 
--- The first fault of these globals, which have numbers from n on and stand behind those before.
+-- The first limit that one of these globals exceeds; they are numbered from n on and follow those before.
 abbrev pub globals_limit : ℕ → List Global → List Global → Option Limit
 globals_limit n before [] = None
 globals_limit n before (g ∷ gs) =
@@ -13,7 +13,7 @@ globals_limit n before (g ∷ gs) =
     then (if is_name g.1 then globals_limit (n + 1) (before ++ g ∷ []) gs else Some (Class n))
     else Some (Name n)
 
--- The first limit that an image is past: its numbers first, then its globals.
+-- The first limit that an image exceeds: its numbers first, then its globals.
 abbrev pub first_limit : Fields → Option Limit
 first_limit f =
     if nat_lt max_globals (length f.globals) then Some Globals

@@ -6,7 +6,7 @@ use Rattle.vsi_image.specs.declared.instr.Instr.{Instr}
 use Rattle.vsi_image.specs.declared.instr.Instr.TheVariants.{Push, Load, Store, Add, Sub, Mul, Eq, Lt, Jz, Jmp, Halt}
 use Rattle.vsi_image.specs.Fields.{Global, Fields}
 
--- The text of an instruction is its word, and its operand in decimal.
+-- The text of an instruction: its mnemonic, and its operand in decimal.
 abbrev pub instr_text : Instr → List ℕ
 instr_text (Push n) = codes "PUSH " ++ signed_decimal n
 instr_text (Load s) = codes "LOAD " ++ decimal s
@@ -24,20 +24,20 @@ instr_text Halt = codes "HALT"
 abbrev pub instr_line : ℕ → Instr → List ℕ
 instr_line pc i = decimal pc ++ codes ": " ++ instr_text i ++ codes "\n"
 
--- The lines of instructions that have numbers from pc on.
+-- The lines of instructions that are numbered from pc on.
 abbrev pub code_lines : ℕ → List Instr → List ℕ
 code_lines pc [] = []
 code_lines pc (i ∷ is) = instr_line pc i ++ code_lines (pc + 1) is
 
--- The line of a global is its name and its class name.
+-- The line of a global: its name and its class name.
 abbrev pub global_line : Global → List ℕ
 global_line g = g.0 ++ codes " : " ++ g.1 ++ codes "\n"
 
--- The line of a number begins with this word.
+-- The line of a number, which begins with this label.
 abbrev pub number_line : List ℕ → ℕ → List ℕ
 number_line word n = word ++ decimal n ++ codes "\n"
 
--- The text of an image: its numbers, its globals and its instructions, a line each.
+-- The text of an image: its numbers, its globals and its instructions, one line each.
 abbrev pub listing : Fields → List ℕ
 listing f =
     number_line (codes "globals ") (length f.globals)

@@ -1,4 +1,4 @@
--- Reading an image field by field, to the first field that is missing or not allowed.
+-- Reading an image field by field, up to the first field that is missing or not allowed.
 use Rattle.std.specs.Prelude.{◌≡◌, ◌≢◌, ℕ, zero, suc, ◌-◌, List, [], ◌∷◌, ◌++◌, length, take, drop, Bool, true, false, ◌&&◌, nat_lt, nat_le, ◌==◌, if◌then◌else◌, bytes_eq, Result, Ok, Err}
 use Rattle.std.specs.Int.{Width, w16, w32, w64, byte_len, from_be_bytes, cast_signed}
 use Rattle.vsi_image.specs.declared.instr.Instr.{Instr}
@@ -9,18 +9,18 @@ use Rattle.vsi_image.specs.declared.decoder.Head as made
 use Rattle.vsi_syntax.specs.Words.{is_name}
 use Rattle.vsi_image.specs.Fields.{Global, Fields, is_taken, max_globals, max_slots, max_operands, max_instructions, newest_version}
 
--- What is read next, where nothing was refused so far.
+-- The next reader continues if nothing was refused so far.
 infixl 10 ◌>>=◌
 abbrev pub ◌>>=◌ : {A B : Type 0} → Result A DecodeError → (A → Result B DecodeError) → Result B DecodeError
 (Ok x) >>= f = f x
 (Err e) >>= f = Err e
 
--- What a function returned, seen by view, is what reading gives, unless it is want of memory.
+-- The returned value, seen by `view`, is the result of reading, unless memory ran out.
 abbrev pub Gives : {X Y : Type 0} → (X → Y) → Result X DecodeError → Result Y DecodeError → Type 0
 Gives view (Ok x) read = read ≡ Ok (view x)
 Gives view (Err e) read = e ≢ Memory → read ≡ Err e
 
--- The place at which the rest begins, in a whole of this many bytes.
+-- The position at which the rest begins, in a text of `whole` bytes.
 abbrev pub place : ℕ → List ℕ → ℕ
 place whole rest = whole - length rest
 
@@ -28,49 +28,49 @@ place whole rest = whole - length rest
 abbrev pub Field : Type 0 → Type 0
 Field A = Result (A × List ℕ) DecodeError
 
--- One byte.
+-- Reads one byte.
 abbrev pub byte_at : ℕ → List ℕ → Field ℕ
 byte_at whole [] = Err (Truncated (place whole []))
 byte_at whole (b ∷ rest) = Ok (b, rest)
 
--- This many bytes.
+-- Reads this many bytes.
 abbrev pub text_at : ℕ → ℕ → List ℕ → Field (List ℕ)
 text_at n whole bytes =
     if nat_lt (length bytes) n then Err (Truncated (place whole bytes)) else Ok (take n bytes, drop n bytes)
 
--- A big endian number of a width.
+-- Reads a big endian number of a width.
 abbrev pub number_at : Width → ℕ → List ℕ → Field ℕ
 number_at w whole bytes =
     if nat_lt (length bytes) (byte_len w) then Err (Truncated (place whole bytes))
     else Ok (from_be_bytes w (take (byte_len w) bytes), drop (byte_len w) bytes)
 
--- A value that is allowed, else a bad field that begins here.
+-- A value that is allowed, else a bad field at this position.
 abbrev pub allowed : {A : Type 0} → Bool → ℕ → A → Result A DecodeError
 allowed test at x = if test then Ok x else Err (BadField at)
 
--- A number is within these bounds.
+-- The number is within these bounds.
 abbrev pub is_within : ℕ → ℕ → ℕ → Bool
 is_within low high n = nat_le low n && nat_le n high
 
--- A number of a width, within these bounds.
+-- Reads a number of a width, within these bounds.
 unfoldable pub field_at : Width → ℕ → ℕ → ℕ → List ℕ → Field ℕ
 field_at w low high whole bytes = do
   n ← number_at w whole bytes
   allowed (is_within low high n.0) (place whole bytes) n
 
--- The magic bytes, `VSI`.
+-- Reads the magic bytes, `VSI`.
 unfoldable pub magic_at : ℕ → List ℕ → Field (List ℕ)
 magic_at whole bytes = do
   magic ← text_at 3 whole bytes
   if bytes_eq magic.0 (86 ∷ 83 ∷ 73 ∷ []) then Ok magic else Err BadMagic
 
--- The version, 1 or 2.
+-- Reads the version, 1 or 2.
 unfoldable pub version_at : ℕ → List ℕ → Field ℕ
 version_at whole bytes = do
   version ← byte_at whole bytes
   if is_within 1 newest_version version.0 then Ok version else Err BadVersion
 
--- A length from 1 to 32, and a name that none of these globals has.
+-- Reads a length from 1 to 32, and a name that none of these globals has.
 unfoldable pub name_at : List Global → ℕ → List ℕ → Field (List ℕ)
 name_at before whole bytes = do
   n ← byte_at whole bytes
@@ -78,14 +78,14 @@ name_at before whole bytes = do
   name ← text_at len.0 whole len.1
   allowed (is_name name.0 && (if is_taken before name.0 then false else true)) (place whole len.1) name
 
--- A global behind these: its name, and its class name, which others may have.
+-- Reads a global after these: its name, and its class name, which others may have.
 unfoldable pub global_at : List Global → ℕ → List ℕ → Field Global
 global_at before whole bytes = do
   name ← name_at before whole bytes
   class ← name_at [] whole name.1
   Ok ((name.0, class.0), class.1)
 
--- This many globals behind these.
+-- Reads this many globals after these.
 unfoldable pub globals_at : ℕ → List Global → ℕ → List ℕ → Field (List Global)
 globals_at zero before whole bytes = Ok ([], bytes)
 globals_at (suc n) before whole bytes = do
@@ -93,7 +93,7 @@ globals_at (suc n) before whole bytes = do
   gs ← globals_at n (before ++ g.0 ∷ []) whole g.1
   Ok (g.0 ∷ gs.0, gs.1)
 
--- The instruction of an opcode that stands at a place, with its operand.
+-- Reads the operand of an opcode at a position, and gives the instruction.
 unfoldable pub operand_at : ℕ → ℕ → ℕ → ℕ → List ℕ → Field Instr
 operand_at version op at whole bytes =
     if op == 1 then (number_at w64 whole bytes >>= λ n. Ok (Push (cast_signed w64 n.0), n.1)) else
@@ -109,13 +109,13 @@ operand_at version op at whole bytes =
     if op == 11 && version == 2 then Ok (Mul, bytes) else
     Err (BadOpcode at)
 
--- An instruction of a version.
+-- Reads an instruction of a version.
 unfoldable pub instr_at : ℕ → ℕ → List ℕ → Field Instr
 instr_at version whole bytes = do
   op ← byte_at whole bytes
   operand_at version op.0 (place whole bytes) whole op.1
 
--- This many instructions of a version.
+-- Reads this many instructions of a version.
 unfoldable pub code_at : ℕ → ℕ → ℕ → List ℕ → Field (List Instr)
 code_at zero version whole bytes = Ok ([], bytes)
 code_at (suc n) version whole bytes = do
@@ -123,7 +123,7 @@ code_at (suc n) version whole bytes = do
   is ← code_at n version whole i.1
   Ok (i.0 ∷ is.0, is.1)
 
--- What stands before the globals.
+-- The fields before the globals.
 pub record Head : Type 0 where
   pub version : ℕ
   pub globals : ℕ
@@ -131,12 +131,12 @@ pub record Head : Type 0 where
   pub stack : ℕ
   pub count : ℕ
 
--- The head that lies in memory.
+-- The head in memory.
 abbrev pub head : made.Head → Head
 head h =
     record { version = h.version; globals = h.globals; slots = h.slots; stack = h.stack; count = h.count }
 
--- The head, field after field.
+-- Reads the head, field by field.
 unfoldable pub head_at : ℕ → List ℕ → Field Head
 head_at whole bytes = do
   magic ← magic_at whole bytes
@@ -156,7 +156,7 @@ head_at whole bytes = do
     count.1,
   )
 
--- The fields of an image, behind which nothing stands.
+-- Reads the fields of an image that nothing follows.
 unfoldable pub image_at : ℕ → List ℕ → Result Fields DecodeError
 image_at whole bytes = do
   head ← head_at whole bytes
@@ -166,10 +166,10 @@ image_at whole bytes = do
       then Ok (record { globals = globals.0; slots = head.0.slots; stack = head.0.stack; code = code.0 })
       else Err (Trailing (place whole code.1))
 
--- All of the bytes are read as an image, or refused for the first field that is missing or not allowed.
+-- Reads all the bytes as an image, or refuses them for the first field that is missing or not allowed.
 abbrev pub image_of : List ℕ → Result Fields DecodeError
 image_of bytes = image_at (length bytes) bytes
 
--- Any byte behind these is left over.
+-- Any byte after these is left over.
 abbrev pub EndsThere : List ℕ → Type 0
 EndsThere bytes = (next : ℕ) (rest : List ℕ) → image_of (bytes ++ next ∷ rest) ≡ Err (Trailing (length bytes))

@@ -1,7 +1,7 @@
-//! From bytes to an image: one reader for each field, each of which answers the value and the bytes
-//! behind it.
+//! Decodes bytes to an image: one reader for each field, which returns the value and the bytes
+//! after it.
 //!
-//! `whole` is the number of all bytes, so that a reader knows the place of what it reads.
+//! `whole` is the number of all bytes, from which a reader computes the position of its field.
 
 ghost use Rattle.std.specs.Prelude.{◌≡◌, ℕ, length, true, false, [], IfOk, Ok, Some, slice_get, bytes_eq};
 ghost use Rattle.std.specs.Int.{w16, w32, w64};
@@ -17,10 +17,10 @@ use std::alloc::{AllocError, AllocFailed, Global};
 use thiserror::Error;
 use vsi_syntax::is_name;
 
-/// Why bytes are no image's; a number is the place of the field's first byte, from 0.
+/// Why bytes are not those of an image; a number is the position of the field's first byte, from 0.
 #[derive(Clone, Copy, PartialEq, Eq, Debug, Error)]
 pub enum DecodeError {
-    /// There was no memory for the image.
+    /// Memory ran out for the image.
     #[error("out of memory")]
     Memory,
     /// The bytes don't begin with `VSI`.
@@ -29,16 +29,16 @@ pub enum DecodeError {
     /// The version is neither 1 nor 2.
     #[error("the version is neither 1 nor 2")]
     BadVersion,
-    /// A number of the head, a name's length or a name isn't allowed.
+    /// A number in the head, the length of a name or a name isn't allowed.
     #[error("the field at byte {0} is not allowed")]
     BadField(usize),
-    /// The byte is no opcode of the version.
+    /// The byte is not an opcode of the version.
     #[error("the byte at {0} is no opcode of the version")]
     BadOpcode(usize),
-    /// Fewer bytes are left than the field is wide.
+    /// Fewer bytes are left than the width of the field.
     #[error("the field at byte {0} is cut short")]
     Truncated(usize),
-    /// Bytes are left behind the last field, from this one on.
+    /// Bytes are left after the last field, from this one on.
     #[error("bytes are left behind the last field, from byte {0} on")]
     Trailing(usize),
 }
@@ -59,14 +59,14 @@ impl<T: Drop> From<AllocFailed<T>> for DecodeError {
     }
 }
 
-/// The place at which the rest of the bytes begins.
+/// The position at which the rest of the bytes begins.
 fn place(whole: usize, rest: &[u8]) -> usize
     ensures { result ≡ spec.place whole rest.now }
 {
     whole.saturating_sub(rest.len())
 }
 
-/// One byte.
+/// Reads one byte.
 fn byte_at(whole: usize, bytes: &[u8]) -> Result<(u8, &[u8]), DecodeError>
     ensures { Gives (λ x. (x.0, x.1.now)) result (spec.byte_at whole bytes.now) }
 {
@@ -76,7 +76,7 @@ fn byte_at(whole: usize, bytes: &[u8]) -> Result<(u8, &[u8]), DecodeError>
     }
 }
 
-/// This many bytes.
+/// Reads this many bytes.
 fn text_at(n: usize, whole: usize, bytes: &[u8]) -> Result<(&[u8], &[u8]), DecodeError>
     ensures { Gives (λ x. (x.0.now, x.1.now)) result (spec.text_at n whole bytes.now) }
 {
@@ -86,7 +86,7 @@ fn text_at(n: usize, whole: usize, bytes: &[u8]) -> Result<(&[u8], &[u8]), Decod
     Ok(bytes.split_at(n))
 }
 
-/// A number of two bytes.
+/// Reads a number of two bytes.
 fn u16_at(whole: usize, bytes: &[u8]) -> Result<(u16, &[u8]), DecodeError>
     ensures { Gives (λ x. (x.0, x.1.now)) result (spec.number_at w16 whole bytes.now) }
 {
@@ -97,7 +97,7 @@ fn u16_at(whole: usize, bytes: &[u8]) -> Result<(u16, &[u8]), DecodeError>
     Ok((u16::from_be_bytes([front[0], front[1]]), rest))
 }
 
-/// A number of four bytes.
+/// Reads a number of four bytes.
 fn u32_at(whole: usize, bytes: &[u8]) -> Result<(u32, &[u8]), DecodeError>
     ensures { Gives (λ x. (x.0, x.1.now)) result (spec.number_at w32 whole bytes.now) }
 {
@@ -111,7 +111,7 @@ fn u32_at(whole: usize, bytes: &[u8]) -> Result<(u32, &[u8]), DecodeError>
     ))
 }
 
-/// A number of eight bytes.
+/// Reads a number of eight bytes.
 fn u64_at(whole: usize, bytes: &[u8]) -> Result<(u64, &[u8]), DecodeError>
     ensures { Gives (λ x. (x.0, x.1.now)) result (spec.number_at w64 whole bytes.now) }
 {
@@ -125,7 +125,7 @@ fn u64_at(whole: usize, bytes: &[u8]) -> Result<(u64, &[u8]), DecodeError>
     Ok((number, rest))
 }
 
-/// A number of two bytes, from low to high.
+/// Reads a number of two bytes, from `low` to `high`.
 #[tactic(auto, unfolding(crate::specs::Reading::field_at))]
 fn u16_field(low: u16, high: u16, whole: usize, bytes: &[u8]) -> Result<(u16, &[u8]), DecodeError>
     ensures { Gives (λ x. (x.0, x.1.now)) result (spec.field_at w16 low high whole bytes.now) }
@@ -138,7 +138,7 @@ fn u16_field(low: u16, high: u16, whole: usize, bytes: &[u8]) -> Result<(u16, &[
     }
 }
 
-/// A number of four bytes, from low to high.
+/// Reads a number of four bytes, from `low` to `high`.
 #[tactic(auto, unfolding(crate::specs::Reading::field_at))]
 fn u32_field(low: u32, high: u32, whole: usize, bytes: &[u8]) -> Result<(u32, &[u8]), DecodeError>
     ensures { Gives (λ x. (x.0, x.1.now)) result (spec.field_at w32 low high whole bytes.now) }
@@ -151,7 +151,7 @@ fn u32_field(low: u32, high: u32, whole: usize, bytes: &[u8]) -> Result<(u32, &[
     }
 }
 
-/// The magic bytes.
+/// Reads the magic bytes.
 #[tactic(auto, unfolding(crate::specs::Reading::magic_at))]
 fn magic_at(whole: usize, bytes: &[u8]) -> Result<(&[u8], &[u8]), DecodeError>
     ensures { Gives (λ x. (x.0.now, x.1.now)) result (spec.magic_at whole bytes.now) }
@@ -164,7 +164,7 @@ fn magic_at(whole: usize, bytes: &[u8]) -> Result<(&[u8], &[u8]), DecodeError>
     }
 }
 
-/// The version, 1 or 2.
+/// Reads the version, 1 or 2.
 #[tactic(auto, unfolding(crate::specs::Reading::version_at))]
 fn version_at(whole: usize, bytes: &[u8]) -> Result<(u8, &[u8]), DecodeError>
     ensures { Gives (λ x. (x.0, x.1.now)) result (spec.version_at whole bytes.now) }
@@ -191,7 +191,7 @@ pub(crate) fn is_taken(before: &[(Vec<u8>, Vec<u8>)], name: &[u8]) -> bool
     false
 }
 
-/// A length and a name that none of these globals has.
+/// Reads a length and a name that none of these globals has.
 #[tactic(auto, unfolding(crate::specs::Reading::name_at))]
 fn name_at<'a>(
     before: &[(Vec<u8>, Vec<u8>)],
@@ -213,7 +213,7 @@ fn name_at<'a>(
     }
 }
 
-/// A global behind these.
+/// Reads a global after these.
 #[tactic(auto, unfolding(crate::specs::Reading::global_at))]
 fn global_at<'a>(
     alloc: Global,
@@ -235,7 +235,7 @@ fn global_at<'a>(
     ))
 }
 
-/// This many globals.
+/// Reads this many globals.
 fn globals_at(
     alloc: Global,
     count: u16,
@@ -255,7 +255,7 @@ fn globals_at(
     Ok((globals, rest))
 }
 
-/// The instruction of an opcode, which stands at a place, with its operand.
+/// Reads the operand of an opcode at a position, and returns the instruction.
 #[tactic(auto, unfolding(crate::specs::Reading::operand_at))]
 fn operand_at(
     version: u8,
@@ -297,7 +297,7 @@ fn operand_at(
     }
 }
 
-/// An instruction.
+/// Reads an instruction.
 #[tactic(auto, unfolding(crate::specs::Reading::instr_at))]
 fn instr_at(version: u8, whole: usize, bytes: &[u8]) -> Result<(Instr, &[u8]), DecodeError>
     ensures { Gives (λ x. (x.0, x.1.now)) result (spec.instr_at version whole bytes.now) }
@@ -306,7 +306,7 @@ fn instr_at(version: u8, whole: usize, bytes: &[u8]) -> Result<(Instr, &[u8]), D
     operand_at(version, op, place(whole, bytes), whole, rest)
 }
 
-/// This many instructions.
+/// Reads this many instructions.
 fn code_at(
     alloc: Global,
     count: u32,
@@ -327,7 +327,7 @@ fn code_at(
     Ok((code, rest))
 }
 
-/// What stands before the globals.
+/// The fields before the globals.
 #[derive(Clone, Copy)]
 struct Head {
     version: u8,
@@ -337,7 +337,7 @@ struct Head {
     count: u32,
 }
 
-/// The head, field after field.
+/// Reads the head, field by field.
 #[tactic(auto, unfolding(crate::specs::Reading::head_at))]
 fn head_at(whole: usize, bytes: &[u8]) -> Result<(Head, &[u8]), DecodeError>
     ensures { Gives (λ x. (spec.head x.0, x.1.now)) result (spec.head_at whole bytes.now) }
@@ -360,7 +360,7 @@ fn head_at(whole: usize, bytes: &[u8]) -> Result<(Head, &[u8]), DecodeError>
     ))
 }
 
-/// An image, behind which nothing stands.
+/// Reads an image that nothing follows.
 #[tactic(auto, unfolding(crate::specs::Reading::image_at))]
 fn image_at(alloc: Global, whole: usize, bytes: &[u8]) -> Result<Image, DecodeError>
     ensures { Gives fields result (spec.image_at whole bytes.now) }
@@ -379,18 +379,18 @@ fn image_at(alloc: Global, whole: usize, bytes: &[u8]) -> Result<Image, DecodeEr
     })
 }
 
-/// The image whose bytes these are, of version 1 or 2, with nothing behind it.
+/// The image that these bytes encode, in version 1 or 2, with nothing after it.
 ///
-/// The error is the first field that is missing or not allowed, or `Trailing` where bytes are left
+/// The error is the first field that is missing or not allowed, or `Trailing` if bytes are left
 /// over.
 pub fn decode(alloc: Global, bytes: &[u8]) -> Result<Image, DecodeError>
-    // What is read is spelled so.
+    // The bytes spell the image.
     ensures found { IfOk result (λ i. Spells bytes.now (fields i)) }
-    // What is spelled so is read, unless memory runs out.
+    // If the bytes spell an image, it is read, unless memory runs out.
     ensures only { (f : Fields) → Spells bytes.now f → Gives fields result (Ok f) }
-    // What is read is the image's one spelling in its version, which byte 3 says.
+    // The bytes are the image's only spelling in its version, which is in byte 3.
     ensures back { IfOk result (λ i. IsOneSpelling bytes.now (fields i)) }
-    // The error is the first fault, with its place, unless memory runs out.
+    // The error is the first fault, with its position, unless memory runs out.
     ensures exact { Gives fields result (spec.image_of bytes.now) }
 {
     image_at(alloc, bytes.len(), bytes)

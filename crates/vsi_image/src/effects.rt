@@ -1,11 +1,12 @@
-//! What each instruction takes from the operand stack and leaves on it, and where it goes.
+//! The operands that each instruction takes from the stack and leaves on it, and the instructions
+//! that may follow.
 
 ghost use Rattle.std.specs.Prelude.{◌≡◌, ◌≤◌};
 ghost use Rattle.vsi_image.specs.Effects as spec;
 
 use crate::instr::Instr;
 
-/// How many operands it takes.
+/// The number of operands that the instruction takes.
 pub(crate) fn takes(instr: Instr) -> usize
     ensures { result ≡ spec.takes instr }
 {
@@ -16,7 +17,7 @@ pub(crate) fn takes(instr: Instr) -> usize
     }
 }
 
-/// How many operands it gives.
+/// The number of operands that the instruction gives.
 pub(crate) fn gives(instr: Instr) -> usize
     ensures { result ≡ spec.gives instr }
 {
@@ -32,7 +33,7 @@ pub(crate) fn gives(instr: Instr) -> usize
     }
 }
 
-/// The slot that it names.
+/// The slot that the instruction names.
 pub(crate) fn slot_of(instr: Instr) -> Option<u16>
     ensures { result ≡ spec.slot_of instr }
 {
@@ -42,7 +43,7 @@ pub(crate) fn slot_of(instr: Instr) -> Option<u16>
     }
 }
 
-/// The target that it may jump to.
+/// The target to which the instruction may jump.
 pub(crate) fn target_of(instr: Instr) -> Option<u32>
     ensures { result ≡ spec.target_of instr }
 {
@@ -52,14 +53,14 @@ pub(crate) fn target_of(instr: Instr) -> Option<u32>
     }
 }
 
-/// Whether it may leave no operand: a jump or a halt.
+/// Whether the instruction must leave no operands: a jump or a halt.
 pub(crate) fn leaves_none(instr: Instr) -> bool
     ensures { result ≡ spec.leaves_none instr }
 {
     matches!(instr, Instr::Jz(_) | Instr::Jmp(_) | Instr::Halt)
 }
 
-/// Whether it never goes on to the next instruction.
+/// Whether the instruction never continues to the next one.
 pub(crate) fn goes_off(instr: Instr) -> bool
     ensures { result ≡ spec.goes_off instr }
 {

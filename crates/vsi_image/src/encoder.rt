@@ -1,4 +1,4 @@
-//! From an image to its bytes, in version 2.
+//! Encodes an image to its bytes, in version 2.
 
 ghost use Rattle.std.specs.Prelude.{◌≡◌, ◌≢◌, ◌<◌, ◌++◌, ◌∷◌, length, OnOk, IfOk, IfErr, All, Some, Ok};
 ghost use Rattle.std.specs.List.{flat_map};
@@ -15,7 +15,7 @@ use crate::opcodes::{self, MAGIC, VERSION};
 use std::alloc::{AllocError, Global};
 use thiserror::Error;
 
-/// Adds a byte and the bytes that belong to it.
+/// Appends a byte and the bytes after it.
 fn put_behind(out: &mut Vec<u8>, byte: u8, bytes: &[u8]) -> Result<(), AllocError>
     ensures { OnOk result (out.new.items ≡ out.old.items ++ (byte ∷ bytes.now)) }
 {
@@ -23,7 +23,7 @@ fn put_behind(out: &mut Vec<u8>, byte: u8, bytes: &[u8]) -> Result<(), AllocErro
     out.extend_from_slice(bytes)
 }
 
-/// Adds a name: its length, a byte, and its bytes.
+/// Appends a name: its length as a byte, and its bytes.
 fn put_string(out: &mut Vec<u8>, text: &[u8]) -> Result<(), AllocError>
     requires { length text.now < 256 }
     ensures { OnOk result (out.new.items ≡ out.old.items ++ string text.now) }
@@ -31,7 +31,7 @@ fn put_string(out: &mut Vec<u8>, text: &[u8]) -> Result<(), AllocError>
     put_behind(out, text.len() as u8, text)
 }
 
-/// Adds a global's name and the name of its class.
+/// Appends a global's name and the name of its class.
 fn put_global(out: &mut Vec<u8>, g: &(Vec<u8>, Vec<u8>)) -> Result<(), AllocError>
     requires name { length g.now.0.items < 256 }
     requires class { length g.now.1.items < 256 }
@@ -41,7 +41,7 @@ fn put_global(out: &mut Vec<u8>, g: &(Vec<u8>, Vec<u8>)) -> Result<(), AllocErro
     put_string(out, &g.1)
 }
 
-/// Adds an instruction's opcode and its operand, big endian.
+/// Appends an instruction's opcode and its operand, big endian.
 fn put_instr(out: &mut Vec<u8>, instr: Instr) -> Result<(), AllocError>
     ensures { OnOk result (out.new.items ≡ out.old.items ++ instr_bytes instr) }
 {
@@ -60,7 +60,7 @@ fn put_instr(out: &mut Vec<u8>, instr: Instr) -> Result<(), AllocError>
     }
 }
 
-/// Adds the globals.
+/// Appends the globals.
 fn put_globals(out: &mut Vec<u8>, all: &[(Vec<u8>, Vec<u8>)]) -> Result<(), AllocError>
     requires { All (λ g. (length g.0.items < 256) × (length g.1.items < 256)) all.now }
     ensures { OnOk result
@@ -72,7 +72,7 @@ fn put_globals(out: &mut Vec<u8>, all: &[(Vec<u8>, Vec<u8>)]) -> Result<(), Allo
     Ok(())
 }
 
-/// What the type says of an instruction's operand.
+/// The type bounds an instruction's operand.
 fn known(instr: Instr)
     ensures { HasOpcode newest_version instr }
 {
@@ -91,7 +91,7 @@ fn known(instr: Instr)
     }
 }
 
-/// What the type says of the operands of a code.
+/// The type bounds the operands of all instructions of a code.
 fn known_all(code: &[Instr])
     ensures { All (HasOpcode newest_version) code.now }
 {
@@ -100,7 +100,7 @@ fn known_all(code: &[Instr])
     }
 }
 
-/// Adds the instructions.
+/// Appends the instructions.
 fn put_code(out: &mut Vec<u8>, code: &[Instr]) -> Result<(), AllocError>
     ensures { OnOk result (out.new.items ≡ out.old.items ++ flat_map instr_bytes code.now) }
 {
@@ -110,7 +110,7 @@ fn put_code(out: &mut Vec<u8>, code: &[Instr]) -> Result<(), AllocError>
     Ok(())
 }
 
-/// Adds what stands before the globals.
+/// Appends the fields before the globals.
 fn put_head(
     out: &mut Vec<u8>,
     globals: u16,
@@ -150,13 +150,13 @@ fn bytes_of(alloc: Global, image: &Image) -> Result<Vec<u8>, AllocError>
     Ok(out)
 }
 
-/// Why an image was not written as bytes.
+/// Why an image was not encoded.
 #[derive(Clone, Copy, PartialEq, Eq, Debug, Error)]
 pub enum EncodeError {
-    /// There was no memory for the bytes.
+    /// Memory ran out for the bytes.
     #[error("out of memory")]
     Memory,
-    /// The image is past this limit, the first one.
+    /// The image exceeds this limit, the first one that it exceeds.
     #[error("the image is past a limit: {0}")]
     Unencodable(Limit),
 }
@@ -169,16 +169,16 @@ impl From<AllocError> for EncodeError {
     }
 }
 
-/// The bytes of the image, in version 2, or the first limit that it is past.
+/// The bytes of the image, in version 2, or the first limit that it exceeds.
 pub fn encode(alloc: Global, image: &Image) -> Result<Vec<u8>, EncodeError>
     // The bytes are the image's in version 2.
     ensures bytes { IfOk result (λ b. b.items ≡ spec.bytes_of newest_version (fields image.now)) }
-    // An image that has bytes is within its limits.
+    // An image that is encoded is within its limits.
     ensures allowed { OnOk result (IsAllowed (fields image.now)) }
     // The error is the first limit, unless memory ran out.
     ensures first { IfErr result
         (λ e. e ≢ Memory → option_map Unencodable (first_limit (fields image.now)) ≡ Some e) }
-    // The bytes spell the image, and are read as this image.
+    // The bytes spell the image, and reading them gives the same image.
     ensures spelled { IfOk result (λ b. Spells b.items (fields image.now)) }
     ensures read { IfOk result (λ b. image_of b.items ≡ Ok (fields image.now)) }
 {

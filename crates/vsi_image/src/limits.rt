@@ -1,4 +1,4 @@
-//! The limits of an image: what is past them has no bytes.
+//! The limits of an image: one that exceeds them has no bytes.
 
 ghost use Rattle.std.specs.Prelude.{◌≡◌, []};
 ghost use Rattle.vsi_image.specs.Fields.{fields, globals};
@@ -15,16 +15,16 @@ pub(crate) const MAX_GLOBALS: u16 = 256;
 /// The most slots of an image, globals included.
 pub(crate) const MAX_SLOTS: u16 = 512;
 
-/// The most operands that an image asks room for.
+/// The most operands for which an image may reserve room.
 pub(crate) const MAX_OPERANDS: u16 = 256;
 
-/// The most instructions of an image, `Halt` included.
+/// The most instructions of an image, including `Halt`.
 pub(crate) const MAX_INSTRUCTIONS: u32 = 65535;
 
 /// The most bytes of a name.
 pub(crate) const MAX_NAME_LENGTH: u8 = 32;
 
-/// A limit that an image is past; a number is a global's, from 0.
+/// A limit that an image exceeds; a number is a global's, from 0.
 #[derive(Clone, Copy, PartialEq, Eq, Debug, Error)]
 pub enum Limit {
     /// There are more than 256 globals.
@@ -39,10 +39,10 @@ pub enum Limit {
     /// There are more than 65,535 instructions.
     #[error("there are more than {limit} instructions", limit = MAX_INSTRUCTIONS)]
     Count,
-    /// The global's name is none, or that of a global before it.
+    /// The global's name is invalid, or is that of a global before it.
     #[error("the name of global {0} is none, or that of a global before it")]
     Name(usize),
-    /// The global's class name is none.
+    /// The name of the global's class is invalid.
     #[error("the class name of global {0} is none")]
     Class(usize),
 }
@@ -65,7 +65,7 @@ fn globals_limit(all: &[(Vec<u8>, Vec<u8>)]) -> Option<Limit>
     None
 }
 
-/// The first limit that the image is past.
+/// The first limit that the image exceeds.
 pub(crate) fn limit_of(image: &Image) -> Option<Limit>
     ensures { result ≡ spec.first_limit (fields image.now) }
 {

@@ -3,7 +3,7 @@
 ghost use Rattle.std.specs.Prelude.{◌≡◌, ◌≢◌, ℕ, ◌<◌, ◌*◌, length, true, false};
 ghost use Rattle.vsi_image.specs.Marks.{marked};
 
-/// How many words the row has.
+/// The number of words in the row.
 pub(crate) const WORDS: usize = 1024;
 
 /// A row with no bit set.
@@ -13,7 +13,7 @@ pub(crate) fn blank() -> [u64; WORDS]
     [0; WORDS]
 }
 
-/// Sets the bit at a place.
+/// Sets the bit at an index.
 pub(crate) fn mark(words: &mut [u64], at: usize)
     requires { at < 64 * length words.old }
     ensures here { marked words.new at ≡ true }
@@ -22,7 +22,7 @@ pub(crate) fn mark(words: &mut [u64], at: usize)
     words[at / 64] |= 1 << (at % 64);
 }
 
-/// Sets the bit at a place, which isn't set, if the test says so.
+/// Sets the bit at an index, which isn't set, if the test succeeds.
 pub(crate) fn mark_if(yes: bool, words: &mut [u64], at: usize)
     requires within { at < 64 * length words.old }
     requires unset { marked words.old at ≡ false }
@@ -34,7 +34,7 @@ pub(crate) fn mark_if(yes: bool, words: &mut [u64], at: usize)
     }
 }
 
-/// Whether the bit at a place is set.
+/// Whether the bit at an index is set.
 pub(crate) fn is_marked(words: &[u64], at: usize) -> bool
     requires { at < 64 * length words.now }
     ensures { result ≡ marked words.now at }

@@ -1,9 +1,9 @@
-//! The bytes that mark an image, and the opcodes.
+//! The bytes at the start of an image, and the opcodes.
 
 /// The first bytes of an image, `VSI`.
 pub(crate) const MAGIC: [u8; 3] = [86, 83, 73];
 
-/// The version that is written. Version 1 is read too; it has no multiplication.
+/// The version that is written. Version 1 is also read; it has no multiplication.
 pub(crate) const VERSION: u8 = 2;
 
 pub(crate) const PUSH: u8 = 1;

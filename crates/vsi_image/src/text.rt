@@ -11,7 +11,7 @@ use itoa::Buffer;
 use std::alloc::{AllocError, Global};
 use vsi_syntax::put_number;
 
-/// Adds a word and its operand, or neither of them.
+/// Appends a mnemonic and its operand, or neither.
 fn put_both(out: &mut Vec<u8>, word: &[u8], operand: &[u8]) -> Result<(), AllocError>
     ensures { out.new.items
         ≡ (if is_ok result then out.old.items ++ word.now ++ operand.now else out.old.items) }
@@ -25,7 +25,7 @@ fn put_both(out: &mut Vec<u8>, word: &[u8], operand: &[u8]) -> Result<(), AllocE
     added
 }
 
-/// Adds a word and a number in decimal, or neither of them.
+/// Appends a mnemonic and a number in decimal, or neither.
 fn put_natural(out: &mut Vec<u8>, word: &[u8], n: u32) -> Result<(), AllocError>
     ensures { out.new.items
         ≡ (if is_ok result then out.old.items ++ word.now ++ decimal n else out.old.items) }
@@ -34,7 +34,7 @@ fn put_natural(out: &mut Vec<u8>, word: &[u8], n: u32) -> Result<(), AllocError>
     put_both(out, word, buffer.format(n).as_bytes())
 }
 
-/// Adds the text of a push of this word of the machine, or nothing.
+/// Appends the text of a push of this machine word, or nothing.
 fn put_push(out: &mut Vec<u8>, n: i64) -> Result<(), AllocError>
     ensures { out.new.items ≡ (if is_ok result
         then out.old.items ++ codes "PUSH " ++ signed_decimal n else out.old.items) }
@@ -44,8 +44,8 @@ fn put_push(out: &mut Vec<u8>, n: i64) -> Result<(), AllocError>
 }
 
 impl Instr {
-    /// Adds the text of the instruction at the end: its word, and its operand in decimal, as in
-    /// `LOAD 0` or `PUSH -5`. Where memory is wanting the text stays as it was.
+    /// Appends the text of the instruction: its mnemonic, and its operand in decimal, as in `LOAD
+    /// 0` or `PUSH -5`. If memory runs out, the text is unchanged.
     pub fn write_to(self, out: &mut Vec<u8>) -> Result<(), AllocError>
         ensures { out.new.items
             ≡ (if is_ok result then out.old.items ++ spec.instr_text self else out.old.items) }
@@ -66,7 +66,7 @@ impl Instr {
     }
 }
 
-/// Adds the line of an instruction.
+/// Appends the line of an instruction.
 fn put_line(out: &mut Vec<u8>, pc: usize, instr: Instr) -> Result<(), AllocError>
     ensures { OnOk result (out.new.items ≡ out.old.items ++ spec.instr_line pc instr) }
 {
@@ -77,7 +77,7 @@ fn put_line(out: &mut Vec<u8>, pc: usize, instr: Instr) -> Result<(), AllocError
     Ok(())
 }
 
-/// Adds the lines of the instructions.
+/// Appends the lines of the instructions.
 fn put_code(out: &mut Vec<u8>, code: &[Instr]) -> Result<(), AllocError>
     ensures { OnOk result (out.new.items ≡ out.old.items ++ spec.code_lines 0 code.now) }
 {
@@ -87,7 +87,7 @@ fn put_code(out: &mut Vec<u8>, code: &[Instr]) -> Result<(), AllocError>
     Ok(())
 }
 
-/// Adds the line of a global.
+/// Appends the line of a global.
 fn put_global(out: &mut Vec<u8>, g: &(Vec<u8>, Vec<u8>)) -> Result<(), AllocError>
     ensures { OnOk result (out.new.items ≡ out.old.items ++ spec.global_line (global g.now)) }
 {
@@ -98,7 +98,7 @@ fn put_global(out: &mut Vec<u8>, g: &(Vec<u8>, Vec<u8>)) -> Result<(), AllocErro
     Ok(())
 }
 
-/// Adds the lines of the globals.
+/// Appends the lines of the globals.
 fn put_globals(out: &mut Vec<u8>, all: &[(Vec<u8>, Vec<u8>)]) -> Result<(), AllocError>
     ensures { OnOk result
         (out.new.items ≡ out.old.items ++ flat_map spec.global_line (globals all.now)) }
@@ -109,7 +109,7 @@ fn put_globals(out: &mut Vec<u8>, all: &[(Vec<u8>, Vec<u8>)]) -> Result<(), Allo
     Ok(())
 }
 
-/// Adds a line of a word and a number.
+/// Appends a line with a label and a number.
 fn put_number_line(out: &mut Vec<u8>, word: &[u8], n: usize) -> Result<(), AllocError>
     ensures { OnOk result (out.new.items ≡ out.old.items ++ spec.number_line word.now n) }
 {
@@ -119,8 +119,8 @@ fn put_number_line(out: &mut Vec<u8>, word: &[u8], n: usize) -> Result<(), Alloc
     Ok(())
 }
 
-/// The image as text: a line each for the number of globals, of slots and of operands, then a line
-/// per global and a line per instruction.
+/// The image as text: one line each for the number of globals, of slots and of operands, then one
+/// line per global and one line per instruction.
 pub fn listing(alloc: Global, image: &Image) -> Result<Vec<u8>, AllocError>
     ensures { IfOk result (λ text. text.items ≡ spec.listing (fields image.now)) }
 {

@@ -3,7 +3,7 @@
 use crate::instr::Image;
 use std::marker::Model;
 
-/// A valid image, which the machine runs without a test of slots, targets or operands.
+/// A valid image, which the machine runs without checking slots, targets or operands.
 #[derive(Drop)]
 pub struct Verified {
     image: Image,
@@ -24,8 +24,8 @@ impl Verified {
     ghost use Rattle.std.specs.Prelude.{◌≡◌};
     ghost use Rattle.vsi_image.specs.Valid.{IsValid};
 
-    /// An image that is proved to be valid, as that of a code generator; one from outside goes
-    /// through `verify`.
+    /// An image that is proved to be valid, such as that of a code generator; an image from
+    /// elsewhere goes through `verify`.
     pub fn of(image: Image) -> Verified
         requires { IsValid image }
         ensures { result ≡ image }

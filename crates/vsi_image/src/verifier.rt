@@ -1,5 +1,5 @@
-//! The verifier, which takes no memory: it goes once over the code, with a row of marks, and once
-//! over the jumps.
+//! The verifier, which allocates no memory: it passes once over the code, with a row of marks, and
+//! once over the jumps.
 
 ghost use Rattle.std.specs.Prelude.{◌≡◌, ◌↔◌, ℕ, ◌<◌, ◌≤◌, ◌-◌, length, IfOk, IfErr, IsOk, Some, IsNone, false, true, slice_get};
 ghost use Rattle.std.specs.Option.{option_map_or};
@@ -19,31 +19,31 @@ use thiserror::Error;
 /// Why an image is refused; a number is an instruction's, from 0.
 #[derive(Clone, Copy, PartialEq, Eq, Debug, Error)]
 pub enum VerifyError {
-    /// The image is past a limit, as `encode` names it.
+    /// The image exceeds a limit, the same one that `encode` reports.
     #[error("the image is past a limit: {0}")]
     Unencodable(Limit),
-    /// The instruction names a slot that the image lacks.
+    /// The instruction names a slot that the image doesn't have.
     #[error("instruction {0} names a slot that the image lacks")]
     BadSlot(usize),
     /// The instruction names a target that isn't below the number of instructions.
     #[error("instruction {0} names a target that is no instruction")]
     BadTarget(usize),
-    /// The instruction takes more operands than there are.
+    /// The instruction takes more operands than are on the stack.
     #[error("instruction {0} takes more operands than there are")]
     Underflow(usize),
     /// The instruction leaves more operands than the stack has room for.
     #[error("instruction {0} leaves more operands than the stack has room for")]
     Overflow(usize),
-    /// A jump or a halt leaves operands, or a jump's target is met with operands.
+    /// A jump or a halt leaves operands, or a jump's target is reached with operands.
     #[error("instruction {0} leaves operands, or its target is met with operands")]
     NotEmpty(usize),
-    /// There is no instruction, or the last one goes on to the next.
+    /// There is no instruction, or the last one continues to the next.
     #[error("there is no instruction, or the last one goes on to the next")]
     RunsOff,
 }
 
-/// The first fault of an instruction that is met with this many operands, apart from the depth at
-/// its target.
+/// The first fault of an instruction that is reached with this many operands, apart from the depth
+/// at its target.
 fn fault_at(image: &Image, pc: usize, depth: usize, instr: Instr) -> Option<VerifyError>
     requires { depth ≤ 65535 }
     ensures { result ≡ spec.fault_at image.now pc depth instr }
@@ -71,7 +71,7 @@ fn fault_at(image: &Image, pc: usize, depth: usize, instr: Instr) -> Option<Veri
     None
 }
 
-/// The first instruction's fault, with a mark at each instruction that is met without operands.
+/// The first fault of an instruction; marks every instruction that is reached without operands.
 fn check_each(image: &Image, marks: &mut [u64; WORDS]) -> Option<VerifyError>
     requires short { length image.now.code.items ≤ max_instructions }
     requires stack { image.now.stack ≤ max_operands }
@@ -90,7 +90,7 @@ fn check_each(image: &Image, marks: &mut [u64; WORDS]) -> Option<VerifyError>
     None
 }
 
-/// Whether the instruction has no target or one with a mark.
+/// Whether the instruction has no target, or a target with a mark.
 fn is_target_fine(instr: Instr, marks: &[u64; WORDS]) -> bool
     requires { (t : ℕ) → target_of instr ≡ Some t → t < 65536 }
     ensures { result ≡ option_map_or (marked marks.now) (target_of instr) true }
@@ -101,7 +101,7 @@ fn is_target_fine(instr: Instr, marks: &[u64; WORDS]) -> bool
     }
 }
 
-/// The first jump to an instruction that is met with operands.
+/// The first jump to an instruction that is reached with operands.
 fn check_targets(code: &[Instr], marks: &[u64; WORDS]) -> Option<VerifyError>
     requires { AreMarked code.now (marked marks.now) }
     ensures { result ≡ spec.first_from (spec.target_fault code.now) 0 code.now }
@@ -114,7 +114,7 @@ fn check_targets(code: &[Instr], marks: &[u64; WORDS]) -> Option<VerifyError>
     None
 }
 
-/// Whether there is a last instruction, and it never goes on to the next.
+/// Whether there is a last instruction that never continues to the next.
 fn ends_well(code: &[Instr]) -> bool
     ensures { result ≡ option_map_or goes_off (slice_get code.now (length code.now - 1)) false }
 {
@@ -141,15 +141,15 @@ fn fault_of(image: &Image) -> Option<VerifyError>
     check_targets(&image.code, &marks)
 }
 
-/// The same image, known to be valid, or the image back with its first fault: a limit, then the
-/// instructions' faults in turn, then a code that runs off its end, then the jumps to instructions
-/// that are met with operands.
+/// The same image, known to be valid, or the image with its first fault: a limit, then the
+/// instructions' faults in turn, then a code that runs past its end, then the jumps to instructions
+/// that are reached with operands.
 pub fn verify(image: Image) -> Result<Verified, (Image, VerifyError)>
-    // It is verified exactly where it is valid.
+    // The image is verified exactly if it is valid.
     ensures valid { IsOk result ↔ IsValid image }
-    // What is verified is the image, unchanged.
+    // A verified image is unchanged.
     ensures same { IfOk result (λ verified. verified ≡ image) }
-    // What is refused comes back unchanged.
+    // A refused image is returned unchanged.
     ensures back { IfErr result (λ e. e.0 ≡ image) }
     // The error is the first fault.
     ensures first { IfErr result (λ e. spec.first_fault image ≡ Some e.1) }

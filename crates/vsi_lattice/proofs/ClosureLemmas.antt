@@ -1,4 +1,4 @@
--- The order that pairs declare, as it grows by one pair.
+-- The order that pairs declare, extended by one pair.
 use Rattle.std.proofs.Common.{◌≡◌, ℕ, zero, suc, ◌+◌, ◌<◌, ◌==◌, Bool, true, false, ◌&&◌, ◌||◌, List, [], ◌∷◌, ◌++◌, length, get_or, refl, sym, ap, ◌∙◌, arith, subst, inl, inr, ◌⊎◌, eqb-true, eq-eqb, ltb-true, lt-ltb, true≢false, ne_eqb, take}
 use Rattle.std.proofs.lemmas.List.{take_more}
 use Rattle.std.proofs.lemmas.Bool.{and_parts, and_right, cases_eq}
@@ -7,33 +7,33 @@ use Rattle.std.proofs.lemmas.List.Elements.{Contains-append_left, Contains-appen
 use Rattle.vsi_lattice.specs.Pairs.{Leq, stays, climbs, ArePairsBelow}
 use Rattle.vsi_lattice.specs.Rows.{IsClosureOf, IsTransposed}
 
--- Chains join.
+-- Chains can be joined.
 pub Leq-trans : {pairs : List (ℕ × ℕ)} {a b c : ℕ} → Leq pairs a b → Leq pairs b c → Leq pairs a c
 Leq-trans (stays a) q = q
 Leq-trans (climbs a b c h p) q = climbs _ _ _ h (Leq-trans p q)
 
--- A chain stays where pairs are added.
+-- A chain remains when pairs are added.
 pub Leq-more : {pairs : List (ℕ × ℕ)} {a b : ℕ} (more : List (ℕ × ℕ)) → Leq pairs a b → Leq (pairs ++ more) a b
 Leq-more more (stays a) = stays a
 Leq-more {pairs} more (climbs a b c h p) = climbs _ _ _ (Contains-append_left pairs more (a, b) h) (Leq-more more p)
 
--- One of the two is true.
+-- If the disjunction is true, one of its parts is.
 or_cases : (x y z : Bool) → (x || (y && z)) ≡ true → (x ≡ true) ⊎ ((y ≡ true) × (z ≡ true))
 or_cases true y z h = inl refl
 or_cases false true true h = inr (refl, refl)
 or_cases false true false h = absurd (true≢false (sym h))
 or_cases false false z h = absurd (true≢false (sym h))
 
--- The first is enough.
+-- The first part is enough for the disjunction.
 or_left : (x y : Bool) → x ≡ true → (x || y) ≡ true
 or_left x y h = ap (λ b. b || y) h
 
--- So are the second and the third.
+-- The second part, a conjunction, is enough for the disjunction.
 or_right : (x y z : Bool) → y ≡ true → z ≡ true → (x || (y && z)) ≡ true
 or_right true y z p q = refl
 or_right false y z p q = ap (λ b. b && z) p ∙ q
 
--- A list of one has that one.
+-- A list with one element contains only that.
 only : (p q : ℕ × ℕ) → Contains (p ∷ []) q → p ≡ q
 only p q (zero, lt, e) = e
 only p q (suc k, lt, e) = absurd (omega (arith, lt))
@@ -78,7 +78,7 @@ add_step count pairs has has' low high hl hh e w =
       ];
     }
 
--- With no pair each class is below itself alone.
+-- Without pairs each class is below itself alone.
 pub no_pairs : (count : ℕ) (has : ℕ → ℕ → Bool) → ((a b : ℕ) → has a b ≡ (nat_lt a count && (a == b))) →
     IsClosureOf count [] has
 no_pairs count has e =
@@ -99,14 +99,14 @@ pub complete : {count : ℕ} {pairs : List (ℕ × ℕ)} {has : ℕ → ℕ → 
 complete w lt (stays a) = w.reflexive a lt
 complete w lt (climbs a b c h p) = w.transitive a b c (w.holds a b h) (complete w (w.within a b (w.holds a b h)).1 p)
 
--- Both, in either order.
+-- Conjunction is commutative.
 swap_and : (x y : Bool) → (x && y) ≡ (y && x)
 swap_and true true = refl
 swap_and true false = refl
 swap_and false true = refl
 swap_and false false = refl
 
--- One more pair in both directions.
+-- Adding one more pair in both directions keeps them the reverse of each other.
 pub transposed_step : (up up' down down' : ℕ → ℕ → Bool) (low high : ℕ)
     → ((a b : ℕ) → up' a b ≡ (up a b || (up a low && up high b))) →
     ((a b : ℕ) → down' a b ≡ (down a b || (down a high && down low b)))
@@ -116,7 +116,7 @@ transposed_step up up' down down' low high e f t a b =
     ∙ ap (λ x. up a b || (up high b && x)) (t a low)
     ∙ ap (λ x. up a b || x) (swap_and (up high b) (up a low)) ∙ sym (e a b)
 
--- Below itself alone reads the same from both sides.
+-- The order in which each class is below itself alone is its own reverse.
 own_transposed : (count a b : ℕ) → (nat_lt b count && (b == a)) ≡ (nat_lt a count && (a == b))
 own_transposed count a b = elim (cases_eq a b) [
   | inl e ↦ subst (λ x. (nat_lt x count && (x == a)) ≡ (nat_lt a count && (a == x))) e refl
@@ -124,13 +124,13 @@ own_transposed count a b = elim (cases_eq a b) [
       ∙ sym (and_right (nat_lt a count) (a == b) (ne_eqb a b n))
 ]
 
--- With no pair the two directions agree.
+-- Without pairs the two directions agree.
 pub no_pairs_transposed : (count : ℕ) (up down : ℕ → ℕ → Bool) →
     ((a b : ℕ) → up a b ≡ (nat_lt a count && (a == b))) → ((a b : ℕ) → down a b ≡ (nat_lt a count && (a == b))) →
     IsTransposed up down
 no_pairs_transposed count up down e f a b = f b a ∙ own_transposed count a b ∙ sym (e a b)
 
--- One more pair of a list.
+-- One more pair of a list is added.
 pub pair_turn : (count : ℕ) (pairs : List (ℕ × ℕ)) (i : ℕ) (has has' : ℕ → ℕ → Bool) → i < length pairs →
     ArePairsBelow count pairs
     → ((a b : ℕ) → has' a b ≡ (has a b || (has a (get_or pairs i (0, 0)).0 && has (get_or pairs i (0, 0)).1 b))) →

@@ -1,4 +1,4 @@
--- What a lattice file has, step by step.
+-- The contents of a lattice file, step by step.
 use Rattle.std.proofs.Common.{◌≡◌, ℕ, ◌<◌, ◌≤◌, List, length, map, Option, Some, refl, sym, ap, ◌∙◌, subst, arith, String, Global, string_bytes, Bor, Result, Ok, Err, IfErr, option_and_then, unwrap_or}
 use Rattle.toml.specs.Parse.{parse_document}
 use Rattle.vsi_lattice.proofs.NameLemmas.{text_of, texts_of}
@@ -15,7 +15,7 @@ use Rattle.vsi_lattice.specs.declared.order.OrderError.TheVariants as order
 use Rattle.vsi_lattice.specs.declared.fault.LatticeError.{LatticeError}
 use Rattle.vsi_lattice.specs.declared.fault.LatticeError.TheVariants as errors
 
--- A fault of the order is one of the file.
+-- A fault of the order is a fault of the file.
 pub order_fault : (f : File) (o : OrderError) (e : LatticeError) → e ≡ of_order o → HasPairs f →
     NamesFault (length f.names) (numbers f) o → IsFault f e
 order_fault f order.Memory e q h n = subst (IsFault f) (sym q) tt
@@ -23,7 +23,7 @@ order_fault f (order.Cycle a b) e q h n = subst (IsFault f) (sym q) (h, n)
 order_fault f (order.NoJoin a b) e q h n = subst (IsFault f) (sym q) (h, n)
 order_fault f (order.NoMeet a b) e q h n = subst (IsFault f) (sym q) (h, n)
 
--- The pairs as the code numbers them.
+-- The pairs of positions as the code computes them.
 pub numbered : (names : List (List ℕ)) (pairs : List (List ℕ × List ℕ)) (keys now : List (String Global))
     (items found : List (ℕ × ℕ)) →
     found ≡ items → items ≡ map (number_of (map string_bytes now)) pairs → now ≡ keys →
@@ -32,7 +32,7 @@ pub numbered : (names : List (List ℕ)) (pairs : List (List ℕ × List ℕ)) (
 numbered names pairs keys now items found e f g h =
     e ∙ (f ∙ (ap (λ ks. map (number_of (map string_bytes ks)) pairs) g ∙ ap (λ ns. map (number_of ns) pairs) h))
 
--- No pair is unknown, by the names as the code keeps them.
+-- No pair is unknown, in terms of the names that the code keeps.
 pub known_of : (names : List (List ℕ)) (pairs : List (List ℕ × List ℕ)) (keys now : List (String Global)) →
     now ≡ keys →
     map string_bytes keys ≡ names → Never (IsUnknownAt (map string_bytes now) pairs) → Never (IsUnknownAt names pairs)
@@ -50,7 +50,7 @@ are_names f xs count e h q = record {
   distinct = subst (λ ns. Never (StandsEarlier ns)) (sym e) h.distinct;
 }
 
--- 1 to 64 distinct names.
+-- The file has 1 to 64 distinct names.
 pub has_names : (f : File) (n : ℕ) → length f.names ≡ n → 0 < n → n ≤ 64 → Never (IsBadName f.names) →
     Never (StandsEarlier f.names) →
     HasNames f
@@ -60,7 +60,7 @@ has_names f n e some few named distinct = record {
   distinct = distinct;
 }
 
--- A fault of the order, by the numbers as the code keeps them.
+-- A fault of the order, in terms of the positions that the code keeps.
 pub fault_along : {m n : ℕ} {ps qs : List (ℕ × ℕ)} → m ≡ n → ps ≡ qs → (o : OrderError) → NamesFault m ps o →
     NamesFault n qs o
 fault_along {m} {n} {ps} {qs} e g o h = subst (λ k. NamesFault k qs o) e (subst (λ xs. NamesFault m xs o) g h)
@@ -96,13 +96,13 @@ file_here names nows pairs pows text ms e f t h = (
       ∙ ap (λ ps. Some (record { names = map text_of nows; pairs = map texts_of ps })) (sym f)),
 )
 
--- What holds of an error, further on.
+-- A property of the error implies a weaker one.
 pub on_error : {X : Type 0} {P Q : LatticeError → Type 0} (r : Result X LatticeError) →
     ((e : LatticeError) → P e → Q e) → IfErr r P → IfErr r Q
 on_error (Ok x) f h = h
 on_error (Err e) f h = f e h
 
--- A fault of the file is one of the text.
+-- A fault of the file is a fault of the text.
 pub explained : (text : List ℕ) (f : File) → IsFile text f → (e : LatticeError) → IsFault f e → ExplainsLattice text e
 explained text f is errors.Memory h = tt
 explained text f is errors.NotToml h = absurd h
@@ -130,20 +130,20 @@ accepted_fault f a (errors.Cycle x y) h = absurd (a.lattice.acyclic x y h.1.a_wi
 accepted_fault f a (errors.NoJoin x y) h = absurd (h.1.1.holds (a.lattice.joins x y h.1.1.a_within h.1.1.b_within))
 accepted_fault f a (errors.NoMeet x y) h = absurd (h.1.2.holds (a.lattice.meets x y h.1.2.a_within h.1.2.b_within))
 
--- The file that a text is.
+-- The file that a text denotes.
 unfoldable file_at : List ℕ → Option File
 file_at text = option_and_then file_of (parse_document text)
 
--- The text of a file has that file.
+-- The text of a file denotes that file.
 one_file : {text : List ℕ} {f : File} → IsFile text f → file_at text ≡ Some f
 unfolding file_at
 one_file (ms, t, e) = ap (option_and_then file_of) t.1 ∙ e
 
--- Two files of one text are one.
+-- Two files of one text are equal.
 pub same_file : {text : List ℕ} {f g : File} → IsFile text f → IsFile text g → f ≡ g
 same_file {text} {f} {g} p q = ap (λ (o : Option File). unwrap_or o f) (sym (one_file p) ∙ one_file q)
 
--- A file that the code has found has no fault where a file of the text is accepted.
+-- A file that the code has found has no fault if a file of the text is accepted.
 pub accepted_here : {X : Type 0} (text : List ℕ) (f g : File) (r : Result X LatticeError) → IsFile text f →
     IfErr r (IsFault f) →
     IsFile text g → IsAccepted g → IfErr r (λ e. e ≡ errors.Memory)

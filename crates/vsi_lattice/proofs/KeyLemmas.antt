@@ -1,4 +1,4 @@
--- A look-up by key finds the place of a name.
+-- A lookup by key finds the position of a name.
 use Rattle.std.proofs.Common.{◌≡◌, ℕ, suc, ◌+◌, ◌<◌, Bool, true, false, cond, List, [], ◌∷◌, length, map, Option, Some, None, option_map, bytes_eq, refl, sym, ap, subst, true≢false, ◌∙◌, inl, inr, nat_lt, arith, String, Global, string_bytes}
 use Rattle.std.specs.List.{position, position_or_len}
 use Rattle.std.specs.Str.{IsUtf8}
@@ -8,12 +8,12 @@ use Rattle.std.proofs.lemmas.Bool.{cases_Bool, ltb-true, lt-ltb}
 use Rattle.vsi_lattice.specs.NamePlaces.{place_in}
 use Rattle.vsi_lattice.proofs.NameLemmas.{bytes_apart}
 
--- A place that is found, one further.
+-- A position that is found, one further.
 further : (b : Bool) (n : ℕ) → cond b (Some (suc n)) None ≡ option_map suc (cond b (Some n) None)
 further true n = refl
 further false n = refl
 
--- One number is below another exactly where the next one is below the next.
+-- One number is below another exactly if its successor is below the other's.
 next_below : (n m : ℕ) → nat_lt (1 + n) (suc m) ≡ nat_lt n m
 next_below n m = elim (cases_Bool (nat_lt n m)) [
   | inl e ↦ lt-ltb (1 + n) (suc m) (omega (arith, ltb-true n m e)) ∙ sym e
@@ -23,7 +23,7 @@ next_below n m = elim (cases_Bool (nat_lt n m)) [
   ]
 ]
 
--- A place that is found behind the first element is one further.
+-- A position that is found after the first element is one further.
 behind_first : (n m : ℕ) →
     cond (nat_lt (1 + n) (suc m)) (Some (1 + n)) None ≡ option_map suc (cond (nat_lt n m) (Some n) None)
 behind_first n m =
@@ -38,14 +38,14 @@ first_of p x xs true e =
     rw e (ap (λ b. cond b (Some 0) None) (lt-ltb 0 (suc (length xs)) (omega arith)))
 first_of p x xs false e = rw e (behind_first (position_or_len p xs) (length xs))
 
--- Whether two texts are one doesn't depend on which is first.
+-- Equality of texts is symmetric.
 same_either_way : (x y : List ℕ) → bytes_eq x y ≡ bytes_eq y x
 same_either_way x y = elim (cases_Bool (bytes_eq x y)) [
   | inl e ↦ e ∙ sym ((bytes_eq-Decides y x).1 (sym ((bytes_eq-Decides x y).0 e)))
   | inr e ↦ e ∙ sym (bytes_apart y x (λ same. true≢false (sym ((bytes_eq-Decides x y).1 (sym same)) ∙ e)))
 ]
 
--- The first key that is the text stands at the first place of the name.
+-- The first key that equals the text is at the first position of the name.
 pub place_by_key : (keys : List (String Global)) (x : List ℕ) →
     position (λ k. bytes_eq x (string_bytes k)) keys ≡ place_in (map string_bytes keys) x
 place_by_key [] x = refl
@@ -55,7 +55,7 @@ place_by_key (k ∷ keys) x =
     (same_either_way x (string_bytes k))
     ∙ ap (λ o. cond (bytes_eq (string_bytes k) x) (Some 0) (option_map suc o)) (place_by_key keys x)
 
--- What is no text has no place among texts.
+-- Bytes that are not a text have no position among texts.
 pub no_text : (keys : List (String Global)) (x : List ℕ) → ¬ (IsUtf8 x) → place_in (map string_bytes keys) x ≡ None
 no_text [] x n = refl
 no_text (k ∷ keys) x n =

@@ -1,4 +1,4 @@
--- Names and their places.
+-- Names and their positions.
 use Rattle.std.proofs.Common.{◌≡◌, ℕ, zero, suc, ◌+◌, ◌<◌, Bool, true, false, cond, List, [], ◌∷◌, ◌++◌, length, map, get_or, take, Option, Some, None, option_map, bytes_eq, refl, sym, ap, ◌∙◌, subst, arith, true≢false, inl, inr, is_some, unwrap_or, slice_get, String, Global, string_bytes, string_eq, Bor, not, ◌||◌, length-take}
 use Rattle.std.specs.List.{list_any}
 use Rattle.std.proofs.lemmas.List.{take_more, map-append, get_or-take}
@@ -10,29 +10,29 @@ use Rattle.std.proofs.lemmas.Bool.{cases_Bool}
 use Rattle.vsi_syntax.specs.Words.{is_name}
 use Rattle.vsi_lattice.specs.NamePlaces.{place_in, IsBadName, StandsIn, StandsEarlier}
 
--- A test or a true one is true.
+-- A disjunction with a true part is true.
 or_true : (b : Bool) → (b || true) ≡ true
 or_true true = refl
 or_true false = refl
 
--- What is no bad name is a name.
+-- A text that is not a bad name is a valid name.
 pub name_from : (names : List (List ℕ)) (i : ℕ) → i < length names → ¬ (IsBadName names i) →
     is_name (get_or names i []) ≡ true
 name_from names i lt h = elim (cases_Bool (is_name (get_or names i []))) [ inl e ↦ e | inr e ↦ absurd (h (lt, e)) ]
 
--- No value is not a value.
+-- None is not a value.
 pub none_some : {k : ℕ} → ◌≡◌ {A = Option ℕ} None (Some k) → ⊥
 none_some h = true≢false (sym (ap is_some h))
 
--- Two values that are one.
+-- Two values in equal options are equal.
 pub some_same : {j k : ℕ} → ◌≡◌ {A = Option ℕ} (Some j) (Some k) → j ≡ k
 some_same h = ap (λ (o : Option ℕ). unwrap_or o 0) h
 
--- Two texts that are not one.
+-- Two texts that are not equal.
 pub bytes_apart : (x y : List ℕ) → ¬ (x ≡ y) → bytes_eq x y ≡ false
 bytes_apart x y n = elim (cases_Bool (bytes_eq x y)) [ inl e ↦ absurd (n ((bytes_eq-Decides x y).0 e)) | inr e ↦ e ]
 
--- The place that is found, one further.
+-- The position that is found, one further.
 found_at : (y x : List ℕ) (ys : List (List ℕ)) (t : Bool) (o : Option ℕ) (k : ℕ) → t ≡ bytes_eq y x →
     ((j : ℕ) → o ≡ Some j → (j < length ys) × (get_or ys j [] ≡ x)) → cond t (Some 0) (option_map suc o) ≡ Some k →
     (k < suc (length ys)) × (get_or (y ∷ ys) k [] ≡ x)
@@ -46,13 +46,13 @@ found_at y x ys false (Some j) k e f h =
     let r = f j refl in
     subst (λ n. (n < suc (length ys)) × (get_or (y ∷ ys) n [] ≡ x)) (some_same h) (omega (arith, r.0), r.1)
 
--- A place that is found has the name.
+-- The name is at the position that is found.
 pub found : (names : List (List ℕ)) (x : List ℕ) (k : ℕ) → place_in names x ≡ Some k → (k < length names) ×
     (get_or names k [] ≡ x)
 found [] x k h = absurd (none_some h)
 found (y ∷ ys) x k h = found_at y x ys (bytes_eq y x) (place_in ys x) k refl (λ j. found ys x j) h
 
--- A name that stands nowhere before is found at its place.
+-- A name that does not appear earlier is found at its position.
 pub found_at_own : (names : List (List ℕ)) (k : ℕ) → k < length names →
     ((j : ℕ) → j < k → ¬ (get_or names j [] ≡ get_or names k [])) → place_in names (get_or names k []) ≡ Some k
 found_at_own [] k lt h = absurd (omega (arith, lt))
@@ -63,7 +63,7 @@ found_at_own (y ∷ ys) (suc k) lt h =
     (h 0 (omega arith)))
     ∙ ap (option_map suc) (found_at_own ys k (omega (arith, lt)) (λ j p. h (suc j) (omega (arith, p))))
 
--- The name that stands at a place, as the code reads it.
+-- The name at a position, as the code reads it.
 pub own_name : (keys now : List (String Global)) (i k : ℕ) (key : String Global) (text : List ℕ) → now ≡ keys →
     i ≡ k →
     key ≡ get_or now i key → text ≡ string_bytes key → k < length (map string_bytes keys) →
@@ -72,17 +72,17 @@ own_name keys now i k key text e f g h lt =
     get_or_default (map string_bytes keys) k [] (string_bytes key) lt ∙ get_or-map string_bytes keys k key
     ∙ ap string_bytes (ap (λ l. get_or l k key) (sym e) ∙ ap (λ n. get_or now n key) (sym f) ∙ sym g) ∙ sym h
 
--- A name that stands at a place is read there.
+-- A name at a position is read there.
 pub read_place : (names : List (List ℕ)) (name : List ℕ) (k r : ℕ) → r ≡ k → (k < length names) ×
     (get_or names k [] ≡ name) →
     slice_get names r ≡ Some name
 read_place names name k r e h = ap (slice_get names) e ∙ slice_get-get_or names k [] h.0 ∙ ap Some h.1
 
--- The text that a reference shows.
+-- The text that a reference points to.
 abbrev pub text_of : Bor (List ℕ) → List ℕ
 text_of r = r.now
 
--- The texts that two references show.
+-- The texts that two references point to.
 abbrev pub texts_of : Bor (List ℕ) × Bor (List ℕ) → List ℕ × List ℕ
 texts_of p = (p.0.now, p.1.now)
 
@@ -90,11 +90,11 @@ texts_of p = (p.0.now, p.1.now)
 abbrev nowhere : Bor (List ℕ)
 nowhere = record { ref_ptr = (0, 0); now = [] }
 
--- The name at a place.
+-- The name at a position.
 pub name_at : (rs : List (Bor (List ℕ))) (i : ℕ) → get_or (map text_of rs) i [] ≡ (get_or rs i nowhere).now
 name_at rs i = get_or-map text_of rs i nowhere
 
--- The pair at a place.
+-- The pair at a position.
 pub text_at : (rs : List (Bor (List ℕ) × Bor (List ℕ))) (i : ℕ) →
     get_or (map texts_of rs) i ([], []) ≡ texts_of (get_or rs i (nowhere, nowhere))
 text_at rs i = get_or-map texts_of rs i (nowhere, nowhere)
@@ -112,7 +112,7 @@ pub take_turn : (xs : List (List ℕ)) (i : ℕ) (ys new : List (List ℕ)) (y :
 take_turn xs i ys new y lt e f h =
     h ∙ (ap (λ l. l ++ y ∷ []) e ∙ (ap (λ x. take i xs ++ x ∷ []) f ∙ sym (take_more xs i [] lt)))
 
--- What stands among the names before i stands earlier.
+-- A name among those before i appears earlier.
 pub earlier_from : (xs old : List (List ℕ)) (i : ℕ) (y : List ℕ) → i < length xs → old ≡ take i xs →
     y ≡ get_or xs i [] →
     StandsIn old y → StandsEarlier xs i
@@ -121,7 +121,7 @@ earlier_from xs old i y lt e f (j, lj, g) =
     let less : j < i = omega (arith, lj', length-take i xs) in
     (j, less, lt, sym (get_or-take i xs j [] less) ∙ (ap (λ l. get_or l j []) (sym e) ∙ (g ∙ f)))
 
--- And the other way round.
+-- The converse.
 pub from_earlier : (xs old : List (List ℕ)) (i : ℕ) (y : List ℕ) → i < length xs → old ≡ take i xs →
     y ≡ get_or xs i [] →
     StandsEarlier xs i → StandsIn old y
@@ -129,7 +129,7 @@ from_earlier xs old i y lt e f (j, less, li, g) =
     let lj : j < length (take i xs) = omega (arith, length-take i xs, less, lt) in
     (j, subst (λ l. j < length l) (sym e) lj, ap (λ l. get_or l j []) e ∙ (get_or-take i xs j [] less ∙ (g ∙ sym f)))
 
--- A key that is tested for stands among the names.
+-- A key for which the test succeeds is among the names.
 pub stands_from_any : (keys : List (String Global)) (name : String Global) → list_any (string_eq name) keys ≡ true →
     StandsIn (map string_bytes keys) (string_bytes name)
 stands_from_any [] name h = absurd (true≢false (sym h))
@@ -139,7 +139,7 @@ stands_from_any (k ∷ keys) name h = elim (cases_Bool (string_eq name k)) [
       (suc s.0, omega (arith, s.1), s.2))
 ]
 
--- And where it does, the test finds it.
+-- The converse: the test finds a key among the names.
 pub any_from_stands : (keys : List (String Global)) (name : String Global) →
     StandsIn (map string_bytes keys) (string_bytes name) →
     list_any (string_eq name) keys ≡ true
@@ -149,19 +149,19 @@ any_from_stands (k ∷ keys) name (zero, lt, e) =
 any_from_stands (k ∷ keys) name (suc j, lt, e) =
     ap (λ t. string_eq name k || t) (any_from_stands keys name (j, omega (arith, lt), e)) ∙ or_true (string_eq name k)
 
--- What is not false is true.
+-- A test that is not false is true.
 not_false : (b : Bool) → not b ≡ false → b ≡ true
 not_false true h = refl
 not_false false h = sym h
 
--- A name that was added stood nowhere.
+-- A name that was added was not in the list.
 pub fresh_from : (keys : List (String Global)) (name : String Global) (text : List ℕ) (r : Bool) →
     string_bytes name ≡ text →
     r ≡ not (list_any (string_eq name) keys) → r ≡ true → ¬ (StandsIn (map string_bytes keys) text)
 fresh_from keys name text r e f g s =
     true≢false (sym g ∙ (f ∙ ap not (any_from_stands keys name (subst (StandsIn (map string_bytes keys)) (sym e) s))))
 
--- A name that was not added stood there.
+-- A name that was not added was in the list.
 pub taken_from : (keys : List (String Global)) (name : String Global) (text : List ℕ) (r : Bool) →
     string_bytes name ≡ text →
     r ≡ not (list_any (string_eq name) keys) → r ≡ false → StandsIn (map string_bytes keys) text

@@ -1,4 +1,4 @@
--- Rows that hold the order of pairs, and what their common parts say of it.
+-- Rows that represent the order of pairs, and the consequences of their intersections.
 use Rattle.std.proofs.Common.{◌≡◌, ℕ, ◌<◌, ◌≤◌, Bool, true, List, length, sym, ◌∙◌, subst, arith, inl, inr}
 use Rattle.std.proofs.lemmas.Bool.{cases_eq}
 use Rattle.vsi_lattice.specs.Order.{IsJoin, IsMeet, HasJoin, HasMeet}
@@ -14,7 +14,7 @@ pub closure_preorder : {count : ℕ} {pairs : List (ℕ × ℕ)} {has : ℕ → 
     IsPreorder count has
 closure_preorder w = record { within = w.within; reflexive = w.reflexive; transitive = w.transitive }
 
--- So is the same from the other side.
+-- The reverse of a preorder is a preorder.
 pub dual_preorder : {count : ℕ} {up down : ℕ → ℕ → Bool} → IsTransposed up down → IsPreorder count up →
     IsPreorder count down
 dual_preorder t w = record {
@@ -23,7 +23,7 @@ dual_preorder t w = record {
   transitive = λ a b c h k. t c a ∙ w.transitive c b a (sym (t c b) ∙ k) (sym (t b a) ∙ h);
 }
 
--- A join along an equivalent relation.
+-- A join of an equivalent relation.
 pub join_along : {count : ℕ} {R S : ℕ → ℕ → Type 0} {a b c : ℕ} → ((x y : ℕ) → x < count → y < count → R x y →
     S x y) → ((x y : ℕ) → x < count → y < count → S x y → R x y)
     → a < count → b < count → IsJoin count R a b c → IsJoin count S a b c
@@ -34,7 +34,7 @@ join_along f g ha hb j = record {
   least = λ d hd p q. f _ _ j.within hd (j.least d hd (g _ _ ha hd p) (g _ _ hb hd q));
 }
 
--- A first pair along an equivalent fault.
+-- A first pair of an equivalent fault.
 pub first_along : {count : ℕ} {F G : ℕ → ℕ → Type 0} {a b : ℕ} → ((x y : ℕ) → x < count → y < count → F x y →
     G x y) → ((x y : ℕ) → x < count → y < count → G x y → F x y)
     → IsFirstPair count F a b → IsFirstPair count G a b
@@ -46,7 +46,7 @@ first_along f g w = record {
   before = λ y hy h. w.before y hy (g _ y w.a_within (omega (arith, hy, w.b_within)) h);
 }
 
--- Rows that hold a relation on the classes.
+-- The rows represent a relation on the classes.
 pub record Hold (count : ℕ) (rows : List ℕ) (R : ℕ → ℕ → Type 0) : Type 0 where
   pub len : length rows ≡ count
   pub preorder : IsPreorder count (row_has rows)
@@ -62,7 +62,7 @@ join_from {count} {rows} {R} {a} {b} w ha hb h = (
       (subst (λ n. h.0 < n) w.len h.1) h.2),
 )
 
--- And the other way round.
+-- The converse.
 pub from_join : {count : ℕ} {rows : List ℕ} {R : ℕ → ℕ → Type 0} {a b : ℕ} → Hold count rows R → a < count →
     b < count → HasJoin count R a b → HasCommon rows a b
 from_join {count} {rows} {R} {a} {b} w ha hb h = (
@@ -72,7 +72,7 @@ from_join {count} {rows} {R} {a} {b} w ha hb h = (
       (join_along w.from w.to ha hb h.1),
 )
 
--- The first two without a common row are the first without a join.
+-- The first two classes without a common row are the first without a join.
 pub first_no_join : {count : ℕ} {rows : List ℕ} {R : ℕ → ℕ → Type 0} {a b : ℕ} → Hold count rows R →
     IsFirstPair (length rows) (LacksCommon rows) a b → IsFirstPair count (λ x y. ¬ (HasJoin count R x y)) a b
 first_no_join {count} {rows} {R} {a} {b} w p =
@@ -80,7 +80,7 @@ first_no_join {count} {rows} {R} {a} {b} w p =
     none h.0 h.1 h.2) (λ x y hx hy none c lt e. none (join_from w hx hy (c, lt, e)))
     (subst (λ n. IsFirstPair n (LacksCommon rows) a b) w.len p)
 
--- Where all have common rows, all have joins.
+-- If all have common rows, all have joins.
 pub all_joins : {count : ℕ} {rows : List ℕ} {R : ℕ → ℕ → Type 0} → Hold count rows R →
     ((a b : ℕ) → a < length rows → b < length rows → HasCommon rows a b) → (a b : ℕ) → a < count → b < count →
     HasJoin count R a b
@@ -89,7 +89,7 @@ all_joins w h a b ha hb =
 
 module _ (count : ℕ) (pairs : List (ℕ × ℕ)) (up down : List ℕ) (w : IsClosureOf count pairs (row_has up))
     (t : IsTransposed (row_has up) (row_has down)) (eu : length up ≡ count) (ed : length down ≡ count) where
-  -- The rows hold the declared order.
+  -- The rows represent the declared order.
   pub up_holds : Hold count up (Leq pairs)
   up_holds = record {
     len = eu;
@@ -99,7 +99,7 @@ module _ (count : ℕ) (pairs : List (ℕ × ℕ)) (up down : List ℕ) (w : IsC
         λ x y hx _ h. complete w hx h;
   }
 
-  -- The rows from the other side hold it from the other side.
+  -- The reversed rows represent the reversed order.
   pub down_holds : Hold count down (λ x y. Leq pairs y x)
   down_holds = record {
     len = ed;
@@ -112,7 +112,7 @@ module _ (count : ℕ) (pairs : List (ℕ × ℕ)) (up down : List ℕ) (w : IsC
   cycle_from : (a b : ℕ) → AreTied up down a b → IsCycle count (Leq pairs) a b
   cycle_from a b h = (h.0, w.sound a b h.1, w.sound b a (sym (t b a) ∙ h.2))
 
-  -- And the other way round.
+  -- The converse.
   from_cycle : (a b : ℕ) → a < count → b < count → IsCycle count (Leq pairs) a b → AreTied up down a b
   from_cycle a b ha hb h = (h.0, complete w ha h.1, t b a ∙ complete w hb h.2)
 
@@ -122,12 +122,12 @@ module _ (count : ℕ) (pairs : List (ℕ × ℕ)) (up down : List ℕ) (w : IsC
   first_cycle a b p = first_along (λ x y hx hy h. cycle_from x y h) (λ x y hx hy h. from_cycle x y hx hy h)
       (subst (λ n. IsFirstPair n (AreTied up down) a b) eu p)
 
-  -- With no tied classes there is no cycle.
+  -- Without tied classes there is no cycle.
   pub acyclic : ((a b : ℕ) → a < length up → b < length up → ¬ (AreTied up down a b)) → IsAcyclic count pairs
   acyclic h a b ha hb c = h a b (subst (λ n. a < n) (sym eu) ha) (subst (λ n. b < n) (sym eu) hb)
       (from_cycle a b ha hb c)
 
-  -- The first two without a common row downwards are the first without a meet.
+  -- The first two classes without a common row downwards are the first without a meet.
   pub no_meet : (a b : ℕ) → IsFirstPair (length down) (LacksCommon down) a b →
       IsFirstPair count (λ x y. ¬ (HasMeet count (Leq pairs) x y)) a b
   no_meet a b p = first_along {F = λ x y. ¬ (HasJoin count (λ x y. Leq pairs y x) x y)}
@@ -144,7 +144,7 @@ module _ (count : ℕ) (pairs : List (ℕ × ℕ)) (up down : List ℕ) (w : IsC
         λ a b ha hb. meet_of_join (all_joins down_holds h a b ha hb);
   }
 
-  -- The rows are the declared order.
+  -- The rows represent the declared order.
   pub is_declared : (bottom top : ℕ) → IsDeclared count pairs (row_lattice up bottom top)
   is_declared bottom top = record {
     count_is = eu;
@@ -168,7 +168,7 @@ module _ (count : ℕ) (pairs : List (ℕ × ℕ)) (up down : List ℕ) (w : IsC
             let h = meets a b (subst (λ n. a < n) (sym e) ha) (subst (λ n. b < n) (sym e) hb) in none h.0 h.1 h.2;
       }
 
-  -- And it is lawful.
+  -- The order of the rows is lawful.
   pub mask_lawful : {bottom top : ℕ} → ((a b : ℕ) → a < length up → b < length up → ¬ (AreTied up down a b))
       → AllHaveCommon up → AllHaveCommon down → bottom < length down
       → ((a : ℕ) → a < length down → row_has down a bottom ≡ true) → top < length up
@@ -209,7 +209,7 @@ module _ (count : ℕ) (pairs : List (ℕ × ℕ)) (up down : List ℕ) (w : IsC
       }
 
 module _ (above below : List ℕ) (w : IsMaskOrder above below) where
-  -- What the code finds is the join.
+  -- The class that the code finds is the join.
   pub mask_join : (now : List ℕ) (a b a' b' c r : ℕ) → now ≡ above → a' ≡ a → b' ≡ b → r ≡ c → c < length now →
       IsCommon now a' b' c → IsJoin (length above) (Says (row_has above)) a b r
   mask_join now a b a' b' c r en ea eb er lt h =
@@ -220,7 +220,7 @@ module _ (above below : List ℕ) (w : IsMaskOrder above below) where
       subst (λ x. IsJoin (length above) (Says (row_has above)) a b x) (sym er)
       (common_is_join (length above) above a b c w.preorder lt' h')
 
-  -- And what it finds downwards is the meet.
+  -- The class that the code finds downwards is the meet.
   pub mask_meet : (now : List ℕ) (a b a' b' c r : ℕ) → now ≡ below → a' ≡ a → b' ≡ b → r ≡ c → c < length now →
       IsCommon now a' b' c → IsMeet (length above) (Says (row_has above)) a b r
   mask_meet now a b a' b' c r en ea eb er lt h =
@@ -236,6 +236,6 @@ module _ (above below : List ℕ) (w : IsMaskOrder above below) where
         greatest = λ d hd p q. sym (w.dual d c) ∙ j.least d hd (w.dual d a ∙ p) (w.dual d b ∙ q);
       })
 
--- A fact of two classes, at the classes of those numbers.
+-- A fact about two classes holds for classes equal to them.
 pub at_pair : (P : ℕ → ℕ → Type 0) {a b a' b' : ℕ} → a' ≡ a → b' ≡ b → P a b → P a' b'
 at_pair P {a} {b} {a'} {b'} e f h = subst (λ x. P x b') (sym e) (subst (λ y. P a y) (sym f) h)

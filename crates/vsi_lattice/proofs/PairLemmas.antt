@@ -1,4 +1,4 @@
--- Tests that hold the order of pairs, upwards and downwards.
+-- Tests that represent the order of pairs, upwards and downwards.
 use Rattle.std.proofs.Common.{◌≡◌, ℕ, ◌<◌, Bool, List, refl, sym, ◌∙◌, inl, inr}
 use Rattle.std.proofs.lemmas.Bool.{cases_eq}
 use Rattle.vsi_lattice.specs.Order.{HasJoin, HasMeet}
@@ -20,7 +20,7 @@ refuted (errors.Cycle a b) h l = absurd (l.acyclic a b h.a_within h.b_within h.h
 refuted (errors.NoJoin a b) h l = absurd (h.1.holds (l.joins a b h.1.a_within h.1.b_within))
 refuted (errors.NoMeet a b) h l = absurd (h.2.holds (l.meets a b h.2.a_within h.2.b_within))
 
--- A join from the other side is a meet.
+-- A join of the reversed order is a meet.
 pub meet_from : {count : ℕ} {up down : ℕ → ℕ → Bool} {a b : ℕ} → IsTransposed up down →
     HasJoin count (Says down) a b →
     HasMeet count (Says up) a b
@@ -34,7 +34,7 @@ meet_from {a = a} {b = b} t (c, j) = (
   },
 )
 
--- And the other way round.
+-- The converse.
 pub join_from_meet : {count : ℕ} {up down : ℕ → ℕ → Bool} {a b : ℕ} → IsTransposed up down →
     HasMeet count (Says up) a b →
     HasJoin count (Says down) a b
@@ -50,19 +50,19 @@ join_from_meet {a = a} {b = b} t (c, m) = (
 
 module _ {count : ℕ} {pairs : List (ℕ × ℕ)} {up down : ℕ → ℕ → Bool} (w : IsClosureOf count pairs up)
     (t : IsTransposed up down) where
-  -- What the test says is declared.
+  -- If the test holds, the order is declared.
   declared_up : (x y : ℕ) → x < count → y < count → Says up x y → Leq pairs x y
   declared_up x y hx hy h = w.sound x y h
 
-  -- And the other way round.
+  -- The converse.
   says_up : (x y : ℕ) → x < count → y < count → Leq pairs x y → Says up x y
   says_up x y hx hy h = complete w hx h
 
-  -- What the test from the other side says is declared.
+  -- If the reversed test holds, the reversed order is declared.
   declared_down : (x y : ℕ) → x < count → y < count → Says down x y → Leq pairs y x
   declared_down x y hx hy h = w.sound y x (sym (t y x) ∙ h)
 
-  -- And the other way round.
+  -- The converse.
   says_down : (x y : ℕ) → x < count → y < count → Leq pairs y x → Says down x y
   says_down x y hx hy h = t y x ∙ complete w hy h
 
@@ -70,15 +70,15 @@ module _ {count : ℕ} {pairs : List (ℕ × ℕ)} {up down : ℕ → ℕ → Bo
   join_up : (a b : ℕ) → a < count → b < count → HasJoin count (Says up) a b → HasJoin count (Leq pairs) a b
   join_up a b ha hb h = (h.0, join_along declared_up says_up ha hb h.1)
 
-  -- And the other way round.
+  -- The converse.
   up_join : (a b : ℕ) → a < count → b < count → HasJoin count (Leq pairs) a b → HasJoin count (Says up) a b
   up_join a b ha hb h = (h.0, join_along says_up declared_up ha hb h.1)
 
-  -- A join from the other side is a declared meet.
+  -- A join by the reversed test is a declared meet.
   meet_down : (a b : ℕ) → a < count → b < count → HasJoin count (Says down) a b → HasMeet count (Leq pairs) a b
   meet_down a b ha hb h = meet_of_join (h.0, join_along declared_down says_down ha hb h.1)
 
-  -- And the other way round.
+  -- The converse.
   down_meet : (a b : ℕ) → a < count → b < count → HasMeet count (Leq pairs) a b → HasJoin count (Says down) a b
   down_meet a b ha hb h = let j = join_of_meet h in (j.0, join_along says_down declared_down ha hb j.1)
 
@@ -88,19 +88,19 @@ module _ {count : ℕ} {pairs : List (ℕ × ℕ)} {up down : ℕ → ℕ → Bo
   first_declared_cycle h = first_along (λ x y hx hy c. (c.0, declared_up x y hx hy c.1, declared_up y x hy hx c.2))
       (λ x y hx hy c. (c.0, says_up x y hx hy c.1, says_up y x hy hx c.2)) h
 
-  -- So are the first classes without a join.
+  -- The first classes without a join by the test are the first declared ones.
   pub first_declared_no_join : {a b : ℕ} → IsFirstPair count (λ x y. ¬ (HasJoin count (Says up) x y)) a b
       → IsFirstPair count (λ x y. ¬ (HasJoin count (Leq pairs) x y)) a b
   first_declared_no_join h =
       first_along (λ x y hx hy n j. n (up_join x y hx hy j)) (λ x y hx hy n j. n (join_up x y hx hy j)) h
 
-  -- And the first without a meet.
+  -- The first classes without a meet by the test are the first declared ones.
   pub first_declared_no_meet : {a b : ℕ} → IsFirstPair count (λ x y. ¬ (HasJoin count (Says down) x y)) a b
       → IsFirstPair count (λ x y. ¬ (HasMeet count (Leq pairs) x y)) a b
   first_declared_no_meet h =
       first_along (λ x y hx hy n j. n (down_meet x y hx hy j)) (λ x y hx hy n j. n (meet_down x y hx hy j)) h
 
-  -- No cycle by the test, none declared.
+  -- If the test has no cycle, there is no declared one.
   pub no_declared_cycle : ((x y : ℕ) → x < count → y < count → ¬ (IsCycle count (Says up) x y)) →
       IsAcyclic count pairs
   no_declared_cycle h x y hx hy c = h x y hx hy (c.0, says_up x y hx hy c.1, says_up y x hy hx c.2)
@@ -130,7 +130,7 @@ module _ {count : ℕ} {pairs : List (ℕ × ℕ)} {up down : ℕ → ℕ → Bo
   })
   is_declared_by bottom top = record { count_is = refl; sound = declared_up; complete = says_up }
 
-  -- And it is lawful.
+  -- The order of the test is lawful.
   pub lawful_by : {bottom top : ℕ} → ((x y : ℕ) → x < count → y < count → ¬ (IsCycle count (Says up) x y))
       → ((x y : ℕ) → x < count → y < count → HasJoin count (Says up) x y) → ((x y : ℕ) → x < count → y < count →
       HasJoin count (Says down) x y)

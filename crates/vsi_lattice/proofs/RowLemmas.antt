@@ -11,12 +11,12 @@ use Rattle.std.proofs.lemmas.Nat.Bits.{bit_at_or, bit_at-lt, bit_at-zero, bit_at
 use Rattle.std.proofs.lemmas.Bool.Decides.{nat_tests}
 use Rattle.vsi_lattice.specs.Rows.{row_has, widened, AddsPair}
 
--- A test or a false one.
+-- A disjunction with a false part.
 or_false : (x : Bool) → x ≡ (x || false)
 or_false true = refl
 or_false false = refl
 
--- A bit of the larger of two.
+-- A bit of the larger of two numbers.
 or_bits : (x y : ℕ) → x < 2 → y < 2 → (max x y == 1) ≡ ((x == 1) || (y == 1))
 or_bits x y hx hy = grind (arith, nat_tests)
 
@@ -27,12 +27,12 @@ widened-cases true row reached b =
     rw bit_at_or (or_bits (bit_at row b) (bit_at reached b) (bit_at-lt row b) (bit_at-lt reached b))
 widened-cases false row reached b = or_false _
 
--- Nothing is widened where there is no row.
+-- An empty row is not widened.
 widened-zero : (low reached : ℕ) → widened low reached 0 ≡ 0
 unfolding widened
 widened-zero low reached = ap (λ n. cond (n == 1) (bit_or 0 reached) 0) (bit_at-zero low)
 
--- Rows that are widened have what follows from one more pair.
+-- Widened rows have the consequences of one more pair.
 pub row_has-widened : (old new : List ℕ) (low high : ℕ) → new ≡ map (widened low (get_or old high 0)) old →
     (a b : ℕ) → row_has new a b ≡ (row_has old a b || (row_has old a low && row_has old high b))
 unfolding row_has widened
@@ -73,7 +73,7 @@ own_bit rows count len each a b = elim (cases_lt a count) [
       ∙ sym (ap (λ t. t && (a == b)) (le-ltb a count le))
 ]
 
--- What a slice of a whole Vec is written back as.
+-- The result of writing a slice of a whole Vec back.
 pub written_back : (n : ℕ) (old new : List ℕ) → length new ≡ n → length old ≡ n →
     take n (new ++ drop (length new) old) ≡ new
 written_back n old new e f =

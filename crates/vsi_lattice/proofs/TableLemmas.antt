@@ -16,17 +16,17 @@ row_of a b h = omega arith
 column_of : (a b : ℕ) → b < 64 → (a * 64 + b) % 64 ≡ b
 column_of a b h = omega arith
 
--- Nothing stands past the last column.
+-- A table is false past the last column.
 pub has_past_column : (table : List Bool) (a b : ℕ) → 64 ≤ b → table_has table a b ≡ false
 unfolding table_has
 has_past_column table a b h = ap (λ t. t && get_or table (a * 64 + b) false) (le-ltb b 64 h)
 
--- What stands in a column.
+-- The entry in a column.
 has_column : (table : List Bool) (a b : ℕ) → b < 64 → table_has table a b ≡ get_or table (a * 64 + b) false
 unfolding table_has
 has_column table a b h = ap (λ t. t && get_or table (a * 64 + b) false) (lt-ltb b 64 h)
 
--- Nothing stands past the last row.
+-- A table is false past the last row.
 pub has_past_row : (table : List Bool) (a b : ℕ) → length table ≡ 4096 → 64 ≤ a → table_has table a b ≡ false
 has_past_row table a b len h = elim (cases_lt b 64) [
   | inl lt ↦ has_column table a b lt ∙ get_or_past table (a * 64 + b) false (omega arith)
@@ -47,34 +47,34 @@ written f table len each rows columns a b = elim (cases_lt b 64) [
   ]
 ]
 
--- A class is below itself alone: nothing stands outside.
+-- The order in which a class is below itself alone is false past the last column.
 pub own_outside : (count a b : ℕ) → count ≤ 64 → 64 ≤ b → (nat_lt a count && (a == b)) ≡ false
 own_outside count a b small h = grind (arith, nat_tests)
 
--- Nor in the rows.
+-- The order in which a class is below itself alone is false past the last row.
 pub own_past : (count a b : ℕ) → count ≤ 64 → 64 ≤ a → (nat_lt a count && (a == b)) ≡ false
 own_past count a b small h = ap (λ t. t && (a == b)) (le-ltb a count (omega arith))
 
--- One more pair, where nothing stands outside.
+-- Adding a pair keeps an order false past the last column.
 pub pair_outside : (x y z : Bool) → x ≡ false → z ≡ false → (x || (y && z)) ≡ false
 pair_outside x true z e f = ap (λ t. t || z) e ∙ f
 pair_outside x false z e f = ap (λ t. t || false) e
 
--- Nor in the rows.
+-- Adding a pair keeps an order false past the last row.
 pub pair_past : (x y z : Bool) → x ≡ false → y ≡ false → (x || (y && z)) ≡ false
 pair_past x y z e f = ap (λ t. t || (y && z)) e ∙ ap (λ t. t && z) f
 
--- One more pair, from the table that the code reads.
+-- One more pair is added to the table that the code reads.
 pub adds_to : (old now new : List Bool) (low high : ℕ) → now ≡ old →
     AddsPair (table_has now) (table_has new) low high →
     AddsPair (table_has old) (table_has new) low high
 adds_to old now new low high e h = subst (λ (t : List Bool). AddsPair (table_has t) (table_has new) low high) e h
 
--- A table has no cycle.
+-- The table has no cycle.
 abbrev pub NoCycle : ℕ → List Bool → Type 0
 NoCycle count table = (x y : ℕ) → x < count → y < count → ¬ (IsCycle count (Says (table_has table)) x y)
 
--- A table has all joins.
+-- The table has all joins.
 abbrev pub HasJoins : ℕ → List Bool → Type 0
 HasJoins count table = (x y : ℕ) → x < count → y < count → HasJoin count (Says (table_has table)) x y
 
@@ -82,22 +82,22 @@ HasJoins count table = (x y : ℕ) → x < count → y < count → HasJoin count
 abbrev pub Unjoined : ℕ → List Bool → ℕ → ℕ → Type 0
 Unjoined count table x y = ¬ (HasJoin count (Says (table_has table)) x y)
 
--- Of the table that the code reads.
+-- A table equal to one without a cycle has none.
 pub no_cycle_of : {count : ℕ} {now own : List Bool} → now ≡ own → NoCycle count now → NoCycle count own
 no_cycle_of {count} e h = subst (λ (t : List Bool). NoCycle count t) e h
 
--- Of the table that the code reads.
+-- A table equal to one with all joins has all joins.
 pub joins_of : {count : ℕ} {now own : List Bool} → now ≡ own → HasJoins count now → HasJoins count own
 joins_of {count} e h = subst (λ (t : List Bool). HasJoins count t) e h
 
--- Of the table that the code reads.
+-- Two equal tables have the same first cycle.
 pub cycle_of : {count a b : ℕ} {now own : List Bool} → now ≡ own →
     IsFirstPair count (IsCycle count (Says (table_has now))) a b →
     IsFirstPair count (IsCycle count (Says (table_has own))) a b
 cycle_of {count} {a} {b} e h =
     subst (λ (t : List Bool). IsFirstPair count (IsCycle count (Says (table_has t))) a b) e h
 
--- Of the table that the code reads.
+-- Two equal tables have the same first classes without a join.
 pub unjoined_of : {count a b : ℕ} {now own : List Bool} → now ≡ own → IsFirstPair count (Unjoined count now) a b →
     IsFirstPair count (Unjoined count own) a b
 unjoined_of {count} {a} {b} e h = subst (λ (t : List Bool). IsFirstPair count (Unjoined count t) a b) e h

@@ -1,4 +1,4 @@
--- When a lattice file is accepted, and the first fault of one that is not.
+-- The acceptance of a lattice file, and the first fault of one that is not accepted.
 use Rattle.std.specs.Prelude.{◌≡◌, ℕ, ◌<◌, ◌≤◌, List, length, map, None}
 use Rattle.toml.specs.Data.{Members}
 use Rattle.vsi_lattice.specs.Order.{Lattice}
@@ -11,7 +11,7 @@ use Rattle.vsi_lattice.specs.declared.order.OrderError.TheVariants as order
 use Rattle.vsi_lattice.specs.declared.fault.LatticeError.{LatticeError}
 use Rattle.vsi_lattice.specs.declared.fault.LatticeError.TheVariants.{Memory, NotToml, BadShape, NoClass, TooManyClasses, BadName, DuplicateName, UnknownName, Cycle, NoJoin, NoMeet}
 
--- The pairs by the numbers of their classes.
+-- The pairs by the positions of their classes.
 abbrev pub numbers : File → List (ℕ × ℕ)
 numbers f = map (number_of f.names) f.pairs
 
@@ -20,23 +20,23 @@ pub record IsCounted (f : File) : Type 0 where
   pub some : 0 < length f.names
   pub few : length f.names ≤ 64
 
--- And they have distinct names.
+-- The file has 1 to 64 classes with distinct valid names.
 pub record HasNames (f : File) : Type 0 where
   pub counted : IsCounted f
   pub named : Never (IsBadName f.names)
   pub distinct : Never (StandsEarlier f.names)
 
--- And the pairs name no others.
+-- In addition, the pairs name only these classes.
 pub record HasPairs (f : File) : Type 0 where
   pub names : HasNames f
   pub known : Never (IsUnknownAt f.names f.pairs)
 
--- And the pairs declare a lattice.
+-- In addition, the pairs declare a lattice.
 pub record IsAccepted (f : File) : Type 0 where
   pub pairs : HasPairs f
   pub lattice : MakesLattice (length f.names) (Leq (numbers f))
 
--- The error tells what the file lacks, and that it lacks nothing that is judged before.
+-- The error is a fault of the file, and the file has no fault that is checked before it.
 abbrev pub IsFault : File → LatticeError → Type 0
 IsFault f Memory = Unit {0}
 IsFault f NotToml = ⊥
@@ -50,13 +50,13 @@ IsFault f (Cycle a b) = HasPairs f × NamesFault (length f.names) (numbers f) (o
 IsFault f (NoJoin a b) = HasPairs f × NamesFault (length f.names) (numbers f) (order.NoJoin a b)
 IsFault f (NoMeet a b) = HasPairs f × NamesFault (length f.names) (numbers f) (order.NoMeet a b)
 
--- The error tells the first name that stands earlier, unless memory ran out.
+-- The error is the first name that appears earlier, unless memory ran out.
 abbrev pub TellsDuplicate : List (List ℕ) → LatticeError → Type 0
 TellsDuplicate names Memory = Unit {0}
 TellsDuplicate names (DuplicateName i) = IsLeast (StandsEarlier names) i
 TellsDuplicate names _ = ⊥
 
--- The error tells the first pair with an unknown name, unless memory ran out.
+-- The error is the first pair with an unknown name, unless memory ran out.
 abbrev pub TellsUnknown : List (List ℕ) → List (List ℕ × List ℕ) → LatticeError → Type 0
 TellsUnknown names pairs Memory = Unit {0}
 TellsUnknown names pairs (UnknownName i) = IsLeast (IsUnknownAt names pairs) i
@@ -66,7 +66,7 @@ TellsUnknown names pairs _ = ⊥
 abbrev pub HasFault : List ℕ → LatticeError → Type 0
 HasFault text e = (f : File) × IsFile text f × IsFault f e
 
--- The first fault of the text is the one that the error tells.
+-- The error is the first fault of the text.
 abbrev pub ExplainsLattice : List ℕ → LatticeError → Type 0
 ExplainsLattice text Memory = Unit {0}
 ExplainsLattice text NotToml = (ms : Members) → ¬ (IsToml text ms)
@@ -79,11 +79,11 @@ pub record IsOf (f : File) (names : List (List ℕ)) (L : Lattice) : Type 0 wher
   pub names_are : names ≡ f.names
   pub order_is : IsDeclared (length f.names) (numbers f) L
 
--- The text is such a lattice file.
+-- The text is a lattice file with these names and this order.
 abbrev pub IsRead : List ℕ → List (List ℕ) → Lattice → Type 0
 IsRead text names L = (f : File) × IsFile text f × IsOf f names L
 
--- The error that an order's error is.
+-- The error of a file for an error of its order.
 abbrev pub of_order : OrderError → LatticeError
 of_order order.Memory = Memory
 of_order (order.Cycle a b) = Cycle a b

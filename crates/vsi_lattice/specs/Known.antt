@@ -1,6 +1,6 @@
--- Which classes names stand for.
+-- The classes that names denote.
 use Rattle.std.specs.Prelude.{ℕ, List, Option}
 
--- The class that a name stands for, if any.
+-- The class that a name denotes, if any.
 abbrev pub Known : Type 0
 Known = List ℕ → Option ℕ

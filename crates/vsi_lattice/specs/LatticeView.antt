@@ -13,6 +13,6 @@ names l = owned l.names.keys
 abbrev pub order : Lattice → Order
 order l = row_lattice l.order.above.items l.order.bottom l.order.top
 
--- The class of a name.
+-- The class with a name.
 abbrev pub class_named : Lattice → List ℕ → Option ℕ
 class_named l name = place_in (names l) name

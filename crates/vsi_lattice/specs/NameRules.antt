@@ -1,4 +1,4 @@
--- What the names of a lattice keep.
+-- The invariant of the names of a lattice.
 use Rattle.std.specs.Prelude.{◌≡◌, ℕ, ◌<◌, ◌≤◌, List, length}
 use Rattle.vsi_lattice.specs.NamePlaces.{Never, IsBadName, StandsEarlier}
 

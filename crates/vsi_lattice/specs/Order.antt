@@ -24,14 +24,14 @@ module _ (count : ℕ) (R : ℕ → ℕ → Type 0) where
   abbrev pub HasMeet : ℕ → ℕ → Type 0
   HasMeet a b = (c : ℕ) × IsMeet a b c
 
--- How many classes there are, which are at or below which, the least one and the greatest.
+-- The number of classes, the order, the least class and the greatest.
 pub record Lattice : Type 0 where
   pub count : ℕ
   pub leq : ℕ → ℕ → Bool
   pub bottom : ℕ
   pub top : ℕ
 
--- A class of the lattice.
+-- The number is that of a class of the lattice.
 abbrev pub IsClass : Lattice → ℕ → Type 0
 IsClass L a = a < L.count
 
@@ -39,7 +39,7 @@ IsClass L a = a < L.count
 abbrev pub Below : Lattice → ℕ → ℕ → Type 0
 Below L a b = IsTrue (L.leq a b)
 
--- A partial order in which every two classes have a join and a meet, with a least class and a greatest.
+-- A partial order in which every two classes have a join and a meet, with a least and a greatest class.
 pub record IsLattice (L : Lattice) : Type 0 where
   pub reflexive : (a : ℕ) → IsClass L a → Below L a a
   pub antisymmetric : (a b : ℕ) → IsClass L a → IsClass L b → Below L a b → Below L b a → a ≡ b

@@ -1,4 +1,4 @@
--- When an order is refused, and with which pair.
+-- The faults of an order, and the pairs reported for them.
 use Rattle.std.specs.Prelude.{ℕ, ◌<◌, List}
 use Rattle.vsi_lattice.specs.Order.{HasJoin, HasMeet}
 use Rattle.vsi_lattice.specs.Pairs.{Leq, IsCycle, IsFirstPair}
@@ -14,7 +14,7 @@ module _ (count : ℕ) (pairs : List (ℕ × ℕ)) where
   abbrev pub AllJoin : Type 0
   AllJoin = (a b : ℕ) → a < count → b < count → HasJoin count (Leq pairs) a b
 
-  -- The fault that the error names, and that no fault of an earlier kind is there.
+  -- The error reports a fault, and no fault of an earlier kind exists.
   abbrev pub NamesFault : OrderError → Type 0
   NamesFault Memory = Unit {0}
   NamesFault (Cycle a b) = IsFirstPair count (IsCycle count (Leq pairs)) a b

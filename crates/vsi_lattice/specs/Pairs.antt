@@ -1,4 +1,4 @@
--- The order that pairs declare, and what makes it a lattice. Numbers stand for classes.
+-- The order that pairs declare, and the conditions for it to be a lattice. Numbers represent classes.
 use Rattle.std.specs.Prelude.{◌≡◌, ℕ, ◌<◌, Bool, IsTrue, List, Contains, All}
 use Rattle.vsi_lattice.specs.Order.{Lattice, HasJoin, HasMeet, Below}
 
@@ -16,7 +16,7 @@ abbrev pub Says : (ℕ → ℕ → Bool) → ℕ → ℕ → Type 0
 Says leq a b = IsTrue (leq a b)
 
 module _ (count : ℕ) (R : ℕ → ℕ → Type 0) where
-  -- A and b are two classes, each below the other.
+  -- A and b are two distinct classes, each below the other.
   abbrev pub IsCycle : ℕ → ℕ → Type 0
   IsCycle a b = (a ≡ b → ⊥) × R a b × R b a
 
@@ -26,7 +26,7 @@ module _ (count : ℕ) (R : ℕ → ℕ → Type 0) where
     pub joins : (a b : ℕ) → a < count → b < count → HasJoin count R a b
     pub meets : (a b : ℕ) → a < count → b < count → HasMeet count R a b
 
-  -- The first pair in dictionary order of which the fault holds.
+  -- The first pair in lexicographic order that has the fault.
   pub record IsFirstPair (a b : ℕ) : Type 0 where
     pub a_within : a < count
     pub b_within : b < count
@@ -34,7 +34,7 @@ module _ (count : ℕ) (R : ℕ → ℕ → Type 0) where
     pub earlier : (x y : ℕ) → x < a → y < count → ¬ (R x y)
     pub before : (y : ℕ) → y < b → ¬ (R a y)
 
--- The lattice has that many classes, and its order is the one that the pairs declare.
+-- The lattice has this number of classes, and its order is the one that the pairs declare.
 pub record IsDeclared (count : ℕ) (pairs : List (ℕ × ℕ)) (L : Lattice) : Type 0 where
   pub count_is : L.count ≡ count
   pub sound : (a b : ℕ) → a < count → b < count → Below L a b → Leq pairs a b

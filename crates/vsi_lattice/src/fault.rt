@@ -7,16 +7,16 @@ use crate::order::OrderError;
 use std::alloc::{AllocError, AllocFailed};
 use thiserror::Error;
 
-/// Why a lattice file is refused. Faults are judged in the order in which they stand here.
+/// Why a lattice file is refused. Faults are checked in the order in which they are listed here.
 #[derive(Clone, Copy, Debug, PartialEq, Eq, Error)]
 pub enum LatticeError {
-    /// There was no memory to read the file.
+    /// Memory ran out while reading the file.
     #[error("out of memory")]
     Memory,
-    /// The text is no TOML document.
+    /// The text is not a TOML document.
     #[error("the lattice file is no TOML")]
     NotToml,
-    /// The document has other keys than `classes` and `below`, or other types there.
+    /// The document has keys other than `classes` and `below`, or values of other types there.
     #[error("the lattice file has other keys than `classes` and `below`, or other types there")]
     BadShape,
     /// There is no class.
@@ -25,13 +25,13 @@ pub enum LatticeError {
     /// There are more than 64 classes.
     #[error("there are more than 64 classes")]
     TooManyClasses,
-    /// The class with this place in `classes` has no name.
+    /// The class at this position in `classes` has no name.
     #[error("the class at place {0} has no name")]
     BadName(usize),
-    /// The class with this place in `classes` has the name of an earlier one.
+    /// The class at this position in `classes` has the name of an earlier one.
     #[error("the class at place {0} has the name of an earlier one")]
     DuplicateName(usize),
-    /// The pair with this place in `below` names no class.
+    /// The pair at this position in `below` has a name that is not a class.
     #[error("the pair at place {0} names no class")]
     UnknownName(usize),
     /// Two classes that are below each other.

@@ -24,7 +24,7 @@ impl Lattice {
     ghost use Rattle.vsi_lattice.specs.Order.{IsClass};
     ghost use Rattle.vsi_lattice.specs.LatticeView as spec;
 
-    /// The lattice of these names and this order.
+    /// The lattice with these names and this order.
     pub(crate) fn new(names: IndexSet<String>, order: MaskLattice) -> Lattice
         requires { AreNames (owned names.keys) (length order.above.items) }
         ensures names { spec.names result ≡ owned names.keys }
@@ -33,7 +33,7 @@ impl Lattice {
         Lattice { names, order }
     }
 
-    /// The class of that name, or `None` where no class has it.
+    /// The class with this name, or `None` if no class has it.
     pub fn class_named(&self, name: &[u8]) -> Option<Class>
         ensures class { result ≡ spec.class_named self.now name.now }
         ensures within { IfSome result (IsClass (spec.order self.now)) }
@@ -47,7 +47,7 @@ impl Lattice {
         }
     }
 
-    /// The name of a class of the lattice, as it stands in the file.
+    /// The name of a class of the lattice, as it is written in the file.
     pub fn name(&self, class: Class) -> &[u8]
         requires { IsClass (spec.order self.now) class }
         ensures place { slice_get (spec.names self.now) class ≡ Some result.now }

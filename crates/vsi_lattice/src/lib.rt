@@ -1,8 +1,8 @@
 //! Security classes, their order and the lattice file.
 //!
-//! A lattice file comes in, a [`Lattice`] goes out: `read_lattice` gives exactly the names and the
-//! order that the file declares (clause `read`), or its first fault (`refused`). `Classes` is the
-//! order with its joins and meets; `MaskLattice` and `PairLattice` make one of declared pairs.
+//! `read_lattice` turns a lattice file into a [`Lattice`] with exactly the names and the order that
+//! the file declares (clause `read`), or returns its first fault (`refused`). `Classes` is the
+//! order with its joins and meets; `MaskLattice` and `PairLattice` build one from declared pairs.
 //!
 //! To be believed: all files of `specs/`.
 #![tactic(auto)]

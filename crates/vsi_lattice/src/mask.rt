@@ -12,7 +12,7 @@ use crate::order::{Classes, OrderError};
 use crate::rows::{Rows, closed, common_class};
 use std::alloc::Global;
 
-/// The classes above each class, and those below it, as bits of a word.
+/// The classes above each class, and those below it, as the bits of a word.
 #[derive(Drop)]
 pub struct MaskLattice {
     above: Vec<u64>,
@@ -24,8 +24,8 @@ pub struct MaskLattice {
 }
 
 impl MaskLattice {
-    /// The lattice of `count` classes, 1 to 64, that the pairs declare, each the lower class and
-    /// the higher one. The order is the reflexive and transitive closure of the pairs.
+    /// The lattice of `count` classes, 1 to 64, that the pairs declare; each pair gives the lower
+    /// class and the higher one. The order is the reflexive and transitive closure of the pairs.
     pub fn new(alloc: Global, count: usize, pairs: &[(u8, u8)]) -> Result<MaskLattice, OrderError>
         requires some { 0 < count }
         requires small { count ≤ 64 }

@@ -1,4 +1,4 @@
-//! The names of the classes, and their places.
+//! The names of the classes, and their positions.
 
 ghost use Rattle.std.specs.Prelude.{◌≡◌, ℕ, ◌<◌, ◌≤◌, List, [], ◌∷◌, ◌++◌, true, false, length, map, IfOk, IfErr, OnOk, IfSome, IfNone, Some, None, string_bytes};
 ghost use Rattle.vsi_lattice.specs.NamePlaces.{texts, text_pairs, owned, place_in, IsLeast, Never, IsBadName, StandsIn, StandsEarlier, IsUnknown, IsUnknownAt, number_of};
@@ -11,7 +11,7 @@ use indexmap::IndexSet;
 use std::alloc::Global;
 use vsi_syntax::is_name;
 
-/// The first place of a name.
+/// The first position of a name.
 pub(crate) fn place_of(names: &[String], name: &[u8]) -> Option<u8>
     requires few { length names.now ≤ 64 }
     ensures place { result ≡ place_in (owned names.now) name.now }
@@ -25,7 +25,7 @@ pub(crate) fn place_of(names: &[String], name: &[u8]) -> Option<u8>
     None
 }
 
-/// The place of a name, by a look-up by key.
+/// The position of a name, looked up by key.
 pub(crate) fn key_place(names: &IndexSet<String>, name: &[u8]) -> Option<usize>
     ensures place { result ≡ place_in (owned names.now.keys) name.now }
     ensures within { IfSome result (λ k. k < length names.now.keys) }
@@ -36,7 +36,7 @@ pub(crate) fn key_place(names: &IndexSet<String>, name: &[u8]) -> Option<usize>
     }
 }
 
-/// The place of the first that is no name.
+/// The position of the first text that is not a valid name.
 pub(crate) fn first_bad(names: &[&str]) -> Option<usize>
     ensures some { IfSome result (IsLeast (IsBadName (texts names.now))) }
     ensures none { IfNone result (Never (IsBadName (texts names.now))) }
@@ -49,7 +49,7 @@ pub(crate) fn first_bad(names: &[&str]) -> Option<usize>
     None
 }
 
-/// The places of two names.
+/// The positions of two names.
 pub(crate) fn number(names: &[String], low: &str, high: &str) -> Option<(u8, u8)>
     requires few { length names.now ≤ 64 }
     ensures some { IfSome result (λ p. p ≡ number_of (owned names.now) (low.now, high.now)) }
@@ -66,7 +66,7 @@ pub(crate) fn number(names: &[String], low: &str, high: &str) -> Option<(u8, u8)
     Some((a, b))
 }
 
-/// Adds a name that is not there, and says whether it did.
+/// Adds a name if it is new, and returns whether it did.
 fn add_name(alloc: Global, set: &mut IndexSet<String>, name: &str) -> Result<bool, LatticeError>
     ensures added { IfOk result
         (λ r. r ≡ true → owned set.new.keys ≡ owned set.old.keys ++ name.now ∷ []) }
@@ -79,7 +79,7 @@ fn add_name(alloc: Global, set: &mut IndexSet<String>, name: &str) -> Result<boo
     Ok(is_new)
 }
 
-/// The set of the names, in their order.
+/// The set of the names, in order.
 pub(crate) fn collect_names(alloc: Global, names: &[&str]) -> Result<IndexSet<String>, LatticeError>
     ensures names { IfOk result (λ set. owned set.keys ≡ texts names.now) }
     ensures distinct { OnOk result (Never (StandsEarlier (texts names.now))) }
@@ -95,7 +95,7 @@ pub(crate) fn collect_names(alloc: Global, names: &[&str]) -> Result<IndexSet<St
     Ok(set)
 }
 
-/// The pairs by the places of their names.
+/// The pairs of positions of their names.
 pub(crate) fn number_pairs(
     alloc: Global,
     names: &[String],

@@ -1,4 +1,4 @@
-//! What every lattice of classes offers, and why an order is refused.
+//! The operations of a lattice of classes, and the reasons for refusing an order.
 
 ghost use Rattle.std.specs.Prelude.{◌≡◌, ◌≤◌};
 ghost use Rattle.vsi_lattice.specs.Order.{Lattice, IsLattice, IsClass, Below, IsJoin, IsMeet};
@@ -6,10 +6,10 @@ ghost use Rattle.vsi_lattice.specs.Order.{Lattice, IsLattice, IsClass, Below, Is
 use crate::class::Class;
 use thiserror::Error;
 
-/// Why pairs of classes are no lattice.
+/// Why pairs of classes do not declare a lattice.
 #[derive(Clone, Copy, Debug, PartialEq, Eq, Error)]
 pub enum OrderError {
-    /// There was no memory to hold the order.
+    /// Memory ran out.
     #[error("out of memory")]
     Memory,
     /// Two classes that are below each other.

@@ -1,4 +1,4 @@
-//! A lattice as a table: the plain form.
+//! A lattice stored as a plain table.
 
 ghost use Rattle.std.specs.Prelude.{◌≡◌, ℕ, ◌<◌, ◌≤◌, IfOk, IfErr};
 ghost use Rattle.vsi_lattice.specs.Pairs.{ArePairsBelow, MakesLattice, IsDeclared, Leq};
@@ -14,8 +14,8 @@ use crate::table::{
 };
 use std::alloc::Global;
 
-/// For each two classes whether the first is at or below the second; joins and meets are searched
-/// for.
+/// For every pair of classes, whether the first is at or below the second; joins and meets are
+/// found by searching.
 #[derive(Drop)]
 pub struct PairLattice {
     count: usize,
@@ -28,8 +28,8 @@ pub struct PairLattice {
 }
 
 impl PairLattice {
-    /// The lattice of `count` classes, 1 to 64, that the pairs declare, each the lower class and
-    /// the higher one. The order is the reflexive and transitive closure of the pairs.
+    /// The lattice of `count` classes, 1 to 64, that the pairs declare; each pair gives the lower
+    /// class and the higher one. The order is the reflexive and transitive closure of the pairs.
     pub fn new(alloc: Global, count: usize, pairs: &[(u8, u8)]) -> Result<PairLattice, OrderError>
         requires some { 0 < count }
         requires small { count ≤ 64 }

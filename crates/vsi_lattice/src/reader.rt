@@ -16,7 +16,7 @@ use std::alloc::Global;
 /// The greatest number of classes.
 const MAX_CLASSES: usize = 64;
 
-/// The lattice of these names and pairs of names.
+/// The lattice with these names and pairs of names.
 fn lattice_of(
     alloc: Global,
     names: &[&str],
@@ -43,9 +43,9 @@ fn lattice_of(
 }
 
 /// The lattice that a TOML text declares: `classes`, an array of 1 to 64 distinct names, and
-/// `below`, an array of pairs of them, the lower first. The order is the reflexive and transitive
-/// closure of the pairs. The error tells the first fault, in the order in which `LatticeError`
-/// lists them.
+/// `below`, an array of pairs of them with the lower class first. The order is the reflexive and
+/// transitive closure of the pairs. The error is the first fault, in the order in which
+/// `LatticeError` lists them.
 pub fn read_lattice(alloc: Global, text: &[u8]) -> Result<Lattice, LatticeError>
     ensures read { IfOk result (λ l. IsRead text.now (spec.names l) (spec.order l)) }
     ensures refused { IfErr result (ExplainsLattice text.now) }

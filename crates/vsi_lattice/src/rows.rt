@@ -1,4 +1,4 @@
-//! The order as rows of bits: row `a` has bit `b` where class `a` is below class `b`.
+//! The order as rows of bits: row `a` has bit `b` if class `a` is below class `b`.
 
 ghost use Rattle.std.specs.Prelude.{◌≡◌, ℕ, ◌<◌, ◌≤◌, ◌&&◌, ◌||◌, ◌==◌, nat_lt, length, vec_len, IfOk, IfSome, IfNone, true};
 ghost use Rattle.vsi_lattice.specs.Pairs.{ArePairsBelow, IsFirstPair};
@@ -13,7 +13,7 @@ pub(crate) struct Rows {
     pub(crate) below: Vec<u64>,
 }
 
-/// The row, with all of `reached` too where it has bit `low`.
+/// The row, including all of `reached` if it has bit `low`.
 #[tactic(auto, unfolding(crate::specs::Rows::widened), using(std::proofs::lemmas::Nat::Bits::shr_and_one))]
 #[inline(always)]
 fn widen(row: u64, low: u8, reached: u64) -> u64
@@ -27,7 +27,7 @@ fn widen(row: u64, low: u8, reached: u64) -> u64
     }
 }
 
-/// Puts each class that is below `low` below all that `high` is below.
+/// Puts every class that is below `low` below all classes that `high` is below.
 pub(crate) fn add_pair(rows: &mut [u64], low: u8, high: u8)
     requires low { low < 64 }
     requires high { high < length rows.old }
@@ -54,7 +54,7 @@ fn own_bits(alloc: Global, count: usize) -> Result<Vec<u64>, AllocError>
 }
 
 impl Rows {
-    /// Puts `low` below `high`, with all that follows.
+    /// Puts `low` below `high`, with all consequences.
     fn add(&mut self, low: u8, high: u8)
         requires above_len { vec_len self.old.above ≤ 64 }
         requires below_len { vec_len self.old.below ≡ vec_len self.old.above }
@@ -86,7 +86,7 @@ impl Rows {
         first_tied(&self.above, &self.below)
     }
 
-    /// The first two classes that lack a common part upwards.
+    /// The first two classes without a common row upwards.
     pub(crate) fn first_apart_above(&self) -> Option<(u8, u8)>
         requires { length self.now.above.items ≤ 64 }
         ensures some { IfSome result (λ p. IsFirstPair (length self.now.above.items)
@@ -96,7 +96,7 @@ impl Rows {
         first_apart(&self.above)
     }
 
-    /// The first two classes that lack a common part downwards.
+    /// The first two classes without a common row downwards.
     pub(crate) fn first_apart_below(&self) -> Option<(u8, u8)>
         requires { length self.now.below.items ≤ 64 }
         ensures some { IfSome result (λ p. IsFirstPair (length self.now.below.items)
@@ -106,7 +106,7 @@ impl Rows {
         first_apart(&self.below)
     }
 
-    /// The class above all.
+    /// The class above all others.
     pub(crate) fn top(&self) -> u8
         requires some { 0 < length self.now.above.items }
         requires count { length self.now.above.items ≤ 64 }
@@ -119,7 +119,7 @@ impl Rows {
         last_class(&self.above)
     }
 
-    /// The class below all.
+    /// The class below all others.
     pub(crate) fn bottom(&self) -> u8
         requires some { 0 < length self.now.below.items }
         requires count { length self.now.below.items ≤ 64 }
@@ -133,7 +133,7 @@ impl Rows {
     }
 }
 
-/// The class whose row is the common part of two rows, if there is one.
+/// The class whose row is the intersection of two rows, if there is one.
 pub(crate) fn common_class(rows: &[u64], a: usize, b: usize) -> Option<u8>
     requires count { length rows.now ≤ 64 }
     requires a { a < length rows.now }
@@ -150,7 +150,7 @@ pub(crate) fn common_class(rows: &[u64], a: usize, b: usize) -> Option<u8>
     None
 }
 
-/// The first two classes whose rows have no row as their common part.
+/// The first two classes for which no row is the intersection of theirs.
 pub(crate) fn first_apart(rows: &[u64]) -> Option<(u8, u8)>
     requires { length rows.now ≤ 64 }
     ensures some { IfSome result
@@ -167,7 +167,7 @@ pub(crate) fn first_apart(rows: &[u64]) -> Option<(u8, u8)>
     None
 }
 
-/// The lowest bit but `own` that both words have.
+/// The lowest bit, other than `own`, that both words have.
 fn other_common_bit(x: u64, y: u64, own: u8) -> Option<u8>
     requires { own < 64 }
     ensures some { IfSome result (λ b. (b < 64) × BothHaveOther x y own b ×
@@ -200,7 +200,7 @@ pub(crate) fn first_tied(above: &[u64], below: &[u64]) -> Option<(u8, u8)>
     None
 }
 
-/// The class in every row.
+/// The class that is in every row.
 pub(crate) fn last_class(rows: &[u64]) -> u8
     requires some { 0 < length rows.now }
     requires count { length rows.now ≤ 64 }

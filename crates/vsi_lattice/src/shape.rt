@@ -1,4 +1,4 @@
-//! The table of a text, and the names and pairs that it has.
+//! The table of a text, and its names and pairs.
 
 ghost use Rattle.std.specs.Prelude.{◌≡◌, ℕ, List, IfOk, IfErr, Some, map, option_map, option_and_then, codes};
 ghost use Rattle.toml.specs.Data.{Members, as_str, as_array, get_member};
@@ -9,16 +9,16 @@ ghost use Rattle.vsi_lattice.specs.NamePlaces.{texts, text_pairs};
 use std::alloc::{AllocError, Global};
 use toml::{Table, Value};
 
-/// Why a text is no table.
+/// Why a text is not a table.
 #[derive(Clone, Copy, Debug, PartialEq, Eq)]
 pub(crate) enum TextError {
-    /// There was no memory to read the text.
+    /// Memory ran out while reading the text.
     Memory,
-    /// The text is no TOML document.
+    /// The text is not a TOML document.
     NotToml,
 }
 
-/// The table that the text is.
+/// The table that the text denotes.
 pub(crate) fn read_table(alloc: Global, text: &[u8]) -> Result<Table, TextError>
     ensures ok { IfOk result (λ t. IsToml text.now (table_view t)) }
     ensures not_toml { IfErr result
@@ -36,7 +36,7 @@ pub(crate) fn read_table(alloc: Global, text: &[u8]) -> Result<Table, TextError>
     }
 }
 
-/// The texts of an array, or nothing where an item is no string.
+/// The texts of an array, or nothing if an item is not a string.
 fn texts<'t>(alloc: Global, array: &'t [Value]) -> Result<Option<Vec<&'t str>>, AllocError>
     ensures { IfOk result
         (λ found. option_map (λ v. texts v.items) found ≡ all_of as_str (items_view array.now)) }
@@ -51,7 +51,7 @@ fn texts<'t>(alloc: Global, array: &'t [Value]) -> Result<Option<Vec<&'t str>>, 
     Ok(Some(found))
 }
 
-/// The two texts of an array of just two, if the value is that.
+/// The two texts of the value, if it is an array of exactly two texts.
 fn pair<'t>(value: &'t Value) -> Option<(&'t str, &'t str)>
     ensures { option_map (λ p. (p.0.now, p.1.now)) result ≡ pair_of (view value.now) }
 {
@@ -64,7 +64,7 @@ fn pair<'t>(value: &'t Value) -> Option<(&'t str, &'t str)>
     Some((low, high))
 }
 
-/// The pairs of an array, or nothing where an item is no pair.
+/// The pairs of an array, or nothing if an item is not a pair.
 fn pairs<'t>(
     alloc: Global,
     array: &'t [Value],
@@ -128,14 +128,14 @@ fn pairs_in<'t>(
     pairs(alloc, array)
 }
 
-/// What a lattice file has: the names of its classes, and the pairs.
+/// The contents of a lattice file: the names of its classes, and the pairs.
 #[derive(Drop)]
 pub(crate) struct FileParts<'t> {
     pub(crate) names: Vec<&'t str>,
     pub(crate) pairs: Vec<(&'t str, &'t str)>,
 }
 
-/// The names and pairs of a table, or nothing where it has another shape.
+/// The names and pairs of a table, or nothing if it has another shape.
 pub(crate) fn read_parts<'t>(
     alloc: Global,
     table: &'t Table,

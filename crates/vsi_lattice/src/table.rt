@@ -1,4 +1,4 @@
-//! The order as a table: for each two classes, whether the first is at or below the second.
+//! The order as a table: for every pair of classes, whether the first is at or below the second.
 
 ghost use Rattle.std.specs.Prelude.{◌≡◌, ℕ, ◌<◌, ◌≤◌, ◌&&◌, ◌||◌, ◌==◌, nat_lt, length, vec_len, IfOk, IfSome, IfNone, true, false};
 ghost use Rattle.vsi_lattice.specs.Order.{IsJoin, HasJoin};
@@ -8,10 +8,10 @@ ghost use Rattle.vsi_lattice.specs.Tables.{table_has};
 
 use std::alloc::{AllocError, Global};
 
-/// The cells of one class.
+/// The number of cells of one class.
 const SIDE: usize = 64;
 
-/// The cells of a table.
+/// The number of cells of a table.
 const CELLS: usize = 4096;
 
 /// The order in both directions.
@@ -47,7 +47,7 @@ fn own_table(alloc: Global, count: usize) -> Result<Vec<bool>, AllocError>
     Ok(table)
 }
 
-/// The order in which each class that is below `low` is below all that `high` is below too.
+/// The order in which every class below `low` is also below all classes that `high` is below.
 fn with_pair(alloc: Global, table: &[bool], low: u8, high: u8) -> Result<Vec<bool>, AllocError>
     requires len { length table.now ≡ 4096 }
     requires low { low < 64 }
@@ -139,7 +139,7 @@ pub(crate) fn least_above(table: &[bool], count: usize, a: usize, b: usize) -> O
     None
 }
 
-/// The first two classes with no least class above both.
+/// The first two classes without a least class above both.
 pub(crate) fn first_unjoined(table: &[bool], count: usize) -> Option<(u8, u8)>
     requires len { length table.now ≡ 4096 }
     requires count { count ≤ 64 }
@@ -159,7 +159,7 @@ pub(crate) fn first_unjoined(table: &[bool], count: usize) -> Option<(u8, u8)>
     None
 }
 
-/// The first two different classes that are below each other.
+/// The first two distinct classes that are below each other.
 pub(crate) fn first_cycle(table: &[bool], count: usize) -> Option<(u8, u8)>
     requires len { length table.now ≡ 4096 }
     requires count { count ≤ 64 }
@@ -184,7 +184,7 @@ pub(crate) fn first_cycle(table: &[bool], count: usize) -> Option<(u8, u8)>
     None
 }
 
-/// The class above all.
+/// The class above all others.
 pub(crate) fn greatest(table: &[bool], count: usize) -> u8
     requires len { length table.now ≡ 4096 }
     requires some { 0 < count }

@@ -1,4 +1,4 @@
--- What is told of runs that stand side by side.
+-- Texts for showing two runs side by side.
 use Rattle.std.specs.Prelude.{ℕ, ℤ, List, ◌++◌, codes, decimal}
 use Rattle.std.specs.Fmt.{signed_decimal}
 
@@ -6,6 +6,6 @@ use Rattle.std.specs.Fmt.{signed_decimal}
 abbrev pub word_cell : List ℕ → ℤ → List ℕ
 word_cell name word = name ++ codes " = " ++ signed_decimal word
 
--- After how many instructions a run halts.
+-- The number of instructions after which a run halts.
 abbrev pub halted_cell : ℕ → List ℕ
 halted_cell n = codes "after " ++ decimal n ++ codes " instructions"

@@ -1,4 +1,4 @@
--- What is told of a count.
+-- Texts about a count of instructions.
 use Rattle.std.specs.Prelude.{ℕ, ◌==◌, if◌then◌else◌, List, [], ◌++◌, Option, Some, None, codes, decimal}
 use Rattle.vsi_image.specs.declared.instr.Image.{Image}
 use Rattle.vsi_image.specs.Meaning.{State}
@@ -8,7 +8,7 @@ use Rattle.vsi_machine.specs.Trace.{trace_line}
 abbrev pub count_line : ℕ → List ℕ
 count_line n = codes "instructions: " ++ decimal n ++ codes "\n"
 
--- The noun behind a number of instructions.
+-- The noun after a number of instructions.
 abbrev pub noun : ℕ → List ℕ
 noun n = if n == 1 then codes " instruction" else codes " instructions"
 
@@ -16,12 +16,12 @@ noun n = if n == 1 then codes " instruction" else codes " instructions"
 abbrev pub number_of : ℕ → List ℕ
 number_of n = decimal n ++ noun n
 
--- What is told before the trace line of the next instruction, and the line, where there is one.
+-- The text before the trace line of the next instruction, followed by that line, if there is one.
 abbrev pub before_next : ℕ → Option (List ℕ) → List ℕ
 before_next n None = []
 before_next n (Some line) =
     codes "After " ++ number_of n ++ codes " the budget is spent. The next one is\n  " ++ line ++ codes "\n"
 
--- Where a run of so many instructions stands that has not halted.
+-- The text for a run of this many instructions that has not halted.
 abbrev pub stop_lines : Image → State → ℕ → List ℕ
 stop_lines image s n = before_next n (trace_line image.code.items s)

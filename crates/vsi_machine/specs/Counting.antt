@@ -4,11 +4,11 @@ use Rattle.vsi_image.specs.declared.instr.Image.{Image}
 use Rattle.vsi_image.specs.Meaning.{State}
 use Rattle.vsi_machine.specs.Runs.{run_of}
 
--- A run came to a state that has halted.
+-- A run reached a state that has halted.
 abbrev pub Halts : Option State → Type 0
 Halts o = IsSomeAnd o (λ s. IsTrue s.halted)
 
--- A run came to a state that has not halted.
+-- A run reached a state that has not halted.
 abbrev pub GoesOn : Option State → Type 0
 GoesOn o = IsSomeAnd o (λ s. s.halted ≡ false)
 

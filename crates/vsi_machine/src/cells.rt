@@ -1,4 +1,4 @@
-//! What is told of runs that stand side by side.
+//! Texts for showing two runs side by side.
 
 ghost use Rattle.std.specs.Prelude.{◌≡◌, IfOk};
 ghost use Rattle.vsi_machine.specs.Cells as spec;
@@ -16,7 +16,7 @@ pub fn word_cell(alloc: Global, name: &[u8], word: i64) -> Result<Vec<u8>, Alloc
     Ok(cell)
 }
 
-/// After how many instructions a run halts, as in `after 9 instructions`.
+/// The number of instructions after which a run halts, as in `after 9 instructions`.
 pub fn halted_cell(alloc: Global, instructions: u64) -> Result<Vec<u8>, AllocError>
     ensures { IfOk result (λ cell. cell.items ≡ spec.halted_cell instructions) }
 {

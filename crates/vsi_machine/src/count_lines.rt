@@ -1,4 +1,4 @@
-//! What is told of a count.
+//! Texts about a count of instructions.
 
 ghost use Rattle.std.specs.Prelude.{◌≡◌, ◌++◌, IfOk, OnOk, false};
 ghost use Rattle.vsi_machine.specs.CountTexts as spec;
@@ -7,7 +7,7 @@ use crate::counting::Count;
 use std::alloc::{AllocError, Global};
 use vsi_syntax::put_number;
 
-/// The noun behind a number of instructions.
+/// The noun after a number of instructions.
 fn noun(number: u64) -> &'static [u8]
     ensures { result.now ≡ spec.noun number }
 {
@@ -29,7 +29,7 @@ pub fn count_text(alloc: Global, instructions: u64) -> Result<Vec<u8>, AllocErro
     Ok(text)
 }
 
-/// Adds a number of instructions with its noun.
+/// Appends a number of instructions with its noun.
 fn put_instructions(text: &mut Vec<u8>, number: u64) -> Result<(), AllocError>
     ensures { OnOk result (text.new.items ≡ text.old.items ++ spec.number_of number) }
 {
@@ -37,8 +37,8 @@ fn put_instructions(text: &mut Vec<u8>, number: u64) -> Result<(), AllocError>
     text.extend_from_slice(noun(number))
 }
 
-/// Where a run stands whose budget is spent: how many instructions were done, and the trace line of
-/// the next one. Of a machine that has halted nothing is told.
+/// Reports where a run stopped when its budget was spent: the number of instructions executed, and
+/// the trace line of the next one. The text is empty if the machine has halted.
 pub fn stop_text(alloc: Global, count: &Count<'_>) -> Result<Vec<u8>, AllocError>
     ensures { IfOk result (λ text. text.items ≡
         spec.stop_lines count.now.machine.image count.now.machine.state count.now.instructions) }

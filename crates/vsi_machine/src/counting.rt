@@ -1,4 +1,4 @@
-//! The run that counts.
+//! Running and counting instructions.
 
 ghost use Rattle.std.specs.Prelude.{◌≡◌, ◌≢◌, ◌+◌, ◌<◌, ◌≤◌, ◌⊎◌, ℕ, length, IsNone, IfOk, IfErr, IfSome, IfNone, Some, IsSomeAnd, true, false};
 ghost use Rattle.vsi_image.specs.Meaning.{after};
@@ -10,22 +10,22 @@ use crate::interpreter::{Machine, Outcome, StartError};
 use std::alloc::Global;
 use vsi_image::Verified;
 
-/// How many instructions are done before the run looks whether the machine has halted.
+/// The number of instructions executed between checks whether the machine has halted.
 const SLICE: u64 = 16384;
 
-/// A machine after a run, and how many instructions the run did.
+/// A machine after a run, and the number of instructions that the run executed.
 #[derive(Drop)]
 pub struct Count<'a> {
-    /// The machine, which a later run goes on with.
+    /// The machine, from which a later run continues.
     pub machine: Machine<'a>,
     /// How the run ended.
     pub outcome: Outcome,
-    /// The number of instructions that the run did, a HALT among them.
+    /// The number of instructions that the run executed, including a HALT.
     pub instructions: u64,
 }
 
-/// Runs a machine, slice by slice, to a HALT or the end of the budget. Where it halts, the answer
-/// is how many instructions came before the last slice, and the mark has the state there.
+/// Runs a machine, slice by slice, to a HALT or the end of the budget. If it halts, the answer is
+/// the number of instructions before the last slice, and the mark has the state at that point.
 fn slices(machine: &mut Machine<'_>, mark: &mut Machine<'_>, budget: u64) -> Option<u64>
     requires going { machine.old.state.halted ≡ false }
     requires image { mark.old.image ≡ machine.old.image }
@@ -54,7 +54,8 @@ fn slices(machine: &mut Machine<'_>, mark: &mut Machine<'_>, budget: u64) -> Opt
     None
 }
 
-/// Does one instruction after another to a HALT, at most so many, and answers how many it did.
+/// Executes one instruction at a time up to a HALT, at most this many, and returns how many it
+/// executed.
 fn singly(machine: &mut Machine<'_>, limit: u64) -> u64
     ensures image { machine.new.image ≡ machine.old.image }
     ensures state { after machine.old.image.code.items result machine.old.state
@@ -73,11 +74,11 @@ fn singly(machine: &mut Machine<'_>, limit: u64) -> u64
 }
 
 /// Runs an image within a budget, and counts. Only the last slice of a run that halts, at most
-/// 16,384 instructions, is done a second time, one by one.
+/// 16,384 instructions, is executed a second time, one by one.
 ///
 /// # Errors
 ///
-/// `WrongStore` where there isn't one word for each global.
+/// `WrongStore` if there isn't one word for each global.
 pub fn counted<'a>(
     alloc: Global,
     verified: &'a Verified,

@@ -7,7 +7,7 @@ pub fn budgets_add()
     ensures { BudgetsAdd }
 {}
 
-/// What has halted within a budget is in the same state after every larger one.
+/// A run that has halted within a budget is in the same state after every larger one.
 pub fn halting_lasts()
     ensures { HaltingLasts }
 {}
@@ -17,19 +17,19 @@ pub fn one_ending()
     ensures { OneEnding }
 {}
 
-/// Every run of a valid image has a state: no instruction lacks an operand or a slot. In each state
-/// that a run reaches the next instruction is in the code, finds the operands that it takes, its
-/// slot and its target, and leaves no more operands than the image's stack has room for.
+/// Every run of a valid image has a state: no instruction lacks an operand or a slot. In every
+/// state that a run reaches, the next instruction is in the code, finds its operands, its slot and
+/// its target, and leaves no more operands than the image's stack has room for.
 pub fn never_stuck()
     ensures { NeverStuck }
 {}
 
-/// An image has one count at most from the same words.
+/// An image has at most one count for the same words.
 pub fn one_count()
     ensures { OneCount }
 {}
 
-/// An image halts within a budget exactly where the budget is no smaller than its count.
+/// An image halts within a budget exactly if the budget is no smaller than its count.
 pub fn count_decides()
     ensures { CountDecides }
 {}

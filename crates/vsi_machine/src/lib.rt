@@ -1,15 +1,15 @@
-//! The stack machine. A `Machine` runs a verified image from a word for each global, one
-//! instruction at a time or for a budget of them. It answers the words of its globals, and the
-//! trace line of its next instruction. `counted` runs an image and counts its instructions.
+//! The stack machine. A `Machine` runs a verified image from one word for each global, either one
+//! instruction at a time or up to a budget of instructions. It provides the words of its globals
+//! and the trace line of its next instruction. `counted` runs an image and counts its instructions.
 //!
-//! The clauses of `run` and `step` say that the machine's state is the one that the instructions'
-//! meaning gives. That there is one is part of them: the meaning gives none where an operand, a
-//! slot or the instruction is missing. The law `never_stuck` says of every run of a valid image
-//! that it has a state, and that its operands have room on the image's stack. So the loop has no
-//! test for any of these. `act` does one instruction, for code that runs an image over arrays of
-//! its own. Clause `exact` of `counted` says of a run that halts that the image halts within that
-//! number of instructions, and within no smaller one. `word_cell` and `halted_cell` write the cells
-//! of texts that show two runs side by side.
+//! The clauses of `run` and `step` say that the machine's state is the one given by the meaning of
+//! the instructions. They include that there is such a state: the meaning gives none if an operand,
+//! a slot or the instruction is missing. The law `never_stuck` says that every run of a valid image
+//! has a state, and that its operands fit on the image's stack. The loop therefore checks none of
+//! these. `act` executes one instruction, for code that runs an image over its own arrays. Clause
+//! `exact` of `counted` says that an image that halts does so within the counted number of
+//! instructions, and within no smaller one. `word_cell` and `halted_cell` write the cells of texts
+//! that show two runs side by side.
 //!
 //! To be believed: `specs/Cells`, `specs/Counting`, `specs/CountTexts`, `specs/Laws`, `specs/Runs`,
 //! `specs/Sound`, `specs/Trace`; `specs/Held` is a stepping stone of proofs.

@@ -8,7 +8,7 @@ use std::alloc::{AllocError, Global};
 use vsi_image::Instr;
 use vsi_syntax::{put_number, put_word};
 
-/// Adds a space and a word in decimal.
+/// Appends a space and a word in decimal.
 fn put_operand(out: &mut Vec<u8>, word: i64) -> Result<(), AllocError>
     ensures { OnOk result (out.new.items ≡ out.old.items ++ spec.operand_text word) }
 {
@@ -16,7 +16,7 @@ fn put_operand(out: &mut Vec<u8>, word: i64) -> Result<(), AllocError>
     put_word(out, word)
 }
 
-/// Adds each operand.
+/// Appends every operand.
 fn put_operands(out: &mut Vec<u8>, words: &[i64]) -> Result<(), AllocError>
     ensures { OnOk result (out.new.items ≡ out.old.items ++ flat_map spec.operand_text words.now) }
 {

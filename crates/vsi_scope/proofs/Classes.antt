@@ -7,7 +7,7 @@ use Rattle.vsi_lattice.specs.Known.{Known}
 use Rattle.vsi_scope.specs.Program.{Resolved}
 use Rattle.vsi_scope.specs.Resolving.{Shown, shown, global_of, Variable, variable, variables, all_variables, letvar, class_of, Resolves, AreBelow, HasClassesBelow}
 
--- What is true of each image is true of what it is the image of.
+-- A property of all images of a function is a property of its value at every element.
 All-of_map : {X Y : Type 0} (P : Y → Type 0) (f : X → Y) (xs : List X) → All P (map f xs) → All (λ x. P (f x)) xs
 All-of_map P f [] a = All-nil (λ x. P (f x))
 All-of_map P f (x ∷ xs) a =

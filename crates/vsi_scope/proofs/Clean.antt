@@ -1,4 +1,4 @@
--- What a program keeps that has no fault, and that a program which keeps it has none.
+-- The consequences of having no fault, and the conditions that imply it.
 use Rattle.std.proofs.Common.{◌≡◌, ◌≢◌, ℕ, suc, ◌+◌, ◌<◌, ◌≤◌, nat_lt, List, [], ◌∷◌, ◌++◌, length, refl, sym, ap, ◌∙◌, arith, Option, Some, None, IsSome, Bool, true, false, bytes_eq, if◌then◌else◌, length-append}
 use Rattle.std.specs.Option.{option_or}
 use Rattle.std.specs.List.{IsDistinct, AllByRecursion}
@@ -39,54 +39,54 @@ below_from n k e p = below_if n k (nat_lt n k) refl e p
 below_clean : (n k : ℕ) (e : ScopeError) → n < k → (if nat_lt n k then None else Some e) ≡ None
 below_clean n k e lt = ap (λ b. if b then None else Some e) (lt-ltb n k lt)
 
--- A class without a fault is there.
+-- A class without a fault is known.
 class_there : (o : Option ℕ) (e : ScopeError) → if_absent o e ≡ None → IsSome o
 class_there (Some l) e p = refl
 class_there None e p = not_none e p
 
--- A class that is there has no fault.
+-- A class that is known has no fault.
 there_clean : (o : Option ℕ) (e : ScopeError) → IsSome o → if_absent o e ≡ None
 there_clean (Some l) e p = refl
 there_clean None e p = not_true p
 
--- A written class without a fault is there.
+-- A written class without a fault is known.
 class_known : (k : Known) (c : Option tree.Named) → first_fault k (class_marks c) ≡ None → HasClass k c
 class_known k None p = tt
 class_known k (Some x) p = class_there (k x.text) _ (none_left _ _ p)
 
--- A written class that is there has no fault.
+-- A written class that is known has no fault.
 class_clean : (k : Known) (c : Option tree.Named) → HasClass k c → first_fault k (class_marks c) ≡ None
 class_clean k None p = refl
 class_clean k (Some x) p = both (there_clean (k x.text) (errors.UnknownClass x.span) p) refl
 
--- A name that must not be there, and is not at fault, is not there.
+-- A name that must be absent and has no fault is absent.
 not_there : (o : Option ℕ) (e : ScopeError) (q : Option ScopeError) → if_there o e q ≡ None → o ≡ None
 not_there None e q p = refl
 not_there (Some l) e q p = not_none e p
 
--- Where a name must not be there and nothing is at fault, the other fault is none either.
+-- If a name must be absent and there is no fault, there is no other fault either.
 otherwise_none : (o : Option ℕ) (e : ScopeError) (q : Option ScopeError) → if_there o e q ≡ None → q ≡ None
 otherwise_none None e q p = p
 otherwise_none (Some l) e q p = not_none e p
 
 -- ---- globals.
 
--- No name of a list is among others.
+-- No name of one list is in the other.
 abbrev AreAbsent : Scope → List Text → Type 0
 AreAbsent s [] = Unit {0}
 AreAbsent s (x ∷ xs) = IsAbsent s x × AreAbsent s xs
 
--- A name that differs from the last one is absent from a list where it is absent from those before.
+-- A name that differs from the last one is absent from a list if it is absent from those before.
 absent-append : (s : Scope) (y x : Text) → IsAbsent s x → y ≢ x → IsAbsent (s ++ y ∷ []) x
 absent-append [] y x a n = (n, tt)
 absent-append (z ∷ s) y x a n = (a.0, absent-append s y x a.1 n)
 
--- A name that is absent from a list and one name more is absent from the list.
+-- A name that is absent from a list with one more name is absent from the list.
 absent_before : (s : Scope) (y x : Text) → IsAbsent (s ++ y ∷ []) x → IsAbsent s x
 absent_before [] y x a = tt
 absent_before (z ∷ s) y x a = (a.0, absent_before s y x a.1)
 
--- A name that is absent from a list and one name more differs from the one more.
+-- A name that is absent from a list with one more name differs from that name.
 absent_last : (s : Scope) (y x : Text) → IsAbsent (s ++ y ∷ []) x → y ≢ x
 absent_last [] y x a = a.0
 absent_last (z ∷ s) y x a = absent_last s y x a.1
@@ -100,25 +100,25 @@ differs_if y x false p n = refl
 differs : (y x : Text) → y ≢ x → bytes_eq y x ≡ false
 differs y x n = differs_if y x (bytes_eq y x) refl n
 
--- Names that are absent from a list and one name more are absent from the list.
+-- Names that are absent from a list with one more name are absent from the list.
 are_before : (s : Scope) (y : Text) (xs : List Text) → AreAbsent (s ++ y ∷ []) xs → AreAbsent s xs
 are_before s y [] a = tt
 are_before s y (x ∷ xs) a = (absent_before s y x a.0, are_before s y xs a.1)
 
--- Names that are absent from a list and one name more don't compare as equal to the one more.
+-- Names that are absent from a list with one more name don't compare as equal to that name.
 are_apart : (s : Scope) (y : Text) (xs : List Text) → AreAbsent (s ++ y ∷ []) xs →
     AllByRecursion (λ z. bytes_eq y z ≡ false) xs
 are_apart s y [] a = tt
 are_apart s y (x ∷ xs) a = (differs y x (absent_last s y x a.0), are_apart s y xs a.1)
 
--- Names that are absent from a list and don't compare as equal to one name more are absent from both.
+-- Names that are absent from a list and don't compare as equal to one more name are absent from both.
 are_absent : (s : Scope) (y : Text) (xs : List Text) → AreAbsent s xs →
     AllByRecursion (λ z. bytes_eq y z ≡ false) xs → AreAbsent (s ++ y ∷ []) xs
 are_absent s y [] a d = tt
 are_absent s y (x ∷ xs) a d =
     (absent-append s y x a.0 (λ q. not_true (sym d.0 ∙ (bytes_eq-Decides y x).1 q)), are_absent s y xs a.1 d.1)
 
--- No names are distinct.
+-- The empty list of names is distinct.
 distinct_none : IsDistinct bytes_eq []
 unfolding IsDistinct
 distinct_none = tt
@@ -149,7 +149,7 @@ module _ (k : Known) where
       (are_apart above g.name.text (global_names gs) (names_absent (above ++ g.name.text ∷ []) gs q))
       (names_distinct (above ++ g.name.text ∷ []) gs q)
 
-  -- Globals without a fault are not too many.
+  -- The number of globals without a fault is within the limit.
   pub globals_few : (above : Scope) (gs : List tree.Declared) → length above ≤ 256 →
       first_fault k (global_marks above gs) ≡ None → length above + length gs ≤ 256
   globals_few above [] le p = omega (arith, le)
@@ -172,7 +172,7 @@ module _ (k : Known) where
     globals_known (above ++ g.name.text ∷ []) gs (none_right _ _ (none_right _ _ p)),
   )
 
-  -- Globals below others, of distinct names that are absent above, have no fault.
+  -- Globals after others have no fault if their names are distinct and absent above.
   globals_clean_below : (above : Scope) (gs : List tree.Declared) → AreAbsent above (global_names gs) →
       IsDistinct bytes_eq (global_names gs) → length above + length gs ≤ 256 → HasGlobalClasses k gs →
       first_fault k (global_marks above gs) ≡ None
@@ -190,20 +190,21 @@ module _ (k : Known) where
       (globals_clean_below (above ++ x ∷ []) gs (are_absent above x (global_names gs) a.1 apart)
       (IsDistinct-tail bytes_eq x (global_names gs) d) (omega (arith, le, length-append above (x ∷ []))) h.1))
 
-  -- Globals of distinct names, not too many and of classes that the lattice has, have no fault.
+  -- Globals have no fault if their names are distinct, their number is within the limit and the lattice has their
+  -- classes.
   pub globals_clean : (gs : List tree.Declared) → IsDistinct bytes_eq (global_names gs) → length gs ≤ 256 →
       HasGlobalClasses k gs → first_fault k (global_marks [] gs) ≡ None
   globals_clean gs d le h = globals_clean_below [] gs (nothing_absent (global_names gs)) d (omega (arith, le)) h
 
   -- ---- commands.
 
-  -- What a command keeps that has no fault behind n declarations.
+  -- The consequences for a command without a fault after n declarations.
   pub record Kept (n m : ℕ) (classes : Type 0) : Type 0 where
     pub known : classes
     pub few : n ≤ 1024 → n + m ≤ 1024
 
   mutual
-    -- A command without a fault has classes that the lattice has, and not too many letvars.
+    -- For a command without a fault, the lattice has its classes, and the number of its letvars is within the limit.
     keeps : (s : Scope) (n : ℕ) (c : tree.Command) → first_fault k (marks s n c) ≡ None →
         Kept n (locals c) (HasClasses k c)
     keeps s n (tree.Assign x e) p = record { known = tt; few = λ le. omega (arith, le) }
@@ -232,7 +233,7 @@ module _ (k : Known) where
         }
     keeps s n (tree.Block b) p = all_keep s n b p
 
-    -- A sequence without a fault has classes that the lattice has, and not too many letvars.
+    -- For a sequence without a fault, the lattice has its classes, and the number of its letvars is within the limit.
     pub all_keep : (s : Scope) (n : ℕ) (b : tree.Body) → first_fault k (all_marks s n b) ≡ None →
         Kept n (all_locals b) (HasAllClasses k b)
     all_keep s n tree.Done p = record { known = tt; few = λ le. omega (arith, le) }
@@ -245,7 +246,7 @@ module _ (k : Known) where
         }
 
   mutual
-    -- A command that is resolved, of classes that the lattice has and not too many letvars, has no fault.
+    -- A resolved command has no fault if the lattice has its classes and the number of its letvars is within the limit.
     command_clean : (s : Scope) (n : ℕ) (c : tree.Command) (cs : List Command) → Does s c cs → HasClasses k c →
         n + locals c ≤ 1024 → first_fault k (marks s n c) ≡ None
     command_clean s n (tree.Assign x e) cs m h le =
@@ -261,7 +262,8 @@ module _ (k : Known) where
         (command_clean (s ++ x.text ∷ []) (suc n) c m.1 m.3 h.1 (omega (arith, le)))
     command_clean s n (tree.Block b) cs m h le = body_clean s n b cs m h le
 
-    -- A sequence that is resolved, of classes that the lattice has and not too many letvars, has no fault.
+    -- A resolved sequence has no fault if the lattice has its classes and the number of its letvars is within the
+    -- limit.
     pub body_clean : (s : Scope) (n : ℕ) (b : tree.Body) (cs : List Command) → DoesAll s b cs → HasAllClasses k b →
         n + all_locals b ≤ 1024 → first_fault k (all_marks s n b) ≡ None
     body_clean s n tree.Done cs m h le = refl

@@ -1,4 +1,4 @@
--- Where the relation holds, names are there and the function gives what it says.
+-- If the relation holds, all names are in scope and the function gives the same result.
 use Rattle.std.proofs.Common.{◌≡◌, ℕ, List, [], ◌∷◌, ◌++◌, length, refl, sym, ap, ◌∙◌, Option, Some, None, Bool, true, false, bytes_eq, if◌then◌else◌}
 use Rattle.std.specs.Option.{option_or}
 use Rattle.std.proofs.lemmas.Slice.Eq.{bytes_eq-Decides}
@@ -11,27 +11,27 @@ use Rattle.vsi_lattice.specs.Known.{Known}
 use Rattle.vsi_scope.specs.Faults.{uses, first_fault, if_absent}
 use Rattle.vsi_scope.proofs.Faulty.{none_in_both}
 
--- The first place where a test succeeds.
+-- The first position if a test succeeds.
 abbrev here : Bool → Option ℕ
 here b = if b then Some 0 else None
 
--- A test that fails gives no place.
+-- A test that fails gives no position.
 no_match : (b : Bool) → (b ≡ true → ⊥) → here b ≡ None
 no_match true f = absurd (f refl)
 no_match false f = refl
 
--- A test that succeeds gives the first place.
+-- A test that succeeds gives the first position.
 match_here : (b : Bool) → b ≡ true → here b ≡ Some 0
 match_here b e = ap here e
 
--- A name that is absent has no place.
+-- A name that is absent has no position.
 pub gone : (s : Scope) (x : Text) → IsAbsent s x → place_of s x ≡ None
 gone [] x a = refl
 gone (y ∷ ys) x a =
     ap (λ o. next_place o (if bytes_eq y x then Some 0 else None)) (gone ys x a.1)
     ∙ no_match (bytes_eq y x) (λ e. a.0 ((bytes_eq-Decides y x).0 e))
 
--- A name that is absent behind its place has that place for its last.
+-- If a name is absent after its position, that position is its last.
 at_last : (before after : Scope) (x : Text) → IsAbsent after x →
     place_of (before ++ x ∷ after) x ≡ Some (length before)
 at_last [] after x a =
@@ -39,11 +39,11 @@ at_last [] after x a =
     ∙ match_here (bytes_eq x x) ((bytes_eq-Decides x x).1 refl)
 at_last (y ∷ ys) after x a = ap (λ o. next_place o (if bytes_eq y x then Some 0 else None)) (at_last ys after x a)
 
--- What a name stands for is its last place.
+-- The position that a name denotes is its last.
 pub place_is : (s : Scope) (x : Text) (l : ℕ) → StandsFor s x l → place_of s x ≡ Some l
 place_is s x l r = ap (λ z. place_of z x) r.splits ∙ at_last r.before r.after x r.last ∙ ap Some r.place
 
--- An expression is what the function gives.
+-- An expression that is related to a tree is the one that the function gives.
 pub means_one : (s : Scope) (e : tree.Tree) (p : Expression) → Means s e p → p ≡ expression_of s e
 means_one s (tree.Number n) p m = m
 means_one s (tree.Name x) p m = m.2 ∙ ap (λ l. Location l x.span) (sym (ap or_zero (place_is s x.text m.0 m.1)))
@@ -52,7 +52,7 @@ means_one s (tree.Binary op a b) p m =
     m.4 ∙ ap (λ q. Operator op q m.1) (means_one s a m.0 m.2)
     ∙ ap (Operator op (expression_of s a)) (means_one s b m.1 m.3)
 
--- An expression over locations has no fault.
+-- An expression that has a form over locations has no fault.
 pub means_clean : (k : Known) (s : Scope) (e : tree.Tree) (p : Expression) → Means s e p → first_fault k (uses s e)
     ≡ None
 means_clean k s (tree.Number n) p m = refl
@@ -63,7 +63,7 @@ means_clean k s (tree.Binary op a b) p m =
     none_in_both k (uses s a) (uses s b) (means_clean k s a m.0 m.2) (means_clean k s b m.1 m.3)
 
 mutual
-  -- A command is what the function gives.
+  -- Commands that are related to a command are those that the function gives.
   pub does_one : (s : Scope) (c : tree.Command) (cs : List Command) → Does s c cs → cs ≡ commands_of s c
   does_one s (tree.Assign x e) cs m =
       m.4 ∙ ap (λ l. Assign l x.span m.1 ∷ []) (sym (ap or_zero (place_is s x.text m.0 m.2)))
@@ -80,7 +80,7 @@ mutual
       ∙ ap (λ q. Letvar (expression_of s e) (in_sequence q) ∷ []) (does_one (s ++ x.text ∷ []) c m.1 m.3)
   does_one s (tree.Block b) cs m = does_all_one s b cs m
 
-  -- A sequence is what the function gives.
+  -- Commands that are related to a sequence are those that the function gives.
   pub does_all_one : (s : Scope) (b : tree.Body) (cs : List Command) → DoesAll s b cs → cs ≡ all_commands s b
   does_all_one s tree.Done cs m = m
   does_all_one s (tree.Then c rest) cs m =

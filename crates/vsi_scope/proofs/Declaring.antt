@@ -1,4 +1,4 @@
--- Amid the globals.
+-- Reading the globals one by one.
 use Rattle.std.proofs.Common.{suc, ◌+◌, drop, get_or, Option, Some, ◌≡◌, ℕ, ◌<◌, ◌≤◌, List, [], ◌∷◌, ◌++◌, length, map, Bor, sym, ap, ◌∙◌, None, arith, length-append, false, if◌then◌else◌}
 use Rattle.std.proofs.lemmas.List.{append-nil, append_assoc, drop_all, length-map, map-append}
 use Rattle.std.specs.List.{list_any}
@@ -27,7 +27,7 @@ pub record Halfway (known : Known) (read : Globals) (all rest : List tree.Declar
   pub listed : map (global_of known) all ≡ map shown read.list.items ++ map (global_of known) rest
   pub faults : first_fault known (global_marks [] all) ≡ first_fault known (global_marks (names_of read.names) rest)
 
--- The names of globals are as many as the globals where no letvar is in scope.
+-- While no letvar is in scope, there are as many names in scope as globals.
 names_counted : (ns : Names) → ns.locals.items ≡ [] → length (names_of ns) ≡ length ns.globals.keys
 names_counted ns o =
     omega (
@@ -50,11 +50,11 @@ from_declaration ds i d lt =
 pub from_end : (ds : List Declaration) (i : ℕ) → length ds ≤ i → map syntax.declared (drop i ds) ≡ []
 from_end ds i le = ap (map syntax.declared) (drop_all i ds le)
 
--- What is shown of a global with a class or none.
+-- The view of a global with a class or none.
 abbrev shown_with : Bor (List ℕ) → Bor (List ℕ) → Option ℕ → Shown
 shown_with name class_name o = record { name = name.now; class = o; class_name = class_name.now }
 
--- A global that is put down with the class of its class's name is shown with it.
+-- A global that is appended with the class of its class name is viewed with that class.
 pub put_global : (known : Known) (before after : List Global) (name class_name : Bor (List ℕ)) (class : ℕ) →
     known class_name.now ≡ Some class →
     after ≡ before ++ record { name = name; class = class; class_name = class_name } ∷ [] →
@@ -79,7 +79,7 @@ halfway_none known read all h =
       faults = ap (λ ns. first_fault known (global_marks ns all)) (sym none);
     }
 
--- One global more.
+-- One more global is read.
 pub halfway_more : (known : Known) (old new : Globals) (all rest after : List tree.Declared) (g : tree.Declared) →
     rest ≡ g ∷ after → Halfway known old all rest → new.names.locals.items ≡ [] →
     names_of new.names ≡ names_of old.names ++ g.name.text ∷ [] →
@@ -122,7 +122,7 @@ halfway_refuses known read all rest after g e r m q =
     refuses_as e _ _ (λ x f. m.faults ∙ ap (λ gs. first_fault known (global_marks names gs)) r ∙ f)
     (refuses_first e known (global_marks names (g ∷ [])) (global_marks (names ++ g.name.text ∷ []) after) q)
 
--- At the end all are read.
+-- At the end all globals are read.
 pub halfway_done : (known : Known) (read : Globals) (all rest : List tree.Declared) → rest ≡ [] →
     Halfway known read all rest → HasRead known all read
 halfway_done known read all rest r m = record {
@@ -133,13 +133,13 @@ halfway_done known read all rest r m = record {
       ∙ append-nil (map shown read.list.items));
 }
 
--- At the end no fault is found.
+-- At the end there is no fault.
 pub halfway_clean : (known : Known) (read : Globals) (all rest : List tree.Declared) → rest ≡ [] →
     Halfway known read all rest → first_fault known (global_marks [] all) ≡ None
 halfway_clean known read all rest r m =
     m.faults ∙ ap (λ gs. first_fault known (global_marks (names_of read.names) gs)) r
 
--- A name that was in no scope is the last global.
+-- A name that was not in scope is the last global.
 pub declared_name : (old new : Names) (x : Bor (List ℕ)) → old.locals.items ≡ [] →
     new.locals.items ≡ old.locals.items → place_of (names_of old) x.now ≡ None →
     new.globals.keys ≡ insert_key same_name old.globals.keys x → names_of new ≡ names_of old ++ x.now ∷ []

@@ -5,11 +5,11 @@ use Rattle.vsi_scope.specs.Language.{Expression, Command, Skip, Assign, Sequence
 use Rattle.vsi_scope.specs.Meaning.{Store, value, at_zero, and_then, drop_past, turns, runs, Evaluates}
 use Rattle.vsi_scope.specs.Rules.{EvaluationRules, LargerKeeps, OneAnswer, LengthKept}
 
--- What two answers that are there say.
+-- Two answers that are equal as options are equal.
 pub same_answer : (a b : Store) → Some a ≡ Some b → a ≡ b
 same_answer a b e = ap (λ o. elim o as (λ _. Store) [ None ↦ a | Some x ↦ x ]) e
 
--- No answer is no store.
+-- A missing answer is not a store.
 pub no_answer : {A : Type 0} (a : Store) → None ≡ Some a → A
 no_answer {A} a e = absurd (subst (λ o. elim o as (λ _. Type 0) [ None ↦ Unit {0} | Some x ↦ ⊥ ]) e tt)
 
@@ -19,12 +19,12 @@ pub record Between (o : Option Store) (go : Store → Option Store) (m' : Store)
   pub first : o ≡ Some store
   pub second : go store ≡ Some m'
 
--- Two steps that end have a store between them.
+-- If two steps end, there is a store between them.
 pub between : (o : Option Store) (go : Store → Option Store) (m' : Store) → and_then o go ≡ Some m' → Between o go m'
 between None go m' e = no_answer m' e
 between (Some m) go m' e = record { store = m; first = refl; second = e }
 
--- Two steps go through the store between them.
+-- Two steps with a store between them are one step.
 pub through : (o : Option Store) (go : Store → Option Store) (m m' : Store) → o ≡ Some m → go m ≡ Some m' →
     and_then o go ≡ Some m'
 through o go m m' e f = ap (λ x. and_then x go) e ∙ f
@@ -44,34 +44,34 @@ zero_cases (pos (suc n)) f g =
 zero_cases (negsuc n) f g =
     g (λ e. absurd (subst (λ z. elim z as (λ _. Type 0) [ pos k ↦ ⊥ | negsuc k ↦ Unit {0} ]) e tt))
 
--- A word that isn't 0 takes the second.
+-- A word that isn't 0 selects the second.
 pub at_other : (z : ℤ) (a b : Option Store) → z ≢ pos 0 → at_zero z a b ≡ b
 at_other (pos zero) a b h = absurd (h refl)
 at_other (pos (suc n)) a b h = refl
 at_other (negsuc n) a b h = refl
 
--- The word 0 takes the first.
+-- The word 0 selects the first.
 pub at_none : (z : ℤ) (a b : Option Store) → z ≡ pos 0 → at_zero z a b ≡ a
 at_none z a b h = ap (λ x. at_zero x a b) h
 
--- One that answers wherever another does, and the same.
+-- One function answers whenever the other does, and with the same store.
 abbrev pub Extends : (Store → Option Store) → (Store → Option Store) → Type 0
 Extends f g = (m m' : Store) → f m ≡ Some m' → g m ≡ Some m'
 
--- A choice keeps an answer where both ends do.
+-- A choice keeps an answer if both branches do.
 at_zero_more : (z : ℤ) (a b a' b' : Option Store) (m' : Store) → (a ≡ Some m' → a' ≡ Some m') →
     (b ≡ Some m' → b' ≡ Some m') → at_zero z a b ≡ Some m' → at_zero z a' b' ≡ Some m'
 at_zero_more (pos zero) a b a' b' m' f g e = f e
 at_zero_more (pos (suc n)) a b a' b' m' f g e = g e
 at_zero_more (negsuc n) a b a' b' m' f g e = g e
 
--- Two steps keep an answer where each does.
+-- Two steps keep an answer if each does.
 and_then_more : (o o' : Option Store) (f g : Store → Option Store) (m' : Store) →
     ((m : Store) → o ≡ Some m → o' ≡ Some m) → Extends f g → and_then o f ≡ Some m' → and_then o' g ≡ Some m'
 and_then_more o o' f g m' h k e =
     let b = between o f m' e in through o' g b.store m' (h b.store b.first) (k b.store m' b.second)
 
--- A loop of more turns, with a body that answers wherever another does, keeps an answer.
+-- A loop with more turns, and a body that answers whenever the other does, keeps an answer.
 pub turns_more : (i j : ℕ) (guard : Store → ℤ) (f g : Store → Option Store) → i ≤ j → Extends f g →
     Extends (turns i guard f) (turns j guard g)
 turns_more zero zero guard f g le h m m' e = e
@@ -82,13 +82,13 @@ turns_more (suc i) (suc j) guard f g le h m m' e =
     at_zero_more (guard m) (Some m) _ (Some m) _ m' (λ x. x) (and_then_more (f m) (g m) _ _ m' (h m)
     (turns_more i j guard f g (omega arith) h)) e
 
--- Words past a place go from the same store.
+-- Truncating the store keeps an answer.
 drop_past_more : (k : ℕ) (o o' : Option Store) (m' : Store) → ((m : Store) → o ≡ Some m → o' ≡ Some m) →
     drop_past k o ≡ Some m' → drop_past k o' ≡ Some m'
 drop_past_more k None o' m' h e = no_answer m' e
 drop_past_more k (Some m) o' m' h e = ap (drop_past k) (h m refl) ∙ e
 
--- A larger number of turns keeps an answer.
+-- Allowing more turns does not change an answer.
 pub larger_keeps : (c : Command) (n k : ℕ) (m m' : Store) → n ≤ k → runs n c m ≡ Some m' → runs k c m ≡ Some m'
 larger_keeps Skip n k m m' le e = e
 larger_keeps (Assign l s x) n k m m' le e = e
@@ -103,22 +103,22 @@ larger_keeps (While x c) n k m m' le e =
 larger_keeps (Letvar x c) n k m m' le e =
     drop_past_more (length m) _ _ m' (λ m₁ f. larger_keeps c n k (m ++ value x m ∷ []) m₁ le f) e
 
--- The law that a larger number of turns keeps an answer.
+-- The law that allowing more turns does not change an answer.
 pub larger : LargerKeeps
 larger = larger_keeps
 
--- The number of words.
+-- The store before it was truncated.
 pub record Dropped (k : ℕ) (o : Option Store) (m' : Store) : Type 0 where
   pub store : Store
   pub before : o ≡ Some store
   pub after : m' ≡ take k store
 
--- Words that went were there before.
+-- A store that was truncated came from a longer one.
 pub dropped : (k : ℕ) (o : Option Store) (m' : Store) → drop_past k o ≡ Some m' → Dropped k o m'
 dropped k None m' e = no_answer m' e
 dropped k (Some m) m' e = record { store = m; before = refl; after = sym (same_answer _ _ e) }
 
--- A loop keeps the number of words where its body does.
+-- A loop keeps the number of words if its body does.
 turns_length : (i : ℕ) (guard : Store → ℤ) (f : Store → Option Store) →
     ((m m' : Store) → f m ≡ Some m' → length m' ≡ length m) → (m m' : Store) → turns i guard f m ≡ Some m' →
     length m' ≡ length m
@@ -152,13 +152,13 @@ length_kept (Letvar x c) n m m' e =
     let l' = length-append m (value x m ∷ []) in
     ap length d.after ∙ length-take-le (length m) d.store (omega (arith, l, l'))
 
--- The law that a store keeps its number of words.
+-- The law that evaluation keeps the number of words in a store.
 pub lengths : LengthKept
 lengths = length_kept
 
 -- The rules.
 module _ (e : Expression) (c : Command) where
-  -- A loop whose guard is true goes on by its body and itself.
+  -- A loop whose guard is true continues with its body and then itself.
   loop_on : (m m' : Store) → value e m ≢ pos 0 → (m₁ : Store) → Evaluates c m m₁ → Evaluates (While e c) m₁ m' →
       Evaluates (While e c) m m'
   loop_on m m' z m₁ r s =
@@ -171,7 +171,7 @@ module _ (e : Expression) (c : Command) where
             ∙ through (runs (suc k) c m) (turns k (value e) (runs (suc k) c)) m₁ m' body rest,
       )
 
-  -- A loop whose guard is true went on by its body and itself.
+  -- A loop whose guard is true ran its body and then itself.
   loop_back : (m m' : Store) → value e m ≢ pos 0 → (n : ℕ) → runs n (While e c) m ≡ Some m' →
       (m₁ : Store) × Evaluates c m m₁ × Evaluates (While e c) m₁ m'
   loop_back m m' z zero f = no_answer m' (sym (at_other (value e m) (Some m) None z) ∙ f)
@@ -188,7 +188,7 @@ module _ (e : Expression) (c : Command) where
         ),
       )
 
-  -- A loop whose guard is false leaves the store.
+  -- A loop whose guard is false leaves the store unchanged.
   loop_stops : (m m' : Store) → value e m ≡ pos 0 → (n : ℕ) → runs n (While e c) m ≡ Some m' → m' ≡ m
   loop_stops m m' z zero f = sym (same_answer _ _ (sym (at_none (value e m) (Some m) None z) ∙ f))
   loop_stops m m' z (suc n) f =
@@ -240,7 +240,7 @@ rules_hold = record {
   );
 }
 
--- There is one answer.
+-- A command has at most one answer.
 pub one_answer : OneAnswer
 one_answer c m m₁ m₂ r s =
     let k = r.0 + s.0 in

@@ -6,7 +6,7 @@ use Rattle.vsi_scope.specs.Laws.{FaultlessResolves}
 use Rattle.vsi_scope.proofs.Meaning.{does_all, left_of, right_of}
 use Rattle.vsi_scope.proofs.Clean.{names_distinct, globals_few, globals_known, all_keep}
 
--- A program without a fault has a body, which is its resolution where it isn't too large.
+-- A program without a fault has a body, which is its resolution if it isn't too large.
 pub faultless_resolves : FaultlessResolves
 faultless_resolves k p none =
     let scope = global_names p.globals in

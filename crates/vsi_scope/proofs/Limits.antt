@@ -5,19 +5,19 @@ use Rattle.vsi_scope.specs.Language.{Command, Skip, Assign, Sequence, If, While,
 use Rattle.vsi_scope.specs.Scopes.{Scope, in_sequence}
 use Rattle.vsi_scope.specs.Places.{expression_of, commands_of, all_commands}
 
--- Two lists one behind another nest as deep as the deeper one.
+-- Two joined lists nest as deep as the deeper one.
 nesting-append : (xs ys : List Command) →
     nesting (in_sequence (xs ++ ys)) ≡ max (nesting (in_sequence xs)) (nesting (in_sequence ys))
 nesting-append [] ys = omega arith
 nesting-append (x ∷ xs) ys = omega (arith, nesting-append xs ys)
 
--- Two lists one behind another are as deep as the deeper one.
+-- Two joined lists are as deep as the deeper one.
 depth-append : (xs ys : List Command) →
     depth (in_sequence (xs ++ ys)) ≡ max (depth (in_sequence xs)) (depth (in_sequence ys))
 depth-append [] ys = omega arith
 depth-append (x ∷ xs) ys = omega (arith, depth-append xs ys)
 
--- An expression over locations is no deeper than in the tree, which has brackets too.
+-- An expression over locations is no deeper than in the tree, where brackets count too.
 pub expression_shallow : (s : Scope) (e : tree.Tree) → expression_depth (expression_of s e) ≤ tree.depth e
 expression_shallow s (tree.Number n) = omega arith
 expression_shallow s (tree.Name x) = omega arith

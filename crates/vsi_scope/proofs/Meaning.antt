@@ -1,4 +1,4 @@
--- Without a fault, the function is the relation; and where the relation holds there is no fault.
+-- Without a fault the function satisfies the relation, and if the relation holds there is no fault.
 use Rattle.std.proofs.Common.{◌≡◌, ℕ, suc, ◌+◌, ◌<◌, List, [], ◌∷◌, ◌++◌, length, refl, sym, ap, subst, ◌∙◌, arith, Option, Some, None, Bool, true, false, bytes_eq, if◌then◌else◌, length-append}
 use Rattle.std.specs.Option.{option_or}
 use Rattle.std.proofs.lemmas.Slice.Eq.{bytes_eq-Decides}
@@ -11,41 +11,41 @@ use Rattle.vsi_lattice.specs.Known.{Known}
 use Rattle.vsi_scope.specs.Faults.{Mark, Use, uses, marks, all_marks, locals, all_locals, class_marks, first_fault, if_absent}
 use Rattle.vsi_scope.proofs.Faulty.{first_of_both}
 
--- Both parts without a fault.
+-- If two parts have no fault together, the first has none.
 pub none_left : (a b : Option ScopeError) → option_or a b ≡ None → a ≡ None
 none_left None b e = refl
 none_left (Some x) b e = absurd (subst (λ o. elim o as (λ _. Type 0) [ None ↦ ⊥ | Some y ↦ Unit {0} ]) e tt)
 
--- The second of two parts without a fault has none.
+-- If two parts have no fault together, the second has none.
 pub none_right : (a b : Option ScopeError) → option_or a b ≡ None → b ≡ None
 none_right None b e = e
 none_right (Some x) b e = absurd (subst (λ o. elim o as (λ _. Type 0) [ None ↦ ⊥ | Some y ↦ Unit {0} ]) e tt)
 
--- Marks without a fault have none in their first part.
+-- The first part of marks without a fault has none.
 pub left_of : (k : Known) (xs ys : List Mark) → first_fault k (xs ++ ys) ≡ None → first_fault k xs ≡ None
 left_of k xs ys e = none_left (first_fault k xs) (first_fault k ys) (sym (first_of_both k xs ys) ∙ e)
 
--- Marks without a fault have none in their second part.
+-- The second part of marks without a fault has none.
 pub right_of : (k : Known) (xs ys : List Mark) → first_fault k (xs ++ ys) ≡ None → first_fault k ys ≡ None
 right_of k xs ys e = none_right (first_fault k xs) (first_fault k ys) (sym (first_of_both k xs ys) ∙ e)
 
--- A name that is there.
+-- A name without a fault has a position.
 there : (o : Option ℕ) (x : ScopeError) → if_absent o x ≡ None → o ≡ Some (or_zero o)
 there (Some l) x e = refl
 there None x e = absurd (subst (λ o. elim o as (λ _. Type 0) [ None ↦ ⊥ | Some y ↦ Unit {0} ]) e tt)
 
--- A place in a longer list is within it.
+-- A position in a longer list is within it.
 within_next : (o h : Option ℕ) (n l : ℕ) → ((k : ℕ) → o ≡ Some k → k < n) → ((k : ℕ) → h ≡ Some k → k < 1) →
     next_place o h ≡ Some l → l < suc n
 within_next (Some k) h n l f g e = omega (arith, f k refl, ap or_zero e)
 within_next None h n l f g e = omega (arith, g l e)
 
--- A place where a test succeeds is the first.
+-- The position given by a test that succeeds is the first.
 first_here : (b : Bool) (k : ℕ) → (if b then Some 0 else None) ≡ Some k → k < 1
 first_here true k e = omega (arith, ap or_zero e)
 first_here false k e = absurd (subst (λ o. elim o as (λ _. Type 0) [ None ↦ Unit {0} | Some y ↦ ⊥ ]) e tt)
 
--- A name's place is within the list.
+-- The position of a name is within the list.
 pub within : (s : Scope) (x : Text) (l : ℕ) → place_of s x ≡ Some l → l < length s
 within [] x l e = absurd (subst (λ o. elim o as (λ _. Type 0) [ None ↦ Unit {0} | Some y ↦ ⊥ ]) e tt)
 within (y ∷ ys) x l e =
@@ -61,32 +61,32 @@ locations k s (tree.Bracket e) p = locations k s e p
 locations k s (tree.Binary op a b) p =
     (locations k s a (left_of k (uses s a) (uses s b) p), locations k s b (right_of k (uses s a) (uses s b) p))
 
--- Nothing isn't something.
+-- None is not some value.
 not_some : {A : Type 0} {B : Type 0} (x : B) → None ≡ Some x → A
 not_some {A} {B} x e = absurd (subst (λ o. elim o as (λ _. Type 0) [ None ↦ Unit {0} | Some y ↦ ⊥ ]) e tt)
 
--- Something isn't nothing.
+-- Some value is not none.
 pub not_none : {A : Type 0} {B : Type 0} (x : B) → Some x ≡ None → A
 not_none {A} {B} x e = not_some x (sym e)
 
--- False isn't true.
+-- False is not true.
 pub not_true : {A : Type 0} → false ≡ true → A
 not_true {A} e = absurd (subst (λ o. elim o as (λ _. Type 0) [ true ↦ ⊥ | false ↦ Unit {0} ]) e tt)
 
--- A name without a place in a list has none behind the first name, and differs from it.
+-- A name without a position in a list has none after the first name and differs from the first name.
 absent_step : (o : Option ℕ) (b : Bool) → next_place o (if b then Some 0 else None) ≡ None → (o ≡ None) × (b ≡ false)
 absent_step (Some k) b e = not_none _ e
 absent_step None true e = not_none _ e
 absent_step None false e = (refl, refl)
 
--- A name without a place is absent.
+-- A name without a position is absent.
 pub absent : (s : Scope) (x : Text) → place_of s x ≡ None → IsAbsent s x
 absent [] x e = tt
 absent (y ∷ ys) x e =
     let p = absent_step (place_of ys x) (bytes_eq y x) e in
     (λ q. not_true (sym p.1 ∙ (bytes_eq-Decides y x).1 q), absent ys x p.0)
 
--- A place in a longer list is what the name stands for, by cases on the rest and on the first name.
+-- A position in a longer list is the one that the name denotes, by cases on the rest and on the first name.
 stands_step : (o : Option ℕ) (b : Bool) (y x : Text) (ys : Scope) (l : ℕ) → place_of ys x ≡ o → bytes_eq y x ≡ b →
     next_place o (if b then Some 0 else None) ≡ Some l → ((k : ℕ) → place_of ys x ≡ Some k → StandsFor ys x k) →
     StandsFor (y ∷ ys) x l
@@ -110,22 +110,22 @@ stands_step None true y x ys l p q e rec =
     }
 stands_step None false y x ys l p q e rec = not_some l e
 
--- A name stands for its last place.
+-- A name denotes its last position.
 pub stands : (s : Scope) (x : Text) (l : ℕ) → place_of s x ≡ Some l → StandsFor s x l
 stands [] x l e = not_some l e
 stands (y ∷ ys) x l e = stands_step (place_of ys x) (bytes_eq y x) y x ys l refl refl e (λ k. stands ys x k)
 
--- A use without a fault is of a name in scope.
+-- A use without a fault has its name in scope.
 pub used : (k : Known) (s : Scope) (x : tree.Named) (ms : List Mark) → first_fault k (Use s x ∷ ms) ≡ None →
     place_of s x.text ≡ Some (place s x.text)
 used k s x ms p = there (place_of s x.text) _ (none_left _ _ p)
 
--- Behind a use there is no fault where there is none in all.
+-- If there is no fault from a use on, there is none after it.
 pub used_behind : (k : Known) (s : Scope) (x : tree.Named) (ms : List Mark) → first_fault k (Use s x ∷ ms) ≡ None →
     first_fault k ms ≡ None
 used_behind k s x ms p = none_right _ _ p
 
--- An expression without a fault is over locations what the function gives.
+-- The form over locations of an expression without a fault is the one that the function gives.
 pub means : (k : Known) (s : Scope) (e : tree.Tree) → first_fault k (uses s e) ≡ None → Means s e (expression_of s e)
 means k s (tree.Number n) p = refl
 means k s (tree.Name x) p = (place s x.text, stands s x.text _ (used k s x [] p), refl)
@@ -139,7 +139,7 @@ means k s (tree.Binary op a b) p = (
 )
 
 mutual
-  -- A command without a fault is over locations what the function gives.
+  -- The form over locations of a command without a fault is the one that the function gives.
   pub does : (k : Known) (s : Scope) (n : ℕ) (c : tree.Command) → first_fault k (marks s n c) ≡ None →
       Does s c (commands_of s c)
   does k s n (tree.Assign x e) p = (
@@ -180,7 +180,7 @@ mutual
       )
   does k s n (tree.Block b) p = does_all k s n b p
 
-  -- A sequence without a fault is over locations what the function gives.
+  -- The form over locations of a sequence without a fault is the one that the function gives.
   pub does_all : (k : Known) (s : Scope) (n : ℕ) (b : tree.Body) → first_fault k (all_marks s n b) ≡ None →
       DoesAll s b (all_commands s b)
   does_all k s n tree.Done p = refl
@@ -194,13 +194,13 @@ mutual
     refl,
   )
 
--- The locations of two lists, one behind another, exist where those of each do.
+-- The locations of two joined lists exist if those of each list do.
 places_both : (k : ℕ) (xs ys : List Command) → HasPlaces k (in_sequence xs) → HasPlaces k (in_sequence ys) →
     HasPlaces k (in_sequence (xs ++ ys))
 places_both k [] ys p q = q
 places_both k (x ∷ xs) ys p q = (p.0, places_both k xs ys p.1 q)
 
--- Two lists have the letvars of both together.
+-- Two joined lists have the letvars of both.
 letvars_both : (xs ys : List Command) →
     letvars (in_sequence (xs ++ ys)) ≡ letvars (in_sequence xs) + letvars (in_sequence ys)
 letvars_both [] ys = omega arith

@@ -1,4 +1,4 @@
--- A walk amid a sequence.
+-- A walk in the middle of a sequence.
 use Rattle.std.proofs.Common.{◌≡◌, ◌+◌, List, ◌++◌, map, sym, ap, ◌∙◌, None}
 use Rattle.std.proofs.lemmas.List.{append_assoc}
 use Rattle.vsi_syntax.specs.Tree as tree
@@ -16,7 +16,7 @@ use Rattle.vsi_scope.specs.Faults.{marks, all_marks, locals, first_fault, Refuse
 use Rattle.vsi_scope.specs.Resolving.{variable, variables, all_variables}
 use Rattle.vsi_scope.specs.Resolver.{Walked, IsWithin, scope_of, declared}
 
--- A walk has gone over the first commands of a sequence.
+-- A walk has passed the first commands of a sequence.
 pub record Midway (known : Known) (old now : Resolver) (before out : List Cmd) (all rest : List Stmt) : Type 0 where
   pub within : IsWithin now
   pub globals : now.names.globals.keys ≡ old.names.globals.keys
@@ -28,7 +28,7 @@ pub record Midway (known : Known) (old now : Resolver) (before out : List Cmd) (
   pub faults : first_fault known (all_marks (scope_of old) (declared old) (syntax.body_of all)) ≡ first_fault known
       (all_marks (scope_of old) (declared now) (syntax.body_of rest))
 
--- One command more.
+-- One more command is passed.
 pub midway_more : (known : Known) (old mid new : Resolver) (before b a : List Cmd) (all rest after : List Stmt)
     (c : tree.Command) → syntax.body_of rest ≡ tree.Then c (syntax.body_of after) →
     Midway known old mid before b all rest → Walked mid new b a (variables known c) (commands_of (scope_of mid) c) →

@@ -30,34 +30,34 @@ use Rattle.vsi_scope.proofs.Complete.{does_all_one}
 use Rattle.vsi_scope.proofs.Limits.{all_nested, all_shallow, expressions_within}
 use Rattle.vsi_scope.proofs.Clean.{names_distinct, globals_few, globals_known, globals_clean, all_keep, body_clean}
 
--- No fault of a mark is that the program is too large.
+-- The fault is not that the program is too large.
 abbrev Small : Option ScopeError → Type 0
 Small None = Unit {0}
 Small (Some errors.TooLarge) = ⊥
 Small (Some _) = Unit {0}
 
--- A fault of an absent name isn't that the program is too large.
+-- The fault of a missing name is not that the program is too large.
 small_absent : (o : Option ℕ) (e : ScopeError) → Small (Some e) → Small (if_absent o e)
 small_absent None e s = s
 small_absent (Some l) e s = tt
 
--- A fault of a name that is there isn't that the program is too large.
+-- The fault of a duplicate name is not that the program is too large.
 small_there : (o : Option ℕ) (e : ScopeError) (q : Option ScopeError) → Small (Some e) → Small q →
     Small (if_there o e q)
 small_there None e q s r = r
 small_there (Some l) e q s r = s
 
--- A fault of a number isn't that the program is too large.
+-- The fault of a number is not that the program is too large.
 small_if : (b : Bool) (e : ScopeError) → Small (Some e) → Small (if b then None else Some e)
 small_if true e s = tt
 small_if false e s = s
 
--- The first of two faults isn't that the program is too large.
+-- If neither of two faults is that the program is too large, the first of them isn't either.
 small_both : (a b : Option ScopeError) → Small a → Small b → Small (option_or a b)
 small_both None b s r = r
 small_both (Some e) b s r = s
 
--- A fault at a mark isn't that the program is too large.
+-- The fault at a mark is not that the program is too large.
 small_at : (k : Known) (m : Mark) → Small (fault_at k m)
 small_at k (marked.Global above x) =
     small_there (place_of above x.text) (errors.Duplicate x.span) _ tt
@@ -66,12 +66,12 @@ small_at k (Local n x) = small_if (nat_lt n 1024) (errors.TooManyDeclarations x.
 small_at k (Class x) = small_absent (k x.text) (errors.UnknownClass x.span) tt
 small_at k (Use s x) = small_absent (place_of s x.text) (errors.Unbound x.span) tt
 
--- A first fault isn't that the program is too large.
+-- The first fault of marks is not that the program is too large.
 small : (k : Known) (ms : List Mark) → Small (first_fault k ms)
 small k [] = tt
 small k (m ∷ ms) = small_both (fault_at k m) (first_fault k ms) (small_at k m) (small k ms)
 
--- An error that is the first fault explains the refusal.
+-- An error for the first fault explains the refusal.
 pub explains : (k : Known) (p : tree.Whole) (e : ScopeError) → Refuses e (first_fault k (program_marks p)) →
     ExplainsScope k p e
 explains k p errors.Memory r = tt
@@ -82,7 +82,7 @@ explains k p (errors.TooManyGlobals s) r = r
 explains k p (errors.TooManyDeclarations s) r = r
 explains k p errors.TooLarge r = absurd (subst Small r (small k (program_marks p)))
 
--- ---- a program that has a resolution within the limits is refused for want of memory alone.
+-- ---- a program that has a resolution within the limits is refused only if memory runs out.
 
 -- No program with a resolution within the limits has a fault.
 pub resolution_clean : (k : Known) (p : tree.Whole) (cs : List Command) → IsResolution k p cs →
@@ -104,7 +104,7 @@ contradicts : {A : Type 0} (k : Known) (p : tree.Whole) (cs : List Command) (e :
     first_fault k (program_marks p) ≡ Some e → A
 contradicts k p cs e r q = not_none e (sym q ∙ resolution_clean k p cs r)
 
--- What explains the refusal of a program with a resolution is want of memory.
+-- The only explanation for refusing a program that has a resolution is lack of memory.
 complete : (k : Known) (p : tree.Whole) (cs : List Command) → IsResolution k p cs → (e : ScopeError) →
     ExplainsScope k p e → e ≡ errors.Memory
 complete k p cs r errors.Memory q = refl
@@ -115,7 +115,7 @@ complete k p cs r (errors.TooManyGlobals s) q = contradicts k p cs _ r q
 complete k p cs r (errors.TooManyDeclarations s) q = contradicts k p cs _ r q
 complete k p cs r errors.TooLarge q = absurd (resolution_small k p cs r q)
 
--- What explains its refusals refuses a program with a resolution for want of memory alone.
+-- An answer whose errors are explained refuses a program that has a resolution only if memory runs out.
 pub exact : {X : Type 0} (k : Known) (p : tree.Whole) (r : Result X ScopeError) → IfErr r (λ e. ExplainsScope k p e) →
     (cs : List Command) → IsResolution k p cs → IfErr r (λ e. e ≡ errors.Memory)
 exact k p (Ok x) h cs s = tt
@@ -127,7 +127,7 @@ exact k p (Err e) h cs s = complete k p cs s e h
 first_shown : {x y : Shown} {xs ys : List Shown} → (x ∷ xs) ≡ (y ∷ ys) → x ≡ y
 first_shown {x} e = ap (λ l. elim l as (λ _. Shown) [ [] ↦ x | z ∷ zs ↦ z ]) e
 
--- Equal lists go on equally.
+-- Equal lists have equal tails.
 others_shown : {x y : Shown} {xs ys : List Shown} → (x ∷ xs) ≡ (y ∷ ys) → xs ≡ ys
 others_shown e = ap (λ l. elim l as (λ _. List Shown) [ [] ↦ [] | z ∷ zs ↦ zs ]) e
 
@@ -135,7 +135,7 @@ others_shown e = ap (λ l. elim l as (λ _. List Shown) [ [] ↦ [] | z ∷ zs �
 none_shown : {A : Type 0} {x : Shown} {xs : List Shown} → (x ∷ xs) ≡ [] → A
 none_shown e = absurd (subst (λ l. elim l as (λ _. Type 0) [ [] ↦ ⊥ | z ∷ zs ↦ Unit {0} ]) e tt)
 
--- Globals that are declared by names have names.
+-- Globals whose declarations have valid names have valid names.
 all_named : (k : Known) (list : List Global) (gs : List tree.Declared) → map shown list ≡ map (global_of k) gs →
     IsGlobalsSpelled gs → All IsNamed list
 all_named k [] gs e s = All-nil IsNamed
@@ -176,13 +176,13 @@ pub record Begun (k : Known) (p : tree.Whole) (list : List Global) (w : Resolver
   pub spelled : IsGlobalsSpelled p.globals
   pub shallow : tree.body_depth p.body ≤ 200
 
--- The walk has gone over the body and found no fault.
+-- The walk has passed the body and found no fault.
 pub record Over (k : Known) (p : tree.Whole) (w new : Resolver) (after : List Cmd) : Type 0 where
   pub walked : WalkedAll k w new [] after p.body
   pub none : fault_in_all k w p.body ≡ None
 
 module _ (k : Known) (p : tree.Whole) (list : List Global) (w : Resolver) (b : Begun k p list w) where
-  -- As many globals are read as are declared.
+  -- The number of globals read is the number declared.
   globals_counted : length list ≡ length p.globals
   globals_counted = sym (length-map list shown) ∙ ap length b.listed ∙ length-map p.globals (global_of k)
 
@@ -208,7 +208,7 @@ module _ (k : Known) (p : tree.Whole) (list : List Global) (w : Resolver) (b : B
   begun_names : length (global_names p.globals) ≡ length p.globals
   begun_names = length-map p.globals (λ g. g.name.text)
 
-  -- The globals are not too many.
+  -- The number of globals is within the limit.
   few_globals : length p.globals ≤ 256
   few_globals = omega (arith, globals_few k [] p.globals (omega arith) b.faultless)
 
@@ -237,11 +237,11 @@ module _ (k : Known) (p : tree.Whole) (list : List Global) (w : Resolver) (b : B
         none_in_both k (global_marks [] p.globals) (all_marks (global_names p.globals) (length p.globals) p.body)
         b.faultless none_there
 
-    -- The commands are what the function gives.
+    -- The commands are those that the function gives.
     commands : map command after ≡ all_commands (global_names p.globals) p.body
     commands = over.walked.body ∙ ap (λ s. all_commands s p.body) b.named
 
-    -- The body is the sequence of what the function gives.
+    -- The body is the sequence of the commands that the function gives.
     sequence_is : sequence after ≡ in_sequence (all_commands (global_names p.globals) p.body)
     sequence_is = sequence_in after ∙ ap in_sequence commands
 
@@ -257,7 +257,7 @@ module _ (k : Known) (p : tree.Whole) (list : List Global) (w : Resolver) (b : B
     counted : letvars (sequence after) ≡ all_locals p.body
     counted = ap letvars sequence_is ∙ all_letvars (global_names p.globals) p.body
 
-    -- The declarations are not too many.
+    -- The number of declarations is within the limit.
     few_declarations : length p.globals + all_locals p.body ≤ 1024
     few_declarations =
         (all_keep k (global_names p.globals) (length p.globals) p.body none_there).few (omega (arith, few_globals))
@@ -289,7 +289,7 @@ module _ (k : Known) (p : tree.Whole) (list : List Global) (w : Resolver) (b : B
     pub no_deeper : depth (sequence after) ≤ 200
     no_deeper = omega (arith, ap depth sequence_is, all_shallow (global_names p.globals) p.body, b.shallow)
 
-    -- The program keeps what a resolved program keeps.
+    -- The program satisfies the invariant of a resolved program.
     pub is_resolved : size (sequence after) ≤ 65534 → IsResolved (resolved_of list new.letvars.items after)
     is_resolved fits = record {
       entries = entries ∙ sym counted;

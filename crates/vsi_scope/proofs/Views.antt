@@ -1,4 +1,4 @@
--- The command of a command that owns its lists.
+-- Views of commands that own their lists.
 use Rattle.std.proofs.Common.{◌≡◌, List, [], ◌∷◌, ◌++◌, Vec, Global, refl, sym, ap, ◌∙◌, ℕ, ◌+◌, ◌<◌, length, map, get_or, take, arith}
 use Rattle.std.proofs.lemmas.List.{take_more}
 use mathlib.Core.Former.{Count}
@@ -50,7 +50,7 @@ pub command_Letvar : (e : Ex) (body : Vec Cmd Global) →
 unfolding row_of
 command_Letvar e body = ap (Letvar (expression e)) (sequence_of e body)
 
--- One command more.
+-- One more command adds its letvars.
 pub letvars_push : (cs : List Cmd) (c : Cmd) →
     letvars (sequence (cs ++ c ∷ [])) ≡ letvars (sequence cs) + letvars (command c)
 letvars_push [] c = omega arith

@@ -1,4 +1,4 @@
--- What a walk over each form of command has done.
+-- The effect of a walk over each form of command.
 use Rattle.std.proofs.Common.{◌≡◌, ℕ, suc, ◌+◌, ◌-◌, ◌<◌, List, [], ◌∷◌, ◌++◌, length, map, take, Vec, Global, Bor, refl, sym, ap, ◌∙◌, arith, Option, length-append}
 use Rattle.std.proofs.lemmas.List.{map-append, length-map, append_assoc}
 use Rattle.std.proofs.Math.Seq.{take-append_seam}
@@ -19,7 +19,7 @@ use Rattle.vsi_scope.specs.Resolving.{Variable, variable, variables, all_variabl
 use Rattle.vsi_scope.specs.Resolver.{Walked, IsWithin, names_of, scope_of, declared, fault_in}
 use Rattle.vsi_scope.proofs.Views.{command_If, command_While, command_Letvar, sequence_in}
 
--- A branch that has begun empty.
+-- The commands of a branch whose walk began empty.
 branch : {old new : Resolver} {vs : List Variable} (cs : List Command) (b : List Cmd) (v : Vec Cmd Global) → b ≡ [] →
     Walked old new b v.items vs cs → sequence v.items ≡ in_sequence cs
 branch cs b v e w = sequence_in v.items ∙ ap in_sequence (w.body ∙ ap (λ l. map command l ++ cs) e)
@@ -45,14 +45,14 @@ mutual
         all_counted known rest,
       )
 
--- The same globals and letvars are the same names in scope.
+-- Equal globals and letvars give equal names in scope.
 pub same_names : (old new : Names) → new.globals.keys ≡ old.globals.keys → new.locals.items ≡ old.locals.items →
     names_of new ≡ names_of old
 same_names old new g l =
     ap (λ ns. map (λ (x : Bor (List ℕ)). x.now) ns ++ map (λ x. x.now) new.locals.items) g
     ∙ ap (λ ns. map (λ (x : Bor (List ℕ)). x.now) old.globals.keys ++ map (λ (x : Bor (List ℕ)). x.now) ns) l
 
--- A walk leaves the names in scope as they were.
+-- A walk restores the names in scope.
 scope_after : (old new : Resolver) {b a : List Cmd} {vs : List Variable} {cs : List Command} →
     Walked old new b a vs cs → scope_of new ≡ scope_of old
 scope_after old new w = same_names old.names new.names w.globals w.locals
@@ -71,7 +71,7 @@ declared_after known c old new w =
       counted known c,
     )
 
--- What is judged behind a walk over a command is judged with the names before it and its letvars declared.
+-- After a walk over a command, the next is judged with the same names in scope and with the command's letvars declared.
 pub judged_after : (known : Known) (c d : tree.Command) (old new : Resolver) {b a : List Cmd} {cs : List Command} →
     Walked old new b a (variables known c) cs →
     fault_in known new d ≡ first_fault known (marks (scope_of old) (declared old + locals c) d)
@@ -79,13 +79,13 @@ judged_after known c d old new w =
     ap (λ s. first_fault known (marks s (declared new) d)) (scope_after old new w)
     ∙ ap (λ n. first_fault known (marks (scope_of old) n d)) (declared_after known c old new w)
 
--- One command more is the last of the list.
+-- One more command is the last of the list.
 put : (before after : List Cmd) (c : Cmd) (d : Command) → after ≡ before ++ c ∷ [] → command c ≡ d →
     map command after ≡ map command before ++ d ∷ []
 put before after c d e f =
     ap (map command) e ∙ map-append command before (c ∷ []) ∙ ap (λ x. map command before ++ x ∷ []) f
 
--- A walk over a guard and two branches has gone over a choice.
+-- Walks over a guard and two branches are a walk over a choice.
 pub chosen : (known : Known) (old w₁ w₂ : Resolver) (guard : Ex) (e : tree.Tree) (c d : tree.Command) (b₁ b₂ : List Cmd)
     (firsts others : Vec Cmd Global) (before after : List Cmd) → expression guard ≡ expression_of (scope_of old) e →
     b₁ ≡ [] →
@@ -110,7 +110,7 @@ chosen known old w₁ w₂ guard e c d b₁ b₂ firsts others before after g e�
       (scope_after old w₁ first)));
 }
 
--- A walk over a guard and a body has gone over a loop.
+-- Walks over a guard and a body are a walk over a loop.
 pub looped : (known : Known) (old w : Resolver) (guard : Ex) (e : tree.Tree) (c : tree.Command) (b : List Cmd)
     (body : Vec Cmd Global) (before after : List Cmd) → expression guard ≡ expression_of (scope_of old) e → b ≡ [] →
     Walked old w b body.items (variables known c) (commands_of (scope_of old) c) →
@@ -143,7 +143,7 @@ entered_scope old new x v w =
     ∙ map-append (λ (y : Bor (List ℕ)). y.now) old.names.locals.items (x ∷ []))
     ∙ sym (append_assoc globals (map (λ y. y.now) old.names.locals.items) (x.now ∷ []))
 
--- One variable more is declared.
+-- One more variable is declared.
 entered_declared : (old new : Resolver) (x : Bor (List ℕ)) (v : Variable) → Entered old new x v →
     declared new ≡ suc (declared old)
 entered_declared old new x v w =
@@ -156,7 +156,7 @@ entered_declared old new x v w =
       length-append (map variable old.letvars.items) (v ∷ []),
     )
 
--- What is judged behind a variable is judged with its name the last and one declaration more.
+-- Inside a letvar, a command is judged with its name last in scope and with one more declaration.
 pub judged_inside : (known : Known) (c : tree.Command) (old new : Resolver) (x : Bor (List ℕ)) (v : Variable) →
     Entered old new x v →
     fault_in known new c ≡ first_fault known (marks (scope_of old ++ x.now ∷ []) (suc (declared old)) c)
@@ -164,7 +164,7 @@ judged_inside known c old new x v w =
     ap (λ s. first_fault known (marks s (declared new) c)) (entered_scope old new x v w)
     ∙ ap (λ n. first_fault known (marks (scope_of old ++ x.now ∷ []) n c)) (entered_declared old new x v w)
 
--- Not too many are declared where one more fits.
+-- The number of declarations stays within the limit if one more fits.
 pub entered_within : (old new : Resolver) (x : Bor (List ℕ)) (v : Variable) → Entered old new x v → IsWithin old →
     declared old < 1024 → IsWithin new
 entered_within old new x v w i lt = record {
@@ -180,7 +180,7 @@ entered_within old new x v w i lt = record {
   few = omega (arith, entered_declared old new x v w, lt);
 }
 
--- A walk over an initial value and a body, with the name in scope for the body alone, has gone over a letvar.
+-- Walks over an initial value and a body, with the name in scope for the body alone, are a walk over a letvar.
 pub localled : (known : Known) (old w₁ w₂ new : Resolver) (x : Bor (List ℕ)) (named : tree.Named)
     (class : Option tree.Named) (initial : Ex) (e : tree.Tree) (c : tree.Command) (b : List Cmd)
     (body : Vec Cmd Global) (before after : List Cmd)

@@ -1,4 +1,4 @@
--- How much of a tree is left to walk.
+-- The part of a tree that is left to walk.
 use Rattle.std.proofs.Common.{◌≡◌, ℕ, zero, suc, ◌+◌, ◌<◌, ◌≤◌, List, [], ◌∷◌, length, drop, get_or, sym, ap, ◌∙◌, arith}
 use Rattle.std.proofs.Math.Seq.{drop-cons}
 use Rattle.vsi_syntax.specs.declared.tree.Stmt.{Stmt}
@@ -6,7 +6,7 @@ use Rattle.vsi_syntax.specs.CommandView as syntax
 use Rattle.vsi_syntax.specs.Tree as tree
 
 abbrev mutual
-  -- How much of a command is left to walk.
+  -- The weight of a command: the amount that is left to walk.
   pub weight : tree.Command → ℕ
   weight (tree.Assign x e) = 1
   weight (tree.If e c d) = 1 + weight c + weight d
@@ -14,7 +14,7 @@ abbrev mutual
   weight (tree.Letvar x class e c) = 1 + weight c
   weight (tree.Block b) = 1 + all_weight b
 
-  -- How much of a sequence is left to walk.
+  -- The weight of a sequence: the amount that is left to walk.
   pub all_weight : tree.Body → ℕ
   all_weight tree.Done = 0
   all_weight (tree.Then c rest) = weight c + all_weight rest

@@ -1,4 +1,5 @@
--- The declarations and uses of a program in text order, each with what it is judged against, and the first fault.
+-- The declarations and uses of a program in source order, each with the context in which it is judged, and the first
+-- fault.
 use Rattle.std.specs.Prelude.{◌≡◌, ℕ, suc, ◌+◌, nat_lt, List, [], ◌∷◌, ◌++◌, length, map, if◌then◌else◌, Option, Some, None, Result, Ok, Err}
 use Rattle.std.specs.Option.{option_or}
 use Rattle.vsi_syntax.specs.Tree as tree
@@ -9,15 +10,15 @@ use Rattle.vsi_scope.specs.Scopes.{Scope}
 use Rattle.vsi_scope.specs.Places.{place_of}
 use Rattle.vsi_scope.specs.Limits.{max_globals, max_declarations}
 
--- A place of the text that may be at fault: the name of a global with those above it, the name of a letvar with the
--- number of declarations before it, the name of a class, or a name that is read or assigned to with those in scope.
+-- A name that may be at fault: the name of a global with those above it, the name of a letvar with the number of
+-- declarations before it, the name of a class, or a name that is read or assigned to with those in scope.
 pub data Mark : Type 0 where
   Global : (above : Scope) → (name : tree.Named) → Mark
   Local : (declared : ℕ) → (name : tree.Named) → Mark
   Class : (name : tree.Named) → Mark
   Use : (scope : Scope) → (name : tree.Named) → Mark
 
--- ---- what stands in a tree, in text order.
+-- ---- the marks of a tree, in source order.
 
 -- The class that is written, if any.
 abbrev pub class_marks : Option tree.Named → List Mark
@@ -46,7 +47,7 @@ abbrev mutual
   all_locals (tree.Then c rest) = locals c + all_locals rest
 
 abbrev mutual
-  -- The marks of a command behind n declarations.
+  -- The marks of a command after n declarations.
   pub marks : Scope → ℕ → tree.Command → List Mark
   marks scope n (tree.Assign x e) = Use scope x ∷ uses scope e
   marks scope n (tree.If e c d) = uses scope e ++ (marks scope n c ++ marks scope (n + locals c) d)
@@ -55,12 +56,12 @@ abbrev mutual
       Local n x ∷ (class_marks class ++ (uses scope e ++ marks (scope ++ x.text ∷ []) (suc n) c))
   marks scope n (tree.Block b) = all_marks scope n b
 
-  -- The marks of a sequence behind n declarations.
+  -- The marks of a sequence after n declarations.
   pub all_marks : Scope → ℕ → tree.Body → List Mark
   all_marks scope n tree.Done = []
   all_marks scope n (tree.Then c rest) = marks scope n c ++ all_marks scope (n + locals c) rest
 
--- The marks of globals below others.
+-- The marks of globals after others.
 abbrev pub global_marks : Scope → List tree.Declared → List Mark
 global_marks above [] = []
 global_marks above (g ∷ gs) = Global above g.name ∷ Class g.class ∷ global_marks (above ++ g.name.text ∷ []) gs
@@ -75,17 +76,17 @@ program_marks p = global_marks [] p.globals ++ all_marks (global_names p.globals
 
 -- ---- faults.
 
--- A fault where nothing was found.
+-- A fault if nothing was found.
 abbrev pub if_absent : Option ℕ → ScopeError → Option ScopeError
 if_absent None e = Some e
 if_absent (Some l) e = None
 
--- A fault where something was found, else another one.
+-- A fault if something was found, else another one.
 abbrev pub if_there : Option ℕ → ScopeError → Option ScopeError → Option ScopeError
 if_there None e otherwise = otherwise
 if_there (Some l) e otherwise = Some e
 
--- What is wrong at a mark; of two faults the one of smaller number.
+-- The fault at a mark; of two faults, the one with the smaller number.
 abbrev pub fault_at : Known → Mark → Option ScopeError
 fault_at classes (Global above x) =
     if_there (place_of above x.text) (errors.Duplicate x.span)
@@ -99,12 +100,12 @@ abbrev pub first_fault : Known → List Mark → Option ScopeError
 first_fault classes [] = None
 first_fault classes (m ∷ ms) = option_or (fault_at classes m) (first_fault classes ms)
 
--- An error is the first fault, unless memory ran out.
+-- The error is the first fault, unless memory ran out.
 abbrev pub Refuses : ScopeError → Option ScopeError → Type 0
 Refuses errors.Memory o = Unit {0}
 Refuses e o = o ≡ Some e
 
--- An answer is given where there is no fault, and an error is the first fault.
+-- There is an answer if there is no fault, and an error is the first fault.
 abbrev pub Judged : {X : Type 0} → Result X ScopeError → Option ScopeError → Type 0
 Judged (Ok x) o = o ≡ None
 Judged (Err e) o = Refuses e o

@@ -1,4 +1,4 @@
--- The language over locations, free of memory.
+-- The language over locations, independent of memory.
 use Rattle.std.specs.Prelude.{ℕ, ◌+◌, ◌<◌, max, Bool, true, false, ◌||◌, ℤ}
 use Rattle.vsi_syntax.specs.declared.operator.Op.{Op}
 use Rattle.vsi_syntax.specs.declared.token.Span.{Span}
@@ -33,7 +33,7 @@ letvars (If e a b) = letvars a + letvars b
 letvars (While e c) = letvars c
 letvars (Letvar e c) = letvars c + 1
 
--- Every location that is read or written is below k, or belongs to a letvar round it.
+-- Every location that is read or written is below k, or belongs to an enclosing letvar.
 abbrev pub HasPlaces : ℕ → Command → Type 0
 HasPlaces k Skip = Unit {0}
 HasPlaces k (Assign l s e) = (l < k) × HasLocations k e
@@ -42,7 +42,7 @@ HasPlaces k (If e a b) = HasLocations k e × HasPlaces k a × HasPlaces k b
 HasPlaces k (While e c) = HasLocations k e × HasPlaces k c
 HasPlaces k (Letvar e c) = HasLocations k e × HasPlaces (k + 1) c
 
--- A loop stands in the command, at any depth.
+-- The command contains a loop, at any depth.
 abbrev pub has_loop : Command → Bool
 has_loop Skip = false
 has_loop (Assign l s e) = false

@@ -1,4 +1,4 @@
--- What the marks of a program say of its text, and what a program without a fault has.
+-- The relation between the marks of a program and its text, and the body of a program without a fault.
 use Rattle.std.specs.Prelude.{◌≡◌, ◌≤◌, List, [], ◌∷◌, map, None}
 use Rattle.vsi_syntax.specs.Tree as tree
 use Rattle.vsi_scope.specs.Language.{Command, size}
@@ -21,7 +21,7 @@ name_at (Local n x) = x
 name_at (Class x) = x
 name_at (Use scope x) = x
 
--- The marks of a program stand at the names that its text writes, in the order of the text.
+-- The marks of a program are at the names that its text writes, in source order.
 abbrev pub MarksFollowText : Type 0
 MarksFollowText = (p : tree.Whole) → map name_at (program_marks p) ≡ called (tree.write_program p)
 
@@ -31,7 +31,7 @@ ResolvesFaultless =
     (known : Known) (p : tree.Whole) (cs : List Command) → IsResolution known p cs →
     first_fault known (program_marks p) ≡ None
 
--- A program without a fault has a body over locations, and where that isn't too large it is the resolution.
+-- A program without a fault has a body over locations, and if that isn't too large, it is the resolution.
 pub record HasBody (known : Known) (p : tree.Whole) : Type 0 where
   pub commands : List Command
   pub body : DoesAll (global_names p.globals) p.body commands

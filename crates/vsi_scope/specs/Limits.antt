@@ -1,11 +1,11 @@
 -- The limits of a program over locations.
 use Rattle.std.specs.Prelude.{ℕ}
 
--- The most globals of a program.
+-- The most globals that a program may have.
 abbrev pub max_globals : ℕ
 max_globals = 256
 
--- The most declarations of a program, globals and `letvar`s together.
+-- The most declarations that a program may have, globals and `letvar`s together.
 abbrev pub max_declarations : ℕ
 max_declarations = 1024
 

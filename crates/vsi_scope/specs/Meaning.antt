@@ -1,4 +1,4 @@
--- What a command does to a store.
+-- The effect of a command on a store.
 use Rattle.std.specs.Prelude.{◌≡◌, ℕ, zero, suc, List, [], ◌∷◌, ◌++◌, length, take, Option, Some, None, slice_index_or, slice_set, ℤ, pos, negsuc}
 use Rattle.vsi_scope.specs.Language.{Expression, Number, Location, Operator, Command, Skip, Assign, Sequence, If, While, Letvar}
 use Rattle.vsi_syntax.specs.Operators.{apply}
@@ -13,18 +13,18 @@ value (Number n) m = n
 value (Location l s) m = slice_index_or m l (pos 0)
 value (Operator o a b) m = apply o (value a m) (value b m)
 
--- The first where the word is 0, else the second.
+-- The first if the word is 0, else the second.
 abbrev pub at_zero : ℤ → Option Store → Option Store → Option Store
 at_zero (pos zero) a b = a
 at_zero (pos (suc n)) a b = b
 at_zero (negsuc n) a b = b
 
--- What follows goes on from the store that is there.
+-- The next step continues from the store, if there is one.
 abbrev pub and_then : Option Store → (Store → Option Store) → Option Store
 and_then None go = None
 and_then (Some m) go = go m
 
--- The store without the words past the first k.
+-- The store truncated to its first k words.
 abbrev pub drop_past : ℕ → Option Store → Option Store
 drop_past k None = None
 drop_past k (Some m) = Some (take k m)
@@ -34,7 +34,7 @@ abbrev pub turns : ℕ → (Store → ℤ) → (Store → Option Store) → Stor
 turns zero guard body m = at_zero (guard m) (Some m) None
 turns (suc n) guard body m = at_zero (guard m) (Some m) (and_then (body m) (turns n guard body))
 
--- The store after a command where each loop takes at most n turns each time it is met, else none.
+-- The store after a command in which each loop takes at most n turns whenever it runs, else none.
 abbrev pub runs : ℕ → Command → Store → Option Store
 runs n Skip m = Some m
 runs n (Assign l s e) m = Some (slice_set m l (value e m))
@@ -43,6 +43,6 @@ runs n (If e a b) m = at_zero (value e m) (runs n b m) (runs n a m)
 runs n (While e c) m = turns n (value e) (runs n c) m
 runs n (Letvar e c) m = drop_past (length m) (runs n c (m ++ value e m ∷ []))
 
--- A command evaluates one store to another where some number of turns is enough.
+-- A command evaluates one store to another if some number of turns is enough.
 abbrev pub Evaluates : Command → Store → Store → Type 0
 Evaluates c m m' = (n : ℕ) × (runs n c m ≡ Some m')

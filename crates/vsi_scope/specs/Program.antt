@@ -16,16 +16,16 @@ pub record Resolved : Type 0 where
   pub letvars : List Entry
   pub body : List Cmd
 
--- The program of these parts.
+-- The program with these parts.
 abbrev pub resolved_of : List Global → List Entry → List Cmd → Resolved
 resolved_of gs ls cs = record { globals = gs; letvars = ls; body = cs }
 
--- The name and the class name of a global are names.
+-- The name and the class name of a global are valid names.
 abbrev pub IsNamed : Global → Type 0
 IsNamed g = IsTrue (is_name g.name.now) × IsTrue (is_name g.class_name.now)
 
--- What a resolved program keeps: an entry for each letvar, locations that exist, the limits, letvars and expressions
--- that nest at most 200 deep, and distinct names of globals.
+-- The invariant of a resolved program: an entry for each letvar, locations that exist, the limits, letvars and
+-- expressions that nest at most 200 deep, and distinct names of globals.
 pub record IsResolved (r : Resolved) : Type 0 where
   pub entries : length r.letvars ≡ letvars (sequence r.body)
   pub places : HasPlaces (length r.globals) (sequence r.body)

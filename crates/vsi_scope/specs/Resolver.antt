@@ -1,4 +1,4 @@
--- What a walk through the text has done.
+-- The effect of a walk through the text.
 use Rattle.std.specs.Prelude.{◌≡◌, ℕ, ◌+◌, ◌≤◌, List, [], ◌++◌, length, map, Option}
 use Rattle.vsi_syntax.specs.Tree as tree
 use Rattle.vsi_scope.specs.declared.program.Cmd.{Cmd}
@@ -31,7 +31,7 @@ pub record HasRead (known : Known) (gs : List tree.Declared) (read : Globals) : 
   pub names : names_of read.names ≡ global_names gs
   pub list : map shown read.list.items ≡ map (global_of known) gs
 
--- The names in scope where the walk is.
+-- The names in scope at this point of the walk.
 abbrev pub scope_of : Resolver → Scope
 scope_of w = names_of w.names
 
@@ -39,12 +39,12 @@ scope_of w = names_of w.names
 abbrev pub declared : Resolver → ℕ
 declared w = length w.names.globals.keys + length w.letvars.items
 
--- The letvars in scope are declared, and not too many declarations are.
+-- The letvars in scope are declared, and the number of declarations is within the limit.
 pub record IsWithin (w : Resolver) : Type 0 where
   pub locals : length w.names.locals.items ≤ length w.letvars.items
   pub few : declared w ≤ max_declarations
 
--- The walk has gone over these letvars and has left these commands.
+-- The walk has passed these letvars and has produced these commands.
 pub record Walked
     (old new : Resolver) (before after : List Cmd) (variables : List Variable) (commands : List Command)
     : Type 0 where
@@ -54,20 +54,20 @@ pub record Walked
   pub letvars : map variable new.letvars.items ≡ map variable old.letvars.items ++ variables
   pub body : map command after ≡ map command before ++ commands
 
--- The walk has gone over a command.
+-- The walk has passed a command.
 abbrev pub WalkedOne : Known → Resolver → Resolver → List Cmd → List Cmd → tree.Command → Type 0
 WalkedOne known old new before after c =
     Walked old new before after (variables known c) (commands_of (scope_of old) c)
 
--- The walk has gone over a sequence.
+-- The walk has passed a sequence.
 abbrev pub WalkedAll : Known → Resolver → Resolver → List Cmd → List Cmd → tree.Body → Type 0
 WalkedAll known old new before after b =
     Walked old new before after (all_variables known b) (all_commands (scope_of old) b)
 
--- The first fault of a command where the walk is.
+-- The first fault of a command at this point of the walk.
 abbrev pub fault_in : Known → Resolver → tree.Command → Option ScopeError
 fault_in known w c = first_fault known (marks (scope_of w) (declared w) c)
 
--- The first fault of a sequence where the walk is.
+-- The first fault of a sequence at this point of the walk.
 abbrev pub fault_in_all : Known → Resolver → tree.Body → Option ScopeError
 fault_in_all known w b = first_fault known (all_marks (scope_of w) (declared w) b)

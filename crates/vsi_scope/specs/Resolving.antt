@@ -1,4 +1,4 @@
--- What a resolved program is to its tree, and what a refusal means.
+-- The relation between a resolved program and its tree, and the meaning of an error.
 use Rattle.std.specs.Prelude.{◌≡◌, ℕ, ◌+◌, ◌<◌, ◌≤◌, List, [], ◌∷◌, ◌++◌, length, map, bytes_eq, Option, Some, None, IsSome, IfSome}
 use Rattle.std.specs.List.{All, IsDistinct}
 use Rattle.vsi_syntax.specs.declared.token.Span.{Span}
@@ -17,27 +17,27 @@ use Rattle.vsi_scope.specs.Limits.{max_globals, max_declarations, max_size}
 
 -- ---- the globals and the letvars of a tree.
 
--- A global: its name, its class where the lattice has it, and the name of the class.
+-- A global: its name, its class if the lattice has it, and the name of the class.
 pub record Shown : Type 0 where
   pub name : Text
   pub class : Option ℕ
   pub class_name : Text
 
--- A global of the program, without where its names lie in memory.
+-- A global of the program, independent of the location of its names in memory.
 abbrev pub shown : Global → Shown
 shown g = record { name = g.name.now; class = Some g.class; class_name = g.class_name.now }
 
--- What a declaration makes.
+-- The global that a declaration makes.
 abbrev pub global_of : Known → tree.Declared → Shown
 global_of known g = record { name = g.name.text; class = known g.class.text; class_name = g.class.text }
 
--- A letvar: its name, its class where one is written, and where its name stands.
+-- A letvar: its name, its class if one is written, and the span of its name.
 pub record Variable : Type 0 where
   pub name : Text
   pub class : Option ℕ
   pub span : Span
 
--- An entry of the program, without where its name lies in memory.
+-- An entry of the program, independent of the location of its name in memory.
 abbrev pub variable : Entry → Variable
 variable e = record { name = e.name.now; class = e.class; span = e.span }
 
@@ -51,7 +51,7 @@ class_of known None = None
 class_of known (Some x) = known x.text
 
 abbrev mutual
-  -- The letvars of a command, in text order.
+  -- The letvars of a command, in source order.
   pub variables : Known → tree.Command → List Variable
   variables known (tree.Assign x e) = []
   variables known (tree.If e c d) = variables known c ++ variables known d
@@ -59,12 +59,12 @@ abbrev mutual
   variables known (tree.Letvar x class e c) = letvar x (class_of known class) ∷ variables known c
   variables known (tree.Block b) = all_variables known b
 
-  -- The letvars of a sequence, in text order.
+  -- The letvars of a sequence, in source order.
   pub all_variables : Known → tree.Body → List Variable
   all_variables known tree.Done = []
   all_variables known (tree.Then c rest) = variables known c ++ all_variables known rest
 
--- ---- classes that the lattice has.
+-- ---- classes in the lattice.
 
 -- The lattice has each global's class.
 abbrev pub HasGlobalClasses : Known → List tree.Declared → Type 0
@@ -77,7 +77,7 @@ HasClass known None = Unit {0}
 HasClass known (Some x) = IsSome (known x.text)
 
 abbrev mutual
-  -- The lattice has each class that is written in a command.
+  -- The lattice has every class that is written in a command.
   pub HasClasses : Known → tree.Command → Type 0
   HasClasses known (tree.Assign x e) = Unit {0}
   HasClasses known (tree.If e c d) = HasClasses known c × HasClasses known d
@@ -85,7 +85,7 @@ abbrev mutual
   HasClasses known (tree.Letvar x class e c) = HasClass known class × HasClasses known c
   HasClasses known (tree.Block b) = HasAllClasses known b
 
-  -- The lattice has each class that is written in a sequence.
+  -- The lattice has every class that is written in a sequence.
   pub HasAllClasses : Known → tree.Body → Type 0
   HasAllClasses known tree.Done = Unit {0}
   HasAllClasses known (tree.Then c rest) = HasClasses known c × HasAllClasses known rest
@@ -102,18 +102,18 @@ pub record IsResolution (known : Known) (p : tree.Whole) (cs : List Command) : T
   pub body : DoesAll (global_names p.globals) p.body cs
   pub small : size (in_sequence cs) ≤ max_size
 
--- The program is the resolution of the tree: its globals, its letvars in text order and its body, spans included.
+-- The program is the resolution of the tree: its globals, its letvars in source order and its body, spans included.
 pub record Resolves (known : Known) (p : tree.Whole) (r : Resolved) : Type 0 where
   pub faultless : first_fault known (program_marks p) ≡ None
   pub globals : map shown r.globals ≡ map (global_of known) p.globals
   pub letvars : map variable r.letvars ≡ all_variables known p.body
   pub resolution : IsResolution known p (map command r.body)
 
--- Each class that a name stands for is below a number.
+-- Every class that a name denotes is below a number.
 abbrev pub AreBelow : ℕ → Known → Type 0
 AreBelow n known = (x : Text) → IfSome (known x) (λ c. c < n)
 
--- Each class of the program is below a number.
+-- Every class of the program is below a number.
 pub record HasClassesBelow (n : ℕ) (r : Resolved) : Type 0 where
   pub globals : All (λ g. g.class < n) r.globals
   pub letvars : All (λ e. IfSome e.class (λ c. c < n)) r.letvars
@@ -125,7 +125,7 @@ pub record IsTooLarge (known : Known) (p : tree.Whole) : Type 0 where
   pub body : DoesAll (global_names p.globals) p.body commands
   pub large : max_size < size (in_sequence commands)
 
--- The error is the first fault in text order, or says that a program without fault is too large.
+-- The error is the first fault in source order, or says that a program without such a fault is too large.
 abbrev pub ExplainsScope : Known → tree.Whole → ScopeError → Type 0
 ExplainsScope known p errors.Memory = Unit {0}
 ExplainsScope known p errors.TooLarge = IsTooLarge known p

@@ -6,7 +6,7 @@ use Rattle.vsi_syntax.specs.Operators.{apply}
 use Rattle.vsi_scope.specs.Language.{Expression, Number, Location, Operator, Command, Skip, Assign, Sequence, If, While, Letvar}
 use Rattle.vsi_scope.specs.Meaning.{Store, value, runs, Evaluates}
 
--- What evaluates does so by the rule of its form, and by that alone.
+-- Every evaluation follows the rule of its form, and only that.
 pub record EvaluationRules : Type 0 where
   pub literal : (n : ℤ) (m : Store) → value (Number n) m ≡ n
   pub contents : (l : ℕ) (s : Span) (m : Store) → value (Location l s) m ≡ slice_index_or m l (pos 0)
@@ -28,14 +28,14 @@ pub record EvaluationRules : Type 0 where
       Evaluates (Letvar e c) m m' ↔
       ((m₁ : Store) × Evaluates c (m ++ value e m ∷ []) m₁ × (m' ≡ take (length m) m₁))
 
--- A larger number of turns keeps an answer.
+-- Allowing more turns does not change an answer.
 abbrev pub LargerKeeps : Type 0
 LargerKeeps = (c : Command) (n k : ℕ) (m m' : Store) → n ≤ k → runs n c m ≡ Some m' → runs k c m ≡ Some m'
 
--- A command evaluates a store to one store at most.
+-- A command evaluates a store to at most one store.
 abbrev pub OneAnswer : Type 0
 OneAnswer = (c : Command) (m m₁ m₂ : Store) → Evaluates c m m₁ → Evaluates c m m₂ → m₁ ≡ m₂
 
--- A store keeps its number of words.
+-- Evaluation keeps the number of words in a store.
 abbrev pub LengthKept : Type 0
 LengthKept = (c : Command) (n : ℕ) (m m' : Store) → runs n c m ≡ Some m' → length m' ≡ length m

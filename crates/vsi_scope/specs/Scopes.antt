@@ -1,9 +1,9 @@
--- Resolution: what a tree is over locations, where certain names are in scope.
+-- Resolution: the form of a tree over locations, with certain names in scope.
 use Rattle.std.specs.Prelude.{◌≡◌, ◌≢◌, ℕ, List, [], ◌∷◌, ◌++◌, length}
 use Rattle.vsi_syntax.specs.Tree as tree
 use Rattle.vsi_scope.specs.Language.{Expression, Number, Location, Operator, Command, Skip, Assign, Sequence, If, While, Letvar}
 
--- A name, as its bytes.
+-- A name, given by its bytes.
 abbrev pub Text : Type 0
 Text = List ℕ
 
@@ -16,7 +16,7 @@ abbrev pub IsAbsent : Scope → Text → Type 0
 IsAbsent [] x = Unit {0}
 IsAbsent (y ∷ ys) x = (y ≢ x) × IsAbsent ys x
 
--- A name stands for its last place in the list.
+-- A name denotes its last position in the list.
 pub record StandsFor (scope : Scope) (x : Text) (l : ℕ) : Type 0 where
   pub before : Scope
   pub after : Scope
@@ -24,7 +24,7 @@ pub record StandsFor (scope : Scope) (x : Text) (l : ℕ) : Type 0 where
   pub place : length before ≡ l
   pub last : IsAbsent after x
 
--- What an expression is over locations; brackets leave nothing.
+-- An expression over locations is the form of this tree; brackets disappear.
 abbrev pub Means : Scope → tree.Tree → Expression → Type 0
 Means scope (tree.Number n) p = p ≡ Number n
 Means scope (tree.Name x) p = (l : ℕ) × StandsFor scope x.text l × (p ≡ Location l x.span)
@@ -38,7 +38,7 @@ in_sequence [] = Skip
 in_sequence (c ∷ cs) = Sequence c (in_sequence cs)
 
 abbrev mutual
-  -- What a command is over locations: a list of commands, for a block joins the sequence that holds it.
+  -- A list of commands over locations is the form of this command; a block becomes part of the sequence that holds it.
   pub Does : Scope → tree.Command → List Command → Type 0
   Does scope (tree.Assign x e) cs =
       (l : ℕ) × (p : Expression) × StandsFor scope x.text l × Means scope e p × (cs ≡ Assign l x.span p ∷ [])
@@ -54,14 +54,14 @@ abbrev mutual
       × (cs ≡ Letvar p (in_sequence body) ∷ [])
   Does scope (tree.Block b) cs = DoesAll scope b cs
 
-  -- What a sequence is over locations: the lists of its commands, one behind another.
+  -- A list of commands over locations is the form of this sequence: the lists of its commands, one after another.
   pub DoesAll : Scope → tree.Body → List Command → Type 0
   DoesAll scope tree.Done cs = cs ≡ []
   DoesAll scope (tree.Then c rest) cs =
       (first : List Command) × (others : List Command) × Does scope c first × DoesAll scope rest others
       × (cs ≡ first ++ others)
 
--- A tree has one resolution at most.
+-- A tree has at most one resolution.
 abbrev pub OneResolution : Type 0
 OneResolution = (scope : Scope) (b : tree.Body) (cs ds : List Command) →
     DoesAll scope b cs → DoesAll scope b ds → cs ≡ ds

@@ -1,4 +1,4 @@
--- What the program's types stand for.
+-- The meaning of the program's types.
 use Rattle.std.specs.Prelude.{List, [], ◌∷◌}
 use Rattle.vsi_scope.specs.declared.program.Ex.{Ex}
 use Rattle.vsi_scope.specs.declared.program.Ex.TheVariants.{Num, Loc, Op'}
@@ -6,14 +6,14 @@ use Rattle.vsi_scope.specs.declared.program.Cmd.{Cmd, Row_of-Cmd, end_of-Cmd, mo
 use Rattle.vsi_scope.specs.declared.program.Cmd as cmd
 use Rattle.vsi_scope.specs.Language.{Expression, Number, Location, Operator, Command, Skip, Assign, Sequence, If, While, Letvar}
 
--- The expression of an expression of the code.
+-- The expression that a value of the code denotes.
 abbrev pub expression : Ex → Expression
 expression (Num n) = Number n
 expression (Loc l s) = Location l s
 expression (Op' o p a q b) = Operator o (expression a) (expression b)
 
 abbrev mutual
-  -- The command of a command.
+  -- The command that a value of the code denotes.
   pub command : Cmd → Command
   command (cmd.Assign l s e) = Assign l s (expression e)
   command (cmd.If' e sy y sn n) = If (expression e) (row y) (row n)

@@ -5,33 +5,32 @@ ghost use Rattle.vsi_scope.specs.Scopes.{OneResolution};
 ghost use Rattle.vsi_scope.specs.Laws.{MarksFollowText, ResolvesFaultless, FaultlessResolves};
 ghost use Rattle.vsi_scope.specs.Rules.{EvaluationRules, LargerKeeps, OneAnswer, LengthKept};
 
-/// Each rule of evaluation holds of what evaluates, and so does its converse.
+/// Every rule of evaluation holds, and so does its converse.
 pub fn evaluation_rules()
     ensures { EvaluationRules }
 {}
 
-/// A larger number of turns keeps an answer.
+/// Allowing more turns does not change an answer.
 pub fn larger_keeps()
     ensures { LargerKeeps }
 {}
 
-/// A command evaluates a store to one store at most.
+/// A command evaluates a store to at most one store.
 pub fn one_answer()
     ensures { OneAnswer }
 {}
 
-/// A store keeps its number of words.
+/// Evaluation keeps the number of words in a store.
 pub fn length_kept()
     ensures { LengthKept }
 {}
 
-/// A tree has one resolution at most.
+/// A tree has at most one resolution.
 pub fn one_resolution()
     ensures { OneResolution }
 {}
 
-/// The marks by which a program is judged stand at the names that its text writes, in the order of
-/// the text.
+/// The marks by which a program is judged are at the names that its text writes, in source order.
 pub fn marks_follow_text()
     ensures { MarksFollowText }
 {}
@@ -41,7 +40,7 @@ pub fn resolves_faultless()
     ensures { ResolvesFaultless }
 {}
 
-/// A program without a fault has a body over locations, which is its resolution where it isn't too
+/// A program without a fault has a body over locations, which is its resolution if it isn't too
 /// large.
 pub fn faultless_resolves()
     ensures { FaultlessResolves }

@@ -1,10 +1,10 @@
-//! The resolved program: names replaced by locations, and what the commands over locations do to a
+//! Resolved programs: names replaced by locations, and the effect of commands over locations on a
 //! store.
 //!
-//! In comes the tree of a program and a lattice of classes; out goes a [`Resolved`], or the first
-//! fault of the text. `resolve` carries the promise: its clause `resolved` says what the program
-//! is, `refused` what each fault means, and `exact` that a program without fault is refused for
-//! want of memory alone. The laws of evaluation are the contracts of the functions in [`laws`].
+//! `resolve` takes the tree of a program and a lattice of classes, and returns a [`Resolved`] or
+//! the first fault of the text. Its clause `resolved` relates the result to the program, `refused`
+//! gives the meaning of each fault, and `exact` says that a program without a fault is refused only
+//! if memory runs out. The laws of evaluation are the contracts of the functions in [`laws`].
 //!
 //! To be believed: `specs/Faults`, `specs/Language`, `specs/Laws`, `specs/Limits`, `specs/Meaning`,
 //! `specs/Places`, `specs/Program`, `specs/Resolving`, `specs/Rules`, `specs/Scopes`, `specs/View`;

@@ -17,11 +17,11 @@ fn size_of(e: &Ex) -> u32
     }
 }
 
-/// The number of instructions that the commands need, or 4,294,967,295 where it is larger.
+/// The number of instructions that the commands need, or 4,294,967,295 if it is larger.
 ///
-/// A number or name is 1; an operator is its operands plus 1; an assignment is its value plus 1; an
-/// `if` is guard, both branches and 2; a `while` is guard, body and 2; a `letvar` is initial value,
-/// body and 1; a sequence is the sum.
+/// A number or a name counts 1; an operator, its operands plus 1; an assignment, its value plus 1;
+/// an `if`, its guard, both branches and 2; a `while`, its guard, its body and 2; a `letvar`, its
+/// initial value, its body and 1; a sequence, the sum of its commands.
 #[cycle(size)]
 pub fn size(body: &[Cmd]) -> u32
     ensures { result ≡ min (size (sequence body.now)) 4294967295 }

@@ -2,7 +2,7 @@
 
 use vsi_syntax::{Op, Span};
 
-/// An expression over locations: location `k` below the number of globals is global `k`, and a
+/// An expression over locations. Location `k` below the number of globals is global `k`, and a
 /// `letvar` has the next location above those in scope.
 #[derive(Drop)]
 pub enum Ex {
@@ -14,28 +14,28 @@ pub enum Ex {
     Op(Op, Box<Ex>, Box<Ex>),
 }
 
-/// A command over locations. Brackets and blocks leave nothing; a block in a sequence is joined to
+/// A command over locations. Brackets and blocks disappear; a block in a sequence becomes part of
 /// it.
 #[derive(Drop)]
 pub enum Cmd {
-    /// The value is put at the location; the span is that of the name.
+    /// Stores the value at the location; the span is that of the name.
     Assign {
         loc: u16,
         span: Span,
         value: Ex,
     },
-    /// The first branch where the guard isn't 0, else the second.
+    /// Runs the first branch if the guard isn't 0, else the second.
     If {
         guard: Ex,
         yes: Vec<Cmd>,
         no: Vec<Cmd>,
     },
-    /// The body again and again, as long as the guard isn't 0.
+    /// Runs the body again and again, as long as the guard isn't 0.
     While {
         guard: Ex,
         body: Vec<Cmd>,
     },
-    /// The value, read in the outer scope, is put at a new location for the body alone.
+    /// Stores the value, which is read in the outer scope, at a new location for the body alone.
     Letvar {
         value: Ex,
         body: Vec<Cmd>,

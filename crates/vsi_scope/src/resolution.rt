@@ -1,4 +1,4 @@
-//! The resolution of names: every name is replaced by the location that it stands for.
+//! The resolution of names: every name is replaced by its location.
 
 ghost use Rattle.std.specs.Prelude.{◌≡◌};
 ghost use Rattle.vsi_scope.specs.declared.resolution.ScopeError.TheVariants.{Memory};
@@ -15,10 +15,10 @@ mod whole;
 
 pub use whole::resolve;
 
-/// The most globals of a program.
+/// The most globals that a program may have.
 const MAX_GLOBALS: usize = 256;
 
-/// The most declarations of a program, globals and `letvar`s together.
+/// The most declarations that a program may have, globals and `letvar`s together.
 const MAX_DECLARATIONS: usize = 1024;
 
 /// The greatest size of a program's body.
@@ -27,13 +27,13 @@ const MAX_SIZE: u32 = 65_534;
 /// Why a program isn't resolved. Each span is that of the name's token.
 #[derive(Clone, Copy, Debug, PartialEq, Eq, Error)]
 pub enum ScopeError {
-    /// A growth was refused.
+    /// Memory ran out.
     #[error("out of memory")]
     Memory,
-    /// A global's name that is declared above.
+    /// The name of a global that is declared above.
     #[error("the global at byte {start} is declared above", start = .0.start)]
     Duplicate(Span),
-    /// The name of a class that the lattice doesn't have.
+    /// The name of a class that is not in the lattice.
     #[error("the class at byte {start} is not in the lattice", start = .0.start)]
     UnknownClass(Span),
     /// A name that isn't in scope where it is used.

@@ -28,7 +28,7 @@ pub struct Global<'a> {
     pub class_name: &'a [u8],
 }
 
-/// The entry of a letvar: its class where one is written, and the span of its name.
+/// The entry of a letvar: its name, its class if one is written, and the span of its name.
 #[derive(Clone, Copy)]
 pub struct Entry<'a> {
     pub name: &'a [u8],
@@ -36,10 +36,11 @@ pub struct Entry<'a> {
     pub span: Span,
 }
 
-/// A program over locations. It has at most 256 globals of distinct names, at most 1,024
-/// declarations, one entry for each `letvar`, and a body of size 65,534 at most whose locations
-/// exist and in which the `letvar`s and the operators of an expression each nest at most 200 deep.
-/// The body that `resolve` makes of a text is at most 200 deep as a whole; one that is handed to
+/// A program over locations. It has at most 256 globals with distinct names, at most 1,024
+/// declarations, one entry for each `letvar`, and a body of size at most 65,534. All locations of
+/// the body exist, and its `letvar`s and the operators of each expression nest at most 200 deep.
+/// The body that `resolve` makes from a text is at most 200 deep as a whole; one that is passed to
+/// `rebuilt` may nest more `if`s and `while`s.
 /// `rebuilt` may have more `if`s and `while`s within one another.
 #[derive(Drop)]
 pub struct Resolved<'a> {
@@ -67,7 +68,7 @@ impl<'a> Model for Resolved<'a> {
 impl<'a> Resolved<'a> {
     ghost use Rattle.vsi_scope.specs.Program.{IsResolved, resolved_of};
 
-    /// The program of these globals, entries and commands.
+    /// The program with these globals, entries and commands.
     pub(crate) fn new(
         globals: Vec<Global<'a>>,
         letvars: Vec<Entry<'a>>,
@@ -97,8 +98,8 @@ impl<'a> Resolved<'a> {
         &self.letvars
     }
 
-    /// A program with the same globals, and these entries and this body. Want of memory hands both
-    /// back.
+    /// A program with the same globals, and with these entries and this body. If memory runs out,
+    /// both are returned.
     pub fn rebuilt(
         &self,
         alloc: Heap,

@@ -8,27 +8,27 @@ use Rattle.vsi_syntax.specs.Cut.{Piece, IsGap, BeginsWith, IsBad, IsFirstFault, 
 use Rattle.vsi_syntax.proofs.Shapes.{apart, words_unique, bad_starts}
 use Rattle.vsi_syntax.proofs.Unique.{false_true, gap_rest, token_unique, bad_token}
 
--- The longest word at a place is one.
+-- The longest run of letters, digits and underscores at a position is unique.
 same_word : (at : ℕ) (text : List ℕ) (s t : Span) (v w : List ℕ) → IsWordAt at text s v → IsWordAt at text t w → v ≡ w
 same_word at text s t v w p q =
     words_unique v w p.behind q.behind p.all q.all p.whole q.whole (sym p.parts ∙ q.parts)
 
--- The span of two ends.
+-- The span with these ends.
 abbrev span_of : ℕ → ℕ → Span
 span_of a b = record { start = a; stop = b }
 
--- Spans of equal ends are equal.
+-- Spans with equal ends are equal.
 span_path : (a b c d : ℕ) → a ≡ b → c ≡ d → span_of a c ≡ span_of b d
 span_path a b c d e f = cc
 
--- Where the longest word at a place stands is one.
+-- The span of the longest run at a position is unique.
 same_span : (at : ℕ) (text : List ℕ) (s t : Span) (v w : List ℕ) → IsWordAt at text s v → IsWordAt at text t w → s ≡ t
 same_span at text s t v w p q =
     let stop : s.stop ≡ t.stop =
     p.stop ∙ (ap (λ (z : List ℕ). at + length z) (same_word at text s t v w p q) ∙ sym q.stop) in
     span_path s.start t.start s.stop t.stop (p.start ∙ sym q.start) stop
 
--- What is wrong at a place is one fault.
+-- A position has at most one fault.
 one_bad : (at : ℕ) (text : List ℕ) (e f : LexError) → IsBad at text e → IsBad at text f → e ≡ f
 one_bad at text errors.Memory f p q = absurd p
 one_bad at text errors.TooLong f p q = absurd p
@@ -56,7 +56,7 @@ one_bad at text (errors.BadNumber s) (errors.BadWord t) p q =
 one_bad at text (errors.BadNumber s) (errors.BadNumber t) p q =
     ap errors.BadNumber (same_span at text s t p.0 q.0 p.1 q.1)
 
--- Two faults behind first tokens of one text and a gap are one.
+-- Two faults of one text, each after first tokens and a gap, are the same.
 faults_same : (ps qs : List Piece) (at : ℕ) (text : List ℕ) (to : ℕ) (rest : List ℕ) (other : ℕ) (more : List ℕ)
     (a : ℕ) (x : List ℕ) (b : ℕ) (y : List ℕ) (e f : LexError) → BeginsWith at text ps to rest → IsGap to rest a x →
     IsBad a x e → BeginsWith at text qs other more → IsGap other more b y → IsBad b y f → e ≡ f

@@ -1,4 +1,4 @@
--- The canonical text lays out the words that the program writes.
+-- The canonical text lays out the lexemes that the program writes.
 use Rattle.std.proofs.Common.{◌≡◌, ℕ, suc, ◌*◌, ◌≤◌, Bool, true, false, ◌&&◌, pos, negsuc, List, [], ◌∷◌, ◌++◌, Option, Some, None, refl, sym, subst, append_assoc}
 use Rattle.std.proofs.lemmas.List.{append-nil}
 use Rattle.std.specs.Prelude.{codes}
@@ -19,27 +19,27 @@ use Rattle.vsi_syntax.proofs.Numerals.{decimal_kind, decimal_word}
 
 -- ---- names and numbers.
 
--- The first of two tests that both hold.
+-- If two tests hold together, the first holds.
 and_left : (a b : Bool) → (a && b) ≡ true → a ≡ true
 and_left true b h = refl
 and_left false b h = absurd cc
 
--- The second of two tests that both hold.
+-- If two tests hold together, the second holds.
 and_right : (a b : Bool) → (a && b) ≡ true → b ≡ true
 and_right true b h = h
 and_right false b h = absurd cc
 
--- What tests as absent is not there.
+-- An option that tests as absent is none.
 absent : (x : Option Kind) → is_absent x ≡ true → x ≡ None
 absent None h = refl
 absent (Some y) h = absurd cc
 
--- A name is all word bytes.
+-- A name has only letters, digits and underscores.
 name_word : (t : List ℕ) → is_name t ≡ true → every is_word_byte t ≡ true
 unfolding is_name
 name_word t h = and_right (begins_with is_letter t) (every is_word_byte t) (and_left _ _ (and_left _ _ h))
 
--- A name is no keyword.
+-- A name is not a keyword.
 name_absent : (t : List ℕ) → is_name t ≡ true → keyword t ≡ None
 unfolding is_name
 name_absent t h = absent (keyword t) (and_right _ (is_absent (keyword t)) h)
@@ -49,7 +49,7 @@ name_kind : (t : List ℕ) → is_name t ≡ true → kind_of t ≡ Some k.Name
 unfolding kind_of word_kind
 name_kind t h = rw (name_word t h, name_absent t h, h) refl
 
--- A word is whole where none goes on behind it.
+-- A run of letters, digits and underscores is whole if none of them follows it.
 whole_word : (t rest : List ℕ) → every is_word_byte t ≡ true → begins_with is_word_byte rest ≡ false → is_whole t rest
     ≡ true
 whole_word t rest all nb = rw (all, nb) refl
@@ -65,19 +65,19 @@ number_lays : (n : ℕ) → n ≤ 9223372036854775807 → Lays (decimal n) (Sign
 number_lays n h = token_lays (decimal n) (k.Number (pos n)) (Sign (k.Number (pos n))) (decimal_kind n h) (λ s. refl)
     (λ rest nb. whole_word (decimal n) rest (decimal_word n h) nb)
 
--- ---- signs before more.
+-- ---- keywords and symbols in front of a text.
 
--- An assignment sign and a space may stand before a text.
+-- An assignment sign and a space in front of a text.
 assign : (b : List ℕ) (ws : List Lexeme) → Lays b ws → Lays (codes ":= " ++ b) (Sign k.Assign ∷ ws)
 unfolding kind_of
 assign b ws l = lead (codes ":=") k.Assign (Sign k.Assign) (codes " ") b ws refl (λ s. refl) refl (λ rest. refl) l
 
--- A colon and a space may stand before a text.
+-- A colon and a space in front of a text.
 colon : (b : List ℕ) (ws : List Lexeme) → Lays b ws → Lays (codes ": " ++ b) (Sign k.Colon ∷ ws)
 unfolding kind_of byte_kind
 colon b ws l = lead (codes ":") k.Colon (Sign k.Colon) (codes " ") b ws refl (λ s. refl) refl (λ rest. refl) l
 
--- A keyword and a space may stand before a text.
+-- A keyword and a space in front of a text.
 keyword_before : (t : List ℕ) (kind : Kind) (b : List ℕ) (ws : List Lexeme) → kind_of t ≡ Some kind →
     ((rest : List ℕ) → is_whole t (codes " " ++ (b ++ rest)) ≡ true) →
     ((s : Span) → bare (lexeme_of kind t s) ≡ bare (Sign kind)) → Lays b ws → Lays (t ++ (codes " " ++ b))
@@ -92,7 +92,7 @@ op_kind o.Mul = codes "*"
 op_kind o.Eq = codes "="
 op_kind o.Lt = codes "<"
 
--- One space before.
+-- Two texts with a space between them lay out both.
 spaced : (a b : List ℕ) (va vb : List Lexeme) → Lays a va → Lays b vb → Lays (a ++ (codes " " ++ b)) (va ++ vb)
 spaced a b va vb la lb = join a (codes " ") b va vb refl (λ rest. refl) la lb
 
@@ -121,14 +121,14 @@ close_lays : Lays (codes ")") (Sign k.Close ∷ [])
 unfolding kind_of byte_kind
 close_lays = token_lays (codes ")") k.Close (Sign k.Close) refl (λ s. refl) (λ rest nb. refl)
 
--- An expression in brackets lays out both and itself.
+-- An expression in brackets lays out the brackets and the expression.
 round_lays : (e : List ℕ) (ve : List Lexeme) → Lays e ve → Lays (codes "(" ++ (e ++ codes ")"))
     (Sign k.Open ∷ (ve ++ Sign k.Close ∷ []))
 unfolding kind_of byte_kind
 round_lays e ve le = lead (codes "(") k.Open (Sign k.Open) [] (e ++ codes ")") (ve ++ Sign k.Close ∷ []) refl
     (λ s. refl) refl (λ rest. refl) (join e [] (codes ")") ve (Sign k.Close ∷ []) refl (λ rest. refl) le close_lays)
 
--- The canonical text of an expression lays out what it writes.
+-- The canonical text of an expression lays out the lexemes that it writes.
 tree_lays : (t : Tree) → IsSpelled t → Lays (canon_tree t) (write t)
 tree_lays (Number (pos n)) h = number_lays n h
 tree_lays (Number (negsuc n)) h = absurd h
@@ -139,47 +139,47 @@ tree_lays (Binary op a b) h =
 
 -- ---- commands.
 
--- `then` and a space may stand before a text.
+-- `then` and a space in front of a text.
 then_lays : (b : List ℕ) (ws : List Lexeme) → Lays b ws → Lays (codes "then " ++ b) (Sign k.Then ∷ ws)
 unfolding kind_of word_kind keyword
 then_lays b ws l = keyword_before (codes "then") k.Then b ws refl (λ rest. refl) (λ s. refl) l
 
--- `else` and a space may stand before a text.
+-- `else` and a space in front of a text.
 else_lays : (b : List ℕ) (ws : List Lexeme) → Lays b ws → Lays (codes "else " ++ b) (Sign k.Else ∷ ws)
 unfolding kind_of word_kind keyword
 else_lays b ws l = keyword_before (codes "else") k.Else b ws refl (λ rest. refl) (λ s. refl) l
 
--- `if` and a space may stand before a text.
+-- `if` and a space in front of a text.
 if_lays : (b : List ℕ) (ws : List Lexeme) → Lays b ws → Lays (codes "if " ++ b) (Sign k.If ∷ ws)
 unfolding kind_of word_kind keyword
 if_lays b ws l = keyword_before (codes "if") k.If b ws refl (λ rest. refl) (λ s. refl) l
 
--- `while` and a space may stand before a text.
+-- `while` and a space in front of a text.
 while_lays : (b : List ℕ) (ws : List Lexeme) → Lays b ws → Lays (codes "while " ++ b) (Sign k.While ∷ ws)
 unfolding kind_of word_kind keyword
 while_lays b ws l = keyword_before (codes "while") k.While b ws refl (λ rest. refl) (λ s. refl) l
 
--- `do` and a space may stand before a text.
+-- `do` and a space in front of a text.
 do_lays : (b : List ℕ) (ws : List Lexeme) → Lays b ws → Lays (codes "do " ++ b) (Sign k.Do ∷ ws)
 unfolding kind_of word_kind keyword
 do_lays b ws l = keyword_before (codes "do") k.Do b ws refl (λ rest. refl) (λ s. refl) l
 
--- `in` and a space may stand before a text.
+-- `in` and a space in front of a text.
 in_lays : (b : List ℕ) (ws : List Lexeme) → Lays b ws → Lays (codes "in " ++ b) (Sign k.In ∷ ws)
 unfolding kind_of word_kind keyword
 in_lays b ws l = keyword_before (codes "in") k.In b ws refl (λ rest. refl) (λ s. refl) l
 
--- `letvar` and a space may stand before a text.
+-- `letvar` and a space in front of a text.
 letvar_lays : (b : List ℕ) (ws : List Lexeme) → Lays b ws → Lays (codes "letvar " ++ b) (Sign k.Letvar ∷ ws)
 unfolding kind_of word_kind keyword
 letvar_lays b ws l = keyword_before (codes "letvar") k.Letvar b ws refl (λ rest. refl) (λ s. refl) l
 
--- `var` and a space may stand before a text.
+-- `var` and a space in front of a text.
 var_lays : (b : List ℕ) (ws : List Lexeme) → Lays b ws → Lays (codes "var " ++ b) (Sign k.Var ∷ ws)
 unfolding kind_of word_kind keyword
 var_lays b ws l = keyword_before (codes "var") k.Var b ws refl (λ rest. refl) (λ s. refl) l
 
--- A name, its class if any and an assignment sign lay out these.
+-- A name, its class if any, and an assignment sign in front of a text.
 class_lays : (x : Named) (class : Option Named) (b : List ℕ) (ws : List Lexeme) → IsNamed x → IsClassSpelled class →
     Lays b ws → Lays (x.text ++ (canon_class class ++ (codes " := " ++ b)))
     (Called x ∷ (write_class class ++ Sign k.Assign ∷ ws))
@@ -191,7 +191,7 @@ class_lays x (Some c) b ws h i l =
     (colon (c.text ++ (codes " := " ++ b)) (Called c ∷ Sign k.Assign ∷ ws)
     (spaced c.text (codes ":= " ++ b) (Called c ∷ []) (Sign k.Assign ∷ ws) (name_lays c i) (assign b ws l)))
 
--- A semicolon, a line break and more.
+-- A semicolon, a gap and a text.
 semicolon_lays : (h b : List ℕ) (ws : List Lexeme) → is_gap false false h ≡ true → Lays b ws →
     Lays (codes ";" ++ (h ++ b)) (Sign k.Semicolon ∷ ws)
 unfolding kind_of byte_kind
@@ -203,7 +203,7 @@ brace_lays : Lays (codes "}") (Sign k.CloseBrace ∷ [])
 unfolding kind_of byte_kind
 brace_lays = token_lays (codes "}") k.CloseBrace (Sign k.CloseBrace) refl (λ s. refl) (λ rest nb. refl)
 
--- A sequence between braces on lines of their own lays out both and itself.
+-- A sequence between braces on separate lines lays out the braces and the sequence.
 block_lays : (i : ℕ) (b : List ℕ) (ws : List Lexeme) → Lays b ws →
     Lays (codes "{\n" ++ (b ++ (codes "\n" ++ (spaces i ++ codes "}"))))
     (Sign k.OpenBrace ∷ (ws ++ Sign k.CloseBrace ∷ []))
@@ -213,7 +213,7 @@ block_lays i b ws l =
     (ws ++ Sign k.CloseBrace ∷ []) refl (λ s. refl) refl (λ rest. refl)
     (join b (10 ∷ spaces i) (codes "}") ws (Sign k.CloseBrace ∷ []) (blanks (2 * i)) (λ rest. refl) l brace_lays)
 
--- Two commands on lines of their own lay out both with a semicolon between them.
+-- Two commands on separate lines lay out both with a semicolon between them.
 more_lays : (i : ℕ) (a b : List ℕ) (va vb : List Lexeme) → Lays a va → Lays b vb →
     Lays (a ++ (codes ";\n" ++ (spaces i ++ b))) (va ++ Sign k.Semicolon ∷ vb)
 more_lays i a b va vb la lb =
@@ -221,7 +221,7 @@ more_lays i a b va vb la lb =
     (semicolon_lays (10 ∷ spaces i) b vb (blanks (2 * i)) lb)
 
 mutual
-  -- The canonical text of a command lays out what it writes.
+  -- The canonical text of a command lays out the lexemes that it writes.
   command_lays : (i : ℕ) (c : Command) → IsCommandSpelled c → IsCommandLevelled c → Lays (canon_command i c)
       (write_command c)
   command_lays i (Assign x e) h lv =
@@ -244,14 +244,14 @@ mutual
       (in_lays (canon_command i c) (write_command c) (command_lays i c h.1.1 lv.1))))
   command_lays i (Block cs) h lv = block_lays i (canon_body (suc i) cs) (write_body cs) (body_lays (suc i) cs h lv)
 
-  -- The canonical text of a sequence lays out what it writes.
+  -- The canonical text of a sequence lays out the lexemes that it writes.
   body_lays : (i : ℕ) (cs : Body) → IsBodySpelled cs → IsBodyLevelled cs → Lays (canon_body i cs) (write_body cs)
   body_lays i Done h lv = absurd lv
   body_lays i (Then c cs) h lv =
       before (spaces i) (canon_command i c ++ canon_rest i cs) (write_command c ++ write_rest cs) (blanks (2 * i))
       (rest_lays i cs (canon_command i c) (write_command c) h.1 lv.1 (command_lays i c h.0 lv.0))
 
-  -- The canonical text of the commands behind the first, behind another text, lays out what both write.
+  -- The canonical text of the commands after the first, after another text, lays out the lexemes of both.
   rest_lays : (i : ℕ) (cs : Body) (a : List ℕ) (va : List Lexeme) → IsBodySpelled cs → IsRestLevelled cs → Lays a va →
       Lays (a ++ canon_rest i cs) (va ++ write_rest cs)
   rest_lays i Done a va h lv la =
@@ -263,7 +263,7 @@ mutual
 
 -- ---- whole programs.
 
--- The line of a global may stand before a text.
+-- The line of a global in front of a text.
 global_lays : (g : Declared) (b : List ℕ) (ws : List Lexeme) → IsNamed g.name → IsNamed g.class → Lays b ws →
     Lays (codes "var " ++ (g.name.text ++ (codes " : " ++ (g.class.text ++ (codes ";\n" ++ b)))))
     (Sign k.Var ∷ Called g.name ∷ Sign k.Colon ∷ Called g.class ∷ Sign k.Semicolon ∷ ws)
@@ -276,7 +276,7 @@ global_lays g b ws h i l =
     (spaced g.name.text (codes ": " ++ (g.class.text ++ (codes ";\n" ++ b))) (Called g.name ∷ []) _
     (name_lays g.name h) (colon (g.class.text ++ (codes ";\n" ++ b)) _ c))
 
--- The lines of globals may stand before a text.
+-- The lines of globals in front of a text.
 globals_lays : (gs : List Declared) (b : List ℕ) (ws : List Lexeme) → IsGlobalsSpelled gs → Lays b ws →
     Lays (canon_globals gs ++ b) (write_globals gs ++ ws)
 globals_lays [] b ws h l = l
@@ -287,7 +287,7 @@ globals_lays (g ∷ gs) b ws h l =
     subst (λ (z : List ℕ). Lays z (write_globals (g ∷ gs) ++ ws)) e
     (global_lays g (canon_globals gs ++ b) (write_globals gs ++ ws) h.0 h.1 (globals_lays gs b ws h.2 l))
 
--- The tokens of the canonical text of a program are the words that the program writes, spans apart.
+-- The tokens of the canonical text of a program are the lexemes that the program writes, up to spans.
 pub canon_text : (p : Whole) → IsProgram p.body → IsProgramSpelled p → IsTextOf (canon p) (write_program p)
 canon_text p good h =
     let l = globals_lays p.globals (canon_body 0 p.body) (write_body p.body) h.0 (body_lays 0 p.body h.1 good.0) 0 []

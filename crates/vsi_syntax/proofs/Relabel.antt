@@ -1,4 +1,4 @@
--- Words that are those of a tree, spans apart, are written by a tree that is the same, spans apart.
+-- Lexemes that equal those of a tree up to spans are written by a tree that is equal up to spans.
 use Rattle.std.proofs.Common.{◌≡◌, List, [], ◌∷◌, ◌++◌, map, Option, Some, None, refl, ap, ◌∙◌}
 use Rattle.vsi_syntax.specs.declared.token.Kind.{Kind}
 use Rattle.vsi_syntax.specs.declared.token.Kind.TheVariants as k
@@ -6,13 +6,13 @@ use Rattle.vsi_syntax.specs.Tree.{Named, Lexeme, Called, Sign, Tree, Number, Nam
 use Rattle.vsi_syntax.specs.Spelling.{bare}
 use Rattle.vsi_syntax.specs.Apart.{apart, class_apart, command_apart, body_apart, global_apart, program_apart}
 
--- Another one that writes these words, and is the same, spans apart.
+-- Another value that writes these lexemes and is equal up to spans.
 pub record Again (A : Type 0) (writes_of : A → List Lexeme) (bare_of : A → A) (a : A) (ws : List Lexeme) : Type 0 where
   pub other : A
   pub writes : ws ≡ writes_of other
   pub same : bare_of other ≡ bare_of a
 
--- The first word of these.
+-- The first of the lexemes.
 record Front (w : Lexeme) (more ws : List Lexeme) : Type 0 where
   head : Lexeme
   tail : List Lexeme
@@ -20,12 +20,12 @@ record Front (w : Lexeme) (more ws : List Lexeme) : Type 0 where
   heads : bare head ≡ bare w
   tails : map bare tail ≡ map bare more
 
--- Words that are these, spans apart, begin with a word that is the first, spans apart.
+-- Lexemes that equal a list up to spans begin with a lexeme that equals its first up to spans.
 front : (w : Lexeme) (more ws : List Lexeme) → map bare ws ≡ bare w ∷ map bare more → Front w more ws
 front w more [] h = absurd cc
 front w more (v ∷ ws) h = record { head = v; tail = ws; parts = refl; heads = cc; tails = cc }
 
--- Two parts of words that are these two lists, spans apart.
+-- Two parts of the lexemes that equal these two lists up to spans.
 record Parts (xs ys ws : List Lexeme) : Type 0 where
   one : List Lexeme
   two : List Lexeme
@@ -33,7 +33,7 @@ record Parts (xs ys ws : List Lexeme) : Type 0 where
   ones : map bare one ≡ map bare xs
   twos : map bare two ≡ map bare ys
 
--- Words that are two lists in a row, spans apart, have two such parts.
+-- Lexemes that equal two joined lists up to spans split into two such parts.
 split : (xs ys ws : List Lexeme) → map bare ws ≡ map bare (xs ++ ys) → Parts xs ys ws
 split [] ys ws h = record { one = []; two = ws; parts = refl; ones = refl; twos = h }
 split (x ∷ xs) ys ws h =
@@ -47,38 +47,38 @@ split (x ∷ xs) ys ws h =
       twos = s.twos;
     }
 
--- Words that are none, spans apart, are none.
+-- Lexemes that equal no lexemes up to spans are none.
 nothing_is : (ws : List Lexeme) → map bare ws ≡ [] → ws ≡ []
 nothing_is [] h = refl
 nothing_is (w ∷ ws) h = absurd cc
 
--- A word that is no name is itself without its place.
+-- A lexeme that is not a name equals itself without its span.
 sign_is : (kind : Kind) (w : Lexeme) → bare w ≡ Sign kind → w ≡ Sign kind
 sign_is kind (Sign other) h = h
 sign_is kind (Called x) h = absurd cc
 
--- A word that is this name, its place apart.
+-- A lexeme that is this name up to its span.
 record NameAgain (x : Named) (w : Lexeme) : Type 0 where
   name : Named
   is : w ≡ Called name
   same : nowhere name ≡ nowhere x
 
--- Words that are names without places name the same.
+-- Equal lexemes of names without spans are of equal names.
 called_same : (y x : Named) → Called (nowhere y) ≡ Called (nowhere x) → nowhere y ≡ nowhere x
 called_same y x h = cc
 
--- A word that is a name without its place is that name somewhere.
+-- A lexeme that equals a name without its span is that name with some span.
 name_is : (x : Named) (w : Lexeme) → bare w ≡ Called (nowhere x) → NameAgain x w
 name_is x (Called y) h = record { name = y; is = refl; same = called_same y x h }
 name_is x (Sign kind) h = absurd cc
 
--- A sign and then more.
+-- A sign, and then more.
 record Behind (kind : Kind) (more ws : List Lexeme) : Type 0 where
   rest : List Lexeme
   parts : ws ≡ Sign kind ∷ rest
   rests : map bare rest ≡ map bare more
 
--- Words that are a sign and more, spans apart, begin with that sign.
+-- Lexemes that equal a sign and more up to spans begin with that sign.
 behind : (kind : Kind) (more ws : List Lexeme) → map bare ws ≡ Sign kind ∷ map bare more → Behind kind more ws
 behind kind more ws h =
     let f = front (Sign kind) more ws h in
@@ -89,7 +89,7 @@ behind kind more ws h =
           f.tails;
     }
 
--- A name and then more.
+-- A name, and then more.
 record After (x : Named) (more ws : List Lexeme) : Type 0 where
   name : Named
   rest : List Lexeme
@@ -97,7 +97,7 @@ record After (x : Named) (more ws : List Lexeme) : Type 0 where
   same : nowhere name ≡ nowhere x
   rests : map bare rest ≡ map bare more
 
--- Words that are a name and more, spans apart, begin with that name somewhere.
+-- Lexemes that equal a name and more up to spans begin with that name, with some span.
 after : (x : Named) (more ws : List Lexeme) → map bare ws ≡ Called (nowhere x) ∷ map bare more → After x more ws
 after x more ws h =
     let f = front (Called x) more ws h in
@@ -110,15 +110,15 @@ after x more ws h =
       rests = f.tails;
     }
 
--- The same words behind one word.
+-- Equal lexemes after one lexeme.
 push : (w : Lexeme) (ws rest xs : List Lexeme) → ws ≡ w ∷ rest → rest ≡ xs → ws ≡ w ∷ xs
 push w ws rest xs p e = p ∙ ap (λ (z : List Lexeme). w ∷ z) e
 
--- The same words in two parts.
+-- Equal lexemes in two parts.
 cat : (ws one two a b : List Lexeme) → ws ≡ one ++ two → one ≡ a → two ≡ b → ws ≡ a ++ b
 cat ws one two a b p i j = p ∙ rw (i, j) refl
 
--- Words of an expression, spans apart, are written by one that is the same, spans apart.
+-- Lexemes that equal those of an expression up to spans are written by one that is equal up to spans.
 tree_again : (t : Tree) (ws : List Lexeme) → map bare ws ≡ map bare (write t) → Again Tree write apart t ws
 tree_again (Number n) ws h =
     let b = behind (k.Number n) [] ws h in
@@ -158,7 +158,7 @@ tree_again (Binary op x y) ws h =
       same = rw (i.same, j.same) refl;
     }
 
--- Words of a class, spans apart, are written by one that is the same, spans apart.
+-- Lexemes that equal those of a class up to spans are written by one that is equal up to spans.
 class_again : (c : Option Named) (ws : List Lexeme) → map bare ws ≡ map bare (write_class c) →
     Again (Option Named) write_class class_apart c ws
 class_again None ws h = record { other = None; writes = nothing_is ws h; same = refl }
@@ -172,7 +172,7 @@ class_again (Some x) ws h =
     }
 
 mutual
-  -- Words of a command, spans apart, are written by one that is the same, spans apart.
+  -- Lexemes that equal those of a command up to spans are written by one that is equal up to spans.
   command_again : (c : Command) (ws : List Lexeme) → map bare ws ≡ map bare (write_command c) →
       Again Command write_command command_apart c ws
   command_again (Assign x e) ws h =
@@ -248,7 +248,7 @@ mutual
             rw (i.same) refl;
       }
 
-  -- Words of a sequence, spans apart, are written by one that is the same, spans apart.
+  -- Lexemes that equal those of a sequence up to spans are written by one that is equal up to spans.
   body_again : (cs : Body) (ws : List Lexeme) → map bare ws ≡ map bare (write_body cs) →
       Again Body write_body body_apart cs ws
   body_again Done ws h = record { other = Done; writes = nothing_is ws h; same = refl }
@@ -263,7 +263,8 @@ mutual
             rw (i.same, j.same) refl;
       }
 
-  -- Words of the commands behind the first, spans apart, are written by such that are the same, spans apart.
+  -- Lexemes that equal those of the commands after the first up to spans are written by commands that are equal up to
+  -- spans.
   rest_again : (cs : Body) (ws : List Lexeme) → map bare ws ≡ map bare (write_rest cs) →
       Again Body write_rest body_apart cs ws
   rest_again Done ws h = record { other = Done; writes = nothing_is ws h; same = refl }
@@ -279,7 +280,7 @@ mutual
         same = rw (i.same, j.same) refl;
       }
 
--- Words of globals, spans apart, are written by such that are the same, spans apart.
+-- Lexemes that equal those of globals up to spans are written by globals that are equal up to spans.
 globals_again : (gs : List Declared) (ws : List Lexeme) → map bare ws ≡ map bare (write_globals gs) →
     Again (List Declared) write_globals (map global_apart) gs ws
 globals_again [] ws h = record { other = []; writes = nothing_is ws h; same = refl }
@@ -297,7 +298,7 @@ globals_again (g ∷ gs) ws h =
       same = rw (n.same, m.same, i.same) refl;
     }
 
--- Words of a program, spans apart, are written by one that is the same, spans apart.
+-- Lexemes that equal those of a program up to spans are written by one that is equal up to spans.
 pub program_relabel : (p : Whole) (ws : List Lexeme) → map bare ws ≡ map bare (write_program p) →
     Again Whole write_program program_apart p ws
 program_relabel p ws h =

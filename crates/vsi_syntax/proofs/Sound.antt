@@ -1,4 +1,5 @@
--- What is read is what was written, levelled and of the depth that was asked.
+-- Reading an expression is sound: the lexemes taken are those that the tree writes, and it is levelled and of bounded
+-- depth.
 use Rattle.std.proofs.Common.{◌≡◌, ℕ, zero, suc, ◌<◌, ◌≤◌, cond, inl, inr, ltb, List, [], ◌∷◌, ◌++◌, Some, None, refl, sym, ap, ◌∙◌, append_assoc, arith}
 use Rattle.std.proofs.lemmas.Bool.{ltb-true}
 use Rattle.vsi_syntax.specs.declared.token.Kind.{Kind}
@@ -8,30 +9,30 @@ use Rattle.vsi_syntax.specs.Parsing.{◌>>=◌, own_level, next, Reads, nothing,
 use Rattle.vsi_syntax.proofs.Pairs.{some_left, some_right, bind_some, guard_some, go_cases}
 use Rattle.vsi_syntax.proofs.Operators.{relevel, next_is}
 
--- What a reader took from the front.
+-- The lexemes that a reader took from the front are those that this tree writes.
 pub record Took (room l : ℕ) (ws : List Lexeme) (t : Tree) (rest : List Lexeme) : Type 0 where
   pub parts : ws ≡ write t ++ rest
   pub levelled : IsLevelled l t
   pub fits : depth t ≤ room
 
--- What was taken may be renamed along equations.
+-- The tree and the rest may be replaced by equal ones.
 took_along : (room l : ℕ) (ws : List Lexeme) (t u : Tree) (rest behind : List Lexeme) → t ≡ u → rest ≡ behind →
     Took room l ws t rest → Took room l ws u behind
 took_along room l ws t u rest behind e f h = rw (← e, ← f) h
 
--- What is read there is written so, and less deep.
+-- Reading an inner expression is sound, and its depth is smaller.
 abbrev pub IsSoundBelow : ℕ → Reads → Type 0
 IsSoundBelow room inner = (l : ℕ) (ws : List Lexeme) (t : Tree) (rest : List Lexeme) → inner l ws ≡ Some (t, rest) →
     (ws ≡ write t ++ rest) × IsLevelled l t × (depth t < room)
 
--- Where a closing bracket is read, the lexemes begin with one.
+-- If a closing bracket is read, the lexemes begin with one.
 pub closing_is : (ws rest : List Lexeme) → closing ws ≡ Some rest → ws ≡ Sign k.Close ∷ rest
 closing_is [] rest h = absurd cc
 closing_is (Called x ∷ ws) rest h = absurd cc
 closing_is (Sign k.Close ∷ ws) rest h = cc
 closing_is (Sign _ ∷ ws) rest h = absurd cc
 
--- What is read as a bracket was written so.
+-- Reading a bracket is sound.
 bracket_sound : (inner : Reads) (room l : ℕ) (ws : List Lexeme) (t : Tree) (rest : List Lexeme) →
     IsSoundBelow room inner → (inner 0 ws >>= rounded) ≡ Some (t, rest) → Took room l (Sign k.Open ∷ ws) t rest
 bracket_sound inner room l ws t rest sound h =
@@ -49,7 +50,7 @@ bracket_sound inner room l ws t rest sound h =
       fits = omega (arith, s.2);
     })
 
--- An atom that begins with a lexeme other than a name was written so.
+-- Reading an atom that does not begin with a name is sound.
 sign_sound : (inner : Reads) (room l : ℕ) (kind : Kind) (ws : List Lexeme) (t : Tree) (rest : List Lexeme) →
     IsSoundBelow room inner → sign_first inner kind ws ≡ Some (t, rest) → Took room l (Sign kind ∷ ws) t rest
 sign_sound inner room l (k.Number n) ws t rest sound h =
@@ -59,7 +60,7 @@ sign_sound inner room l (k.Number n) ws t rest sound h =
 sign_sound inner room l k.Open ws t rest sound h = bracket_sound inner room l ws t rest sound h
 sign_sound inner room l _ ws t rest sound h = absurd cc
 
--- What is read as an atom was written so.
+-- Reading an atom is sound.
 first_sound : (inner : Reads) (room l : ℕ) (ws : List Lexeme) (t : Tree) (rest : List Lexeme) →
     IsSoundBelow room inner →
     first inner ws ≡ Some (t, rest) → Took room l ws t rest
@@ -71,13 +72,13 @@ first_sound inner room l (Called x ∷ ws) t rest sound h =
     rw (← e, ← f) (record { parts = refl; levelled = tt; fits = omega arith })
 first_sound inner room l (Sign kind ∷ ws) t rest sound h = sign_sound inner room l kind ws t rest sound h
 
--- What more was read.
+-- Continuing from a tree took these lexemes: with those of the tree they are what the result writes.
 pub record Grew (room l : ℕ) (t : Tree) (ws : List Lexeme) (u : Tree) (rest : List Lexeme) : Type 0 where
   pub parts : write t ++ ws ≡ write u ++ rest
   pub levelled : IsLevelled l u
   pub fits : depth u ≤ room
 
--- What is read on from a tree is a tree that was written so from there.
+-- Continuing from a tree is sound: the lexemes of that tree and those taken are what the result writes.
 more_sound : (n : ℕ) (inner : Reads) (room l : ℕ) (t : Tree) (ws : List Lexeme) (u : Tree) (rest : List Lexeme) →
     IsSoundBelow room inner → IsLevelled l t → depth t ≤ room → more inner n room l t ws ≡ Some (u, rest) →
     Grew room l t ws u rest
@@ -118,7 +119,7 @@ more_sound (suc n) inner room l t ws u rest sound lv fits h =
           record { parts = e ∙ r.parts; levelled = r.levelled; fits = r.fits }
     ]
 
--- What is read as an expression was written so, where what is read inside was.
+-- Reading an expression is sound if reading inside it is.
 whole_sound : (inner : Reads) (room l : ℕ) (ws : List Lexeme) (t : Tree) (rest : List Lexeme) →
     IsSoundBelow room inner →
     whole inner room l ws ≡ Some (t, rest) → Took room l ws t rest
@@ -128,7 +129,7 @@ whole_sound inner room l ws t rest sound h =
     let m = more_sound room inner room l a.0.0 a.0.1 t rest sound f.levelled f.fits a.2 in
     record { parts = f.parts ∙ m.parts; levelled = m.levelled; fits = m.fits }
 
--- What is read as an expression of bounded depth was written so, levelled and not deeper.
+-- Reading an expression of bounded depth is sound: it is levelled and not deeper.
 pub parse_sound : (room l : ℕ) (ws : List Lexeme) (t : Tree) (rest : List Lexeme) → parse room l ws ≡ Some (t, rest) →
     Took room l ws t rest
 unfolding parse

@@ -1,4 +1,4 @@
--- A program without where it lies in memory.
+-- A program, independent of its location in memory.
 use Rattle.vsi_syntax.specs.declared.program.Program.{Program}
 use Rattle.vsi_syntax.specs.Tree.{Whole}
 use Rattle.vsi_syntax.specs.CommandView.{whole_of}

@@ -1,4 +1,4 @@
--- The tree without where it lies in memory: what it writes, its levels and its depth.
+-- Trees, independent of their location in memory: the lexemes they write, their levels and their depth.
 use Rattle.std.specs.Prelude.{ℕ, ◌+◌, ◌≤◌, max, ℤ, List, [], ◌∷◌, ◌++◌, Option, Some, None}
 use Rattle.std.specs.Coded.{×_prop, Unit-prop, le_prop}
 use Rattle.vsi_syntax.specs.Limits.{max_depth}
@@ -9,12 +9,12 @@ use Rattle.vsi_syntax.specs.declared.token.Span.{Span}
 use Rattle.vsi_syntax.specs.declared.operator.Op.{Op}
 use Rattle.vsi_syntax.specs.declared.operator.Op.TheVariants as o
 
--- A name, and where it stands.
+-- A name with its span.
 pub record Named : Type 0 where
   pub text : List ℕ
   pub span : Span
 
--- A lexeme or symbol that a tree writes: a name, or anything else by its kind.
+-- A lexeme that a tree writes: a name, or anything else by its kind.
 pub data Lexeme : Type 0 where
   Called : (name : Named) → Lexeme
   Sign : (kind : Kind) → Lexeme
@@ -48,7 +48,7 @@ sign o.Mul = k.Star
 sign o.Eq = k.Equal
 sign o.Lt = k.Less
 
--- ---- what is written.
+-- ---- the lexemes written.
 
 -- The lexemes that an expression writes, in the order of the text.
 abbrev pub write : Tree → List Lexeme
@@ -57,7 +57,7 @@ write (Name name) = Called name ∷ []
 write (Bracket e) = Sign k.Open ∷ (write e ++ Sign k.Close ∷ [])
 write (Binary op a b) = write a ++ Sign (sign op) ∷ write b
 
--- A class is written behind a colon.
+-- A class is written after a colon.
 abbrev pub write_class : Option Named → List Lexeme
 write_class None = []
 write_class (Some class) = Sign k.Colon ∷ Called class ∷ []
@@ -78,14 +78,14 @@ abbrev mutual
   write_body Done = []
   write_body (Then c cs) = write_command c ++ write_rest cs
 
-  -- The lexemes of the commands behind the first, each behind a semicolon.
+  -- The lexemes of the commands after the first, each after a semicolon.
   pub write_rest : Body → List Lexeme
   write_rest Done = []
   write_rest (Then c cs) = Sign k.Semicolon ∷ (write_command c ++ write_rest cs)
 
--- ---- levels: 0 where a comparison may stand, 1 a sum, 2 a term, 3 an atom.
+-- ---- levels: 0 for a comparison, 1 for a sum, 2 for a term, 3 for an atom.
 
--- The level of what an operator makes.
+-- The level of an operator's expression.
 abbrev pub level : Op → ℕ
 level o.Add = 1
 level o.Sub = 1
@@ -93,7 +93,7 @@ level o.Mul = 2
 level o.Eq = 0
 level o.Lt = 0
 
--- The least level of what may stand on the left of an operator.
+-- The least level of an operator's left operand.
 abbrev pub left_level : Op → ℕ
 left_level o.Add = 1
 left_level o.Sub = 1
@@ -101,7 +101,7 @@ left_level o.Mul = 2
 left_level o.Eq = 1
 left_level o.Lt = 1
 
--- The least level of what may stand on the right of an operator: so operators of one level group to the left.
+-- The least level of an operator's right operand, chosen so that operators of one level group to the left.
 abbrev pub right_level : Op → ℕ
 right_level o.Add = 2
 right_level o.Sub = 2
@@ -109,7 +109,7 @@ right_level o.Mul = 3
 right_level o.Eq = 1
 right_level o.Lt = 1
 
--- The expression may stand where this level is asked for, and so may all parts in their places.
+-- The expression is allowed where this level is required, and so are all its parts in their positions.
 abbrev pub IsLevelled : ℕ → Tree → Type 0
 IsLevelled l (Number n) = Unit {0}
 IsLevelled l (Name name) = Unit {0}
@@ -117,7 +117,7 @@ IsLevelled l (Bracket e) = IsLevelled 0 e
 IsLevelled l (Binary op a b) = (l ≤ level op) × IsLevelled (left_level op) a × IsLevelled (right_level op) b
 
 abbrev mutual
-  -- Each expression of the command is levelled, and no sequence in it is empty.
+  -- Every expression of the command is levelled, and no sequence in it is empty.
   pub IsCommandLevelled : Command → Type 0
   IsCommandLevelled (Assign x e) = IsLevelled 0 e
   IsCommandLevelled (If e c d) = IsLevelled 0 e × IsCommandLevelled c × IsCommandLevelled d
@@ -130,7 +130,7 @@ abbrev mutual
   IsBodyLevelled Done = ⊥
   IsBodyLevelled (Then c cs) = IsCommandLevelled c × IsRestLevelled cs
 
-  -- The commands behind the first, if any, are levelled.
+  -- The commands after the first, if any, are levelled.
   pub IsRestLevelled : Body → Type 0
   IsRestLevelled Done = Unit {0}
   IsRestLevelled (Then c cs) = IsCommandLevelled c × IsRestLevelled cs
@@ -145,7 +145,7 @@ depth (Bracket e) = 1 + depth e
 depth (Binary op a b) = 1 + max (depth a) (depth b)
 
 abbrev mutual
-  -- Each `if`, `while`, `letvar` and block lies one level above the deepest of its parts, an assignment none.
+  -- Each `if`, `while`, `letvar` and block lies one level above the deepest of its parts; an assignment adds no level.
   pub command_depth : Command → ℕ
   command_depth (Assign x e) = depth e
   command_depth (If e c d) = 1 + max (depth e) (max (command_depth c) (command_depth d))
@@ -158,7 +158,7 @@ abbrev mutual
   body_depth Done = 0
   body_depth (Then c cs) = max (command_depth c) (body_depth cs)
 
--- A global, by its name and the name of its class.
+-- A global: its name and the name of its class.
 pub record Declared : Type 0 where
   pub name : Named
   pub class : Named
@@ -178,16 +178,16 @@ write_globals (g ∷ gs) = Sign k.Var ∷ Called g.name ∷ Sign k.Colon ∷ Cal
 abbrev pub write_program : Whole → List Lexeme
 write_program p = write_globals p.globals ++ write_body p.body
 
--- The name without where it stands.
+-- The name without its span.
 abbrev pub nowhere : Named → Named
 nowhere x = record { text = x.text; span = record { start = 0; stop = 0 } }
 
--- What every program keeps: its sums, comparisons and atoms stand where they may, no sequence is empty, and it is not
--- deep.
+-- The invariant of every program: its sums, comparisons and atoms appear where the grammar allows them, no sequence is
+-- empty, and its depth is bounded.
 abbrev pub IsProgram : Body → Type 0
 IsProgram b = IsBodyLevelled b × (body_depth b ≤ max_depth)
 
--- That an expression is levelled has one proof, so that a type can keep it; the same holds of the facts below.
+-- `IsLevelled` is a proposition for every expression, so that a type can keep its proof; so are the facts below.
 pub tree_prop : (l : ℕ) (t : Tree) → IsProp (IsLevelled l t)
 tree_prop l (Number n) = Unit-prop
 tree_prop l (Name x) = Unit-prop
@@ -195,7 +195,7 @@ tree_prop l (Bracket e) = tree_prop 0 e
 tree_prop l (Binary op a b) = ×₃_prop le_prop (tree_prop (left_level op) a) (tree_prop (right_level op) b)
 
 mutual
-  -- That a command is levelled has one proof.
+  -- `IsCommandLevelled` is a proposition for every command.
   pub command_prop : (c : Command) → IsProp (IsCommandLevelled c)
   command_prop (Assign x e) = tree_prop 0 e
   command_prop (If e c d) = ×₃_prop (tree_prop 0 e) (command_prop c) (command_prop d)
@@ -203,16 +203,16 @@ mutual
   command_prop (Letvar x class e c) = ×_prop (tree_prop 0 e) (command_prop c)
   command_prop (Block cs) = body_prop cs
 
-  -- That a sequence is levelled has one proof.
+  -- `IsBodyLevelled` is a proposition for every sequence.
   pub body_prop : (cs : Body) → IsProp (IsBodyLevelled cs)
   body_prop Done = λ a b. absurd a
   body_prop (Then c cs) = ×_prop (command_prop c) (rest_prop cs)
 
-  -- That the commands behind the first are levelled has one proof.
+  -- `IsRestLevelled` is a proposition for the commands after the first.
   pub rest_prop : (cs : Body) → IsProp (IsRestLevelled cs)
   rest_prop Done = Unit-prop
   rest_prop (Then c cs) = ×_prop (command_prop c) (rest_prop cs)
 
--- That a body is one of a program has one proof.
+-- Being the body of a program is a proposition.
 pub program_prop : (b : Body) → IsProp (IsProgram b)
 program_prop b = ×_prop (body_prop b) le_prop

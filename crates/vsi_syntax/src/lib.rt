@@ -1,16 +1,16 @@
-//! Tokens and trees of the language: a text goes in, `lex` gives its tokens, `parse` the program
-//! that writes them, and `print` the canonical text of a program.
+//! Tokens and trees of the language: `lex` turns a text into tokens, `parse` turns tokens into the
+//! program that writes them, and `print` produces the canonical text of a program.
 //!
 //! `lex` promises the cut of the text or its first fault, `parse` the one program that writes the
-//! tokens, `print` exactly the canonical text. `laws` states what follows from the definitions
-//! alone: one text has one cut and one program, and what is printed reads back as the same program.
-//! `Op::apply` is the meaning of the operators for all layers above, and `put_number`, `put_word`,
-//! `put_line_column` and `put_place` write numbers and places for all of them.
+//! tokens, and `print` exactly the canonical text. `laws` states the consequences of the
+//! definitions alone: a text has one cut and one program, and printed text reads back as the same
+//! program. `Op::apply` is the meaning of the operators for all layers above, and `put_number`,
+//! `put_word`, `put_line_column` and `put_place` write numbers and positions for all of them.
 //!
 //! To be believed: `specs/Apart`, `specs/Canon`, `specs/CommandView`, `specs/Cut`,
 //! `specs/FaultPlaces`, `specs/Given`, `specs/Limits`, `specs/Lines`, `specs/Operators`,
 //! `specs/ProgramView`, `specs/Spelling`, `specs/Tree`, `specs/View` and `specs/Words`; the other
-//! files of `specs/` are stepping stones of proofs.
+//! files in `specs/` are stepping stones of proofs.
 #![tactic(auto)]
 
 pub mod laws;

@@ -1,4 +1,4 @@
-//! Numbers and places as they are written in every text.
+//! Numbers and positions as every text writes them.
 
 ghost use Rattle.std.specs.Prelude.{◌≡◌, ◌++◌, codes, decimal, is_ok, if◌then◌else◌};
 ghost use Rattle.std.specs.Fmt.{signed_decimal};
@@ -8,7 +8,7 @@ use crate::lines::line_column;
 use itoa::Buffer;
 use std::alloc::AllocError;
 
-/// Adds a number in decimal. Where memory runs out the text stays as it was.
+/// Appends a number in decimal. If memory runs out, the text is unchanged.
 pub fn put_number(text: &mut Vec<u8>, number: usize) -> Result<(), AllocError>
     ensures written { text.new.items ≡ (if is_ok result
         then text.old.items ++ decimal number else text.old.items) }
@@ -17,8 +17,8 @@ pub fn put_number(text: &mut Vec<u8>, number: usize) -> Result<(), AllocError>
     text.extend_from_slice(buffer.format(number).as_bytes())
 }
 
-/// Adds a word of the machine in decimal, after a minus sign where it is below zero. Where memory
-/// runs out the text stays as it was.
+/// Appends a machine word in decimal, with a minus sign if it is negative. If memory runs out, the
+/// text is unchanged.
 pub fn put_word(text: &mut Vec<u8>, word: i64) -> Result<(), AllocError>
     ensures written { text.new.items ≡ (if is_ok result
         then text.old.items ++ signed_decimal word else text.old.items) }
@@ -27,7 +27,7 @@ pub fn put_word(text: &mut Vec<u8>, word: i64) -> Result<(), AllocError>
     text.extend_from_slice(buffer.format(word).as_bytes())
 }
 
-/// Adds `:` and a number, or leaves the text as it was.
+/// Appends `:` and a number, or leaves the text unchanged.
 fn put_after_colon(text: &mut Vec<u8>, number: usize) -> Result<(), AllocError>
     ensures { text.new.items ≡ (if is_ok result
         then text.old.items ++ codes ":" ++ decimal number else text.old.items) }
@@ -41,7 +41,7 @@ fn put_after_colon(text: &mut Vec<u8>, number: usize) -> Result<(), AllocError>
     added
 }
 
-/// Adds `LINE:COLUMN`. Where memory runs out the text stays as it was.
+/// Appends `LINE:COLUMN`. If memory runs out, the text is unchanged.
 pub fn put_line_column(text: &mut Vec<u8>, line: usize, column: usize) -> Result<(), AllocError>
     ensures written { text.new.items ≡ (if is_ok result
         then text.old.items ++ decimal line ++ codes ":" ++ decimal column else text.old.items) }
@@ -55,8 +55,8 @@ pub fn put_line_column(text: &mut Vec<u8>, line: usize, column: usize) -> Result
     added
 }
 
-/// Adds `LINE:COLUMN` of a place of a source text, both counted from 1. It goes through the source
-/// up to the place. Where memory runs out the text stays as it was.
+/// Appends `LINE:COLUMN` for a position of a source text, both counted from 1. This scans the
+/// source up to the position. If memory runs out, the text is unchanged.
 pub fn put_place(text: &mut Vec<u8>, source: &[u8], at: usize) -> Result<(), AllocError>
     ensures written { text.new.items ≡ (if is_ok result
         then text.old.items ++ place_text source.now at else text.old.items) }

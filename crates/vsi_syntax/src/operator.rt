@@ -12,15 +12,15 @@ pub enum Op {
     Sub,
     /// `*`, which wraps.
     Mul,
-    /// `=`: 1 where both are equal, else 0.
+    /// `=`: 1 if both words are equal, else 0.
     Eq,
-    /// `<`: 1 where the left word is less as a signed number, else 0.
+    /// `<`: 1 if the left word is less as a signed number, else 0.
     Lt,
 }
 
 impl Op {
-    /// The word that the operator gives: sums, differences and products wrap, `Eq` and the signed
-    /// `Lt` give 1 or 0.
+    /// The result of the operator: sums, differences and products wrap; `Eq` and the signed `Lt`
+    /// give 1 or 0.
     #[inline]
     pub fn apply(self, left: i64, right: i64) -> i64
         ensures { result ≡ apply self left right }

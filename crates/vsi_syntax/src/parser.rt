@@ -1,7 +1,7 @@
-//! Finds the program that writes the tokens, or the first token where there can be none.
+//! Finds the program that writes the tokens, or the first token at which there can be none.
 //!
-//! Commands and expressions are read from the left. `room` is how many levels a tree may still have
-//! below the place that reading has reached.
+//! Commands and expressions are read from the left. `room` is how many more levels a tree may have
+//! below the current position.
 
 ghost use Rattle.std.specs.Prelude.{◌≡◌};
 ghost use Rattle.vsi_syntax.specs.declared.parser.Fault.TheVariants as fault;
@@ -11,19 +11,20 @@ use crate::token::Span;
 use std::alloc::{AllocError, AllocFailed};
 use thiserror::Error;
 
-/// Why tokens are no program.
+/// Why tokens are not a program.
 ///
-/// A fault stands at the first token such that no program begins with the tokens up to and with it.
+/// The fault is at the first token such that no program begins with the tokens up to and including
+/// it.
 #[derive(Debug, Drop, Error)]
 pub enum ParseError {
     /// Memory ran out.
     #[error("out of memory")]
     Memory,
-    /// No program of any depth begins with the tokens up to and with this one. Where the tokens end
-    /// too early this is the empty span after the last token, at 0 where there is none.
+    /// No program of any depth begins with the tokens up to and including this one. If the tokens
+    /// end too early, this is the empty span after the last token, at 0 if there is none.
     #[error("no program goes on as the text does at byte {start}", start = .0.start)]
     Unexpected(Span),
-    /// Only programs deeper than `MAX_DEPTH` begin with the tokens up to and with this one.
+    /// Only programs deeper than `MAX_DEPTH` begin with the tokens up to and including this one.
     #[error("the program is too deep at byte {start}", start = .0.start)]
     TooDeep(Span),
 }
@@ -44,13 +45,13 @@ impl<T: Drop> From<AllocFailed<T>> for ParseError {
     }
 }
 
-/// Why reading ends without a tree, with how many tokens are left there: the one at fault and those
-/// after it, or none where the tokens end too early.
+/// Why reading ends without a tree, and how many tokens are left there: the one at fault and those
+/// after it, or none if the tokens end too early.
 #[derive(Clone, Copy, Debug)]
 pub(crate) enum Fault {
     /// Memory ran out.
     Memory,
-    /// No program of any depth begins with the tokens up to and with the one at fault.
+    /// No program of any depth begins with the tokens up to and including the one at fault.
     Unexpected(usize),
     /// Only programs deeper than `MAX_DEPTH` begin with them.
     TooDeep(usize),

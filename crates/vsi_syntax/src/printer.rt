@@ -14,14 +14,14 @@ use crate::program::Program;
 use crate::tree::{Declaration, Expr, Name, Stmt};
 use std::alloc::{AllocError, Global};
 
-/// The canonical text of a program, which reads back as the same program, spans apart.
+/// The canonical text of a program, which reads back as the same program up to spans.
 ///
-/// Each global has a line `var NAME : CLASS;`. Each command of a sequence has lines of its own, two
-/// spaces deeper in each block, and the text ends with a line feed. An operator has one space on
-/// each side. The text of a long program may be longer than `MAX_TEXT_LENGTH`, and is then not read
-/// again.
+/// Each global has a line `var NAME : CLASS;`. Each command of a sequence has its own lines,
+/// indented by two more spaces in each block, and the text ends with a line feed. An operator has
+/// one space on each side. The text of a long program may be longer than `MAX_TEXT_LENGTH`, and
+/// then cannot be read back.
 pub fn print(alloc: Global, program: &Program) -> Result<Vec<u8>, AllocError>
-    // What is printed is the canonical text.
+    // The output is the canonical text.
     ensures canonical { IfOk result (λ text. text.items ≡ spec.canon (whole program.now)) }
 {
     let mut out = Vec::new(alloc);
@@ -31,7 +31,7 @@ pub fn print(alloc: Global, program: &Program) -> Result<Vec<u8>, AllocError>
     Ok(out)
 }
 
-/// The line of a global.
+/// Prints the line of a global.
 fn print_global(out: &mut Vec<u8>, g: &Declaration) -> Result<(), AllocError>
     ensures { OnOk result (out.new.items ≡ out.old.items ++ spec.canon_global (declared g.now)) }
 {
@@ -42,7 +42,7 @@ fn print_global(out: &mut Vec<u8>, g: &Declaration) -> Result<(), AllocError>
     out.extend_from_slice(b";\n")
 }
 
-/// The lines of the globals.
+/// Prints the lines of the globals.
 fn print_globals(out: &mut Vec<u8>, globals: &[Declaration]) -> Result<(), AllocError>
     ensures { OnOk result
         (out.new.items ≡ out.old.items ++ spec.canon_globals (map declared globals.now)) }
@@ -53,7 +53,7 @@ fn print_globals(out: &mut Vec<u8>, globals: &[Declaration]) -> Result<(), Alloc
     Ok(())
 }
 
-/// An operator with a space on each side.
+/// Prints an operator with a space on each side.
 fn print_op(out: &mut Vec<u8>, op: Op) -> Result<(), AllocError>
     ensures { OnOk result (out.new.items ≡ out.old.items ++ spec.op_text op) }
 {
@@ -66,7 +66,7 @@ fn print_op(out: &mut Vec<u8>, op: Op) -> Result<(), AllocError>
     }
 }
 
-/// An expression.
+/// Prints an expression.
 fn print_expression(out: &mut Vec<u8>, e: &Expr) -> Result<(), AllocError>
     ensures { OnOk result (out.new.items ≡ out.old.items ++ spec.canon_tree (tree e.now)) }
 {
@@ -86,7 +86,7 @@ fn print_expression(out: &mut Vec<u8>, e: &Expr) -> Result<(), AllocError>
     }
 }
 
-/// A class behind a colon, or nothing.
+/// Prints a class after a colon, or nothing.
 fn print_class(out: &mut Vec<u8>, class: Option<Name>) -> Result<(), AllocError>
     ensures { OnOk result
         (out.new.items ≡ out.old.items ++ spec.canon_class (option_map named class.entry)) }
@@ -100,7 +100,7 @@ fn print_class(out: &mut Vec<u8>, class: Option<Name>) -> Result<(), AllocError>
     }
 }
 
-/// Two spaces for each indent.
+/// Prints two spaces for each level of indentation.
 fn print_spaces(out: &mut Vec<u8>, indent: u16) -> Result<(), AllocError>
     ensures { OnOk result (out.new.items ≡ out.old.items ++ spec.spaces indent) }
 {
@@ -110,7 +110,7 @@ fn print_spaces(out: &mut Vec<u8>, indent: u16) -> Result<(), AllocError>
     Ok(())
 }
 
-/// A sequence at an indent.
+/// Prints a sequence at an indentation level.
 #[cycle(printing)]
 fn print_body(out: &mut Vec<u8>, body: &[Stmt], indent: u16) -> Result<(), AllocError>
     requires { indent + body_depth (body_of body.now) ≤ max_depth }
@@ -129,7 +129,7 @@ fn print_body(out: &mut Vec<u8>, body: &[Stmt], indent: u16) -> Result<(), Alloc
     Ok(())
 }
 
-/// A command at an indent, without the spaces before it.
+/// Prints a command at an indentation level, without the spaces before it.
 #[cycle(printing)]
 fn print_command(out: &mut Vec<u8>, c: &Stmt, indent: u16) -> Result<(), AllocError>
     requires { indent + command_depth (command c.now) ≤ max_depth }

@@ -3,7 +3,7 @@
 use crate::operator::Op;
 use crate::token::Span;
 
-/// A name where it stands in the text.
+/// A name with its span in the text.
 #[derive(Clone, Copy, Debug)]
 pub struct Name<'a> {
     pub text: &'a [u8],
@@ -19,7 +19,7 @@ pub enum Expr<'a> {
     Name(Name<'a>),
     /// An expression in round brackets.
     Bracket(Box<Expr<'a>>),
-    /// An operator between its left and its right operand.
+    /// An operator with its left and right operands.
     Binary(Op, Box<Expr<'a>>, Box<Expr<'a>>),
 }
 
@@ -32,7 +32,7 @@ pub enum Stmt<'a> {
     If(Expr<'a>, Box<Stmt<'a>>, Box<Stmt<'a>>),
     /// `while guard do body`
     While(Expr<'a>, Box<Stmt<'a>>),
-    /// `letvar name : class := value in body`, where the class may be left out.
+    /// `letvar name : class := value in body`; the class may be omitted.
     Letvar(Name<'a>, Option<Name<'a>>, Expr<'a>, Box<Stmt<'a>>),
     /// Commands in braces, at least one in a `Program`.
     Block(Vec<Stmt<'a>>),

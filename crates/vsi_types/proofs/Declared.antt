@@ -1,4 +1,4 @@
--- A derivation asks for the classes of the command's own declarations alone.
+-- A derivation depends only on the classes of the command's own declarations.
 use Rattle.std.proofs.Common.{◌≡◌, ℕ, ◌+◌, ◌<◌, ◌≤◌, ◌⊎◌, inl, inr, [], ◌∷◌, ◌++◌, refl, subst, arith}
 use Rattle.std.proofs.lemmas.Bool.{cases_lt}
 use Rattle.vsi_lattice.specs.Order.{Lattice, IsLattice, IsClass}
@@ -6,11 +6,11 @@ use Rattle.vsi_scope.specs.Language.{Command, letvars}
 use Rattle.vsi_types.specs.declared.rules.Profile.{Profile}
 use Rattle.vsi_types.specs.Typing.{Locations, HasData, HasCmd, EMPTY, ASSIGN, COMPOSE, IF, WHILE, LETVAR, SUBTYPE_CMD}
 
--- Two choices give the command's declarations, of which n stand before it, the same classes.
+-- Two choices give the same classes to the command's declarations, which have n declarations before them.
 abbrev SameClasses : (ℕ → ℕ) → (ℕ → ℕ) → ℕ → Command → Type 0
 SameClasses classes other n c = (v : ℕ) → n ≤ v → v < n + letvars c → classes v ≡ other v
 
--- A derivation stands under another choice that gives the command's declarations the same classes.
+-- A derivation also holds under another choice that gives the command's declarations the same classes.
 pub retyped : (L : Lattice) (P : Profile) (classes other : ℕ → ℕ) (q : Locations) (n : ℕ) (c : Command) (t : ℕ)
     → SameClasses classes other n c → HasCmd L P classes q n c t → HasCmd L P other q n c t
 retyped L P classes other q n c t same (EMPTY w) = EMPTY w
@@ -33,7 +33,7 @@ retyped L P classes other q n c t same (SUBTYPE_CMD {t' = t'} le w d) =
     SUBTYPE_CMD le w (retyped L P classes other q n c t' same d)
 
 module _ (L : Lattice) (laws : IsLattice L) (classes : ℕ → ℕ) (n k : ℕ) where
-  -- The class of a number that stands so among the k from n on, else the bottom class.
+  -- The class of a number if it is among the k from n on, else the bottom class.
   abbrev among : (v : ℕ) → (v < n) ⊎ (n ≤ v) → (v < n + k) ⊎ (n + k ≤ v) → ℕ
   among v (inl below) side = L.bottom
   among v (inr from) (inl within) = classes v
@@ -43,7 +43,7 @@ module _ (L : Lattice) (laws : IsLattice L) (classes : ℕ → ℕ) (n k : ℕ) 
   abbrev pub own : ℕ → ℕ
   own v = among v (cases_lt v n) (cases_lt v (n + k))
 
-  -- Where the numbers from n on have classes, each has one.
+  -- If the numbers from n on have classes, every number has one.
   among_within : ((v : ℕ) → n ≤ v → v < n + k → IsClass L (classes v)) → (v : ℕ) (x : (v < n) ⊎ (n ≤ v))
       (y : (v < n + k) ⊎ (n + k ≤ v)) → IsClass L (among v x y)
   among_within each v (inl below) y = laws.bottom_within
@@ -61,6 +61,6 @@ module _ (L : Lattice) (laws : IsLattice L) (classes : ℕ → ℕ) (n k : ℕ) 
   pub own_within : ((v : ℕ) → n ≤ v → v < n + k → IsClass L (classes v)) → (v : ℕ) → IsClass L (own v)
   own_within each v = among_within each v (cases_lt v n) (cases_lt v (n + k))
 
-  -- The command's declarations keep theirs.
+  -- The command's declarations keep their classes.
   pub own_same : (v : ℕ) → n ≤ v → v < n + k → classes v ≡ own v
   own_same v low high = among_same v (cases_lt v n) (cases_lt v (n + k)) low high

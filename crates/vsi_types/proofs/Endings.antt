@@ -1,4 +1,4 @@
--- Under the strict profile stores that agree on the bottom class end together.
+-- Under the strict profile, a command ends from both of two stores that agree on the bottom class, or from neither.
 use Rattle.std.proofs.Common.{◌≡◌, ℕ, zero, suc, ◌+◌, List, [], ◌∷◌, ◌++◌, length, take, Option, Some, None, ℤ, refl, sym, ap, ◌∙◌, subst}
 use Rattle.std.specs.Prelude.{slice_set}
 use Rattle.std.specs.List.{All}
@@ -36,8 +36,7 @@ module _ (L : Lattice) (laws : IsLattice L) (classes : ℕ → ℕ) (within' : (
       total q all n c t' d (λ b. not (laws.transitive t t' L.bottom w
       (cmd_class L laws Strict classes within' q all n c t' d) laws.bottom_within le b)) k m
 
-  -- Where a loop ends from one store within j turns, it ends from every store that agrees with it on the bottom
-  -- class.
+  -- If a loop ends from one store within j turns, it ends from every store that agrees with it on the bottom class.
   turns_end : (q : Locations) (j : ℕ) (guard : Store → ℤ) (f : Store → Option Store) →
       ((m₁ m₂ : Store) → Agree L q L.bottom m₁ m₂ → guard m₁ ≡ guard m₂) →
       ((m m' : Store) → f m ≡ Some m' → length m' ≡ length m) →
@@ -68,7 +67,7 @@ module _ (L : Lattice) (laws : IsLattice L) (classes : ℕ → ℕ) (within' : (
             ∙ through (f m₂) (turns j guard f) r.0 r'.0 r.1 r'.1,
       ))
 
-  -- Where a command ends from one store, it ends from every store that agrees with it on the bottom class.
+  -- If a command ends from one store, it ends from every store that agrees with it on the bottom class.
   pub ends : (q : Locations) → All (IsClass L) q → (n : ℕ) (c : Command) (t : ℕ) → HasCmd L Strict classes q n c t →
       (k : ℕ) (m₁ m₂ m₁' : Store) → length m₁ ≡ length q → length m₂ ≡ length q → Agree L q L.bottom m₁ m₂ →
       runs k c m₁ ≡ Some m₁' → (m₂' : Store) × (runs k c m₂ ≡ Some m₂')
@@ -121,7 +120,7 @@ module _ (L : Lattice) (laws : IsLattice L) (classes : ℕ → ℕ) (within' : (
   ends q all n c t (SUBTYPE_CMD {t' = t'} le w d) k m₁ m₂ m₁' len₁ len₂ h e =
       ends q all n c t' d k m₁ m₂ m₁' len₁ len₂ h e
 
--- Agreement is mutual.
+-- Agreement is symmetric.
 agree_back : (L : Lattice) (q : Locations) (a : ℕ) (m₁ m₂ : Store) → Agree L q a m₁ m₂ → Agree L q a m₂ m₁
 agree_back L q a m₁ m₂ h l lt b = sym (h l lt b)
 

@@ -1,4 +1,4 @@
--- A command has a type exactly where its steps go up.
+-- A command has a type exactly if its steps go up.
 use Rattle.std.proofs.Common.{◌≡◌, ℕ, ◌+◌, ◌<◌, Bool, true, false, List, [], ◌∷◌, ◌++◌, map, length, refl, sym, ap, ◌∙◌, subst, ⊎_elim}
 use Rattle.std.specs.Prelude.{slice_index, ◌||◌}
 use Rattle.std.proofs.lemmas.List.{get_or-map, map-append, length-map, length_push}
@@ -17,23 +17,23 @@ use Rattle.vsi_types.specs.Typing.{Locations, HasVar, VARLOC, HasData, INT, R_VA
 use Rattle.vsi_types.specs.Steps.{sink, reads, guarded, flow, flows, ending, endings, steps, IsInOrder}
 use Rattle.vsi_types.proofs.Orders.{Each, each_append, each_front, each_back, each_map, each_unmap, each_weaker, join_of, join_of_within, join_of_least, join_of_above}
 
--- Whether loops count.
+-- Whether loops count under the profile.
 abbrev active : Profile → Bool → Bool
 active Base b = false
 active Strict b = b
 
--- Where loops count in a command, they count.
+-- If loops count in a command, they count under the profile.
 active_any : (P : Profile) (b : Bool) → active P b ≡ true → active P true ≡ true
 active_any Base b e = e
 active_any Strict b e = refl
 
 module _ (L : Lattice) (laws : IsLattice L) (names : ℕ → Span) (classes : ℕ → ℕ)
     (within : (v : ℕ) → IsClass L (classes v)) (at_sink : classes sink ≡ L.bottom) where
-  -- What is read has classes at or below t.
+  -- All reads are of classes at or below t.
   abbrev ReadsBelow : ℕ → List Read → Type 0
   ReadsBelow t rs = Each (λ r. Below L (classes r.variable) t) rs
 
-  -- What guards read has classes at or below t.
+  -- All reads of guards are of classes at or below t.
   abbrev GuardsBelow : ℕ → List Guard → Type 0
   GuardsBelow t gs = Each (λ g. Below L (classes g.read.variable) t) gs
 
@@ -61,7 +61,7 @@ module _ (L : Lattice) (laws : IsLattice L) (names : ℕ → Span) (classes : �
   data_class q scope same e t (ARITH {a = a} d d') = data_class q scope same a t d
   data_class q scope same e t (SUBTYPE le w d) = w
 
-  -- What an expression of type t reads has classes at or below t.
+  -- The reads of an expression of type t are of classes at or below t.
   data_reads : (q : Locations) (scope : List ℕ) → q ≡ map classes scope → (e : Expression) (t : ℕ) → HasData L q e t →
       ReadsBelow t (reads scope e)
   data_reads q scope same e t (INT w) = tt
@@ -75,7 +75,7 @@ module _ (L : Lattice) (laws : IsLattice L) (names : ℕ → Span) (classes : �
       each_weaker _ _ (λ r h. laws.transitive (classes r.variable) t₁ t (within _) k w h le) (reads scope e)
       (data_reads q scope same e t₁ d)
 
-  -- An expression that reads classes at or below t has the type t.
+  -- An expression has the type t if its reads are of classes at or below t.
   reads_data : (scope : List ℕ) (e : Expression) (t : ℕ) → IsClass L t → HasLocations (length scope) e →
       ReadsBelow t (reads scope e) → HasData L (map classes scope) e t
   reads_data scope (Number z) t k has h = INT k
@@ -86,17 +86,17 @@ module _ (L : Lattice) (laws : IsLattice L) (names : ℕ → Span) (classes : �
       ARITH (reads_data scope a t k has.0 (each_front _ (reads scope a) (reads scope b) h))
       (reads_data scope b t k has.1 (each_back _ (reads scope a) (reads scope b) h))
 
-  -- Guards at or below a class are at or below each higher class.
+  -- Guards at or below a class are at or below every higher class.
   guards_up : (t t' : ℕ) → IsClass L t → IsClass L t' → Below L t t' → (gs : List Guard) → GuardsBelow t gs →
       GuardsBelow t' gs
   guards_up t t' k k' le gs h = each_weaker _ _
       (λ g b. laws.transitive (classes g.read.variable) t t' (within _) k k' b le) gs h
 
-  -- What is read is at or below t under a rule as without one.
+  -- Reads at or below t are at or below t as guards under any rule.
   guarded_below : (rule : Rule) (t : ℕ) (rs : List Read) → ReadsBelow t rs → GuardsBelow t (guarded rule rs)
   guarded_below rule t rs h = each_map _ (λ r. record { rule = rule; read = r }) rs h
 
-  -- What a rule guards is at or below t where what it reads is.
+  -- Guards at or below t are at or below t as reads.
   below_guarded : (rule : Rule) (t : ℕ) (rs : List Read) → GuardsBelow t (guarded rule rs) → ReadsBelow t rs
   below_guarded rule t rs h = each_unmap _ (λ r. record { rule = rule; read = r }) rs h
 
@@ -110,7 +110,7 @@ module _ (L : Lattice) (laws : IsLattice L) (names : ℕ → Span) (classes : �
       GuardsBelow (classes target) gs
   ordered_flows target written gs h = each_unmap _ (flow target written) gs h
 
-  -- The endings of loops are in order where what is read is at the bottom.
+  -- The endings of loops are in order if the reads are at the bottom.
   endings_ordered : (P : Profile) (b : Bool) (rs : List Read) → (active P b ≡ true → ReadsBelow L.bottom rs) →
       Ordered (endings P b rs)
   endings_ordered Base b rs h = tt
@@ -119,7 +119,7 @@ module _ (L : Lattice) (laws : IsLattice L) (names : ℕ → Span) (classes : �
       each_map _ ending rs
       (each_weaker _ _ (λ r b. subst (Below L (classes r.variable)) (sym at_sink) b) rs (h refl))
 
-  -- What is read is at the bottom where the endings of loops are in order.
+  -- The reads are at the bottom if the endings of loops are in order.
   ordered_endings : (P : Profile) (b : Bool) (rs : List Read) → Ordered (endings P b rs) → active P b ≡ true →
       ReadsBelow L.bottom rs
   ordered_endings Base b rs h e = absurd (false≢true e)
@@ -128,12 +128,12 @@ module _ (L : Lattice) (laws : IsLattice L) (names : ℕ → Span) (classes : �
       each_weaker _ _ (λ r b. subst (Below L (classes r.variable)) at_sink b) rs
       (each_unmap _ ending rs h)
 
-  -- The scope with one location more.
+  -- The scope with one more location.
   same_more : (q : Locations) (scope : List ℕ) (n : ℕ) → q ≡ map classes scope →
       q ++ classes n ∷ [] ≡ map classes (scope ++ n ∷ [])
   same_more q scope n same = ap (λ x. x ++ classes n ∷ []) same ∙ sym (map-append classes scope (n ∷ []))
 
-  -- A type's class.
+  -- The type of a command is a class of the lattice.
   cmd_class : (P : Profile) (q : Locations) (scope : List ℕ) → q ≡ map classes scope →
       (n : ℕ) (c : Command) (t : ℕ) → HasCmd L P classes q n c t → IsClass L t
   cmd_class P q scope same n c t (EMPTY w) = w
@@ -164,13 +164,13 @@ module _ (L : Lattice) (laws : IsLattice L) (names : ℕ → Span) (classes : �
       laws.transitive t t' L.bottom w (cmd_class Strict q scope same n c t' d) laws.bottom_within le
       (loop_bottom q scope same n c t' d e)
 
-  -- Where loops count, a command with one has a type at the bottom.
+  -- If loops count, a command with one has a type at the bottom.
   active_bottom : (P : Profile) (q : Locations) (scope : List ℕ) → q ≡ map classes scope →
       (n : ℕ) (c : Command) (t : ℕ) → HasCmd L P classes q n c t → active P (has_loop c) ≡ true → Below L t L.bottom
   active_bottom Base q scope same n c t d e = absurd (false≢true e)
   active_bottom Strict q scope same n c t d e = loop_bottom q scope same n c t d e
 
-  -- An expression of a type at the bottom reads the bottom class.
+  -- The reads of an expression with a type at the bottom are at the bottom.
   reads_bottom : (q : Locations) (scope : List ℕ) → q ≡ map classes scope → (e : Expression) (t : ℕ) → HasData L q e t →
       Below L t L.bottom → ReadsBelow L.bottom (reads scope e)
   reads_bottom q scope same e t d le =
@@ -229,7 +229,7 @@ module _ (L : Lattice) (laws : IsLattice L) (names : ℕ → Span) (classes : �
   unfolding joined
   joined_above gs = join_of_above L laws (λ g. classes g.read.variable) (λ g. within _) gs
 
-  -- The join of guards is at or below each class above them.
+  -- The join of guards is at or below every class above them.
   joined_least : (t : ℕ) → IsClass L t → (gs : List Guard) → GuardsBelow t gs → Below L (joined gs) t
   unfolding joined
   joined_least t k gs h = join_of_least L laws (λ g. classes g.read.variable) (λ g. within _) t k gs h

@@ -1,4 +1,4 @@
--- How answers on parts make an answer on the whole.
+-- Combining answers for parts into an answer for the whole.
 use Rattle.std.proofs.Common.{◌≡◌, ℕ, zero, suc, ◌+◌, ◌<◌, ◌≤◌, true, false, List, [], ◌∷◌, ◌++◌, map, take, length, get_or, refl, sym, ap, ◌∙◌, subst, arith, append_assoc}
 use Rattle.std.specs.Prelude.{⊤, Result, Ok, Err, IsErrAnd}
 use Rattle.std.proofs.lemmas.List.{take_more, map-append, append-nil}
@@ -21,11 +21,11 @@ use Rattle.vsi_types.specs.declared.rules.FlowFault.{FlowFault}
 use Rattle.vsi_types.specs.Steps.{sink, guarded, ending, endings, steps, IsInOrder, AreInOrder, IsFirstFault}
 use Rattle.vsi_types.specs.Checking.{TellsFault, StepsJudged, step_at, FlowsJudged}
 
--- The flow of a guard to a target, as a refusal tells it.
+-- The flow of a guard into a target, as an error reports it.
 abbrev pub fault_at : ℕ → Guard → FlowFault
 fault_at target g = record { rule = g.rule; span = g.read.place; source = g.read.variable; target = target }
 
--- The guards round one of them.
+-- The guards before and after one of them.
 guards_split : (gs : List Guard) (i : ℕ) (g : Guard) → i < length gs → g ≡ get_or gs i g →
     (rest : List Guard) × (gs ≡ take i gs ++ g ∷ rest)
 guards_split [] i g lt is = absurd (omega arith)
@@ -34,12 +34,12 @@ guards_split (x ∷ gs) (suc i) g lt is =
     let r = guards_split gs i g (omega arith) is in (r.0, ap (λ l. x ∷ l) r.1)
 
 module _ (L : Lattice) (classes : ℕ → ℕ) where
-  -- Two lists in order are in order one after the other.
+  -- Two lists in order are in order when joined.
   pub order_append : (xs ys : List Step) → AreInOrder L classes xs → AreInOrder L classes ys →
       AreInOrder L classes (xs ++ ys)
   order_append xs ys h k = All-append (IsInOrder L classes) xs ys h k
 
-  -- The first fault of a list is the first one where more steps follow.
+  -- The first fault of a list is still the first if more steps follow.
   pub fault_left : (xs ys : List Step) (f : FlowFault) → IsFirstFault L classes xs f →
       IsFirstFault L classes (xs ++ ys) f
   fault_left xs ys f h = record {
@@ -52,7 +52,7 @@ module _ (L : Lattice) (classes : ℕ → ℕ) where
     down = h.down;
   }
 
-  -- The first fault of a list is the first one behind steps in order.
+  -- The first fault of a list is still the first after steps that are in order.
   pub fault_right : (xs ys : List Step) (f : FlowFault) → AreInOrder L classes xs → IsFirstFault L classes ys f →
       IsFirstFault L classes (xs ++ ys) f
   fault_right xs ys f up h = record {
@@ -65,21 +65,21 @@ module _ (L : Lattice) (classes : ℕ → ℕ) where
     down = h.down;
   }
 
-  -- What an error says of a list it says where more steps follow.
+  -- An error means the same if more steps follow.
   pub tells_left : (xs ys : List Step) (e : CheckError) → TellsFault L classes xs e →
       TellsFault L classes (xs ++ ys) e
   tells_left xs ys Memory h = tt
   tells_left xs ys WrongChoice h = h
   tells_left xs ys (Flow f) h = fault_left xs ys f h
 
-  -- What an error says of a list it says behind steps in order.
+  -- An error means the same after steps that are in order.
   pub tells_right : (xs ys : List Step) (e : CheckError) → AreInOrder L classes xs → TellsFault L classes ys e →
       TellsFault L classes (xs ++ ys) e
   tells_right xs ys Memory up h = tt
   tells_right xs ys WrongChoice up h = h
   tells_right xs ys (Flow f) up h = fault_right xs ys f up h
 
-  -- A guard behind guards whose flows are in order.
+  -- A guard after guards whose flows are in order.
   pub guards_more : (target : ℕ) (gs : List Guard) (i : ℕ) (g : Guard) → i < length gs → g ≡ get_or gs i g →
       L.leq (classes g.read.variable) (classes target) ≡ true →
       ((written : Guard → Span) → AreInOrder L classes (map (step_at target written) (take i gs))) →
@@ -109,18 +109,18 @@ module _ (L : Lattice) (classes : ℕ → ℕ) where
         down = λ up. false≢true (sym down ∙ up);
       }
 
-  -- Answers on two lists of steps, one after the other.
+  -- An error for the first of two joined lists of steps.
   steps_err : (xs ys : List Step) (f : FlowFault) → StepsJudged {U = ⊤} L classes xs (Err f) →
       StepsJudged {U = ⊤} L classes (xs ++ ys) (Err f)
   steps_err xs ys f h = fault_left xs ys f h
 
-  -- An answer on a list behind steps in order.
+  -- An answer for a list after steps that are in order.
   steps_both : (xs ys : List Step) (u : ⊤) (r : Result ⊤ FlowFault) → StepsJudged L classes xs (Ok u) →
       StepsJudged L classes ys r → StepsJudged L classes (xs ++ ys) r
   steps_both xs ys u (Ok v) h k = order_append xs ys h k
   steps_both xs ys u (Err f) h k = fault_right xs ys f h k
 
-  -- A fault of guards is a fault where more guards follow.
+  -- A fault of guards is a fault if more guards follow.
   pub judged_err : (target : ℕ) (xs ys : List Guard) (f : FlowFault) →
       FlowsJudged {U = ⊤} L classes target xs (Err f) → FlowsJudged {U = ⊤} L classes target (xs ++ ys) (Err f)
   judged_err target xs ys f h = λ written.
@@ -128,7 +128,7 @@ module _ (L : Lattice) (classes : ℕ → ℕ) where
       subst (λ l. IsFirstFault L classes l f) (sym (map-append step xs ys))
       (steps_err (map step xs) (map step ys) f (h written))
 
-  -- An answer on guards behind guards whose flows are in order.
+  -- An answer for guards after guards whose flows are in order.
   pub judged_both : (target : ℕ) (xs ys : List Guard) (u : ⊤) (r : Result ⊤ FlowFault) →
       FlowsJudged L classes target xs (Ok u) → FlowsJudged L classes target ys r →
       FlowsJudged L classes target (xs ++ ys) r
@@ -137,25 +137,25 @@ module _ (L : Lattice) (classes : ℕ → ℕ) where
       subst (λ l. StepsJudged L classes l r) (sym (map-append step xs ys))
       (steps_both (map step xs) (map step ys) u r (h written) (k written))
 
-  -- The answer that a `?` hands on.
+  -- The answer that a `?` passes on.
   pub judged_from : (target : ℕ) (gs : List Guard) (f : FlowFault) (r : Result ⊤ FlowFault) →
       IsErrAnd r (λ e. e ≡ f) → FlowsJudged {U = ⊤} L classes target gs (Err f) → FlowsJudged L classes target gs r
   judged_from target gs f (Ok u) is h = absurd is
   judged_from target gs f (Err e) is h = subst (λ x. FlowsJudged {U = ⊤} L classes target gs (Err x)) (sym is) h
 
-  -- The endings of loops are the flows of what is read to the sink, each written where it is read.
+  -- The endings of loops are the flows of the reads into the sink, each written where it is read.
   endings_flows : (rs : List Read) →
       map (step_at sink (λ g. g.read.place)) (guarded Loop rs) ≡ endings Strict true rs
   endings_flows [] = refl
   endings_flows (x ∷ rs) = ap (λ l. ending x ∷ l) (endings_flows rs)
 
-  -- An answer on the flows to the sink is one on the endings of loops.
+  -- An answer for the flows into the sink is one for the endings of loops.
   pub endings_judged : (rs : List Read) (r : Result ⊤ FlowFault) →
       FlowsJudged L classes sink (guarded Loop rs) r → StepsJudged L classes (endings Strict true rs) r
   endings_judged rs r h = subst (λ l. StepsJudged L classes l r) (endings_flows rs) (h (λ g. g.read.place))
 
 module _ (P : Profile) (names : ℕ → Span) (gs : List Guard) (scope : List ℕ) where
-  -- The steps of a list of commands, at a place in it.
+  -- The steps of a list of commands, split at a position in it.
   pub steps_at : (n : ℕ) (cs : List Cmd) (i : ℕ) (c : Cmd) → i < length cs → c ≡ get_or cs i c →
       (rest : List Step) × (steps P names gs scope n (sequence cs) ≡ steps P names gs scope n (sequence (take i cs))
       ++ (steps P names gs scope (n + letvars (sequence (take i cs))) (command c) ++ rest))
@@ -179,7 +179,7 @@ module _ (P : Profile) (names : ℕ → Span) (gs : List Guard) (scope : List �
             (sequence (take i cs))) ++ (steps P names gs scope k (command c) ++ r.0)) e,
       )
 
-  -- The steps of a list with one command more.
+  -- The steps of a list with one more command.
   pub steps_push : (n : ℕ) (cs : List Cmd) (c : Cmd) →
       steps P names gs scope n (sequence (cs ++ c ∷ [])) ≡ steps P names gs scope n (sequence cs)
       ++ steps P names gs scope (n + letvars (sequence cs)) (command c)
@@ -196,7 +196,7 @@ module _ (P : Profile) (names : ℕ → Span) (gs : List Guard) (scope : List �
       ∙ ap (λ k. (steps P names gs scope n (command x) ++ steps P names gs scope (n + letvars (command x))
       (sequence cs)) ++ steps P names gs scope k (command c)) e
 
-  -- The steps of a list up to the next place.
+  -- The steps of a list up to the next position.
   pub steps_more : (n : ℕ) (cs : List Cmd) (i : ℕ) (c : Cmd) → i < length cs → c ≡ get_or cs i c →
       steps P names gs scope n (sequence (take (i + 1) cs)) ≡ steps P names gs scope n (sequence (take i cs))
       ++ steps P names gs scope (n + letvars (sequence (take i cs))) (command c)
@@ -206,7 +206,7 @@ module _ (P : Profile) (names : ℕ → Span) (gs : List Guard) (scope : List �
       ∙ ap (λ y. steps P names gs scope n (sequence (take i cs)) ++ steps P names gs scope
       (n + letvars (sequence (take i cs))) (command y)) (sym is)
 
--- What a command of a list keeps.
+-- The locations of a command exist if those of its list do.
 pub places_at : (k : ℕ) (cs : List Cmd) (i : ℕ) (c : Cmd) → i < length cs → c ≡ get_or cs i c →
     HasPlaces k (sequence cs) → HasPlaces k (command c)
 places_at k [] i c lt is h = absurd (omega arith)

@@ -8,7 +8,7 @@ use Rattle.vsi_scope.specs.declared.program.Cmd.{Cmd}
 use Rattle.vsi_scope.specs.Language.{has_loop}
 use Rattle.vsi_scope.specs.View.{command, sequence}
 
--- One command more.
+-- The loops of a list with one more command.
 pub loop_more : (cs : List Cmd) (i : ℕ) (c : Cmd) → i < length cs → c ≡ get_or cs i c →
     has_loop (sequence (take (i + 1) cs)) ≡ (has_loop (sequence (take i cs)) || has_loop (command c))
 loop_more cs i c lt is =

@@ -1,4 +1,4 @@
--- Answers on a command's parts make the answer on the command.
+-- Combining answers for a command's parts into the answer for the command.
 use Rattle.std.proofs.Common.{◌≡◌, ℕ, ◌+◌, ◌<◌, ◌≤◌, Bool, List, [], ◌∷◌, ◌++◌, take, length, get_or, refl, sym, ap, ◌∙◌, subst, arith}
 use Rattle.std.specs.Prelude.{slice_index, ◌||◌, true, ⊤, Result, Ok, Err, IsErrAnd}
 use Rattle.std.proofs.lemmas.List.{take_all}
@@ -22,25 +22,25 @@ use Rattle.vsi_types.specs.Checking.{TellsFault, StepsJudged, FlowsJudged, Judge
 use Rattle.vsi_types.specs.Walker.{Place}
 use Rattle.vsi_types.proofs.Judging.{fault_left, tells_left, tells_right, order_append, judged_err, judged_both, steps_at, steps_more, places_at, letvars_at}
 
--- A place by its parts.
+-- A position given by its parts.
 abbrev pub place : List ℕ → List Guard → ℕ → Place
 place s g n = record { scope = s; guards = g; next = n }
 
--- The place under a guard.
+-- The position under a guard.
 abbrev pub inside : Rule → Expression → Place → Place
 inside rule x a = record { scope = a.scope; guards = a.guards ++ guarded rule (reads a.scope x); next = a.next }
 
--- The place within a letvar.
+-- The position inside a letvar.
 abbrev pub within_letvar : Place → Place
 within_letvar a = record { scope = a.scope ++ a.next ∷ []; guards = a.guards; next = a.next + 1 }
 
--- Places with equal parts are equal.
+-- Positions with equal parts are equal.
 pub same_place : (s s' : List ℕ) (g g' : List Guard) (n n' : ℕ) → s ≡ s' → g ≡ g' → n ≡ n' →
     place s g n ≡ place s' g' n'
 same_place s s' g g' n n' a b c = ap (λ x. place x g n) a ∙ ap (λ x. place s' x n) b ∙ ap (λ x. place s' g' x) c
 
 module _ (L : Lattice) (P : Profile) (classes : ℕ → ℕ) where
-  -- The answer that a `?` hands on.
+  -- The answer that a `?` passes on.
   pub judged_error : (a b : Place) (k : Command) (e : CheckError) (r : Result ⊤ CheckError) →
       IsErrAnd r (λ x. x ≡ e) →
       ((names : ℕ → Span) → TellsFault L classes (steps P names a.guards a.scope a.next k) e) →
@@ -50,7 +50,7 @@ module _ (L : Lattice) (P : Profile) (classes : ℕ → ℕ) where
       subst (λ y. (names : ℕ → Span) → TellsFault L classes (steps P names a.guards a.scope a.next k) y) (sym is) h
 
   module _ (a b : Place) (l : ℕ) (s : Span) (x : Expression) (target : ℕ) (at : target ≡ slice_index a.scope l) where
-    -- A fault of the value is one of the assignment.
+    -- A fault of the value is a fault of the assignment.
     pub assign_reads : (f : FlowFault) (r : Result ⊤ CheckError) → IsErrAnd r (λ e. e ≡ Flow f) →
         FlowsJudged {U = ⊤} L classes target (guarded typing.Assign (reads a.scope x)) (Err f) →
         Judged L P classes a (Assign l s x) b r
@@ -59,7 +59,7 @@ module _ (L : Lattice) (P : Profile) (classes : ℕ → ℕ) where
         subst (λ t. IsFirstFault L classes (flows t s (guarded typing.Assign (reads a.scope x) ++ a.guards)) f) at
         (judged_err L classes target (guarded typing.Assign (reads a.scope x)) a.guards f h (λ g. s)))
 
-    -- A fault of the guards is one of an assignment whose value is in order.
+    -- A fault of the guards is a fault of an assignment whose value is in order.
     pub assign_guards : (f : FlowFault) (r : Result ⊤ CheckError) → IsErrAnd r (λ e. e ≡ Flow f) →
         FlowsJudged {U = ⊤} L classes target (guarded typing.Assign (reads a.scope x)) (Ok tt) →
         FlowsJudged {U = ⊤} L classes target a.guards (Err f) → Judged L P classes a (Assign l s x) b r
@@ -68,7 +68,7 @@ module _ (L : Lattice) (P : Profile) (classes : ℕ → ℕ) where
         subst (λ t. IsFirstFault L classes (flows t s (guarded typing.Assign (reads a.scope x) ++ a.guards)) f) at
         (judged_both L classes target (guarded typing.Assign (reads a.scope x)) a.guards tt (Err f) h k (λ g. s)))
 
-    -- An assignment is in order where its value and its guards are.
+    -- An assignment is in order if its value and its guards are.
     pub assign_ok : FlowsJudged {U = ⊤} L classes target (guarded typing.Assign (reads a.scope x)) (Ok tt) →
         FlowsJudged {U = ⊤} L classes target a.guards (Ok tt) →
         (names : ℕ → Span) → AreInOrder L classes (steps P names a.guards a.scope a.next (Assign l s x))
@@ -76,13 +76,13 @@ module _ (L : Lattice) (P : Profile) (classes : ℕ → ℕ) where
         subst (λ t. AreInOrder L classes (flows t s (guarded typing.Assign (reads a.scope x) ++ a.guards))) at
         (judged_both L classes target (guarded typing.Assign (reads a.scope x)) a.guards tt (Ok tt) h k (λ g. s))
 
-  -- A place whose parts are known.
+  -- The parts of a position may be replaced by equal ones.
   pub at_place : (s s' : List ℕ) (g g' : List Guard) (n n' : ℕ) (b : Place) (k : Command) (r : Result ⊤ CheckError) →
       s ≡ s' → g ≡ g' → n ≡ n' → Judged L P classes (place s g n) k b r → Judged L P classes (place s' g' n') k b r
   at_place s s' g g' n n' b k r d e f h =
       subst (λ p. Judged L P classes p k b r) (same_place s s' g g' n n' d e f) h
 
-  -- The place under a guard that was added.
+  -- The position under a guard that was added.
   pub under_guard : (a b : Place) (rule : Rule) (x : Expression) (scope : List ℕ) (gs : List Guard) → scope ≡ a.scope →
       gs ≡ a.guards ++ guarded rule (reads scope x) → (k : Command) (r : Result ⊤ CheckError) →
       Judged L P classes (place a.scope gs a.next) k b r → Judged L P classes (inside rule x a) k b r
@@ -90,7 +90,7 @@ module _ (L : Lattice) (P : Profile) (classes : ℕ → ℕ) where
       at_place a.scope a.scope gs (a.guards ++ guarded rule (reads a.scope x)) a.next a.next b k r refl
       (pushed ∙ ap (λ s. a.guards ++ guarded rule (reads s x)) same) refl h
 
-  -- What is read in a scope that is known.
+  -- The scope in an answer for the endings of loops may be replaced by an equal one.
   pub endings_at : (looping : Bool) (x : Expression) (scope scope' : List ℕ) → scope ≡ scope' →
       (r : Result ⊤ FlowFault) →
       StepsJudged L classes (endings P looping (reads scope x)) r →
@@ -98,18 +98,18 @@ module _ (L : Lattice) (P : Profile) (classes : ℕ → ℕ) where
   endings_at looping x scope scope' same r h =
       subst (λ s. StepsJudged L classes (endings P looping (reads s x)) r) same h
 
-  -- An answer on what is read, in a scope that is known.
+  -- The scope in an answer for reads may be replaced by an equal one.
   pub reads_at : (target : ℕ) (rule : Rule) (x : Expression) (scope scope' : List ℕ) → scope ≡ scope' →
       (r : Result ⊤ FlowFault) → FlowsJudged L classes target (guarded rule (reads scope x)) r →
       FlowsJudged L classes target (guarded rule (reads scope' x)) r
   reads_at target rule x scope scope' same r h =
       subst (λ s. FlowsJudged L classes target (guarded rule (reads s x)) r) same h
 
-  -- The steps of one command after another.
+  -- The steps of the first of two commands.
   abbrev first_steps : Place → Command → (ℕ → Span) → List Step
   first_steps a k names = steps P names a.guards a.scope a.next k
 
-  -- The steps of a command behind another one.
+  -- The steps of the second of two commands.
   abbrev later_steps : Place → Command → Command → (ℕ → Span) → List Step
   later_steps a k₁ k₂ names = steps P names a.guards a.scope (a.next + letvars k₁) k₂
 
@@ -135,11 +135,11 @@ module _ (L : Lattice) (P : Profile) (classes : ℕ → ℕ) where
   judged_first a b d k₁ k₂ e h names =
       tells_left L classes (first_steps a k₁ names) (later_steps a k₁ k₂ names) e (h names)
 
-  -- What the guard of a choice tells of the ending of its loops.
+  -- The flows of the guard of a choice into the ending of its loops.
   abbrev pub choice_endings : Place → Expression → Command → Command → List Step
   choice_endings a x k₁ k₂ = endings P (has_loop k₁ || has_loop k₂) (reads a.scope x)
 
-  -- A fault of the guard of a choice round loops.
+  -- A fault of the guard of a choice that contains loops.
   pub if_endings : (a b : Place) (x : Expression) (k₁ k₂ : Command) (f : FlowFault) (r : Result ⊤ CheckError) →
       IsErrAnd r (λ e. e ≡ Flow f) → StepsJudged {U = ⊤} L classes (choice_endings a x k₁ k₂) (Err f) →
       Judged L P classes a (If x k₁ k₂) b r
@@ -156,7 +156,7 @@ module _ (L : Lattice) (P : Profile) (classes : ℕ → ℕ) where
       tells_right L classes (choice_endings a x k₁ k₂) (first_steps (inside typing.If x a) (Sequence k₁ k₂) names) e up
       (h names))
 
-  -- A choice is its branches, one after the other, under its guard.
+  -- A choice is judged as its branches, one after the other, under its guard.
   pub judged_if : (a b d : Place) (x : Expression) (k₁ k₂ : Command) →
       StepsJudged {U = ⊤} L classes (choice_endings a x k₁ k₂) (Ok tt) →
       Judged {U = ⊤} L P classes (inside typing.If x a) (Sequence k₁ k₂) b (Ok tt) →
@@ -186,7 +186,7 @@ module _ (L : Lattice) (P : Profile) (classes : ℕ → ℕ) where
       tells_right L classes (endings P true (reads a.scope x)) (first_steps (inside typing.While x a) k names) e up
       (h names))
 
-  -- A loop is its body under its guard.
+  -- A loop is judged as its body under its guard.
   pub judged_while : (a b d : Place) (x : Expression) (k : Command) →
       StepsJudged {U = ⊤} L classes (endings P true (reads a.scope x)) (Ok tt) →
       Judged {U = ⊤} L P classes (inside typing.While x a) k b (Ok tt) →
@@ -220,7 +220,7 @@ module _ (L : Lattice) (P : Profile) (classes : ℕ → ℕ) where
       judged_error a b (Letvar x k) e r is (λ names.
       tells_right L classes (initial_steps a x names) _ e (up (λ g. names a.next)) (h names))
 
-  -- A letvar is in order where its initial value and its body are.
+  -- A letvar is in order if its initial value and its body are.
   pub letvar_ok : (a b d : Place) (x : Expression) (k : Command) →
       FlowsJudged {U = ⊤} L classes a.next (guarded typing.Letvar (reads a.scope x)) (Ok tt) →
       Judged {U = ⊤} L P classes (within_letvar a) k b (Ok tt) →
@@ -233,11 +233,11 @@ module _ (L : Lattice) (P : Profile) (classes : ℕ → ℕ) where
     λ names. order_append L classes (initial_steps a x names) _ (f (λ g. names a.next)) (h.3 names),
   )
 
-  -- A list of commands, up to a place in it.
+  -- A list of commands is judged up to a position in it.
   abbrev pub Reached : Place → List Cmd → ℕ → Place → Type 0
   Reached a cs i b = Judged {U = ⊤} L P classes a (sequence (take i cs)) b (Ok tt)
 
-  -- One command more is reached.
+  -- One more command is judged.
   pub reached_more : (a b d : Place) (cs : List Cmd) (i : ℕ) (c : Cmd) → i < length cs → c ≡ get_or cs i c →
       Reached a cs i b → Judged {U = ⊤} L P classes b (command c) d (Ok tt) → Reached a cs (i + 1) d
   reached_more a b d cs i c lt is h k =
@@ -249,7 +249,7 @@ module _ (L : Lattice) (P : Profile) (classes : ℕ → ℕ) where
             (both.3 names),
       )
 
-  -- What the next command asks, where a list is reached up to it.
+  -- The requirements of the next command, if a list is judged up to it.
   pub reached_asks : (a b : Place) (cs : List Cmd) (i : ℕ) (c : Cmd) → i < length cs → c ≡ get_or cs i c →
       Reached a cs i b → HasPlaces (length a.scope) (sequence cs) → a.next + letvars (sequence cs) ≤ 1024 →
       HasPlaces (length b.scope) (command c) × (b.next + letvars (command c) ≤ 1024)
@@ -258,7 +258,7 @@ module _ (L : Lattice) (P : Profile) (classes : ℕ → ℕ) where
     omega (arith, letvars_at cs i c lt is, h.2, l),
   )
 
-  -- An error of the next command is one of the list.
+  -- An error of the next command is an error of the list.
   pub reached_fault : (a b d : Place) (cs : List Cmd) (i : ℕ) (c : Cmd) → i < length cs → c ≡ get_or cs i c →
       Reached a cs i b → (e : CheckError) (r : Result ⊤ CheckError) → IsErrAnd r (λ y. y ≡ e) →
       Judged {U = ⊤} L P classes b (command c) d (Err e) → Judged L P classes a (sequence cs) d r
@@ -271,7 +271,7 @@ module _ (L : Lattice) (P : Profile) (classes : ℕ → ℕ) where
       (tells_right L classes (steps P names a.guards a.scope a.next (sequence (take i cs))) _ e (h.3 names)
       (tells_left L classes (steps P names a.guards a.scope next (command c)) s.0 e (k' names))))
 
-  -- A list is judged where its end is reached.
+  -- A list is judged if its end is reached.
   pub reached_all : (a b : Place) (cs : List Cmd) (i : ℕ) → length cs ≤ i → Reached a cs i b →
       Judged {U = ⊤} L P classes a (sequence cs) b (Ok tt)
   reached_all a b cs i le h = subst (λ l. Judged {U = ⊤} L P classes a (sequence l) b (Ok tt)) (take_all i cs le) h

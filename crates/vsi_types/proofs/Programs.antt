@@ -1,4 +1,4 @@
--- A program is typable exactly where its steps go up.
+-- A program is typable exactly if its steps go up.
 use Rattle.std.proofs.Common.{◌≡◌, ℕ, zero, suc, ◌+◌, ◌<◌, ◌≤◌, Bool, true, false, cond, List, [], ◌∷◌, ◌++◌, map, length, get_or, refl, sym, ap, ◌∙◌, subst, ⊎_elim, arith, append_assoc}
 use Rattle.std.specs.Prelude.{slice_index, ◌==◌}
 use Rattle.std.specs.List.{All}
@@ -14,13 +14,13 @@ use Rattle.vsi_types.specs.Security.{class_of, count_from, Program, IsWellFormed
 use Rattle.vsi_types.proofs.Orders.{each_from_all, all_from_each}
 use Rattle.vsi_types.proofs.Flow.{typed_ordered, ordered_typed}
 
--- So many numbers are counted.
+-- Counting k numbers gives k numbers.
 pub length_count : (n k : ℕ) → length (count_from n k) ≡ k
 length_count n zero = refl
 length_count n (suc k) = ap suc (length_count (suc n) k)
 
 module _ (L : Lattice) (laws : IsLattice L) where
-  -- A class of a list of classes, or the least number, is a class.
+  -- An element of a list of classes, or the default 0, is a class.
   index_within : (xs : List ℕ) → All (IsClass L) xs → (v : ℕ) → IsClass L (slice_index xs v)
   index_within xs all v = ⊎_elim (λ lt. All-get_or (IsClass L) xs v 0 lt all)
       (λ le. subst (IsClass L) (sym (get_or_past xs v 0 le)) (omega (arith, laws.bottom_within)))

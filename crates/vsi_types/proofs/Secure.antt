@@ -37,7 +37,7 @@ module _ (L : Lattice) (laws : IsLattice L) where
     data_class e t (ARITH {a = a} d d') = data_class a t d
     data_class e t (SUBTYPE le w d) = w
 
-    -- Stores that agree at a class agree at each lower one.
+    -- Stores that agree at a class agree at every lower one.
     pub agree_down : (t a : ℕ) → IsClass L t → IsClass L a → Below L t a → (m m' : Store) → Agree L q a m m' →
         Agree L q t m m'
     agree_down t a kt ka le m m' h l lt b = h l lt
@@ -54,7 +54,7 @@ module _ (L : Lattice) (laws : IsLattice L) where
     value_same e t (SUBTYPE {t = t₁} le w d) m m' h =
         value_same e t₁ d m m' (agree_down t₁ t (data_class e t₁ d) w le m m' h)
 
-  -- A command leaves every location that isn't at or above t.
+  -- A command leaves every location unchanged that isn't at or above t.
   abbrev Unchanged : Locations → ℕ → Store → Store → Type 0
   Unchanged q t m m' = (l : ℕ) → l < length q → (Below L t (slice_index q l) → ⊥) →
       get_or m' l (pos 0) ≡ get_or m l (pos 0)
@@ -63,12 +63,12 @@ module _ (L : Lattice) (laws : IsLattice L) where
   unchanged_same : (q : Locations) (t : ℕ) (m m' : Store) → m ≡ m' → Unchanged q t m m'
   unchanged_same q t m m' e l lt h = ap (λ x. get_or x l (pos 0)) (sym e)
 
-  -- What two commands leave, both leave one after the other.
+  -- A location that two commands leave unchanged is unchanged by both together.
   unchanged_on : (q : Locations) (t : ℕ) (m m₁ m' : Store) → Unchanged q t m m₁ → Unchanged q t m₁ m' →
       Unchanged q t m m'
   unchanged_on q t m m₁ m' f g l lt h = g l lt h ∙ f l lt h
 
-  -- Turns of a loop leave what each turn of its body leaves.
+  -- The turns of a loop leave a location unchanged if every turn of its body does.
   turns_confined : (q : Locations) (t : ℕ) (j : ℕ) (guard : Store → ℤ) (f : Store → Option Store) →
       ((m m' : Store) → length m ≡ length q → f m ≡ Some m' → (length m' ≡ length q) × Unchanged q t m m') →
       (m m' : Store) → length m ≡ length q → turns j guard f m ≡ Some m' → Unchanged q t m m'
@@ -86,7 +86,7 @@ module _ (L : Lattice) (laws : IsLattice L) where
       unchanged_on q t m b.store m' s.1 (turns_confined q t j guard f body b.store m' s.0 b.second))
 
   module _ (P : Profile) (classes : ℕ → ℕ) (within' : (v : ℕ) → IsClass L (classes v)) where
-    -- One location more has a class of the lattice.
+    -- One more location has a class of the lattice.
     pub all_more : (q : Locations) → All (IsClass L) q → (n : ℕ) → All (IsClass L) (q ++ classes n ∷ [])
     all_more q all n = All-push (IsClass L) q (classes n) all (within' n)
 
@@ -101,24 +101,24 @@ module _ (L : Lattice) (laws : IsLattice L) where
     cmd_class q all n c t (LETVAR {c = c'} d dc) = cmd_class _ (all_more q all n) (n + 1) c' t dc
     cmd_class q all n c t (SUBTYPE_CMD le w d) = w
 
-    -- The word of a location that is there before the new one.
+    -- The word of a location below a new one.
     old_word : (m : Store) (x : ℤ) (l : ℕ) → l < length m → get_or (m ++ x ∷ []) l (pos 0) ≡ get_or m l (pos 0)
     old_word m x l lt = get_or_append_left m (x ∷ []) (pos 0) l lt
 
-    -- The class of a location that is there before the new one.
+    -- The class of a location below a new one.
     old_class : (q : Locations) (n l : ℕ) → l < length q → slice_index (q ++ classes n ∷ []) l ≡ slice_index q l
     old_class q n l lt = get_or_append_left q (classes n ∷ []) 0 l lt
 
-    -- One word more and one location more.
+    -- One more word and one more location.
     pub longer : (q : Locations) (n : ℕ) (m : Store) (x : ℤ) → length m ≡ length q →
         length (m ++ x ∷ []) ≡ length (q ++ classes n ∷ [])
     longer q n m x len = length_push m x ∙ ap (λ k. k + 1) len ∙ sym (length_push q (classes n))
 
-    -- A location is there with one more.
+    -- A location still exists with one more.
     in_longer : (q : Locations) (n l : ℕ) → l < length q → l < length (q ++ classes n ∷ [])
     in_longer q n l lt = omega (arith, length_push q (classes n))
 
-    -- A command of type t leaves the locations that are not at or above t.
+    -- A command of type t leaves the locations unchanged that are not at or above t.
     pub confined : (q : Locations) → All (IsClass L) q → (n : ℕ) (c : Command) (t : ℕ) →
         HasCmd L P classes q n c t → (k : ℕ) (m m' : Store) → length m ≡ length q → runs k c m ≡ Some m' →
         Unchanged q t m m'
@@ -165,7 +165,7 @@ module _ (L : Lattice) (laws : IsLattice L) where
         confined q all n c t d k m₁ m₁' len₁ e₁ l lt far ∙ h l lt b
         ∙ sym (confined q all n c t d k m₂ m₂' len₂ e₂ l lt far)
 
-    -- Stores that agree do so with one word more of which the same holds.
+    -- Stores that agree still do with one more word that agrees.
     pub agree_more : (q : Locations) (n a : ℕ) (m₁ m₂ : Store) (x₁ x₂ : ℤ) → length m₁ ≡ length q →
         length m₂ ≡ length q → Agree L q a m₁ m₂ → (Below L (classes n) a → x₁ ≡ x₂) →
         Agree L (q ++ classes n ∷ []) a (m₁ ++ x₁ ∷ []) (m₂ ++ x₂ ∷ [])
@@ -181,7 +181,7 @@ module _ (L : Lattice) (laws : IsLattice L) where
         ∙ sym (get_or_push m₂ x₂ (pos 0) l (len₂ ∙ at)))
         (cases_lt l (length q))
 
-    -- Stores that agree do so without their last words.
+    -- Stores that agree still do without their last words.
     agree_less : (q : Locations) (n a k₁ k₂ : ℕ) (m₁ m₂ : Store) → k₁ ≡ length q → k₂ ≡ length q →
         Agree L (q ++ classes n ∷ []) a m₁ m₂ → Agree L q a (take k₁ m₁) (take k₂ m₂)
     agree_less q n a k₁ k₂ m₁ m₂ len₁ len₂ h = λ l lt b.
@@ -189,13 +189,13 @@ module _ (L : Lattice) (laws : IsLattice L) where
         ∙ h l (in_longer q n l lt) (subst (λ c. Below L c a) (sym (old_class q n l lt)) b)
         ∙ sym (get_or-take k₂ m₂ l (pos 0) (subst (λ i. l < i) (sym len₂) lt))
 
-    -- Stores equal to stores that agree do so.
+    -- Stores equal to stores that agree also agree.
     agree_same : (q : Locations) (a : ℕ) (m₁ m₂ m₁' m₂' : Store) → m₁ ≡ m₁' → m₂ ≡ m₂' → Agree L q a m₁ m₂ →
         Agree L q a m₁' m₂'
     agree_same q a m₁ m₂ m₁' m₂' e₁ e₂ h = λ l lt b. ap (λ y. get_or y l (pos 0)) (sym e₁) ∙ h l lt b
         ∙ ap (λ y. get_or y l (pos 0)) e₂
 
-    -- Turns of a loop keep agreement where each turn of its body does.
+    -- The turns of a loop keep agreement if every turn of its body does.
     turns_secure : (q : Locations) (a j : ℕ) (guard : Store → ℤ) (f : Store → Option Store) →
         ((m₁ m₂ : Store) → Agree L q a m₁ m₂ → guard m₁ ≡ guard m₂) →
         ((m m' : Store) → f m ≡ Some m' → length m' ≡ length m) →
@@ -287,7 +287,7 @@ module _ (L : Lattice) (laws : IsLattice L) where
     secure q all n c t (SUBTYPE_CMD {t' = t'} le w d) a ka k m₁ m₂ m₁' m₂' len₁ len₂ h e₁ e₂ =
         secure q all n c t' d a ka k m₁ m₂ m₁' m₂' len₁ len₂ h e₁ e₂
 
-    -- The same for any two numbers of turns.
+    -- The same for two different numbers of turns.
     pub secure_evaluations : (q : Locations) → All (IsClass L) q → (n : ℕ) (c : Command) (t : ℕ) →
         HasCmd L P classes q n c t → (a : ℕ) → IsClass L a → (m₁ m₂ m₁' m₂' : Store) → length m₁ ≡ length q →
         length m₂ ≡ length q → Agree L q a m₁ m₂ → Evaluates c m₁ m₁' → Evaluates c m₂ m₂' → Agree L q a m₁' m₂'
@@ -296,7 +296,7 @@ module _ (L : Lattice) (laws : IsLattice L) where
         secure q all n c t d a ka k m₁ m₂ m₁' m₂' len₁ len₂ h (larger_keeps c v₁.0 k m₁ m₁' (omega arith) v₁.1)
         (larger_keeps c v₂.0 k m₂ m₂' (omega arith) v₂.1)
 
--- What is read is a location, and has a class of the lattice.
+-- A location that an expression reads has a class of the lattice.
 read_within : (L : Lattice) (laws : IsLattice L) (q : Locations) (all : All (IsClass L) q) (e : Expression) (t : ℕ) →
     HasData L q e t → (l : ℕ) → IsReadIn e l → IsClass L (slice_index q l)
 read_within L laws q all e t (INT w) l h = absurd h
@@ -306,7 +306,7 @@ read_within L laws q all e t (ARITH {a = a} {b = b} d d') l h =
     ⊎_elim (read_within L laws q all a t d l) (read_within L laws q all b t d' l) h
 read_within L laws q all e t (SUBTYPE {t = t₁} le w d) l h = read_within L laws q all e t₁ d l h
 
--- What is read has a class at or below the type.
+-- A location that an expression reads has a class at or below the type.
 read_below : (L : Lattice) (laws : IsLattice L) (q : Locations) (all : All (IsClass L) q) (e : Expression) (t : ℕ) →
     HasData L q e t → (l : ℕ) → IsReadIn e l → Below L (slice_index q l) t
 read_below L laws q all e t (INT w) l h = absurd h

@@ -1,4 +1,4 @@
--- Tables that a loop makes.
+-- Tables built by a loop.
 use Rattle.std.proofs.Common.{◌≡◌, ℕ, zero, suc, ◌+◌, ◌<◌, List, [], ◌∷◌, ◌++◌, ◌≤◌, map, take, length, get_or, refl, sym, ap, ◌∙◌, subst, arith}
 use Rattle.std.proofs.lemmas.List.{take_more, map-append, length-map}
 use Rattle.std.specs.Prelude.{⊤, Result, Ok, Err, OnOk, IfErr}
@@ -20,7 +20,7 @@ use Rattle.vsi_types.specs.Security.{class_of, count_from, Program, program, IsC
 use Rattle.vsi_types.proofs.Programs.{steps_decide}
 use Rattle.vsi_types.proofs.Places.{place, at_place}
 
--- One number more is counted.
+-- Counting one more number.
 pub count_more : (n k : ℕ) → count_from n (k + 1) ≡ count_from n k ++ (n + k) ∷ []
 count_more n zero = let e : n ≡ n + 0 = omega arith in ap (λ m. m ∷ []) e
 count_more n (suc k) =
@@ -28,13 +28,13 @@ count_more n (suc k) =
     let f : suc k + 1 ≡ suc (k + 1) = omega arith in
     ap (count_from n) f ∙ ap (λ l. n ∷ l) (count_more (suc n) k ∙ ap (λ m. count_from (suc n) k ++ m ∷ []) e)
 
--- The table with one entry more.
+-- The table with one more entry.
 pub map_more : {X Y : Type 0} (f : X → Y) (xs : List X) (i : ℕ) (x : X) → i < length xs → x ≡ get_or xs i x →
     map f (take (i + 1) xs) ≡ map f (take i xs) ++ f x ∷ []
 map_more f xs i x lt is = ap (map f) (take_more xs i x lt) ∙ map-append f (take i xs) (get_or xs i x ∷ [])
     ∙ ap (λ y. map f (take i xs) ++ f y ∷ []) (sym is)
 
--- A resolved source gives a resolved program.
+-- A resolved program gives a well-formed one.
 pub resolved_program : (L : Lattice) (r : Resolved) → All (IsClass L) (program r).globals → IsResolved r →
     IsWellFormed L (program r)
 resolved_program L r classes res =
@@ -54,24 +54,24 @@ no_fault L classes ss f up h =
     let split = subst (Each (IsInOrder L classes)) h.whole each in
     h.down (each_back (IsInOrder L classes) h.before (h.step ∷ h.after) split).0
 
--- Of steps in order an error tells want of memory alone.
+-- If the steps are in order, the only error is lack of memory.
 no_tale : (L : Lattice) (classes : ℕ → ℕ) (ss : List Step) (e : CheckError) → AreInOrder L classes ss →
     TellsFault L classes ss e → e ≡ Memory
 no_tale L classes ss Memory up h = refl
 no_tale L classes ss WrongChoice up h = absurd h
 no_tale L classes ss (Flow f) up h = absurd (no_fault L classes ss f up h)
 
--- What an answer at the start of a program's body says of the program.
+-- The meaning for a program of an answer at the start of its body.
 module _ (L : Lattice) (laws : IsLattice L) (P : Profile) (p : Program) (s : List ℕ) (res : IsWellFormed L p)
     (cls : All (IsClass L) s) (table : List ℕ) (t : table ≡ p.globals ++ s) (a b : Place)
     (sc : a.scope ≡ count_from 0 (length p.globals)) (gu : a.guards ≡ []) (ne : a.next ≡ length p.globals) where
-  -- The answer, at the start as it is defined.
+  -- The answer for a walk that begins at the start as it is defined.
   abbrev StartJudged : Result ⊤ CheckError → Type 0
   StartJudged r =
       Judged L P (class_of L (p.globals ++ s)) (place (count_from 0 (length p.globals)) [] (length p.globals))
       p.body b r
 
-  -- An answer at the start is one at the start as it is defined.
+  -- An answer at the start of the walk is one at the start as it is defined.
   at_start : (r : Result ⊤ CheckError) → Judged L P (class_of L table) a p.body b r → StartJudged r
   at_start r h =
       subst (λ l. Judged L P (class_of L l) (place (count_from 0 (length p.globals)) [] (length p.globals))
@@ -79,13 +79,13 @@ module _ (L : Lattice) (laws : IsLattice L) (P : Profile) (p : Program) (s : Lis
       (at_place L P (class_of L table) a.scope (count_from 0 (length p.globals)) a.guards [] a.next (length p.globals)
       b p.body r sc gu ne h)
 
-  -- Ok is answered of a typable program.
+  -- If the answer is Ok, the program is typable.
   typable_answer : IsChoice p s → (r : Result ⊤ CheckError) → Judged L P (class_of L table) a p.body b r →
       OnOk r (IsTypable L P p s)
   typable_answer kept (Err e) h = tt
   typable_answer kept (Ok u) h = (steps_decide L P p s laws res cls).1 (kept, (at_start (Ok u) h).3 p.names)
 
-  -- A typable program is refused for want of memory alone.
+  -- A typable program is refused only if memory runs out.
   complete_answer : (r : Result ⊤ CheckError) → Judged L P (class_of L table) a p.body b r →
       IsTypable L P p s → IfErr r (λ e. e ≡ Memory)
   complete_answer (Ok u) h typed = tt
@@ -93,19 +93,19 @@ module _ (L : Lattice) (laws : IsLattice L) (P : Profile) (p : Program) (s : Lis
       no_tale L (class_of L (p.globals ++ s)) (steps_of P p) e ((steps_decide L P p s laws res cls).0 typed).1
       (at_start (Err e) h p.names)
 
-  -- An error tells of the steps of the program.
+  -- An error is about the steps of the program.
   refused_answer : (r : Result ⊤ CheckError) → Judged L P (class_of L table) a p.body b r →
       IfErr r (TellsFault L (class_of L (p.globals ++ s)) (steps_of P p))
   refused_answer (Ok u) h = tt
   refused_answer (Err e) h = at_start (Err e) h p.names
 
-  -- What an answer says of the program, whichever it is.
+  -- The meaning of an answer for the program, in both cases.
   pub program_answer : IsChoice p s → (r : Result ⊤ CheckError) → Judged L P (class_of L table) a p.body b r →
       OnOk r (IsTypable L P p s) × (IsTypable L P p s → IfErr r (λ e. e ≡ Memory))
       × IfErr r (TellsFault L (class_of L (p.globals ++ s)) (steps_of P p))
   program_answer kept r h = (typable_answer kept r h, complete_answer r h, refused_answer r h)
 
--- What a flow's fault says once the choice is one.
+-- The meaning of a flow's fault once the choice is valid.
 pub tells_why : (L : Lattice) (P : Profile) (p : Program) (s : List ℕ) → IsChoice p s → (r : Result ⊤ CheckError) →
     IfErr r (TellsFault L (class_of L (p.globals ++ s)) (steps_of P p)) → IfErr r (TellsWhy L P p s)
 tells_why L P p s kept (Ok u) h = tt

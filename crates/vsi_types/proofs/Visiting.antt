@@ -1,4 +1,4 @@
--- What the walk answers of a command, told from what it answers of the command's parts.
+-- Combining the walk's answers for the parts of a command into its answer for the command.
 use Rattle.std.proofs.Common.{◌≡◌, ℕ, ◌+◌, List, [], ◌∷◌, ◌++◌, take, length, Vec, Global, refl, sym, ap, ◌∙◌}
 use Rattle.std.specs.Prelude.{◌||◌, true, ⊤, Result, Ok, Err, IsErrAnd}
 use Rattle.vsi_lattice.specs.Order.{Lattice}
@@ -21,20 +21,20 @@ use Rattle.vsi_types.specs.Checking.{StepsJudged, FlowsJudged, Judged}
 use Rattle.vsi_types.specs.Walker.{Place, walker_place}
 use Rattle.vsi_types.proofs.Places.{place, at_place, under_guard, endings_at, reads_at, inside, judged_then, judged_first, if_endings, if_branches, judged_if, while_endings, while_body, judged_while, letvar_reads, letvar_body, letvar_ok}
 
--- A choice is seen by its guard and its branches.
+-- The view of a choice by its guard and its branches.
 pub seen_if : (c : Cmd) (e : Ex) (v w : Vec Cmd Global) (ks ks' : List Cmd) → c ≡ view.If e v w → ks ≡ v.items →
     ks' ≡ w.items → command c ≡ If (expression e) (sequence ks) (sequence ks')
 seen_if c e v w ks ks' is first second =
     ap command is ∙ command_If e v w ∙ ap (λ l. If (expression e) (sequence l) (sequence w.items)) (sym first)
     ∙ ap (λ l. If (expression e) (sequence ks) (sequence l)) (sym second)
 
--- A loop is seen by its guard and its body.
+-- The view of a loop by its guard and its body.
 pub seen_while : (c : Cmd) (e : Ex) (v : Vec Cmd Global) (ks : List Cmd) → c ≡ view.While e v → ks ≡ v.items →
     command c ≡ While (expression e) (sequence ks)
 seen_while c e v ks is body =
     ap command is ∙ command_While e v ∙ ap (λ l. While (expression e) (sequence l)) (sym body)
 
--- A letvar is seen by its value and its body.
+-- The view of a letvar by its value and its body.
 pub seen_letvar : (c : Cmd) (e : Ex) (v : Vec Cmd Global) (ks : List Cmd) → c ≡ view.Letvar e v → ks ≡ v.items →
     command c ≡ Letvar (expression e) (sequence ks)
 seen_letvar c e v ks is body =
@@ -42,17 +42,17 @@ seen_letvar c e v ks is body =
 
 module _ (L : Lattice) (P : Profile) (table : List ℕ) (w : Walker) (guard : Ex) where
   module _ (ks ks' : List Cmd) (seen : List ℕ) (is : seen ≡ w.scope.items) where
-    -- What the guard of a choice tells of its loops, in the scope that was seen.
+    -- The answer for the guard of a choice and the ending of its loops, in the given scope.
     abbrev Chosen : Result ⊤ FlowFault → Type 0
     Chosen r = StepsJudged L (class_of L table)
         (endings P (has_loop (sequence ks) || has_loop (sequence ks')) (reads seen (expression guard))) r
 
-    -- What is told of a choice.
+    -- The answer for a choice.
     abbrev ChoiceTold : Place → Result ⊤ CheckError → Type 0
     ChoiceTold b r = Judged L P (class_of L table) (walker_place w)
         (If (expression guard) (sequence ks) (sequence ks')) b r
 
-    -- A fault of the guard of a choice is one of the choice.
+    -- A fault of the guard of a choice is a fault of the choice.
     pub choice_guard : (b : Place) (f : FlowFault) (r : Result ⊤ CheckError) → IsErrAnd r (λ e. e ≡ Flow f) →
         Chosen (Err f) → ChoiceTold b r
     choice_guard b f r err h =
@@ -78,7 +78,7 @@ module _ (L : Lattice) (P : Profile) (table : List ℕ) (w : Walker) (guard : Ex
           under_guard L P (class_of L table) (walker_place w) b typing.If (expression guard) seen' gs is' pushed
           (sequence ks) r h
 
-      -- An error of the first branch is one of the choice.
+      -- An error of the first branch is an error of the choice.
       pub choice_first : (d : Place) (e : CheckError) (r : Result ⊤ CheckError) → IsErrAnd r (λ y. y ≡ e) →
           Judged {U = ⊤} L P (class_of L table) (place w.scope.items gs w.next) (sequence ks) d (Err e) →
           ChoiceTold d r
@@ -87,7 +87,7 @@ module _ (L : Lattice) (P : Profile) (table : List ℕ) (w : Walker) (guard : Ex
           ends (judged_first L P (class_of L table) (inside typing.If (expression guard) (walker_place w)) d d
           (sequence ks) (sequence ks') e (first d (Err e) h))
 
-      -- An error of the second branch, behind a first one in order, is one of the choice.
+      -- An error of the second branch, after a first one in order, is an error of the choice.
       pub choice_second : (b d : Place) (e : CheckError) (r : Result ⊤ CheckError) → IsErrAnd r (λ y. y ≡ e) →
           Judged {U = ⊤} L P (class_of L table) (place w.scope.items gs w.next) (sequence ks) b (Ok tt) →
           Judged {U = ⊤} L P (class_of L table) b (sequence ks') d (Err e) → ChoiceTold d r
@@ -96,7 +96,7 @@ module _ (L : Lattice) (P : Profile) (table : List ℕ) (w : Walker) (guard : Ex
           ends (judged_then L P (class_of L table) (inside typing.If (expression guard) (walker_place w)) b d
           (sequence ks) (sequence ks') (Err e) (first b (Ok tt) h) k)
 
-      -- A choice is in order where both branches are, and the guards go back to those before it.
+      -- A choice is in order if both branches are, and the guards return to those before it.
       pub choice_judged : (b d : Place) (back : List Guard) (n : ℕ) → n ≡ length w.guards.items →
           back ≡ take n d.guards →
           Judged {U = ⊤} L P (class_of L table) (place w.scope.items gs w.next) (sequence ks) b (Ok tt) →
@@ -109,11 +109,11 @@ module _ (L : Lattice) (P : Profile) (table : List ℕ) (w : Walker) (guard : Ex
           (sequence ks) (sequence ks') (Ok tt) (first b (Ok tt) h) k) refl (cut ∙ ap (λ m. take m d.guards) long) refl
 
   module _ (ks : List Cmd) (seen : List ℕ) (is : seen ≡ w.scope.items) where
-    -- What is told of a loop.
+    -- The answer for a loop.
     abbrev LoopTold : Place → Result ⊤ CheckError → Type 0
     LoopTold b r = Judged L P (class_of L table) (walker_place w) (While (expression guard) (sequence ks)) b r
 
-    -- A fault of the guard of a loop is one of the loop.
+    -- A fault of the guard of a loop is a fault of the loop.
     pub loop_guard : (b : Place) (f : FlowFault) (r : Result ⊤ CheckError) → IsErrAnd r (λ e. e ≡ Flow f) →
         StepsJudged {U = ⊤} L (class_of L table) (endings P true (reads seen (expression guard))) (Err f) →
         LoopTold b r
@@ -124,7 +124,7 @@ module _ (L : Lattice) (P : Profile) (table : List ℕ) (w : Walker) (guard : Ex
     module _ (up : StepsJudged {U = ⊤} L (class_of L table) (endings P true (reads seen (expression guard))) (Ok tt))
         (seen' : List ℕ) (is' : seen' ≡ w.scope.items) (gs : List Guard)
         (pushed : gs ≡ w.guards.items ++ guarded typing.While (reads seen' (expression guard))) where
-      -- An error of the body of a loop is one of the loop.
+      -- An error of the body of a loop is an error of the loop.
       pub loop_body : (d : Place) (e : CheckError) (r : Result ⊤ CheckError) → IsErrAnd r (λ y. y ≡ e) →
           Judged {U = ⊤} L P (class_of L table) (place w.scope.items gs w.next) (sequence ks) d (Err e) → LoopTold d r
       loop_body d e r err h =
@@ -133,7 +133,7 @@ module _ (L : Lattice) (P : Profile) (table : List ℕ) (w : Walker) (guard : Ex
           (under_guard L P (class_of L table) (walker_place w) d typing.While (expression guard) seen' gs is' pushed
           (sequence ks) (Err e) h)
 
-      -- A loop is in order where its body is, and the guards go back to those before it.
+      -- A loop is in order if its body is, and the guards return to those before it.
       pub loop_judged : (d : Place) (back : List Guard) (n : ℕ) → n ≡ length w.guards.items → back ≡ take n d.guards →
           Judged {U = ⊤} L P (class_of L table) (place w.scope.items gs w.next) (sequence ks) d (Ok tt) →
           LoopTold (place d.scope back d.next) (Ok tt)
@@ -143,11 +143,11 @@ module _ (L : Lattice) (P : Profile) (table : List ℕ) (w : Walker) (guard : Ex
           (under_guard L P (class_of L table) (walker_place w) d typing.While (expression guard) seen' gs is' pushed
           (sequence ks) (Ok tt) h) refl (cut ∙ ap (λ m. take m d.guards) long) refl
 
-    -- What is told of a letvar.
+    -- The answer for a letvar.
     abbrev LetvarTold : Place → Result ⊤ CheckError → Type 0
     LetvarTold b r = Judged L P (class_of L table) (walker_place w) (Letvar (expression guard) (sequence ks)) b r
 
-    -- A fault of the initial value of a letvar is one of the letvar.
+    -- A fault of the initial value of a letvar is a fault of the letvar.
     pub letvar_value : (b : Place) (f : FlowFault) (r : Result ⊤ CheckError) → IsErrAnd r (λ e. e ≡ Flow f) →
         FlowsJudged {U = ⊤} L (class_of L table) w.next
         (guarded typing.Letvar (reads seen (expression guard))) (Err f) →
@@ -159,7 +159,7 @@ module _ (L : Lattice) (P : Profile) (table : List ℕ) (w : Walker) (guard : Ex
     module _ (up : FlowsJudged {U = ⊤} L (class_of L table) w.next
         (guarded typing.Letvar (reads seen (expression guard))) (Ok tt)) (longer : List ℕ)
         (pushed : longer ≡ w.scope.items ++ w.next ∷ []) where
-      -- An error of the body of a letvar is one of the letvar.
+      -- An error of the body of a letvar is an error of the letvar.
       pub letvar_inside : (d : Place) (e : CheckError) (r : Result ⊤ CheckError) → IsErrAnd r (λ y. y ≡ e) →
           Judged {U = ⊤} L P (class_of L table) (place longer w.guards.items (w.next + 1)) (sequence ks) d (Err e) →
           LetvarTold d r
@@ -169,7 +169,7 @@ module _ (L : Lattice) (P : Profile) (table : List ℕ) (w : Walker) (guard : Ex
           (at_place L P (class_of L table) longer (w.scope.items ++ w.next ∷ []) w.guards.items w.guards.items
           (w.next + 1) (w.next + 1) d (sequence ks) (Err e) pushed refl refl h)
 
-      -- A letvar is in order where its body is, and the scope goes back to the one before it.
+      -- A letvar is in order if its body is, and the scope returns to the one before it.
       pub letvar_judged : (d : Place) (back : List ℕ) (n : ℕ) → n ≡ length w.scope.items → back ≡ take n d.scope →
           Judged {U = ⊤} L P (class_of L table) (place longer w.guards.items (w.next + 1)) (sequence ks) d (Ok tt) →
           LetvarTold (place back d.guards d.next) (Ok tt)

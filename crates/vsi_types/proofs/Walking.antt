@@ -1,4 +1,4 @@
--- Where a bad walk exists, no choice is typable.
+-- If a bad walk exists, no choice is typable.
 use Rattle.std.proofs.Common.{◌≡◌, ℕ, ◌-◌, ◌<◌, ◌≤◌, Bool, true, false, cond, List, [], ◌∷◌, ◌++◌, length, Option, Some, None, refl, sym, ap, ◌∙◌, subst, ⊎_elim, arith}
 use Rattle.std.specs.Prelude.{slice_index, slice_index_or, ◌==◌, nat_lt}
 use Rattle.std.specs.List.{All}
@@ -15,7 +15,7 @@ use Rattle.vsi_types.specs.Walks.{declared_class, IsChain, last_target, BadWalks
 use Rattle.vsi_types.proofs.Choosing.{kept_at}
 use Rattle.vsi_types.proofs.Programs.{steps_decide, within}
 
--- Equal answers hold equal numbers.
+-- Numbers in equal options are equal.
 pub some_same : (a b : ℕ) → Some a ≡ Some b → a ≡ b
 some_same a b e = ap (λ o. elim o as (λ _. ℕ) [ None ↦ a | Some x ↦ x ]) e
 
@@ -48,13 +48,13 @@ module _ (L : Lattice) (p : Program) (s : List ℕ) (choice : IsChoice p s) wher
   of_declared v false false a f g e = get_or-append_right p.globals s (length p.globals) v 0 refl (g refl)
       ∙ of_letvar (v - length p.globals) a e
 
-  -- The class of a variable is its declared one, where it has one.
+  -- The class of a variable is its declared one, if it has one.
   pub class_declared : (v a : ℕ) → declared_class L p v ≡ Some a → class_of L (p.globals ++ s) v ≡ a
   class_declared v a e = of_declared v (v == sink) (nat_lt v (length p.globals)) a (λ h. grind (arith, nat_tests))
       (λ h. grind (arith, nat_tests)) e
 
 module _ (L : Lattice) (laws : IsLattice L) (classes : ℕ → ℕ) (within' : (v : ℕ) → IsClass L (classes v)) where
-  -- Steps in order in a chain go up from the first source to the last target.
+  -- If the steps of a chain are in order, the classes go up from the first source to the last target.
   chain_up : (s : Step) (rest : List Step) → IsInOrder L classes s → All (IsInOrder L classes) rest →
       IsChain s rest → Below L (classes s.source) (classes (last_target s rest))
   chain_up s [] h all c = h

@@ -1,4 +1,4 @@
--- What the check answers.
+-- The answers of the check.
 use Rattle.std.specs.Prelude.{◌≡◌, ℕ, ◌+◌, ◌++◌, List, map, Result, Ok, Err}
 use Rattle.vsi_lattice.specs.Order.{Lattice}
 use Rattle.vsi_syntax.specs.declared.token.Span.{Span}
@@ -13,33 +13,34 @@ use Rattle.vsi_types.specs.Steps.{flow, steps, AreInOrder, IsFirstFault}
 use Rattle.vsi_types.specs.Security.{Program, IsChoice, class_of, steps_of}
 use Rattle.vsi_types.specs.Walker.{Place}
 
--- What a refusal says: a wrong choice is none, and a flow is the first step that isn't in order.
+-- The meaning of an error: a wrong choice is not a choice for the program, and a flow is the first step that isn't in
+-- order.
 abbrev pub TellsWhy : Lattice → Profile → Program → List ℕ → CheckError → Type 0
 TellsWhy L P p s Memory = Unit {0}
 TellsWhy L P p s WrongChoice = IsChoice p s → ⊥
 TellsWhy L P p s (Flow f) = IsChoice p s × IsFirstFault L (class_of L (p.globals ++ s)) (steps_of P p) f
 
--- What an answer says of a list of steps: all are in order, or the first that isn't.
+-- The meaning of an answer for a list of steps: all are in order, or this is the first that isn't.
 abbrev pub StepsJudged : {U : Type 0} → Lattice → (ℕ → ℕ) → List Step → Result U FlowFault → Type 0
 StepsJudged L classes ss (Ok u) = AreInOrder L classes ss
 StepsJudged L classes ss (Err f) = IsFirstFault L classes ss f
 
--- The flow of what a guard reads into a target that is written at the place for that guard.
+-- The flow of a guard into a target whose write position for that guard is given.
 abbrev pub step_at : ℕ → (Guard → Span) → Guard → Step
 step_at target written g = flow target (written g) g
 
--- What an answer says of the flows of guards to a target, wherever it is written.
+-- The meaning of an answer for the flows of guards into a target, wherever it is written.
 abbrev pub FlowsJudged : {U : Type 0} → Lattice → (ℕ → ℕ) → ℕ → List Guard → Result U FlowFault → Type 0
 FlowsJudged L classes target gs r = (written : Guard → Span) →
     StepsJudged L classes (map (step_at target written) gs) r
 
--- What an error says of a list of steps: a flow is the first that isn't in order.
+-- The meaning of an error for a list of steps: a flow is the first that isn't in order.
 abbrev pub TellsFault : Lattice → (ℕ → ℕ) → List Step → CheckError → Type 0
 TellsFault L classes ss Memory = Unit {0}
 TellsFault L classes ss WrongChoice = ⊥
 TellsFault L classes ss (Flow f) = IsFirstFault L classes ss f
 
--- What an answer says of the steps of a command at a place, and of the place after it.
+-- The meaning of an answer for the steps of a command at a position, and the position after it.
 abbrev pub Judged : {U : Type 0} → Lattice → Profile → (ℕ → ℕ) → Place → Command → Place → Result U CheckError →
     Type 0
 Judged L P classes a c b (Ok u) =

@@ -22,12 +22,12 @@ pub data HasData (L : Lattice) (q : Locations) : Expression → ℕ → Type 0 w
   ARITH : {o : Op} {a b : Expression} {t : ℕ} → HasData L q a t → HasData L q b t → HasData L q (Operator o a b) t
   SUBTYPE : {e : Expression} {t t' : ℕ} → Below L t t' → IsClass L t' → HasData L q e t → HasData L q e t'
 
--- A loop has the type t cmd for any t, and under the strict profile for the bottom class alone.
+-- A loop has the type t cmd for any t, and under the strict profile only for the bottom class.
 abbrev pub LoopType : Lattice → Profile → ℕ → Type 0
 LoopType L Base t = Unit {0}
 LoopType L Strict t = t ≡ L.bottom
 
--- A derivation that a command has the type t cmd, where n declarations stand before it and v has the class classes v.
+-- A derivation that a command has the type t cmd, with n declarations before it and the class classes v for each v.
 pub data HasCmd (L : Lattice) (P : Profile) (classes : ℕ → ℕ) : Locations → ℕ → Command → ℕ → Type 0 where
   EMPTY : {q : Locations} {n t : ℕ} → IsClass L t → HasCmd L P classes q n Skip t
   ASSIGN : {q : Locations} {n l : ℕ} {s : Span} {e : Expression} {t : ℕ} →

@@ -24,7 +24,7 @@ abbrev pub last_target : Step → List Step → ℕ
 last_target s [] = s.target
 last_target s (t ∷ rest) = last_target t rest
 
--- Steps of the program in a chain, from a declared class that isn't at or below the declared class where they end.
+-- Steps of the program in a chain, from a declared class that isn't at or below the declared class at their end.
 pub record IsBadFrom (L : Lattice) (P : Profile) (p : Program) (s : Step) (rest : List Step) : Type 0 where
   pub steps : All (Contains (steps_of P p)) (s ∷ rest)
   pub chain : IsChain s rest
@@ -39,7 +39,7 @@ abbrev pub IsBad : Lattice → Profile → Program → List Step → Type 0
 IsBad L P p [] = ⊥
 IsBad L P p (s ∷ rest) = IsBadFrom L P p s rest
 
--- Where a bad walk exists, no choice is typable.
+-- If a bad walk exists, no choice is typable.
 abbrev pub BadWalksRefute : Type 0
 BadWalksRefute =
     (L : Lattice) (P : Profile) (p : Program) (walk : List Step) (s : List ℕ) → IsLattice L → IsWellFormed L p →

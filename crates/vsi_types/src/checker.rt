@@ -1,4 +1,4 @@
-//! The check of a choice of classes.
+//! The check of a program under a choice of classes.
 
 ghost use Rattle.std.specs.Prelude.{◌≡◌, ◌++◌, Err, IfErr, OnOk};
 ghost use Rattle.std.specs.List.{All};
@@ -17,7 +17,8 @@ use std::alloc::Global as Heap;
 use vsi_lattice::{Class, Classes};
 use vsi_scope::Resolved;
 
-/// Checks the flows of a program whose letvars have these classes, which keep the declared ones.
+/// Checks the flows of a program whose letvars have these classes, which agree with the declared
+/// ones.
 fn check_flows<C: Classes>(
     alloc: Heap,
     profile: Profile,
@@ -48,10 +49,10 @@ fn check_flows<C: Classes>(
     check_commands(lattice, profile, &table, &mut walk, body)
 }
 
-/// Checks a program under a profile, where the `letvar`s have the given classes, in text order.
+/// Checks a program under a profile, with the given classes for its `letvar`s in source order.
 ///
-/// The answer is `WrongChoice` for another number of classes than there are `letvar`s, or where a
-/// declared class is changed; else `Flow` for the first flow step that isn't in order; else Ok.
+/// The result is `WrongChoice` if the number of classes differs from the number of `letvar`s or if
+/// a declared class is changed, else `Flow` for the first flow step that isn't in order, else Ok.
 pub fn check_in<C: Classes>(
     alloc: Heap,
     profile: Profile,
@@ -75,7 +76,7 @@ pub fn check_in<C: Classes>(
     check_flows(alloc, profile, lattice, program, choice)
 }
 
-/// Checks a program under the base profile, as `check_in` does.
+/// Checks a program under the base profile, like `check_in`.
 pub fn check<C: Classes>(
     alloc: Heap,
     lattice: &C,

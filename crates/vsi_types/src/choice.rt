@@ -1,4 +1,4 @@
-//! Choices of classes for the `letvar`s of a program, and the tables that the check reads.
+//! Choices of classes for the `letvar`s of a program, and the class table used by the check.
 
 ghost use Rattle.std.specs.Prelude.{◌≡◌, ◌++◌, true, false, map, IfOk};
 ghost use Rattle.std.specs.List.{AllZip};
@@ -8,7 +8,7 @@ use std::alloc::{AllocError, Global as Heap};
 use vsi_lattice::Class;
 use vsi_scope::{Entry, Global};
 
-/// Whether a class is the declared one, where one is declared.
+/// Whether a class is the declared one, if one is declared.
 fn keeps(declared: Option<Class>, class: Class) -> bool
     ensures chosen { result ≡ true → Keeps declared class }
     ensures changed { result ≡ false → Keeps declared class → ⊥ }
@@ -19,7 +19,7 @@ fn keeps(declared: Option<Class>, class: Class) -> bool
     }
 }
 
-/// Whether there is one class for each entry, and each declared class is kept.
+/// Whether there is one class for each entry, and every declared class is kept.
 pub(crate) fn is_choice(entries: &[Entry<'_>], choice: &[Class]) -> bool
     ensures chosen { result ≡ true → AllZip Keeps (map (λ e. e.class) entries.now) choice.now }
     ensures changed { result ≡ false → AllZip Keeps (map (λ e. e.class) entries.now) choice.now →
@@ -36,7 +36,7 @@ pub(crate) fn is_choice(entries: &[Entry<'_>], choice: &[Class]) -> bool
     true
 }
 
-/// The class of each declaration, the globals' first.
+/// The class of each declaration, globals first.
 pub(crate) fn class_table(
     alloc: Heap,
     globals: &[Global<'_>],

@@ -10,10 +10,10 @@ use thiserror::Error;
 /// Why a choice of classes is refused.
 #[derive(Debug, Drop, Error)]
 pub enum CheckError {
-    /// There was no memory for the check.
+    /// The check ran out of memory.
     #[error("out of memory")]
     Memory,
-    /// The choice hasn't one class for each `letvar`, or changes a declared one.
+    /// The choice doesn't have one class for each `letvar`, or changes a declared one.
     #[error("the choice has not one class for each letvar, or changes a declared one")]
     WrongChoice,
     /// The first flow step that isn't in order.

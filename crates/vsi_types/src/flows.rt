@@ -1,4 +1,4 @@
-//! The flows of what one expression or a list of guards reads into one target.
+//! The flows from the variables that an expression or a list of guards reads into one target.
 
 ghost use Rattle.std.specs.Prelude.{◌≡◌, ◌||◌, true, length};
 ghost use Rattle.std.specs.List.{All};
@@ -28,7 +28,7 @@ fn class_of<C: Classes>(lattice: &C, table: &[Class], variable: Var) -> Class
     }
 }
 
-/// Whether what is read may flow to the target.
+/// Whether a variable that is read may flow into the target.
 fn may_flow<C: Classes>(lattice: &C, table: &[Class], source: Var, target: Var) -> bool
     requires { All (IsClass (C.lattice lattice.now)) table.now }
     ensures { let classes = class_of (C.lattice lattice.now) table.now in
@@ -40,7 +40,7 @@ fn may_flow<C: Classes>(lattice: &C, table: &[Class], source: Var, target: Var) 
     )
 }
 
-/// Whether each guard may flow to the target.
+/// Whether every guard may flow into the target.
 pub(crate) fn check_guards<C: Classes>(
     lattice: &C,
     table: &[Class],
@@ -64,7 +64,7 @@ pub(crate) fn check_guards<C: Classes>(
     Ok(())
 }
 
-/// Whether what an expression reads may flow to the target.
+/// Whether every variable that an expression reads may flow into the target.
 pub(crate) fn check_reads<C: Classes>(
     lattice: &C,
     table: &[Class],
@@ -101,7 +101,7 @@ pub(crate) fn check_reads<C: Classes>(
     }
 }
 
-/// Whether what the guard of a loop reads may tell how the loop ends.
+/// Whether the variables that the guard of a loop reads may influence how the loop ends.
 pub(crate) fn check_loop<C: Classes>(
     lattice: &C,
     profile: Profile,
@@ -121,7 +121,8 @@ pub(crate) fn check_loop<C: Classes>(
     }
 }
 
-/// Whether what the guard of a choice reads may tell how the loops in its branches end.
+/// Whether the variables that the guard of a choice reads may influence how the loops in its
+/// branches end.
 pub(crate) fn check_choice<C: Classes>(
     lattice: &C,
     profile: Profile,

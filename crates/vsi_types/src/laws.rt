@@ -2,7 +2,7 @@
 
 ghost use Rattle.vsi_types.specs.Security.{StepsDecide, SimpleSecurity, Confinement, Noninterference, SameEnding};
 
-/// A program is typable exactly where the choice is one and all flow steps are in order, under each
+/// A program is typable exactly if the choice is valid and all flow steps are in order, under each
 /// profile.
 pub fn steps_decide()
     ensures { StepsDecide }
@@ -25,7 +25,7 @@ pub fn noninterference()
 {}
 
 /// Under the strict profile a program ends from both of two stores that agree on the bottom class,
-/// or from none.
+/// or from neither.
 pub fn same_ending()
     ensures { SameEnding }
 {}

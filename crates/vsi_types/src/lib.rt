@@ -1,14 +1,14 @@
-//! The types of Volpano, Smith and Irvine over a lattice of classes, and the check of a program's
-//! flows.
+//! The type system of Volpano, Smith and Irvine over a lattice of classes, and the check of a
+//! program's flows.
 //!
-//! A resolved program, one class for each of its `letvar`s and a profile come in. `check_in`
-//! answers Ok exactly where the body has a derivation by the typing rules (its clauses `typable`
-//! and `complete`), and otherwise names the first flow step that isn't in order. The laws of the
-//! type system stand in `laws`.
+//! `check_in` takes a resolved program, one class for each of its `letvar`s and a profile. It
+//! answers Ok exactly if the body has a derivation by the typing rules (its clauses `typable` and
+//! `complete`), and otherwise reports the first flow step that isn't in order. The laws of the type
+//! system are in `laws`.
 //!
-//! A walk of another crate over the same flow steps stands at a [`Walker`]: its scope begins as
-//! `first_variables`, `push_reads` adds what a guard reads, and `loops` says whether a loop stands
-//! under one.
+//! Another crate can walk over the same flow steps with a [`Walker`]: its scope begins as
+//! `first_variables`, `push_reads` adds the reads of a guard, and `loops` says whether the commands
+//! under a guard contain a loop.
 //!
 //! To be believed: `specs/Security`, `specs/Steps`, `specs/Typing`, `specs/Walks`, and `TellsWhy`
 //! of `specs/Checking`; its other definitions and `specs/Walker` are stepping stones of proofs.

@@ -3,11 +3,11 @@
 use vsi_scope::Var;
 use vsi_syntax::Span;
 
-/// The sink of flows into the ending of loops. Its class is the bottom one, and no declaration has
-/// its number.
+/// The sink for flows into the ending of loops. It has the bottom class, and its number is not that
+/// of any declaration.
 pub const LOOP: Var = Var(65535);
 
-/// Which flows are judged.
+/// The flows that are checked.
 #[derive(Clone, Copy, Debug, PartialEq, Eq)]
 pub enum Profile {
     /// Flows into variables.
@@ -19,11 +19,11 @@ pub enum Profile {
 /// The rule by which a variable flows into another.
 #[derive(Clone, Copy, Debug, PartialEq, Eq)]
 pub enum Rule {
-    /// The value of an assignment flows into what is assigned.
+    /// The value of an assignment flows into the assigned variable.
     Assign,
-    /// The guard of an `if` flows into what its branches assign.
+    /// The guard of an `if` flows into the variables that its branches assign.
     If,
-    /// The guard of a `while` flows into what its body assigns.
+    /// The guard of a `while` flows into the variables that its body assigns.
     While,
     /// The initial value of a `letvar` flows into its variable.
     Letvar,
@@ -37,13 +37,13 @@ pub struct Step {
     pub rule: Rule,
     pub source: Var,
     pub target: Var,
-    /// Where the source is read.
+    /// The span at which the source is read.
     pub read: Span,
-    /// Where the target's name is written; under `Rule::Loop` the same as `read`.
+    /// The span of the target's name; under `Rule::Loop` the same as `read`.
     pub written: Span,
 }
 
-/// A variable that is read, and where.
+/// A variable that is read, and the span of its name there.
 #[derive(Clone, Copy, Debug, PartialEq, Eq)]
 pub struct Read {
     pub variable: Var,
@@ -61,7 +61,7 @@ pub struct Guard {
 #[derive(Clone, Copy, Debug, PartialEq, Eq)]
 pub struct FlowFault {
     pub rule: Rule,
-    /// Where the source is read.
+    /// The span at which the source is read.
     pub span: Span,
     pub source: Var,
     pub target: Var,

@@ -1,4 +1,4 @@
-//! The walk over a program that judges its flow steps in their order.
+//! The walk over a program that checks its flow steps in order.
 
 ghost use Rattle.std.specs.Prelude.{◌+◌, ◌≤◌, length};
 ghost use Rattle.std.specs.List.{All};

@@ -1,5 +1,5 @@
-//! What walks over a program share: where one stands, what it reads there, and whether a loop
-//! stands further on.
+//! State and helpers shared by walks over a program: the current position, the reads there, and
+//! whether commands contain a loop.
 
 ghost use Rattle.std.specs.Prelude.{◌≡◌, ◌++◌, length, IfOk, if◌then◌else◌, is_ok};
 ghost use Rattle.vsi_scope.specs.Language.{has_loop, HasLocations};
@@ -11,14 +11,14 @@ use crate::rules::{Guard, Read, Rule};
 use std::alloc::{AllocError, Global as Heap};
 use vsi_scope::{Cmd, Ex, Var};
 
-/// Where a walk stands that goes over the commands of a program in text order.
+/// The position of a walk over the commands of a program in source order.
 #[derive(Drop)]
 pub struct Walker {
     /// The variable of each location in scope.
     pub scope: Vec<Var>,
-    /// What the guards round the place read, the outermost first.
+    /// The reads of the enclosing guards, the outermost first.
     pub guards: Vec<Guard>,
-    /// The number of declarations before the place.
+    /// The number of declarations before this position.
     pub next: u16,
 }
 
@@ -33,8 +33,8 @@ pub fn first_variables(alloc: Heap, count: u16) -> Result<Vec<Var>, AllocError>
     Ok(scope)
 }
 
-/// Adds what an expression reads, in text order, to the guards under a rule; the scope gives its
-/// variables. Where memory is wanting the guards stay as they were.
+/// Appends the reads of an expression, in source order, to the guards under a rule; the scope gives
+/// the variable of each location. If memory runs out, the guards are unchanged.
 pub fn push_reads(
     guards: &mut Vec<Guard>,
     scope: &[Var],
@@ -70,7 +70,7 @@ pub fn push_reads(
     }
 }
 
-/// Whether a loop stands in the commands, at any depth.
+/// Whether the commands contain a loop, at any depth.
 #[cycle(loops)]
 pub fn loops(body: &[Cmd]) -> bool
     ensures { result ≡ has_loop (sequence body.now) }
@@ -83,7 +83,7 @@ pub fn loops(body: &[Cmd]) -> bool
     false
 }
 
-/// Whether a loop stands in the command, at any depth.
+/// Whether the command contains a loop, at any depth.
 #[cycle(loops)]
 fn loops_in(c: &Cmd) -> bool
     ensures { result ≡ has_loop (command c.now) }

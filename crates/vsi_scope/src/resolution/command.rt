@@ -1,5 +1,5 @@
-//! Commands: one walk through the text, with the names in scope and the entries of the letvars so
-//! far.
+//! Resolves commands in one walk through the text, with the names in scope and the entries of the
+//! letvars so far.
 
 ghost use Rattle.std.specs.Prelude.{◌≡◌, ◌<◌, length, map, [], option_map, IfOk, IfErr};
 ghost use Rattle.vsi_scope.specs.declared.resolution.ScopeError.TheVariants.{Memory};
@@ -22,7 +22,7 @@ use std::alloc::Global;
 use vsi_lattice::{Class, Lattice};
 use vsi_syntax::{Expr, Name, Stmt};
 
-/// Where the resolution of a text is.
+/// The state of a resolution.
 #[derive(Drop)]
 pub(crate) struct Resolver<'a> {
     /// The names in scope.
@@ -43,7 +43,7 @@ impl<'a> Resolver<'a> {
         self.names.globals.len() + self.letvars.len()
     }
 
-    /// A letvar's name comes into scope, and its entry is the last.
+    /// Brings a letvar's name into scope and appends its entry.
     fn enter(&mut self, x: Name<'a>, class: Option<Class>) -> Result<(), ScopeError>
         ensures locals { OnOk result
             (self.new.names.locals.items ≡ self.old.names.locals.items ++ x.entry.text ∷ []) }
@@ -65,7 +65,7 @@ impl<'a> Resolver<'a> {
         Ok(())
     }
 
-    /// The innermost letvar's name goes out of scope.
+    /// Takes the innermost letvar's name out of scope.
     fn leave(&mut self)
         requires { 0 < length self.old.names.locals.items }
         ensures locals { self.new.names.locals.items ≡
@@ -78,7 +78,7 @@ impl<'a> Resolver<'a> {
     }
 }
 
-/// The class that is written.
+/// The class of a declaration, if one is written.
 fn class<'a>(lattice: &Lattice, class: Option<Name<'a>>) -> Result<Option<Class>, ScopeError>
     ensures value { IfOk result
         (λ x. x ≡ class_of (class_named lattice.now) (option_map named class.entry)) }
@@ -94,7 +94,7 @@ fn class<'a>(lattice: &Lattice, class: Option<Name<'a>>) -> Result<Option<Class>
     }
 }
 
-/// An assignment: the name first, then the value.
+/// Resolves an assignment: the name first, then the value.
 fn assign<'a>(
     alloc: Global,
     resolver: &mut Resolver<'a>,
@@ -121,7 +121,7 @@ fn assign<'a>(
     Ok(())
 }
 
-/// A choice: the guard, the first branch, the second.
+/// Resolves a choice: the guard, the first branch, the second.
 #[cycle(resolution)]
 fn choose<'a>(
     alloc: Global,
@@ -150,7 +150,7 @@ fn choose<'a>(
     Ok(())
 }
 
-/// A loop: the guard, then the body.
+/// Resolves a loop: the guard, then the body.
 #[cycle(resolution)]
 fn repeat<'a>(
     alloc: Global,
@@ -176,7 +176,7 @@ fn repeat<'a>(
     Ok(())
 }
 
-/// A letvar: its name, its class, its initial value in the outer scope, and then the body.
+/// Resolves a letvar: its name, its class, its initial value in the outer scope, and then the body.
 #[cycle(resolution)]
 fn local<'a>(
     alloc: Global,
@@ -212,7 +212,7 @@ fn local<'a>(
     Ok(())
 }
 
-/// The commands of a sequence, behind those of `out`.
+/// Appends the commands of a sequence to `out`.
 #[cycle(resolution)]
 pub(crate) fn sequence<'a>(
     alloc: Global,
@@ -235,7 +235,7 @@ pub(crate) fn sequence<'a>(
     Ok(())
 }
 
-/// The commands of one statement, behind those of `out`.
+/// Appends the commands of one statement to `out`.
 #[cycle(resolution)]
 fn statement<'a>(
     alloc: Global,

@@ -1,4 +1,4 @@
-//! The globals, with the faults of their names and classes.
+//! Resolves the globals, and finds the faults of their names and classes.
 
 ghost use Rattle.std.specs.Prelude.{◌≡◌, ◌<◌, ◌≤◌, length, map, [], ◌∷◌, Some, None, IfOk, OnOk};
 ghost use Rattle.vsi_syntax.specs.CommandView as syntax;
@@ -22,7 +22,7 @@ pub(crate) struct Globals<'a> {
     pub(crate) names: Names<'a>,
 }
 
-/// The class of a declaration below these names. The name is judged before the class.
+/// The class of a declaration after these names. The name is judged before the class.
 fn class_below<'a>(
     lattice: &Lattice,
     names: &Names<'a>,
@@ -48,7 +48,7 @@ fn class_below<'a>(
     }
 }
 
-/// Reads the globals in order, where none is read yet.
+/// Reads the globals in order into an empty list.
 fn read_into<'a>(
     lattice: &Lattice,
     globals: &mut Globals<'a>,

@@ -1,4 +1,4 @@
-//! Expressions over locations.
+//! Resolves expressions to expressions over locations.
 
 ghost use Rattle.std.specs.Prelude.{◌≡◌, ◌+◌, ◌≤◌, length, IfOk};
 ghost use Rattle.vsi_syntax.specs.View.{tree};
@@ -15,7 +15,7 @@ use crate::program::Ex;
 use std::alloc::Global;
 use vsi_syntax::Expr;
 
-/// The expression with a location for each name; brackets leave nothing.
+/// The expression with a location for each name; brackets disappear.
 pub(crate) fn expression<'a>(
     alloc: Global,
     names: &Names<'a>,

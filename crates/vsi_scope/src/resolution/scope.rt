@@ -8,8 +8,8 @@ use super::ScopeError;
 use indexmap::IndexSet;
 use std::alloc::Global;
 
-/// The names in scope. Those of globals are looked up by key; those of letvars, of which at most
-/// 200 are round a place, from the innermost on.
+/// The names in scope. Globals are looked up by key; letvars, of which at most 200 enclose any
+/// command, are searched from the innermost outwards.
 #[derive(Drop)]
 pub(crate) struct Names<'a> {
     /// The names of the globals, in order.
@@ -23,7 +23,7 @@ impl<'a> Names<'a> {
     ghost use Rattle.vsi_scope.specs.Resolver.{names_of};
     ghost use Rattle.vsi_scope.specs.declared.resolution.ScopeError.TheVariants.{Memory};
 
-    /// No name.
+    /// No names.
     pub(crate) fn new(alloc: Global) -> Names<'a>
         ensures globals { result.globals.keys ≡ [] }
         ensures locals { result.locals.items ≡ [] }
@@ -34,8 +34,8 @@ impl<'a> Names<'a> {
         }
     }
 
-    /// The last place of a name: that of the innermost letvar behind the globals, or the number of
-    /// the global.
+    /// The last position of a name: that of the innermost letvar, counted after the globals, or the
+    /// number of the global.
     pub(crate) fn find(&self, name: &[u8]) -> Option<u16>
         requires { length self.now.globals.keys + length self.now.locals.items ≤ max_declarations }
         ensures { result ≡ place_of (names_of self.now) name.now }
@@ -50,7 +50,7 @@ impl<'a> Names<'a> {
         }
     }
 
-    /// The name of one global more, where no letvar is in scope.
+    /// Adds the name of one more global, while no letvar is in scope.
     pub(crate) fn declare(&mut self, name: &'a [u8]) -> Result<(), ScopeError>
         requires outer { self.old.locals.items ≡ [] }
         requires fresh { place_of (names_of self.old) name.now ≡ None }
@@ -63,7 +63,7 @@ impl<'a> Names<'a> {
     }
 }
 
-/// The last place of a name, by a look at every name from the last on.
+/// The last position of a name, found by comparing every name from the last to the first.
 fn innermost(names: &[&[u8]], name: &[u8]) -> Option<usize>
     ensures place { result ≡ place_of (map (λ x. x.now) names.now) name.now }
     ensures within { IfSome result (λ at. at < length names.now) }

@@ -1,4 +1,4 @@
-//! A whole program.
+//! Resolves a whole program.
 
 ghost use Rattle.std.specs.Prelude.{◌≡◌, ◌≤◌, ℕ, List, IfOk, IfErr};
 ghost use Rattle.vsi_syntax.specs.Limits.{max_depth};
@@ -18,14 +18,15 @@ use std::alloc::Global;
 use vsi_lattice::Lattice;
 use vsi_syntax::Program;
 
-/// The program over locations, with the classes that the lattice has under the names of the text.
+/// The program over locations, with the classes that the lattice has for the class names in the
+/// text.
 ///
 /// # Errors
 ///
-/// The first fault in text order; of two at one place the one that stands first in [`ScopeError`].
-/// A `letvar` is judged by its name (`TooManyDeclarations`), then its class (`UnknownClass`), then
-/// its initial value (`Unbound`). Without a fault `TooLarge`, where the size is above 65,534.
-/// `Memory` may stand in place of any answer.
+/// The first fault in source order; of two faults at one name, the one listed first in
+/// [`ScopeError`]. A `letvar` is checked in the order of its name (`TooManyDeclarations`), its
+/// class (`UnknownClass`) and its initial value (`Unbound`). A program without such a fault is
+/// `TooLarge` if its size is above 65,534. `Memory` may replace any answer.
 pub fn resolve<'a>(
     alloc: Global,
     program: &Program<'a>,

@@ -1,4 +1,4 @@
-//! Reads expressions. Levels are 0 for a comparison, 1 for a sum, 2 for a product and 3 for an
+//! Reads expressions. The levels are 0 for a comparison, 1 for a sum, 2 for a product and 3 for an
 //! atom.
 
 ghost use Rattle.std.specs.Prelude.{◌≡◌, ◌≤◌, ◌<◌, IfOk, Some, None, option_map, ◌+◌, max};
@@ -22,7 +22,7 @@ pub(crate) struct Measured<'a> {
     pub(crate) level: u8,
 }
 
-/// The operator of a symbol.
+/// The operator that a symbol denotes.
 fn operator(kind: Kind) -> Option<Op>
     ensures { result ≡ spec.operator kind }
 {
@@ -36,7 +36,7 @@ fn operator(kind: Kind) -> Option<Op>
     }
 }
 
-/// The level of what an operator makes.
+/// The level of an operator's expression.
 fn level_of(op: Op) -> u8
     ensures { result ≡ level op }
 {
@@ -47,7 +47,7 @@ fn level_of(op: Op) -> u8
     }
 }
 
-/// The least level of what stands on the left of an operator.
+/// The least level of an operator's left operand.
 fn left_level_of(op: Op) -> u8
     ensures { result ≡ left_level op }
 {
@@ -57,7 +57,7 @@ fn left_level_of(op: Op) -> u8
     }
 }
 
-/// The least level of what stands on the right of an operator.
+/// The least level of an operator's right operand.
 fn right_level_of(op: Op) -> u8
     ensures { result ≡ right_level op }
 {
@@ -68,7 +68,8 @@ fn right_level_of(op: Op) -> u8
     }
 }
 
-/// The operator that goes on at this level with what is on its left, and what is behind it.
+/// The next operator, if it continues an expression of this level after this left operand, and the
+/// tokens after it.
 #[tactic(auto, unfolding(crate::specs::Parsing::next))]
 fn next<'t, 'a>(least: u8, left: u8, tokens: &'t [Token<'a>]) -> Option<(Op, &'t [Token<'a>])>
     ensures { option_map (λ x. (x.0, lexemes x.1.now)) result
@@ -85,7 +86,7 @@ fn next<'t, 'a>(least: u8, left: u8, tokens: &'t [Token<'a>]) -> Option<(Op, &'t
     }
 }
 
-/// What is behind a closing bracket.
+/// The tokens after a closing bracket.
 fn close<'t, 'a>(tokens: &'t [Token<'a>]) -> Result<&'t [Token<'a>], Fault>
     ensures { Gives (λ x. lexemes x.now) result (spec.closing (lexemes tokens.now)) }
 {
@@ -154,7 +155,7 @@ fn atom<'t, 'a>(
     }
 }
 
-/// Both sides under their operator.
+/// The expression of an operator and its two operands.
 fn join<'a>(
     alloc: Global,
     op: Op,
@@ -181,7 +182,7 @@ fn join<'a>(
     })
 }
 
-/// The longest expression of this level and depth that the tokens begin with.
+/// The longest expression of this level and depth at the front of the tokens.
 #[cycle(expression)]
 pub(crate) fn expression<'t, 'a>(
     alloc: Global,

@@ -15,7 +15,7 @@ use Rattle.vsi_scope.proofs.Midway.{midway_more, midway_refuses}
 use Rattle.vsi_scope.proofs.resolution.command.+resolution.Goals as goal
 use Rattle.vsi_scope.proofs.resolution.command.+resolution.Goals.{local-Else-declared-ge-MAX_DECLARATIONS, local-In_ok-enter}
 
--- One declaration more fits where the limit isn't reached.
+-- One more declaration fits if the limit isn't reached.
 few : (u : ℕ) (c : local-Else-declared-ge-MAX_DECLARATIONS u) → declared c.args.resolver.now < 1024
 few u c = omega (arith, c.if-declared-ge-MAX_DECLARATIONS.false, c.declared.ensures)
 

@@ -23,7 +23,7 @@ begun c = record {
   shallow = rw (c.body.ensures.body) at c.body.ensures.keeps.1;
 }
 
--- The walk has gone over the body without a fault before its size is judged.
+-- The walk has passed the body without a fault before its size is judged.
 over : (c : After-size) →
     Over (class_named c.args.lattice.now) (whole c.args.program.now)
     (record { names = c.in_ok-list.field-0.names; letvars = c.new.result }) c.sequence.new.resolver
