@@ -9,6 +9,7 @@
 
 mod files;
 pub mod laws;
+mod raising;
 mod refusing;
 mod runs;
 mod steady;
@@ -16,6 +17,7 @@ mod texts;
 mod unanswered;
 
 pub use files::{declared_lattice, judged_image, list};
+pub use raising::{apply, mend};
 pub use refusing::{refused_file, refused_source};
 pub use runs::{compare, run, run_source, start_words, view};
 pub use steady::check_steady;

@@ -25,6 +25,9 @@ pub enum Cause {
     /// A source text whose image is to be steady is refused.
     #[error("the text is refused")]
     Steady(UnsteadyError),
+    /// A source text is refused once its classes are raised.
+    #[error("the text with the raised classes is refused")]
+    Raised(CompileError),
 }
 
 /// Why a request has no answer. Want of memory is always `Memory`, and never one that a cause

@@ -123,6 +123,14 @@ pub struct Attempt<'a> {
     pub settings: Vec<&'a [u8]>,
 }
 
+/// What is raised: the files of a compilation, and whether the text is printed with its classes
+/// raised instead of a line for each raise.
+#[derive(Clone, Copy)]
+pub struct Mending<'a> {
+    pub compilation: Compilation<'a>,
+    pub is_applied: bool,
+}
+
 /// Whether an explanation is coloured.
 #[derive(Clone, Copy, Debug, PartialEq, Eq)]
 pub enum Colour {
@@ -159,6 +167,7 @@ pub enum Request<'a> {
         compilation: Compilation<'a>,
         has_walks: bool,
     },
+    Mend(Mending<'a>),
     Build(Compilation<'a>, &'a str),
     List(&'a str),
     Audit(Audit<'a>),

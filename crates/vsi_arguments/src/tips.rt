@@ -3,7 +3,8 @@
 use std::alloc::{AllocError, Global};
 
 /// Each option that only some subcommands have, as a mistake quotes it, and those that have it.
-const OWNERS: [(&str, &str); 22] = [
+const OWNERS: [(&str, &str); 23] = [
+    ("'--apply'", "mend"),
     ("'--budget'", "try, run, view, drive, compare and leak"),
     ("'--class'", "try, view, drive, compare and leak"),
     (
@@ -30,7 +31,7 @@ const OWNERS: [(&str, &str); 22] = [
     ("'--store'", "run, view, drive and compare"),
     (
         "'--strict'",
-        "check, classes, flows, build, audit, report and draw",
+        "check, classes, flows, mend, build, audit, report and draw",
     ),
     ("'--trace'", "run"),
     ("'--tries'", "leak"),

@@ -19,7 +19,7 @@ struct Subcommand {
 }
 
 /// The subcommands whose refusals can be explained, in the order of the help.
-const SUBCOMMANDS: [Subcommand; 18] = [
+const SUBCOMMANDS: [Subcommand; 19] = [
     Subcommand {
         name: "try",
         line: "Judges a source text and runs it",
@@ -54,6 +54,13 @@ const SUBCOMMANDS: [Subcommand; 18] = [
         whole: help::FLOWS,
         example: help::FLOWS_EXAMPLE,
         arguments: &[LATTICE, SOURCE, STRICT, WALKS],
+    },
+    Subcommand {
+        name: "mend",
+        line: "Prints which classes have to rise for the text to be accepted",
+        whole: help::MEND,
+        example: help::MEND_EXAMPLE,
+        arguments: &[LATTICE, SOURCE, STRICT, APPLY],
     },
     Subcommand {
         name: "build",
