@@ -43,6 +43,7 @@ cut_within (request.Check asked) = omega arith
 cut_within (request.Conform asked) = omega arith
 cut_within (request.Classes c) = omega arith
 cut_within (request.Flows c has_walks) = omega arith
+cut_within (request.Mend asked) = omega arith
 cut_within (request.Build c image) = omega arith
 cut_within (request.List image) = omega arith
 cut_within (request.Audit asked) = omega arith

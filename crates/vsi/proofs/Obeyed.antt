@@ -45,6 +45,7 @@ memory_why holds (request.Check asked) old new = memory_check asked.is_json hold
 memory_why holds (request.Conform asked) old new = tt
 memory_why holds (request.Classes c) old new = tt
 memory_why holds (request.Flows c has_walks) old new = tt
+memory_why holds (request.Mend asked) old new = tt
 memory_why holds (request.Build c image) old new = tt
 memory_why holds (request.List image) old new = tt
 memory_why holds (request.Audit asked) old new = tt

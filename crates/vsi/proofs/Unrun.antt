@@ -166,6 +166,7 @@ kind_told Kind fault kind (unanswered.Refused text (cause.File f)) told =
     (subst Kind (sym told.0.0) (kind (subst IsNoMemory told.0.0 told.0.1)), told.1)
 kind_told Kind fault kind (unanswered.Refused text (cause.Start f)) told = absurd told
 kind_told Kind fault kind (unanswered.Refused text (cause.Steady e)) told = absurd told
+kind_told Kind fault kind (unanswered.Refused text (cause.Raised e)) told = absurd told
 kind_told Kind fault kind unanswered.OutOfBudget told = absurd told
 kind_told Kind fault kind unanswered.Memory told = tt
 

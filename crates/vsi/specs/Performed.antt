@@ -48,7 +48,7 @@ use Rattle.vsi_conform.specs.declared.interface.Judgement.TheVariants as judgeme
 use Rattle.vsi_conform.specs.Checking.{TellsAccepted}
 use Rattle.vsi_answers.specs.Bounds.{IsBound, TellsBound}
 use Rattle.vsi_answers.specs.Judged.{AreImage, Declares}
-use Rattle.vsi_answers.specs.Requests.{BuildsTo, ChecksSteadyTo, ChecksTo, ClassesTo, ComparesTo, FlowsTo, ListsTo, ViewsTo, WalksTo}
+use Rattle.vsi_answers.specs.Requests.{AppliesTo, BuildsTo, ChecksSteadyTo, ChecksTo, ClassesTo, ComparesTo, FlowsTo, ListsTo, MendsTo, ViewsTo, WalksTo}
 use Rattle.vsi_answers.specs.declared.bounds.BoundAnswer.{BoundAnswer}
 use Rattle.vsi_arguments.specs.declared.request.Audit.{Audit}
 use Rattle.vsi_arguments.specs.declared.request.Bounding.{Bounding}
@@ -161,6 +161,11 @@ ToldClasses is_strict l source text = ClassesTo l (profile_of is_strict) source 
 abbrev pub ToldFlows : Bool → Bool → Lattice → List ℕ → Vec ℕ → Type 0
 ToldFlows true is_strict l source text = WalksTo l (profile_of is_strict) source (Ok text)
 ToldFlows false is_strict l source text = FlowsTo l (profile_of is_strict) source (Ok text)
+
+-- The lines of the least raises of a text, and with `--apply` the accepted text with these raises.
+abbrev pub ToldRaises : Bool → Bool → Lattice → List ℕ → Vec ℕ → Type 0
+ToldRaises true is_strict l source text = AppliesTo l (profile_of is_strict) source (Ok text)
+ToldRaises false is_strict l source text = MendsTo l (profile_of is_strict) source (Ok text)
 
 -- The bytes of the image of an accepted text.
 abbrev pub ToldImage : Bool → Lattice → List ℕ → Vec ℕ → Type 0
@@ -474,6 +479,8 @@ Performs holds given (request.Conform asked) left = Alone (Writes (ConformsFiles
 Performs holds given (request.Classes c) left = Alone (Writes (OfFiles holds c (ToldClasses c.is_strict))) holds left
 Performs holds given (request.Flows c has_walks) left =
     Alone (Writes (OfFiles holds c (ToldFlows has_walks c.is_strict))) holds left
+Performs holds given (request.Mend asked) left =
+    Alone (Writes (OfFiles holds asked.compilation (ToldRaises asked.is_applied asked.compilation.is_strict))) holds left
 Performs holds given (request.Build c image) left = PerformsBuild holds c image.now left
 Performs holds given (request.List image) left = Alone (Writes (OfFile holds image.now ToldListing)) holds left
 Performs holds given (request.Audit asked) left = Alone (PerformsAudit holds asked) holds left

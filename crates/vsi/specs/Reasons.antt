@@ -39,7 +39,7 @@ use Rattle.vsi_conform.specs.Checking.{TellsRefused}
 use Rattle.vsi_answers.specs.Answers.{Because}
 use Rattle.vsi_answers.specs.Bounds as bounds
 use Rattle.vsi_answers.specs.Judged.{Declares, IsProgramFault, IsStoreFault, IsViewFault, TellsFault, TellsSource}
-use Rattle.vsi_answers.specs.Requests.{Answer, BeginsWith, BuildsTo, ChecksSteadyTo, ChecksTo, ClassesTo, ComparesTo, FlowsTo, FormatsTo, ListsTo, ReadsImage, ReadsLattice, ViewsTo, WalksTo}
+use Rattle.vsi_answers.specs.Requests.{Answer, AppliesTo, BeginsWith, BuildsTo, ChecksSteadyTo, ChecksTo, ClassesTo, ComparesTo, FlowsTo, FormatsTo, ListsTo, MendsTo, ReadsImage, ReadsLattice, ViewsTo, WalksTo}
 use Rattle.vsi_answers.specs.declared.unanswered.Unanswered.{Unanswered}
 use Rattle.vsi_answers.specs.declared.unanswered.Unanswered.TheVariants as unanswered
 use Rattle.vsi_answers.specs.declared.bounds.BoundAnswer.{BoundAnswer}
@@ -199,6 +199,11 @@ AsksClasses is_strict l source = ClassesTo l (profile_of is_strict) source
 abbrev pub AsksFlows : Bool → Bool → Lattice → List ℕ → Answer → Type 0
 AsksFlows true is_strict l source = WalksTo l (profile_of is_strict) source
 AsksFlows false is_strict l source = FlowsTo l (profile_of is_strict) source
+
+-- The request of `mend`, and that of `mend --apply`.
+abbrev pub AsksMend : Bool → Bool → Lattice → List ℕ → Answer → Type 0
+AsksMend true is_strict l source = AppliesTo l (profile_of is_strict) source
+AsksMend false is_strict l source = MendsTo l (profile_of is_strict) source
 
 -- The request of `build`.
 abbrev pub AsksImage : Bool → Lattice → List ℕ → Answer → Type 0
@@ -500,6 +505,8 @@ Why holds (request.Conform asked) old new =
     StopsBy (RefusesAsked holds asked.interface.now) (DiffersConform holds asked old new)
 Why holds (request.Classes c) old new = StopsBy (RefusesFiles holds c (AsksClasses c.is_strict)) NoOther
 Why holds (request.Flows c has_walks) old new = StopsBy (RefusesFiles holds c (AsksFlows has_walks c.is_strict)) NoOther
+Why holds (request.Mend asked) old new =
+    StopsBy (RefusesFiles holds asked.compilation (AsksMend asked.is_applied asked.compilation.is_strict)) NoOther
 Why holds (request.Build c image) old new = StopsBy (RefusesFiles holds c (AsksImage c.is_strict)) NoOther
 Why holds (request.List image) old new = StopsBy (RefusesFile holds image.now ListsTo) NoOther
 Why holds (request.Audit asked) old new =

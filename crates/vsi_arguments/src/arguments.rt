@@ -185,6 +185,13 @@ pub(crate) const WALKS: Argument = Argument {
     whole: word_help::WALKS,
 };
 
+pub(crate) const APPLY: Argument = Argument {
+    name: "apply",
+    form: Form::Flag,
+    line: "Prints the text with the new classes instead",
+    whole: word_help::APPLY,
+};
+
 pub(crate) const TRACE: Argument = Argument {
     name: "trace",
     form: Form::Flag,

@@ -138,6 +138,29 @@ Example:
   1:46 l flows to t by LETVAR at 1:41
   1:58 t flows to m by ASSIGN at 1:53";
 
+/// The long help of `mend`.
+pub(crate) const MEND: &str = "\
+Prints which classes have to rise for a source text to be accepted.
+
+Reads the lattice file and the source text as `check` does, and prints a line
+`LINE:COLUMN NAME : OLD -> NEW, since CAUSE reaches it` for each declaration
+whose class is too low: whoever sees OLD but not NEW no longer sees the variable
+then. No class is lowered, and none rises further than it has to. An accepted
+text has no line. With --apply the source text is printed with the new classes.
+With --strict no classes may help: then the refusal is that of `check`.
+
+Statuses: 0 printed, 1 refused, 2 usage, 4 file fault, 5 out of memory.";
+
+/// An example of `mend`.
+pub(crate) const MEND_EXAMPLE: &str = "\
+Example:
+  $ cat leak.vsi
+  var h : H; var l : L; l := h
+  $ vsi mend two.toml leak.vsi
+  1:16 l : L -> H, since h reaches it
+  $ vsi mend --apply two.toml leak.vsi
+  var h : H; var l : H; l := h";
+
 /// The long help of `build`.
 pub(crate) const BUILD: &str = "\
 Compiles a source text to an image.

@@ -168,6 +168,7 @@ fn requested<'a>(name: &str, inner: &ArgMatches<'a>) -> Request<'a> {
         "conform" => Request::Conform(conformance_in(inner)),
         "classes" => Request::Classes(compilation_in(inner)),
         "flows" => flows_request(inner),
+        "mend" => mend_request(inner),
         "list" => Request::List(text(inner, "IMAGE")),
         "audit" => Request::Audit(audit_in(inner)),
         "source" => Request::Source(text(inner, "IMAGE")),
@@ -219,6 +220,13 @@ fn flows_request<'a>(matches: &ArgMatches<'a>) -> Request<'a> {
         compilation: compilation_in(matches),
         has_walks: matches.get_flag("walks"),
     }
+}
+
+fn mend_request<'a>(matches: &ArgMatches<'a>) -> Request<'a> {
+    Request::Mend(Mending {
+        compilation: compilation_in(matches),
+        is_applied: matches.get_flag("apply"),
+    })
 }
 
 fn try_request<'a>(alloc: Global, matches: &ArgMatches<'a>) -> Result<Request<'a>, AllocError> {

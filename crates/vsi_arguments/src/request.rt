@@ -140,6 +140,14 @@ pub struct Attempt<'a> {
     pub settings: Vec<&'a [u8]>,
 }
 
+/// A request for raises: the files of a compilation, and whether the text with the raised classes
+/// is printed instead of a line for each raise.
+#[derive(Clone, Copy)]
+pub struct Mending<'a> {
+    pub compilation: Compilation<'a>,
+    pub is_applied: bool,
+}
+
 /// Whether an explanation is coloured.
 #[derive(Clone, Copy, Debug, PartialEq, Eq)]
 pub enum Colour {
@@ -176,6 +184,7 @@ pub enum Request<'a> {
         compilation: Compilation<'a>,
         has_walks: bool,
     },
+    Mend(Mending<'a>),
     Build(Compilation<'a>, &'a str),
     List(&'a str),
     Audit(Audit<'a>),

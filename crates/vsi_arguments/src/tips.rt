@@ -4,7 +4,8 @@ use std::alloc::{AllocError, Global};
 
 /// The options that only some subcommands have, as a mistake quotes them, and the subcommands that
 /// have each.
-const OWNERS: [(&str, &str); 23] = [
+const OWNERS: [(&str, &str); 24] = [
+    ("'--apply'", "mend"),
     ("'--bounded'", "emit-c"),
     ("'--budget'", "try, run, view, drive, compare and leak"),
     ("'--class'", "try, view, drive, compare and leak"),
@@ -32,7 +33,7 @@ const OWNERS: [(&str, &str); 23] = [
     ("'--store'", "run, view, drive and compare"),
     (
         "'--strict'",
-        "check, classes, flows, build, audit, report and draw",
+        "check, classes, flows, mend, build, audit, report and draw",
     ),
     ("'--trace'", "run"),
     ("'--tries'", "leak"),

@@ -56,6 +56,13 @@ const SUBCOMMANDS: [Subcommand; 19] = [
         arguments: &[LATTICE, SOURCE, STRICT, WALKS],
     },
     Subcommand {
+        name: "mend",
+        line: "Prints which classes have to rise for the text to be accepted",
+        whole: help::MEND,
+        example: help::MEND_EXAMPLE,
+        arguments: &[LATTICE, SOURCE, STRICT, APPLY],
+    },
+    Subcommand {
         name: "build",
         line: "Compiles a source text to an image",
         whole: help::BUILD,

@@ -122,6 +122,13 @@ the same instructions, as many as any budget allows, and write the
 same there. These are instructions, not seconds. With it --strict
 adds nothing.";
 
+/// The short help of `--apply`.
+pub(crate) const APPLY: &str = "\
+Prints the source text with the new class in place of the old one in
+each declaration whose class has to rise. Comments and layout stay.
+The new text is accepted: it has been judged. One that has grown too
+long is refused.";
+
 /// `--walks`.
 pub(crate) const WALKS: &str = "\
 Prints below each line the steps of a shortest chain, each as in the

@@ -11,7 +11,7 @@ use Rattle.vsi_arguments.specs.declared.request.Compilation.{Compilation}
 use Rattle.vsi_arguments.specs.declared.request.Execution.{Execution}
 use Rattle.vsi_arguments.specs.declared.request.Outset.{Outset}
 use Rattle.vsi_arguments.specs.declared.request.Request.{Request}
-use Rattle.vsi_arguments.specs.declared.request.Request.TheVariants.{Try, Check, Conform, Classes, Flows, Build, List as Listing, Audit, Source, EmitC, Bound, Run, View, Drive, Compare, Leak, Report, Draw, Format, Lattice as Shaped, Explain}
+use Rattle.vsi_arguments.specs.declared.request.Request.TheVariants.{Try, Check, Conform, Classes, Flows, Mend, Build, List as Listing, Audit, Source, EmitC, Bound, Run, View, Drive, Compare, Leak, Report, Draw, Format, Lattice as Shaped, Explain}
 use Rattle.vsi_arguments.specs.declared.request.TheConstants.{SEARCH, TRY_BUDGET}
 use Rattle.vsi_explain.specs.Pages.{page_of}
 use Rattle.vsi_explain.specs.Subjects.{subject_page}
@@ -25,6 +25,7 @@ name_of (Check judging) = codes "check"
 name_of (Conform conformance) = codes "conform"
 name_of (Classes compilation) = codes "classes"
 name_of (Flows compilation has_walks) = codes "flows"
+name_of (Mend mending) = codes "mend"
 name_of (Build compilation image) = codes "build"
 name_of (Listing image) = codes "list"
 name_of (Audit audit) = codes "audit"
@@ -58,6 +59,7 @@ operands_of (Check judging) = compiled judging.compilation
 operands_of (Conform conformance) = conformance.interface.now ∷ conformance.source.now ∷ []
 operands_of (Classes compilation) = compiled compilation
 operands_of (Flows compilation has_walks) = compiled compilation
+operands_of (Mend mending) = compiled mending.compilation
 operands_of (Build compilation image) = compilation.lattice.now ∷ compilation.source.now ∷ image.now ∷ []
 operands_of (Listing image) = image.now ∷ []
 operands_of (Audit audit) = audit.lattice.now ∷ audit.image.now ∷ []
@@ -85,6 +87,8 @@ flags_of (Conform conformance) = (codes "--json", conformance.is_json) ∷ []
 flags_of (Classes compilation) = (codes "--strict", compilation.is_strict) ∷ []
 flags_of (Flows compilation has_walks) =
     (codes "--strict", compilation.is_strict) ∷ (codes "--walks", has_walks) ∷ []
+flags_of (Mend mending) =
+    (codes "--strict", mending.compilation.is_strict) ∷ (codes "--apply", mending.is_applied) ∷ []
 flags_of (Build compilation image) = (codes "--strict", compilation.is_strict) ∷ []
 flags_of (Listing image) = []
 flags_of (Audit audit) = (codes "--strict", audit.is_strict) ∷ (codes "--steady", audit.is_steady) ∷ []

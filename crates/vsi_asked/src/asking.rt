@@ -10,7 +10,7 @@ use crate::own::has_own_alone;
 use crate::reading::{has_flag, has_operands, has_values};
 use vsi_arguments::{
     Attempt, Audit, Bounding, Comparison, Compilation, Conformance, Drawing, Driving, Emission,
-    Execution, Judging, Outset, Request, SEARCH, Search, TRY_BUDGET,
+    Execution, Judging, Mending, Outset, Request, SEARCH, Search, TRY_BUDGET,
 };
 use vsi_explain::{page, subject_page};
 
@@ -267,6 +267,17 @@ fn asks_flows(words: &[String], compilation: &Compilation<'_>, has_walks: bool) 
     asks_compilation(words, "flows", compilation, flags.as_slice())
 }
 
+/// Whether the arguments request raises.
+fn asks_mend(words: &[String], mending: &Mending<'_>) -> bool
+    ensures { result ≡ true → spec.Spells words.now (request.Mend mending.now) }
+{
+    let flags = [
+        ("--strict", mending.compilation.is_strict),
+        ("--apply", mending.is_applied),
+    ];
+    asks_compilation(words, "mend", &mending.compilation, flags.as_slice())
+}
+
 /// Whether the arguments request an image.
 fn asks_build(words: &[String], compilation: &Compilation<'_>, image: &str) -> bool
     ensures { result ≡ true → spec.Spells words.now (request.Build compilation.now image.entry) }
@@ -372,6 +383,7 @@ fn spells(words: &[String], request: &Request<'_>) -> bool
             compilation,
             has_walks,
         } => asks_flows(words, compilation, *has_walks),
+        Request::Mend(mending) => asks_mend(words, mending),
         Request::Build(compilation, image) => asks_build(words, compilation, image),
         Request::List(image) => asks_file(words, "list", image),
         Request::Audit(audit) => asks_audit(words, audit),

@@ -4,7 +4,7 @@ use Rattle.std.specs.Io.KnownBytes.{Appends}
 use Rattle.vsi_devices.specs.Counted.{device_of}
 use Rattle.vsi_answers.specs.Requests.{ListsTo}
 use Rattle.vsi.specs.Shaping.{ShapedText}
-use Rattle.vsi.specs.Reasons.{AsksCanonical, AsksClasses, AsksFlows, HasNoText, LacksEmitBound, LacksTried, NoOther, OtherLeak, RefusesAudit, RefusesFile, RefusesFiles, RefusesImage, RefusesLattice, RefusesSource, WhyDraw, WhyEmit, WhyTry}
+use Rattle.vsi.specs.Reasons.{AsksCanonical, AsksClasses, AsksFlows, AsksMend, HasNoText, LacksEmitBound, LacksTried, NoOther, OtherLeak, RefusesAudit, RefusesFile, RefusesFiles, RefusesImage, RefusesLattice, RefusesSource, WhyDraw, WhyEmit, WhyTry}
 use Rattle.vsi.proofs.Filled.{alone}
 use Rattle.vsi.proofs.Obeyed.{put_stops}
 use Rattle.vsi.proofs.Unrun.{Unseen, fault_stopped}
@@ -23,6 +23,11 @@ pub returns-in-Flows-clause-performed : goal.returns-in-Flows-clause-performed
 returns-in-Flows-clause-performed g c = rw c.in-Flows.is
     (put_alone _ _ _ _ _ c.flows.result c.put-in-Flows.result c.flows.ensures.kept c.flows.ensures.told
     c.put-in-Flows.ensures.done)
+
+pub returns-in-Mend-clause-performed : goal.returns-in-Mend-clause-performed
+returns-in-Mend-clause-performed g c = rw c.in-Mend.is
+    (put_alone _ _ _ _ _ c.mend.result c.put-in-Mend.result c.mend.ensures.kept c.mend.ensures.told
+    c.put-in-Mend.ensures.done)
 
 pub returns-in-List-clause-performed : goal.returns-in-List-clause-performed
 returns-in-List-clause-performed g c = rw c.in-List.is
@@ -123,6 +128,10 @@ pub returns-in-Flows-clause-left : goal.returns-in-Flows-clause-left
 returns-in-Flows-clause-left g c = rw c.in-Flows.is
     (put_leaves _ _ _ c.flows.result c.put-in-Flows.result c.flows.ensures.told c.put-in-Flows.ensures.left)
 
+pub returns-in-Mend-clause-left : goal.returns-in-Mend-clause-left
+returns-in-Mend-clause-left g c = rw c.in-Mend.is
+    (put_leaves _ _ _ c.mend.result c.put-in-Mend.result c.mend.ensures.told c.put-in-Mend.ensures.left)
+
 pub returns-in-List-clause-left : goal.returns-in-List-clause-left
 returns-in-List-clause-left g c = rw c.in-List.is
     (put_leaves _ _ _ c.list.result c.put-in-List.result c.list.ensures.told c.put-in-List.ensures.left)
@@ -208,6 +217,13 @@ returns-in-Flows-clause-stopped g c = rw c.in-Flows.is
     (AsksFlows c.in-Flows.has_walks c.in-Flows.compilation.is_strict))
     NoOther
     c.flows.result c.put-in-Flows.result c.flows.ensures.stopped c.put-in-Flows.ensures.stopped)
+
+pub returns-in-Mend-clause-stopped : goal.returns-in-Mend-clause-stopped
+returns-in-Mend-clause-stopped g c = rw c.in-Mend.is
+    (put_stops (RefusesFiles (g.F.Files.holds c.args.files.now) c.in-Mend.asked.compilation
+    (AsksMend c.in-Mend.asked.is_applied c.in-Mend.asked.compilation.is_strict))
+    NoOther
+    c.mend.result c.put-in-Mend.result c.mend.ensures.stopped c.put-in-Mend.ensures.stopped)
 
 pub returns-in-List-clause-stopped : goal.returns-in-List-clause-stopped
 returns-in-List-clause-stopped g c = rw c.in-List.is

@@ -24,6 +24,10 @@ pub returns-in-Flows : goal.returns-in-Flows
 returns-in-Flows c =
     rw c.in-Flows.is (rw (c.as_slice-in-Flows.ensures, c.as_slice-in-Flows-2.ensures) at c.are_own-in-Flows.ensures)
 
+pub returns-in-Mend : goal.returns-in-Mend
+returns-in-Mend c =
+    rw c.in-Mend.is (rw (c.as_slice-in-Mend.ensures, c.as_slice-in-Mend-2.ensures) at c.are_own-in-Mend.ensures)
+
 pub returns-in-Audit : goal.returns-in-Audit
 returns-in-Audit c =
     rw c.in-Audit.is (rw (c.as_slice-in-Audit.ensures, c.as_slice-in-Audit-2.ensures) at c.are_own-in-Audit.ensures)
