@@ -12,7 +12,7 @@ use Rattle.vsi_answers.specs.declared.unanswered.Cause.TheVariants.{Source, File
 use Rattle.vsi_answers.specs.Laws.{AcceptedIsAccepted, BuiltIsAccepted, SameView, StrictIsBase}
 use Rattle.vsi_answers.proofs.Views.{same_fields, view_moved}
 
--- What is answered as accepted is accepted.
+-- If `check` answers that a text is accepted, it is.
 pub accepted_is_accepted : AcceptedIsAccepted
 accepted_is_accepted P policy source text (inl found) = (found.0, found.1, found.2.0)
 accepted_is_accepted P policy source text (inr none) = absurd none
@@ -33,7 +33,7 @@ strict_is_base l source answer text (File f) checked refused = refused
 strict_is_base l source answer text (Start f) checked refused = refused
 strict_is_base l source answer text (Steady e) checked refused = refused
 
--- Stores that agree are seen alike.
+-- Stores that agree give the same view.
 pub same_view : SameView
 same_view l P source bytes im a built are class m₁ m₂ b₁ b₂ t₁ t₂ full₁ full₂ agree v₁ v₂ =
     let known = class_named l in

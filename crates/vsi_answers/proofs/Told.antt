@@ -1,4 +1,4 @@
--- What a refusal of one error says of a kind of errors.
+-- A refusal for one error is a refusal for each kind to which the error belongs.
 use Rattle.std.proofs.Common.{◌≡◌, ◌≢◌, ℕ, List, Ok, Err, sym, subst, ◌∙◌}
 use Rattle.vsi_lattice.specs.declared.lattice.Lattice.{Lattice}
 use Rattle.vsi_compiler.specs.declared.error.CompileError.{CompileError}
@@ -16,7 +16,7 @@ use Rattle.vsi_compiler.specs.Headline.{IsCompiled}
 use Rattle.vsi_answers.specs.Judged.{TellsFault, TellsSource}
 use Rattle.vsi_answers.specs.Requests.{Answer, RunsSourceTo, RunsTo, zeros}
 
--- The refusal of a source text for one error is a refusal for an error of the kind that it is of.
+-- The refusal of a source text for an error is a refusal for each kind to which the error belongs.
 pub source_told : (Kind : CompileError → Type 0) (l : Lattice) (source : List ℕ) (error : CompileError) →
     (error ≢ compiler.Memory → Kind error) → (u : Unanswered) →
     Because (TellsSource (λ e. e ≡ error) l source) ⊥ u → Because (TellsSource Kind l source) ⊥ u
@@ -28,7 +28,7 @@ source_told Kind l source error kind (Refused text (Steady e)) told = absurd tol
 source_told Kind l source error kind OutOfBudget told = absurd told
 source_told Kind l source error kind Memory told = tt
 
--- The refusal of a file for one fault is a refusal for a fault of the kind that it is of.
+-- The refusal of a file for a fault is a refusal for each kind to which the fault belongs.
 pub fault_told : (Kind : Fault → Type 0) (fault : Fault) → Kind fault → (spent : Type 0) → (u : Unanswered) →
     Because (TellsFault (λ f. f ≡ fault)) ⊥ u → Because (TellsFault Kind) spent u
 fault_told Kind fault kind spent (Refused text (Source e)) told = absurd told
@@ -38,7 +38,7 @@ fault_told Kind fault kind spent (Refused text (Steady e)) told = absurd told
 fault_told Kind fault kind spent OutOfBudget told = absurd told
 fault_told Kind fault kind spent Memory told = tt
 
--- What is answered of the run of a compiled image is answered of its source.
+-- The answer of the run of a compiled image is the answer of the run of its source.
 pub run_told : (l : Lattice) (source : List ℕ) (im : Image) (budget : ℕ) →
     IsCompiled (class_named l) (order l) Base source im → (answer : Answer) → RunsTo im (zeros im) budget answer →
     RunsSourceTo l source budget answer

@@ -1,4 +1,4 @@
--- When a file is what it is to be, and what is told of one that isn't.
+-- When a file is valid, and the report about one that isn't.
 use Rattle.std.specs.Prelude.{◌≡◌, ◌≢◌, ◌⊎◌, ◌++◌, ℕ, Bool, List, Some, Ok, Err, codes}
 use Rattle.vsi_syntax.specs.Tree.{Whole}
 use Rattle.vsi_lattice.specs.FileFaults.{ExplainsLattice, IsAccepted, IsRead}
@@ -39,7 +39,7 @@ use Rattle.vsi_diagnostics.specs.declared.fault.Fault.TheVariants as fault
 use Rattle.vsi_answers.specs.declared.unanswered.Cause.TheVariants.{Source, File as InFile, Start, Steady}
 use Rattle.vsi_answers.specs.Answers.{Telling}
 
--- The text is the refusal of a source text by an error of this kind.
+-- The text is the refusal of a source text for an error of this kind.
 abbrev pub TellsSource : (CompileError → Type 0) → Lattice → List ℕ → Telling
 TellsSource Kind l source text (Source e) = (e ≢ compiler.Memory) × Kind e × IsRefusalText l source e text
 TellsSource Kind l source text (InFile f) = ⊥
@@ -53,19 +53,19 @@ TellsFault Kind text (InFile f) = Kind f × (text ≡ text_of (fault_diagnostic 
 TellsFault Kind text (Start f) = ⊥
 TellsFault Kind text (Steady e) = ⊥
 
--- The text of a walk where each choice is a loop: its line, and the walk's explanation behind it.
+-- The text of a walk with a loop in place of each choice: its line, followed by the explanation of the walk.
 abbrev pub IsWatchedText : Lattice → List ℕ → List Step → List ℕ → Type 0
 IsWatchedText l source steps text =
     (more : List ℕ) × ExplainsWatchedWalk l source steps more × (text ≡ codes "refused: 25 Refused\n" ++ more)
 
--- The text of a refusal of the image of a text.
+-- The text of the refusal of a text's image.
 pub record IsImageText (l : Lattice) (source : List ℕ) (e : SteadyError) (text : List ℕ) : Type 0 where
   pub program : HasProgram (class_named l) source
   pub image : Image
   pub is_image : IsImageOf (class_named l) source image
   pub told : IsUnsteadyText l image e text
 
--- The text of a refusal of a text whose image is to be steady.
+-- The text of a refusal when a steady image is required.
 abbrev pub IsSteadyText : Lattice → List ℕ → UnsteadyError → List ℕ → Type 0
 IsSteadyText l source (unsteady.Compile (compiler.Flow walk)) text = IsWatchedText l source walk.steps.items text
 IsSteadyText l source (unsteady.Compile (compiler.Lex e)) text = IsRefusalText l source (compiler.Lex e) text
@@ -75,7 +75,7 @@ IsSteadyText l source (unsteady.Compile compiler.Memory) text = Unit {0}
 IsSteadyText l source (unsteady.Image e) text = IsImageText l source e text
 IsSteadyText l source unsteady.Memory text = Unit {0}
 
--- The text is the refusal of a text whose image is to be steady, by an error of this kind.
+-- The text is the refusal of a source text, when a steady image is required, for an error of this kind.
 abbrev pub TellsSteady : (UnsteadyError → Type 0) → Lattice → List ℕ → Telling
 TellsSteady Kind l source text (Source e) = ⊥
 TellsSteady Kind l source text (InFile f) = ⊥
@@ -86,11 +86,11 @@ TellsSteady Kind l source text (Steady e) = (e ≢ unsteady.Memory) × Kind e ×
 abbrev pub IsCompileFault : Lattice → Profile → List ℕ → CompileError → Type 0
 IsCompileFault l P source e = IsRefused (class_named l) (order l) P source e
 
--- The text has no tree or no resolution, as this error tells.
+-- The text has no tree or no resolution, and this error is the reason.
 abbrev pub IsProgramFault : Lattice → List ℕ → CompileError → Type 0
 IsProgramFault l source e = RefusesProgram (class_named l) source e × ¬ (HasProgram (class_named l) source)
 
--- The text has no tree, as this error tells.
+-- The text has no tree, and this error is the reason.
 abbrev pub IsTreeFault : List ℕ → CompileError → Type 0
 IsTreeFault source e = RefusesTree source e × ((tree : Whole) → ¬ (Reads source tree))
 
@@ -98,7 +98,7 @@ IsTreeFault source e = RefusesTree source e × ((tree : Whole) → ¬ (Reads sou
 abbrev pub Declares : List ℕ → Lattice → Type 0
 Declares bytes l = IsRead bytes (names l) (order l)
 
--- The bytes are no lattice file that is accepted, and this error tells their first fault.
+-- The bytes aren't an accepted lattice file, and this error gives their first fault.
 pub record IsNoLattice (bytes : List ℕ) (e : LatticeError) : Type 0 where
   pub other : e ≢ lattice.Memory
   pub told : ExplainsLattice bytes e
@@ -116,7 +116,7 @@ IsLatticeFault bytes (fault.View e) = ⊥
 abbrev pub AreImage : List ℕ → Image → Type 0
 AreImage bytes image = (image_of bytes ≡ Ok (fields image)) × IsValid image
 
--- The fault of bytes that are no image, or one that isn't valid.
+-- The fault of bytes that aren't an image, or of an image that isn't valid.
 abbrev pub IsImageFault : List ℕ → Fault → Type 0
 IsImageFault bytes (fault.Lattice e) = ⊥
 IsImageFault bytes (fault.Decode e) = (e ≢ decoder.Memory) × (image_of bytes ≡ Err e)
@@ -125,7 +125,7 @@ IsImageFault bytes (fault.Verify e) =
 IsImageFault bytes (fault.Store e) = ⊥
 IsImageFault bytes (fault.View e) = ⊥
 
--- The text is the refusal of a run that doesn't begin for a fault of this kind.
+-- The text is the refusal of a run that doesn't start, for a fault of this kind.
 abbrev pub TellsStartFault : (StartFault → Type 0) → Telling
 TellsStartFault Kind text (Source e) = ⊥
 TellsStartFault Kind text (InFile f) = ⊥
@@ -140,13 +140,13 @@ IsStoreFault image file (fault.Verify e) = ⊥
 IsStoreFault image file (fault.Store e) = (e ≢ store.Memory) × IsRefusal (globals image.globals.items) file e
 IsStoreFault image file (fault.View e) = ⊥
 
--- The text is the refusal of a store file, or else of what is set behind it.
+-- The text is the refusal of a store file, or of the settings after it.
 abbrev pub TellsStart : Image → List ℕ → List (List ℕ) → Bool → Telling
 TellsStart image file settings is_full text cause =
     TellsFault (IsStoreFault image file) text cause
     ⊎ TellsStartFault (IsStartFault image file settings is_full) text cause
 
--- The fault of an image with a global whose class the lattice lacks, which is the first one.
+-- The fault of an image whose first global with an unknown class is this one.
 abbrev pub IsViewFault : Lattice → Image → Fault → Type 0
 IsViewFault l image (fault.Lattice e) = ⊥
 IsViewFault l image (fault.Decode e) = ⊥

@@ -1,4 +1,4 @@
--- What the answers to several requests say of one another.
+-- The relations between the answers to several requests.
 use Rattle.std.specs.Prelude.{◌≡◌, ℕ, ℤ, List, Ok, Err}
 use Rattle.std.specs.Global.{Vec}
 use Rattle.vsi_lattice.specs.LatticeView.{class_named, order}
@@ -14,26 +14,26 @@ use Rattle.vsi_answers.specs.declared.unanswered.Unanswered.TheVariants.{Refused
 use Rattle.vsi_answers.specs.Judged.{AreImage, Declares}
 use Rattle.vsi_answers.specs.Requests.{BuildsTo, ChecksFilesTo, ChecksTo, ViewsTo}
 
--- Where `check` answers a text, the bytes of the lattice file declare a lattice, and the source is accepted under it.
+-- If `check` answers a text, the bytes of the lattice file declare a lattice, and the source is accepted under it.
 abbrev pub AcceptedIsAccepted : Type 0
 AcceptedIsAccepted =
     (P : Profile) (policy source : List ℕ) (text : Vec ℕ) → ChecksFilesTo P policy source (Ok text) →
     (l : Lattice) × Declares policy l × IsAccepted (class_named l) (order l) P source
 
--- Where one of `check` and `build` answers a text, the other doesn't refuse it.
+-- If one of `check` and `build` answers a text, the other doesn't refuse it.
 abbrev pub BuiltIsAccepted : Type 0
 BuiltIsAccepted =
     (l : Lattice) (P : Profile) (source : List ℕ) (answer text : Vec ℕ) (cause : Cause) →
     (ChecksTo l P source (Ok answer) → ¬ (BuildsTo l P source (Err (Refused text cause))))
     × (BuildsTo l P source (Ok answer) → ¬ (ChecksTo l P source (Err (Refused text cause))))
 
--- Where `check --strict` answers a text, `check` doesn't refuse it.
+-- If `check --strict` answers a text, `check` doesn't refuse it.
 abbrev pub StrictIsBase : Type 0
 StrictIsBase =
     (l : Lattice) (source : List ℕ) (answer text : Vec ℕ) (cause : Cause) →
     ChecksTo l Strict source (Ok answer) → ¬ (ChecksTo l Base source (Err (Refused text cause)))
 
--- Of two stores that agree at and below a class, `view` of the image whose bytes `build` answers gives one text, where
+-- For two stores that agree at and below a class, `view` gives one text for the image whose bytes `build` answers, if
 -- both runs halt.
 abbrev pub SameView : Type 0
 SameView =

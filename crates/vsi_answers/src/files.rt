@@ -1,4 +1,4 @@
-//! Lattice files and images, judged.
+//! Lattice files and images, checked.
 
 ghost use Rattle.vsi_answers.specs.Requests.{ListsTo, ReadsImage, ReadsLattice};
 
@@ -21,7 +21,7 @@ pub fn declared_lattice(alloc: Global, bytes: &[u8]) -> Result<Lattice, Unanswer
     }
 }
 
-/// The valid image that bytes are.
+/// The valid image with these bytes.
 pub fn judged_image(alloc: Global, bytes: &[u8]) -> Result<Verified, Unanswered>
     ensures image { ReadsImage bytes.now result }
 {
@@ -33,7 +33,7 @@ pub fn judged_image(alloc: Global, bytes: &[u8]) -> Result<Verified, Unanswered>
     }
 }
 
-/// The listing of the image that bytes are.
+/// The listing of the image with these bytes.
 pub fn list(alloc: Global, bytes: &[u8]) -> Result<Vec<u8>, Unanswered>
     ensures lists { ListsTo bytes.now result }
 {

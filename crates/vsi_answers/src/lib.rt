@@ -1,8 +1,8 @@
-//! What the program writes for each request, of the bytes of its files.
+//! The answer of the program to each request, from the bytes of its files.
 //!
-//! A function for each subcommand: it answers the text for standard output, or why there is none.
-//! Its clause is one definition of `specs/Requests`; `specs/Judged` says when a file is what it is
-//! to be and what is told of one that isn't. Nothing here reads or writes a device.
+//! There is a function for each subcommand: it answers the text for standard output, or the reason
+//! why there is none. Its contract is one definition of `specs/Requests`; `specs/Judged` defines
+//! when a file is valid and the report about one that isn't. Nothing here reads or writes a device.
 //!
 //! To be believed: all files of `specs/`.
 #![tactic(auto)]

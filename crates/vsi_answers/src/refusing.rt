@@ -11,7 +11,7 @@ use vsi_diagnostics::{Fault, fault_text, refusal_text};
 use vsi_drive::{StartFault, start_fault_line};
 use vsi_lattice::Lattice;
 
-/// Why a request for a source text that is refused with this error has no answer.
+/// Why there is no answer for a source text that is refused with this error.
 pub fn refused_source(
     alloc: Global,
     lattice: &Lattice,
@@ -29,8 +29,8 @@ pub fn refused_source(
     }
 }
 
-/// Why a request for another file that is refused for this fault has no answer. The fault isn't to
-/// be want of memory.
+/// Why there is no answer for another file that is refused for this fault. The fault must not be
+/// lack of memory.
 pub fn refused_file(alloc: Global, fault: Fault) -> Unanswered
     ensures { Because (TellsFault (λ f. f ≡ fault)) ⊥ result }
 {
@@ -40,7 +40,7 @@ pub fn refused_file(alloc: Global, fault: Fault) -> Unanswered
     }
 }
 
-/// Why a run that doesn't begin for this fault has no answer.
+/// Why there is no answer for a run that doesn't start because of this fault.
 pub(crate) fn refused_start(alloc: Global, fault: StartFault) -> Unanswered
     ensures { Because (TellsStartFault (λ f. f ≡ fault)) ⊥ result }
 {

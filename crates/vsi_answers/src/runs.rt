@@ -1,4 +1,4 @@
-//! What is answered of a run of an image.
+//! The answers for runs of an image.
 
 ghost use Rattle.std.specs.Prelude.{◌≡◌, length, IfOk};
 ghost use Rattle.vsi_lattice.specs.LatticeView.{order};
@@ -17,7 +17,7 @@ use vsi_lattice::{Class, Lattice};
 use vsi_machine::{Machine, Outcome, StartError};
 use vsi_store::{Comparison, StoreError, View, ViewError, store_text};
 
-/// The words that a run begins with, of the bytes of a store file and the settings behind it.
+/// The words at the start of a run, from the bytes of a store file and the settings after it.
 pub fn start_words(
     alloc: Global,
     verified: &Verified,
@@ -36,7 +36,7 @@ pub fn start_words(
     }
 }
 
-/// The text of the store in which an image halts that begins with these words.
+/// The text of the store with which an image halts, starting from these words.
 pub fn run(
     alloc: Global,
     verified: &Verified,
@@ -55,7 +55,7 @@ pub fn run(
     }
 }
 
-/// The text of the store in which the image of a source text halts that begins with zeros.
+/// The text of the store with which the image of a source text halts, starting from zeros.
 pub fn run_source(
     alloc: Global,
     lattice: &Lattice,
@@ -70,7 +70,7 @@ pub fn run_source(
     }
 }
 
-/// The text of the store in which an image halts that begins with zeros.
+/// The text of the store with which an image halts, starting from zeros.
 fn run_from_zeros(alloc: Global, verified: &Verified, budget: u64) -> Result<Vec<u8>, Unanswered>
     ensures runs { RunsTo verified.now (zeros verified.now) budget result }
 {
@@ -78,7 +78,8 @@ fn run_from_zeros(alloc: Global, verified: &Verified, budget: u64) -> Result<Vec
     run(alloc, verified, words.as_slice(), budget)
 }
 
-/// The lines of the store that a class may see where the image halts that begins with these words.
+/// The lines of the final store that a class may see, if the image halts, starting from these
+/// words.
 pub fn view(
     alloc: Global,
     lattice: &Lattice,
@@ -99,7 +100,7 @@ pub fn view(
     }
 }
 
-/// What a class sees of the runs of an image that begin with two stores, side by side.
+/// The views that a class has of the runs of an image from two stores, side by side.
 pub fn compare(
     alloc: Global,
     lattice: &Lattice,

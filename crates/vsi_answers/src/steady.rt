@@ -1,4 +1,4 @@
-//! What is answered of a source text whose image is to be steady.
+//! The answers for a source text when a steady image is required.
 
 ghost use Rattle.std.specs.Prelude.{◌≡◌, IfOk};
 ghost use Rattle.vsi_answers.specs.Answers.{Because};
@@ -14,7 +14,7 @@ use vsi_infer::Walk;
 use vsi_lattice::Lattice;
 use vsi_steady::{SteadyError, UnsteadyError, compile_steady, steady_explanation, steady_text};
 
-/// The text of a walk where each choice is a loop.
+/// The text of a walk with a loop in place of each choice.
 fn watched_text(
     alloc: Global,
     lattice: &Lattice,
@@ -30,7 +30,7 @@ fn watched_text(
     Ok(text)
 }
 
-/// The text of a refused image of a text.
+/// The text of the refusal of a text's image.
 fn image_text(
     alloc: Global,
     lattice: &Lattice,
@@ -48,7 +48,7 @@ fn image_text(
     }
 }
 
-/// The text of a refusal of a text whose image is to be steady.
+/// The text of a refusal when a steady image is required.
 fn unsteady_text(
     alloc: Global,
     lattice: &Lattice,
@@ -68,7 +68,7 @@ fn unsteady_text(
     }
 }
 
-/// Why a request for a text whose image is to be steady has no answer.
+/// Why there is no answer for a text when a steady image is required.
 pub(crate) fn refused_steady(
     alloc: Global,
     lattice: &Lattice,
@@ -86,8 +86,8 @@ pub(crate) fn refused_steady(
     }
 }
 
-/// `accepted` and a line feed, where the text is accepted under the strict profile and the number
-/// of its image's instructions tells nothing.
+/// `accepted` and a line feed, if the text is accepted under the strict profile and the number of
+/// executed instructions of its image reveals nothing.
 pub fn check_steady(alloc: Global, lattice: &Lattice, source: &[u8]) -> Result<Vec<u8>, Unanswered>
     ensures checks { ChecksSteadyTo lattice.now source.now result }
 {

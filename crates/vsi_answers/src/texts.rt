@@ -1,4 +1,4 @@
-//! What is answered of a source text under a lattice.
+//! The answers for a source text under a lattice.
 
 ghost use Rattle.vsi_answers.specs.Requests.{BuildsTo, ChecksFilesTo, ChecksTo, ClassesTo, FlowsTo, FormatsTo, WalksTo};
 
@@ -12,10 +12,10 @@ use vsi_flows::{flows_text_in, walks_text_in};
 use vsi_lattice::Lattice;
 use vsi_types::Profile;
 
-/// What is told of a text that is accepted.
+/// The answer for an accepted text.
 pub(crate) const ACCEPTED: &[u8] = b"accepted\n";
 
-/// `accepted` and a line feed, where the text is accepted under a profile.
+/// `accepted` and a line feed, if the text is accepted under a profile.
 pub fn check(
     alloc: Global,
     profile: Profile,
@@ -30,7 +30,7 @@ pub fn check(
     }
 }
 
-/// `check` of the bytes of a lattice file and of a text.
+/// `check` for the bytes of a lattice file and of a text.
 pub fn check_files(
     alloc: Global,
     profile: Profile,
@@ -106,7 +106,8 @@ pub fn build(
     }
 }
 
-/// The canonical text of the text. The lattice is looked at by no refusal that comes here.
+/// The canonical text of a source text. The lattice is used only to report refusals, and none of
+/// the possible ones needs it.
 pub fn format(alloc: Global, lattice: &Lattice, source: &[u8]) -> Result<Vec<u8>, Unanswered>
     ensures formats { FormatsTo lattice.now source.now result }
 {

@@ -10,7 +10,7 @@ use vsi_diagnostics::Fault;
 use vsi_drive::StartFault;
 use vsi_steady::UnsteadyError;
 
-/// What is wrong with what was handed in.
+/// The reason for a refusal of the input.
 #[derive(Debug, Drop, Error)]
 pub enum Cause {
     /// A source text is refused.
@@ -19,25 +19,25 @@ pub enum Cause {
     /// Another file is refused.
     #[error("{0}")]
     File(Fault),
-    /// A run doesn't begin, though its store file has no fault.
+    /// A run doesn't start, although its store file has no fault.
     #[error("{0}")]
     Start(StartFault),
-    /// A source text whose image is to be steady is refused.
+    /// A source text is refused when a steady image is required.
     #[error("the text is refused")]
     Steady(UnsteadyError),
 }
 
-/// Why a request has no answer. Want of memory is always `Memory`, and never one that a cause
-/// names.
+/// The reason why a request has no answer. Lack of memory is always `Memory`, and never the memory
+/// case of a cause.
 #[derive(Debug, Drop, Error)]
 pub enum Unanswered {
-    /// What was handed in is refused: the text that tells so, and its cause.
+    /// The input is refused; the fields are the text that says so, and its cause.
     #[error("{1}")]
     Refused(Vec<u8>, Cause),
     /// A run spent its budget before it halted.
     #[error("out of budget")]
     OutOfBudget,
-    /// A growth was refused.
+    /// Memory ran out.
     #[error("out of memory")]
     Memory,
 }

@@ -1,4 +1,4 @@
--- Code that stands in code, from its parts.
+-- Code that is part of other code, put together from its parts.
 use Rattle.std.proofs.Common.{◌≡◌, ℕ, ◌+◌, ◌<◌, List, [], ◌∷◌, ◌++◌, length, take, drop, get_or, refl, sym, ap, subst, ◌∙◌, append_assoc, length-append, arith}
 use Rattle.std.proofs.lemmas.List.{at_drop_more, at_drop_all, append-nil}
 use Rattle.vsi_image.specs.declared.instr.Instr.{Instr}
@@ -13,7 +13,7 @@ use Rattle.vsi_code.proofs.Placed.{command_long}
 use Rattle.vsi_code.proofs.Parts.{code_more}
 use Rattle.vsi_audit.specs.Coding.{StandsAt}
 
--- An instruction that stands at a place.
+-- A single instruction is at its place.
 pub one_stands : (code : List Instr) (place : ℕ) (i d : Instr) → place < length code → get_or code place d ≡ i →
     StandsAt code (i ∷ []) place 1 (place + 1)
 one_stands code place i d lt e =
@@ -22,7 +22,7 @@ one_stands code place i d lt e =
       long = refl;
     }
 
--- Two parts, one behind the other.
+-- Two parts that follow each other are one part.
 joined : (code a b : List Instr) (place m mid n end : ℕ) → StandsAt code a place m mid → StandsAt code b mid n end →
     StandsAt code (a ++ b) place (m + n) end
 joined code a b place m mid n end first second =
@@ -31,20 +31,20 @@ joined code a b place m mid n end first second =
       long = omega (arith, first.long, second.long);
     }
 
--- An instruction and what stands behind it.
+-- An instruction and the part after it are one part.
 led : (code b : List Instr) (i : Instr) (place behind mid n end : ℕ) → StandsAt code (i ∷ []) place 1 behind →
     place + 1 ≡ mid → StandsAt code b mid n end → StandsAt code (i ∷ b) place (1 + n) end
 led code b i place behind mid n end one next rest =
     let same : behind ≡ mid = omega (arith, one.long, next) in
     joined code (i ∷ []) b place 1 mid n end (subst (StandsAt code (i ∷ []) place 1) same one) rest
 
--- The same part, said otherwise.
+-- A part and its size can be replaced by equal ones.
 same_part : (code a b : List Instr) (place m n end : ℕ) → a ≡ b → m ≡ n → StandsAt code a place m end →
     StandsAt code b place n end
 same_part code a b place m n end e k s =
     record { whole = s.whole ∙ ap (λ (x : List Instr). x ++ drop end code) e; long = omega (arith, s.long, k) }
 
--- The code of an operator.
+-- The code of an operator is at its place.
 pub operator_stands : (code : List Instr) (place mid last end : ℕ) (o : Op) (a b : Expression) →
     StandsAt code (expression_code a) place (expression_size a) mid →
     StandsAt code (expression_code b) mid (expression_size b) last →
@@ -57,14 +57,14 @@ operator_stands code place mid last end o a b first second third =
     same_part code _ (expression_code (Operator o a b)) place _ (expression_size (Operator o a b)) end refl
     (omega arith) parts
 
--- The code of an assignment.
+-- The code of an assignment is at its place.
 pub assign_stands : (code : List Instr) (place k mid end l : ℕ) (s : Span) (e : Expression) →
     StandsAt code (expression_code e) place (expression_size e) mid → StandsAt code (Store l ∷ []) mid 1 end →
     StandsAt code (code_at place k (Assign l s e)) place (size (Assign l s e)) end
 assign_stands code place k mid end l s e first second =
     joined code (expression_code e) (Store l ∷ []) place (expression_size e) mid 1 end first second
 
--- The code of a choice.
+-- The code of a choice is at its place.
 pub choice_stands : (code : List Instr) (place k test first jump second end tested jumped : ℕ) (e : Expression)
     (a b : Command) → StandsAt code (expression_code e) place (expression_size e) test → test + 1 ≡ first →
     StandsAt code (code_at first k a) first (size a) jump → jump + 1 ≡ second →
@@ -87,7 +87,7 @@ choice_stands code place k test first jump second end tested jumped e a b guard 
     (code_at (place + expression_size e + 1) k a) n (code_at (place + expression_size e + 1 + size a + 1) k b)) r in
     same_part code _ (code_at place k (If e a b)) place _ (size (If e a b)) end same (omega arith) parts
 
--- The code of a loop.
+-- The code of a loop is at its place.
 pub loop_stands : (code : List Instr) (place k test first jump end tested : ℕ) (e : Expression) (c : Command) →
     StandsAt code (expression_code e) place (expression_size e) test → test + 1 ≡ first →
     StandsAt code (code_at first k c) first (size c) jump → StandsAt code (Jmp place ∷ []) jump 1 end →
@@ -104,7 +104,7 @@ loop_stands code place k test first jump end tested e c guard f body jmp jz =
     ∙ ap (λ n. loop_code (expression_code e) n (code_at (place + expression_size e + 1) k c) place) r in
     same_part code _ (code_at place k (While e c)) place _ (size (While e c)) end same (omega arith) parts
 
--- The code of a letvar.
+-- The code of a letvar is at its place.
 pub letvar_stands : (code : List Instr) (place k above store first end : ℕ) (e : Expression) (c : Command) →
     StandsAt code (expression_code e) place (expression_size e) store → StandsAt code (Store k ∷ []) store 1 first →
     k + 1 ≡ above → StandsAt code (code_at first above c) first (size c) end →
@@ -118,7 +118,7 @@ letvar_stands code place k above store first end e c value one next body =
     ∙ ap (λ n. expression_code e ++ (Store k ∷ code_at (place + expression_size e + 1) n c)) (sym next) in
     same_part code _ (code_at place k (Letvar e c)) place _ (size (Letvar e c)) end same (omega arith) parts
 
--- The code of the first commands and of the next one.
+-- The code of the first commands and of the next one is at its place.
 pub more_stands : (code : List Instr) (cs : List Cmd) (i start k place end : ℕ) (c : Cmd) → i < length cs →
     c ≡ get_or cs i c →
     StandsAt code (code_at start k (sequence (take i cs))) start (size (sequence (take i cs))) place →
@@ -145,7 +145,7 @@ more_stands code cs i start k place end c lt is front one =
     (joined code before (code_at place k (command c)) start (size (sequence (take i cs))) place (size (command c)) end
     front one)
 
--- The whole code of a body.
+-- The code of a body is the whole code.
 pub whole_stands : (code : List Instr) (k n halt end : ℕ) (c : Command) →
     StandsAt code (code_at 0 k c) 0 n halt → StandsAt code (Halt ∷ []) halt 1 end → end ≡ length code →
     code ≡ whole_code k c

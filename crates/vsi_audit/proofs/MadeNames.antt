@@ -7,21 +7,21 @@ use Rattle.vsi_audit.specs.declared.names.Form.{Form}
 use Rattle.vsi_audit.specs.MadeNames.{made}
 use Rattle.vsi_audit.specs.Telling.{local_name, class_name}
 
--- The name of a global at a place.
+-- The name at a place is the name of the global there.
 name_at : (gs : List (Vec ℕ Heap × Vec ℕ Heap)) (i : ℕ) (g : Vec ℕ Heap × Vec ℕ Heap) →
     i < length gs → g ≡ get_or gs i g → slice_index_or (map (λ x. x.0) (globals gs)) i [] ≡ g.0.items
 name_at [] i g lt e = absurd (omega (arith, lt))
 name_at (x ∷ xs) zero g lt e = ap (λ (y : Vec ℕ Heap × Vec ℕ Heap). y.0.items) (sym e)
 name_at (x ∷ xs) (suc i) g lt e = name_at xs i g (omega (arith, lt)) e
 
--- The class name of a global at a place.
+-- The class name at a place is the class name of the global there.
 pub class_at : (gs : List (Vec ℕ Heap × Vec ℕ Heap)) (i : ℕ) (g : Vec ℕ Heap × Vec ℕ Heap) →
     i < length gs → g ≡ get_or gs i g → class_name (globals gs) i ≡ g.1.items
 class_at [] i g lt e = absurd (omega (arith, lt))
 class_at (x ∷ xs) zero g lt e = ap (λ (y : Vec ℕ Heap × Vec ℕ Heap). y.1.items) (sym e)
 class_at (x ∷ xs) (suc i) g lt e = class_at xs i g (omega (arith, lt)) e
 
--- A test that holds.
+-- If a number is below another, the test says so.
 is_below : (m n : ℕ) → m < n → nat_lt m n ≡ true
 is_below m n lt = grind (arith, nat_tests)
 

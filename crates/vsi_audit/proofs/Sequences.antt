@@ -9,7 +9,7 @@ use Rattle.vsi_scope.specs.View.{command, sequence}
 use Rattle.vsi_scope.proofs.Limits.{expressions_within}
 use Rattle.vsi_audit.specs.Fitting.{Fits, FitsExpression}
 
--- Commands that fit, and one more that fits.
+-- Commands that fit are followed by one more that fits.
 fits_push : (scope room n k : ℕ) (cs : List Cmd) (c : Cmd) → Fits scope room n (sequence cs) →
     Fits scope room k (command c) → Fits scope room (n + k) (sequence (cs ++ c ∷ []))
 fits_push scope room n k [] c f g =
@@ -28,7 +28,7 @@ fits_push scope room n k (d ∷ cs) c f g =
       count = omega (arith, f.count, rest.count);
     }
 
--- The first commands that fit, and the next, which fits.
+-- The first commands fit, and so does the next one.
 pub fits_more : (scope room n k : ℕ) (cs : List Cmd) (i : ℕ) (c : Cmd) → i < length cs → c ≡ get_or cs i c →
     Fits scope room n (sequence (take i cs)) → Fits scope room k (command c) →
     Fits scope room (n + k) (sequence (take (i + 1) cs))
@@ -45,7 +45,7 @@ nested (If e a b) = omega (arith, nested a, nested b)
 nested (While e c) = omega (arith, nested c)
 nested (Letvar e c) = omega (arith, nested c)
 
--- A conditional whose parts fit.
+-- A conditional fits if its parts fit.
 pub fits_if : (scope room inner a b n : ℕ) (e : Expression) (y z : Command) → inner + 1 ≡ room → a + b ≡ n →
     FitsExpression scope inner e → Fits scope inner a y → Fits scope inner b z → Fits scope room n (If e y z)
 fits_if scope room inner a b n e y z level sum guard first second =
@@ -55,7 +55,7 @@ fits_if scope room inner a b n e y z level sum guard first second =
       count = omega (arith, sum, first.count, second.count);
     }
 
--- A loop whose parts fit.
+-- A loop fits if its parts fit.
 pub fits_while : (scope room inner n : ℕ) (e : Expression) (c : Command) → inner + 1 ≡ room →
     FitsExpression scope inner e → Fits scope inner n c → Fits scope room n (While e c)
 fits_while scope room inner n e c level guard body =
@@ -65,7 +65,7 @@ fits_while scope room inner n e c level guard body =
       count = body.count;
     }
 
--- A letvar whose parts fit.
+-- A letvar fits if its parts fit.
 pub fits_letvar : (scope room inner above a n : ℕ) (e : Expression) (c : Command) → inner + 1 ≡ room →
     scope + 1 ≡ above → a + 1 ≡ n → FitsExpression scope inner e → Fits above inner a c →
     Fits scope room n (Letvar e c)
@@ -76,7 +76,7 @@ fits_letvar scope room inner above a n e c level next more value body =
       count = omega (arith, more, body.count);
     }
 
--- A program keeps its limits with commands that fit in place of its own.
+-- A program stays within its limits if its commands are replaced by commands that fit.
 pub fitting_resolved : (p : Resolved) (ys : List Entry) (cs : List Cmd) (n : ℕ) → IsResolved p →
     Fits (length p.globals) 200 n (sequence cs) → n ≡ length ys → length p.globals + length ys ≤ 1024 →
     size (sequence cs) ≤ 65534 → IsResolved (resolved_of p.globals ys cs)
@@ -93,6 +93,6 @@ fitting_resolved p ys cs n kept fits same few small =
       named = kept.named;
     }
 
--- What is small where it is counted up to a number is small.
+-- A number that is small after capping is small.
 pub small_enough : (n : ℕ) → min n 4294967295 ≤ 65534 → n ≤ 65534
 small_enough n h = omega (arith, h)

@@ -1,4 +1,4 @@
--- What a program that was read back is to its image.
+-- The relation of a program that was read back to its image.
 use Rattle.std.proofs.Common.{◌≡◌, ℕ, ◌-◌, ◌<◌, true, bytes_eq, eqb, List, [], ◌∷◌, ◌++◌, Vec, Global as Heap, length, replicate, get_or, pos, refl, sym, ap, subst, ◌∙◌, Option, Some, None, IfSome, All, slice_get, unwrap_or}
 use Rattle.std.specs.Option.{option_map}
 use Rattle.std.proofs.lemmas.Bool.{eqb-true}
@@ -20,11 +20,11 @@ use Rattle.vsi_lattice.specs.Known.{Known}
 use Rattle.vsi_audit.specs.Refusal.{IsUnknownAt}
 use Rattle.vsi_audit.specs.Standing.{HaveClasses, HasKnownClasses, StandsFor}
 
--- The state after a budget, told by the fields.
+-- The state after a budget, from the fields alone.
 reached_by : ℕ → Store → Fields → Option State
 reached_by budget m f = after f.code budget (going 0 [] (m ++ replicate (f.slots - length m) (pos 0)))
 
--- A run of an image is one of each image with its fields.
+-- A run of an image is a run of every image with the same fields.
 halts_same : (a b : Image) → fields a ≡ fields b → (k : ℕ) (m m' : Store) (budget : ℕ) → Halts a k m budget m' →
     Halts b k m budget m'
 unfolding reached_by
@@ -36,7 +36,7 @@ halts_same a b same k m m' budget h =
       words = h.words;
     }
 
--- What one image does each image with its fields does.
+-- An image behaves like every image with the same fields.
 pub behaves_same : (a b : Image) → fields a ≡ fields b → (k : ℕ) (c : Command) → Behaves k c a → Behaves k c b
 behaves_same a b same k c behaves =
     record {
@@ -46,7 +46,7 @@ behaves_same a b same k c behaves =
           (p.0, λ budget le. halts_same a b same k m m' budget (p.1 budget le));
     }
 
--- Texts that compare equal are the same.
+-- Texts that compare as equal are the same.
 pub same_bytes : (xs ys : List ℕ) → bytes_eq xs ys ≡ true → xs ≡ ys
 same_bytes [] [] h = refl
 same_bytes [] (y ∷ ys) h = absurd cc
@@ -55,17 +55,17 @@ same_bytes (x ∷ xs) (y ∷ ys) h =
     let p = both_true (eqb x y) (bytes_eq xs ys) h in
     ap (λ (n : ℕ). n ∷ xs) (eqb-true x y p.0) ∙ ap (λ (zs : List ℕ). y ∷ zs) (same_bytes xs ys p.1)
 
--- A global whose class name stands for no class.
+-- A global's class name is unknown.
 pub unknown_at : (known : Known) (gs : List (Vec ℕ Heap × Vec ℕ Heap)) (i : ℕ) (g : Vec ℕ Heap × Vec ℕ Heap) →
     i < length gs → g ≡ get_or gs i g → known g.1.items ≡ None → IsUnknownAt known (globals gs) i
 unknown_at known gs i g lt is none =
     (global g, slice_get-map global gs i ∙ ap (option_map global) (slice_get_read gs (length gs) i g refl lt is), none)
 
--- A letvar without a written class has none that is too large.
+-- A letvar without a declared class has none that is too large.
 no_class : (n : ℕ) (o : Option ℕ) → o ≡ None → IfSome o (λ c. c < n)
 no_class n o h = subst (λ x. IfSome x (λ c. c < n)) (sym h) tt
 
--- Letvars without written classes have none that is too large.
+-- Letvars without declared classes have none that is too large.
 pub classless_below : (n : ℕ) (es : List Entry) → All (λ e. e.class ≡ None) es → All (λ e. IfSome e.class (λ c. c < n)) es
 classless_below n [] h = All-nil (λ (e : Entry). IfSome e.class (λ c. c < n))
 classless_below n (e ∷ es) h =
@@ -73,11 +73,11 @@ classless_below n (e ∷ es) h =
     (no_class n e.class (All-head (λ (x : Entry). x.class ≡ None) e es h))
     (classless_below n es (All-tail (λ (x : Entry). x.class ≡ None) e es h))
 
--- The image's globals have the program's names.
+-- The globals of the image have the program's names.
 pub names_stand : (r : Resolved) (im : Image) → StandsFor r im → globals im.globals.items ≡ all_named r.globals
 names_stand r im stands = ap (λ (f : Fields). f.globals) stands
 
--- What there is of a list is what its function shows of it.
+-- If a program's global has the names of an image's global, that class name is known.
 known_at : (known : Known) (o : Option Global) (g : image.Global) → option_map named_global o ≡ Some g →
     ((x : Global) → o ≡ Some x → known x.class_name.now ≡ Some x.class) →
     (c : ℕ) × (known g.1 ≡ Some c)
@@ -86,7 +86,7 @@ known_at known (Some x) g h has =
     let same : named_global x ≡ g = ap (λ o. unwrap_or o g) h in
     (x.class, ap (λ (y : image.Global). known y.1) (sym same) ∙ has x refl)
 
--- Each class name of an image stands for a class, where each global of its program has one.
+-- Each class name of an image is known if the class name of each global of its program is.
 pub known_classes : (known : Known) (r : Resolved) (im : Image) → HaveClasses known r.globals → StandsFor r im →
     HasKnownClasses known im
 known_classes known r im has stands i g h =

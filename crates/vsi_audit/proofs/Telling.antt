@@ -1,4 +1,4 @@
--- The text of a walk from its parts.
+-- The text of a walk is put together from its parts.
 use Rattle.std.proofs.Common.{◌≡◌, ℕ, suc, ◌-◌, ◌<◌, List, [], ◌∷◌, ◌++◌, length, get_or, refl, ap, ◌∙◌, arith}
 use Rattle.std.specs.List.{flat_map}
 use Rattle.vsi_lattice.specs.declared.lattice.Lattice.{Lattice}
@@ -8,7 +8,7 @@ use Rattle.vsi_types.specs.Walks.{last_target}
 use Rattle.vsi_audit.specs.declared.names.Form.{Form}
 use Rattle.vsi_audit.specs.Telling.{step_line, last_text, walk_text}
 
--- Where the last step of a walk goes.
+-- The target of the last step is the target of the walk.
 last_at : (x d : Step) (xs : List Step) → (get_or (x ∷ xs) (length xs) d).target ≡ last_target x xs
 last_at x d [] = refl
 last_at x d (y ∷ xs) = last_at y d xs

@@ -1,4 +1,4 @@
--- What a refusal says of an image.
+-- The meaning of a refusal for an image.
 use Rattle.std.specs.Prelude.{◌≡◌, ℕ, List, slice_get, Some, None}
 use Rattle.vsi_lattice.specs.Order.{Lattice}
 use Rattle.vsi_image.specs.declared.instr.Image.{Image}
@@ -15,25 +15,25 @@ use Rattle.vsi_audit.specs.declared.error.AuditError.TheVariants.{UnknownClass, 
 use Rattle.vsi_audit.specs.declared.error.Unread.{Unread}
 use Rattle.vsi_audit.specs.declared.error.Unread.TheVariants as unread
 
--- Why code wasn't read back, as it is told.
+-- The error for code that wasn't read back.
 abbrev pub unread_as : Unread → AuditError
 unread_as (unread.At place) = Unstructured place
 unread_as unread.Fields = WrongFields
 unread_as unread.Memory = Memory
 
--- The class name of this global stands for no class.
+-- The class name of this global is unknown.
 abbrev pub IsUnknownAt : Known → List Global → ℕ → Type 0
 IsUnknownAt known gs i = (g : Global) × (slice_get gs i ≡ Some g) × (known g.1 ≡ None)
 
--- The image is that of a program, of which these steps are a bad walk, and no bad walk has fewer.
+-- The image is that of a program, these steps are a bad walk of the program, and no bad walk has fewer.
 pub record IsBadWalkOfImage (known : Known) (L : Lattice) (P : Profile) (im : Image) (steps : List Step) : Type 0 where
   pub read : Resolved
   pub classes : HaveClasses known read.globals
   pub stands : StandsFor read im
   pub shortest : IsShortest L P (program read) steps
 
--- A refusal: a class name that the lattice lacks, or a bad walk of the program that the image stands for. That code
--- has no such program isn't claimed.
+-- The refusal is for a class name that the lattice lacks, or for a bad walk of the image's program; it doesn't claim
+-- that code has no program.
 abbrev pub Refuses : Known → Lattice → Profile → Image → AuditError → Type 0
 Refuses known L P im (UnknownClass i) = IsUnknownAt known (globals im.globals.items) i
 Refuses known L P im (Unstructured place) = Unit {0}

@@ -1,4 +1,4 @@
--- What is told of a refused image.
+-- The report about a refused image.
 use Rattle.std.specs.Prelude.{◌≡◌, ℕ, ◌+◌, ◌-◌, ◌==◌, nat_lt, if◌then◌else◌, List, [], ◌∷◌, ◌++◌, map, length, Some, codes, decimal, slice_index_or}
 use Rattle.std.specs.List.{flat_map}
 use Rattle.vsi_lattice.specs.declared.lattice.Lattice.{Lattice}
@@ -14,12 +14,12 @@ use Rattle.vsi_audit.specs.declared.error.AuditError.TheVariants.{UnknownClass, 
 use Rattle.vsi_audit.specs.declared.names.Form.{Form}
 use Rattle.vsi_audit.specs.MadeNames.{made, IsForm}
 
--- The name of a global, or of a local: the globals come first, and the locals are numbered from 1.
+-- The name of a global or of a local; globals come first, and locals are numbered from 1.
 abbrev pub local_name : List Global → Form → ℕ → List ℕ
 local_name gs f v =
     if nat_lt v (length gs) then slice_index_or (map (λ g. g.0) gs) v [] else made f (v - length gs + 1)
 
--- The name of a variable; the ending of a loop has none, and a word of its own.
+-- The name of a variable; the ending of a loop has none, and a fixed text is used.
 abbrev pub name_of : List Global → Form → ℕ → List ℕ
 name_of gs f v = if v == sink then codes "(loop)" else local_name gs f v
 
@@ -27,21 +27,21 @@ name_of gs f v = if v == sink then codes "(loop)" else local_name gs f v
 abbrev pub class_name : List Global → ℕ → List ℕ
 class_name gs v = slice_index_or (map (λ g. g.1) gs) v []
 
--- The class name of a variable; the ending of a loop has that of the bottom.
+-- The class name of a variable; the ending of a loop has the name of the bottom class.
 abbrev pub class_of : Lattice → List Global → ℕ → List ℕ
 class_of l gs v = if v == sink then class_text l (Some (order l).bottom) else class_name gs v
 
--- The name of a variable, and that of its class.
+-- The name of a variable, and the name of its class.
 abbrev pub variable_text : Lattice → List Global → Form → ℕ → List ℕ
 variable_text l gs f v = name_of gs f v ++ codes " : " ++ class_of l gs v
 
--- The line of a step, between the numbers of the instructions that read and write.
+-- The line of a step, with the numbers of the instructions that read and write.
 abbrev pub step_line : List Global → Form → Step → List ℕ
 step_line gs f s =
     decimal s.read.start ++ codes " " ++ name_of gs f s.source ++ codes " flows to " ++ name_of gs f s.target
     ++ codes " by " ++ rule_text s.rule ++ codes " at " ++ decimal s.written.start ++ codes "\n"
 
--- The last line, from the first variable of a walk to its last one.
+-- The last line: the first and the last variable of a walk.
 abbrev pub last_text : Lattice → List Global → Form → ℕ → ℕ → List ℕ
 last_text l gs f v w = variable_text l gs f v ++ codes " may not flow to " ++ variable_text l gs f w ++ codes "\n"
 

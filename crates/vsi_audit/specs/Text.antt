@@ -1,4 +1,4 @@
--- The text that an image's code stands for.
+-- The text of an image's code.
 use Rattle.std.specs.Prelude.{◌≡◌, ℕ, List, map, length}
 use Rattle.vsi_syntax.specs.Tree.{Declared, Whole, IsProgram}
 use Rattle.vsi_syntax.specs.Canon.{canon}
@@ -19,8 +19,8 @@ pub record IsWritten (im : Image) (commands : Command) (tree : Whole) : Type 0 w
   pub code : im.code.items ≡ whole_code (length im.globals.items) commands
   pub body : WritesAll (map (λ g. g.0) (globals im.globals.items)) commands tree.body
 
--- The text is that of the image: the canonical text of a program, of a levelled tree of depth at most 200, that
--- declares the image's globals and writes commands of its code.
+-- The text is the canonical text of a program, with a levelled tree of depth at most 200, that declares the image's
+-- globals and writes commands of its code.
 pub record IsSourceText (im : Image) (out : List ℕ) : Type 0 where
   pub commands : Command
   pub tree : Whole

@@ -7,8 +7,8 @@ use Rattle.vsi_syntax.specs.Tree as tree
 use Rattle.vsi_scope.specs.Language.{Expression, Number, Location, Operator, Command, Skip, Assign, Sequence, If, While, Letvar}
 use Rattle.vsi_scope.specs.Scopes.{Scope, StandsFor}
 
--- The expression is written by the tree, where these names are in scope: a location by a name that stands for it, and
--- a number below 0 as the difference or, for the least, the sum that gives it.
+-- The tree writes the expression, with these names in scope: a location by a name that denotes it, and a number below 0
+-- as a difference or, for the least number, as a sum.
 pub data WritesExpression (names : Scope) : Expression → tree.Tree → Type 0 where
   number : {n : ℤ} → pos 0 ≤ℤ n → WritesExpression names (Number n) (tree.Number n)
   below : {n : ℤ} → n <ℤ pos 0 → negsuc 9223372036854775807 <ℤ n →
@@ -23,7 +23,7 @@ pub data WritesExpression (names : Scope) : Expression → tree.Tree → Type 0 
       WritesExpression names (Operator op a b) (tree.Binary op t u)
 
 mutual
-  -- The command is written by one command of the tree, where these names are in scope.
+  -- One command of the tree writes the command, with these names in scope.
   pub data WritesCommand : Scope → Command → tree.Command → Type 0 where
     assign : {names : Scope} {l : ℕ} {s : Span} {e : Expression} {x : tree.Named} {t : tree.Tree} →
         StandsFor names x.text l → WritesExpression names e t → WritesCommand names (Assign l s e) (tree.Assign x t)
@@ -36,13 +36,14 @@ mutual
         WritesExpression names e t → WritesPart (names ++ x.text ∷ []) a c →
         WritesCommand names (Letvar e a) (tree.Letvar x None t c)
 
-  -- The sequence is written by one command of the tree, which may be a block.
+  -- One command of the tree, which may be a block, writes the sequence.
   pub data WritesPart : Scope → Command → tree.Command → Type 0 where
     block : {names : Scope} {a : Command} {b : tree.Body} → WritesAll names a b → WritesPart names a (tree.Block b)
     single : {names : Scope} {a : Command} {c : tree.Command} →
         WritesAll names a (tree.Then c tree.Done) → WritesPart names a c
 
-  -- The sequence is written by a sequence of the tree: one that does nothing by a letvar that is given 0 and put to 0.
+  -- A sequence of the tree writes the sequence; an empty one is written as a letvar that is initialised with 0 and set
+  -- to 0.
   pub data WritesAll : Scope → Command → tree.Body → Type 0 where
     nothing : {names : Scope} (x y : tree.Named) → x.text ≡ y.text →
         WritesAll names Skip

@@ -29,10 +29,10 @@ use vsi_scope::{Cmd, Entry, Resolved, size};
 use vsi_syntax::MAX_DEPTH;
 use vsi_types::Profile;
 
-/// The greatest size of a program's body.
+/// The largest size of a program's body.
 const MAX_SIZE: u32 = 65_534;
 
-/// The entries of letvars without a written class.
+/// The entries of letvars without declared classes.
 fn entries<'a>(
     alloc: Global,
     name: &'a [u8],
@@ -51,7 +51,8 @@ fn entries<'a>(
     Ok(entries)
 }
 
-/// Whether commands with this many letvars keep the limits of a program, over so many globals.
+/// Whether commands with this many letvars, over this many globals, are within the limits of a
+/// program.
 fn is_within(globals: usize, letvars: usize, body: &[Cmd]) -> bool
     requires { globals ≤ 1024 }
     ensures fits { result ≡ true → Fits globals 200 letvars (sequence body.now) }
@@ -73,7 +74,7 @@ fn is_within(globals: usize, letvars: usize, body: &[Cmd]) -> bool
     true
 }
 
-/// The program with these commands in place of its own, where they are within the limits.
+/// The program with these commands in place of its own, if they are within the limits.
 fn with_commands<'a>(
     alloc: Global,
     base: &Resolved<'a>,
@@ -84,7 +85,7 @@ fn with_commands<'a>(
     ensures globals { IfOk result (λ r. r.globals ≡ base.now.globals) }
     ensures letvars { IfOk result (λ r. All (λ e. e.class ≡ None) r.letvars) }
 {
-    // Read for its contract alone: the base's own facts bound its globals.
+    // The result isn't used; the contract of `body` bounds the globals of `base`.
     let _body = base.body();
     let Commands { letvars, body } = commands;
     let entries = entries(alloc, name, &letvars)?;
@@ -98,7 +99,7 @@ fn with_commands<'a>(
     }
 }
 
-/// Where two images differ: at an instruction, or in other fields.
+/// The difference between two images: at an instruction, or in other fields.
 fn difference(made: &Image, image: &Image) -> Unread {
     for place in 0..made.code.len() {
         if made.code.get(place) != image.code.get(place) {
@@ -146,7 +147,7 @@ fn compare(alloc: Global, program: &Resolved<'_>, image: &Image) -> Result<(), U
     }
 }
 
-/// The program that an image's code stands for; the text declares its globals.
+/// The program of an image's code; the text declares its globals.
 fn program_of<'a>(
     alloc: Global,
     lattice: &Lattice,
@@ -167,13 +168,13 @@ fn program_of<'a>(
     Ok(program)
 }
 
-/// Judges an image by the policy that its class names say, under a profile. Where it is accepted,
-/// it is noninterfering, whoever made it.
+/// Judges an image under a profile, by the policy that its class names give. An accepted image is
+/// noninterfering, whoever made it.
 ///
 /// # Errors
 ///
-/// `UnknownClass` first, then `Unstructured` or `WrongFields`, then `Flow`. `Memory` may stand in
-/// place of any answer.
+/// `UnknownClass` first, then `Unstructured` or `WrongFields`, then `Flow`. `Memory` can replace
+/// any answer.
 pub fn audit_in(
     alloc: Global,
     profile: Profile,
@@ -182,14 +183,15 @@ pub fn audit_in(
 ) -> Result<(), AuditError>
     ensures valid { OnOk result (IsValid image.now) }
     ensures classes { OnOk result (HasKnownClasses (class_named lattice.now) image.now) }
-    // Two stores that agree at and below a class end in agreement there, whenever both runs halt.
+    // Two stores that agree at and below a class still agree there at the end, whenever both runs
+    // halt.
     ensures noninterference { OnOk result
         (IsNoninterfering (class_named lattice.now) (order lattice.now) image.now) }
-    // Under the strict profile two runs that agree at the bottom class both halt, or neither does.
+    // Under the strict profile, of two runs that agree at the bottom class either both halt or
+    // neither does.
     ensures endings { profile ≡ Strict → OnOk result
         (EndsAlike (class_named lattice.now) (order lattice.now) image.now) }
-    // What is refused names a class that is missing, or has a bad walk of the program that the
-    // image stands for.
+    // A refused image names a class that is missing, or its program has a bad walk.
     ensures refused { IfErr result
         (Refuses (class_named lattice.now) (order lattice.now) profile image.now) }
 {

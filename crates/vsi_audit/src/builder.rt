@@ -1,4 +1,4 @@
-//! From events to commands over locations.
+//! Turns events into commands over locations.
 
 use crate::error::Unread;
 use crate::events::{Event, Need, Part};
@@ -13,23 +13,23 @@ use vsi_syntax::MAX_DEPTH;
 /// The most declarations of a program, globals and `letvar`s together.
 pub(crate) const MAX_DECLARATIONS: usize = 1024;
 
-/// The commands that code stands for, and the place of the store that begins each `letvar`, in the
-/// order of the code.
+/// The commands of the code, and the place of the store that begins each `letvar`, in the order of
+/// the code.
 #[derive(Drop)]
 pub(crate) struct Commands {
     pub letvars: Vec<usize>,
     pub body: Vec<Cmd>,
 }
 
-/// A `letvar` that has begun and not ended, and the commands before it in its sequence.
+/// A `letvar` that has begun but not ended, and the commands before it in its sequence.
 #[derive(Drop)]
 struct Local {
     value: Ex,
     before: Vec<Cmd>,
 }
 
-/// A conditional or a loop that has begun and not ended: the first branch of a conditional, where
-/// that has ended, and what there was before it.
+/// A conditional or a loop that has begun but not ended: the first branch of a conditional, if that
+/// has ended, and the state before it.
 #[derive(Drop)]
 struct Frame {
     guard: Ex,
@@ -46,17 +46,17 @@ struct Builder {
     /// The commands of the innermost sequence.
     done: Vec<Cmd>,
     letvars: Vec<usize>,
-    /// How many slots are in scope.
+    /// The number of slots in scope.
     scope: u16,
-    /// How many of them were in scope where the innermost branch or body began.
+    /// The number of slots that were in scope where the innermost branch or body began.
     floor: u16,
-    /// Whether a `letvar` ends where its slot is needed no more, and not only with its branch or
-    /// body.
+    /// Whether a `letvar` ends as soon as its slot is no longer needed, rather than only with its
+    /// branch or body.
     ends_early: bool,
 }
 
-/// The commands of an image's code: with as many `letvar`s as there can be, and with as few where
-/// those are too many.
+/// The commands of an image's code: with as many `letvar`s as possible, or, if those are too many,
+/// with as few as possible.
 ///
 /// # Errors
 ///
@@ -84,7 +84,7 @@ fn build(alloc: Global, image: &Image, ends_early: bool) -> Result<Commands, Unr
     })
 }
 
-/// A builder of no commands yet, over so many globals.
+/// A builder without commands, over this many globals.
 fn builder_of(alloc: Global, globals: u16, ends_early: bool) -> Builder {
     Builder {
         locals: Vec::new(alloc),
@@ -97,7 +97,7 @@ fn builder_of(alloc: Global, globals: u16, ends_early: bool) -> Builder {
     }
 }
 
-/// Events more, with the needs at each of them, the last one's first.
+/// Adds events, with the needs at each of them in reverse order.
 fn put_events(
     builder: &mut Builder,
     alloc: Global,
@@ -114,7 +114,7 @@ fn put_events(
     Ok(())
 }
 
-/// One event more.
+/// Adds an event.
 fn put_event(builder: &mut Builder, alloc: Global, need: Need, event: Event) -> Result<(), Unread> {
     match event {
         Event::Store {
@@ -140,7 +140,7 @@ fn put_event(builder: &mut Builder, alloc: Global, need: Need, event: Event) -> 
     }
 }
 
-/// Ends the `letvar`s that are needed no more, and looks whether what is read is in scope.
+/// Ends the `letvar`s that are no longer needed, and checks that the slots to be read are in scope.
 fn begin(builder: &mut Builder, need: Need, place: usize, reads: u16) -> Result<(), Unread> {
     if builder.ends_early {
         end_letvars(builder, need.scope)?;
@@ -151,7 +151,7 @@ fn begin(builder: &mut Builder, need: Need, place: usize, reads: u16) -> Result<
     Ok(())
 }
 
-/// Looks whether there is room for one more that has begun.
+/// Checks that there is room for one more open command.
 fn have_room(builder: &Builder, place: usize) -> Result<(), Unread> {
     if builder.locals.len().saturating_add(builder.frames.len()) >= MAX_DEPTH as usize {
         return Err(Unread::At(place));
@@ -159,7 +159,7 @@ fn have_room(builder: &Builder, place: usize) -> Result<(), Unread> {
     Ok(())
 }
 
-/// A conditional or a loop begins.
+/// Begins a conditional or a loop.
 fn begin_part(builder: &mut Builder, alloc: Global, place: usize, guard: Ex) -> Result<(), Unread> {
     have_room(builder, place)?;
     let frame = Frame {
@@ -173,7 +173,8 @@ fn begin_part(builder: &mut Builder, alloc: Global, place: usize, guard: Ex) -> 
     Ok(())
 }
 
-/// A store: a `letvar` where it may begin one and its slot is the next one, else an assignment.
+/// Adds a store: a `letvar` if it may begin one and its slot is the next one, otherwise an
+/// assignment.
 fn put_store(
     builder: &mut Builder,
     alloc: Global,
@@ -196,7 +197,7 @@ fn put_store(
     Ok(())
 }
 
-/// A `letvar` begins.
+/// Begins a `letvar`.
 fn begin_letvar(
     builder: &mut Builder,
     alloc: Global,
@@ -211,7 +212,7 @@ fn begin_letvar(
     Ok(())
 }
 
-/// Ends the `letvar`s of the innermost branch or body that have slots from this one on.
+/// Ends the `letvar`s of the innermost branch or body whose slots are this one or above.
 fn end_letvars(builder: &mut Builder, scope: u16) -> Result<(), Unread> {
     let keep = scope.max(builder.floor);
     for _ in keep..builder.scope {
@@ -258,7 +259,7 @@ fn end_part(builder: &mut Builder, part: Part) -> Result<(), Unread> {
     Ok(())
 }
 
-/// The command of a part of the code, with its branches or its body.
+/// The command of a part of the code, made of its branches or its body.
 fn ended(part: Part, guard: Ex, yes: Vec<Cmd>, last: Vec<Cmd>) -> Cmd {
     match part {
         Part::If => Cmd::If {

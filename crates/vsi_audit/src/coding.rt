@@ -1,4 +1,4 @@
-//! Whether code is that of commands, by a walk through both.
+//! Whether code is the code of commands, found by a walk through both.
 
 ghost use Rattle.std.specs.Prelude.{◌≡◌, [], ◌∷◌, true, IfSome};
 ghost use Rattle.vsi_image.specs.declared.instr.Instr.TheVariants as instr;
@@ -25,7 +25,7 @@ fn op_code(op: Op) -> Instr
     }
 }
 
-/// The place behind an instruction, where it stands at this place.
+/// The place after an instruction, if it is at this place.
 fn behind(code: &[Instr], place: usize, wanted: Instr) -> Option<usize>
     ensures { IfSome result (StandsAt code.now (wanted ∷ []) place 1) }
 {
@@ -38,7 +38,7 @@ fn behind(code: &[Instr], place: usize, wanted: Instr) -> Option<usize>
     None
 }
 
-/// The place behind a jump to this target, where it stands at this place.
+/// The place after a jump to this target, if it is at this place.
 fn behind_jump(code: &[Instr], place: usize, target: usize) -> Option<usize>
     ensures { IfSome result (StandsAt code.now (instr.Jmp target ∷ []) place 1) }
 {
@@ -48,7 +48,7 @@ fn behind_jump(code: &[Instr], place: usize, target: usize) -> Option<usize>
     behind(code, place, Instr::Jmp(target as u32))
 }
 
-/// The place behind a jump to this target where a word is 0, where it stands at this place.
+/// The place after a jump on 0 to this target, if it is at this place.
 fn behind_test(code: &[Instr], place: usize, target: usize) -> Option<usize>
     ensures { IfSome result (StandsAt code.now (instr.Jz target ∷ []) place 1) }
 {
@@ -58,7 +58,7 @@ fn behind_test(code: &[Instr], place: usize, target: usize) -> Option<usize>
     behind(code, place, Instr::Jz(target as u32))
 }
 
-/// The place behind the code of an expression, where it stands at this place.
+/// The place after the code of an expression, if it is at this place.
 fn behind_expression(e: &Ex, code: &[Instr], place: usize) -> Option<usize>
     ensures { IfSome result
         (StandsAt code.now (expression_code (expression e.now)) place
@@ -75,8 +75,7 @@ fn behind_expression(e: &Ex, code: &[Instr], place: usize) -> Option<usize>
     }
 }
 
-/// The place behind the code of commands, with so many words in scope, where it stands at this
-/// place.
+/// The place after the code of commands with `scope` slots in scope, if it is at this place.
 #[cycle(coding)]
 fn behind_all(body: &[Cmd], code: &[Instr], start: usize, scope: u16) -> Option<usize>
     ensures { IfSome result
@@ -90,7 +89,7 @@ fn behind_all(body: &[Cmd], code: &[Instr], start: usize, scope: u16) -> Option<
     Some(place)
 }
 
-/// The place behind the code of a command, where it stands at this place.
+/// The place after the code of a command, if it is at this place.
 #[cycle(coding)]
 fn behind_one(c: &Cmd, code: &[Instr], place: usize, scope: u16) -> Option<usize>
     ensures { IfSome result
@@ -129,7 +128,7 @@ fn behind_one(c: &Cmd, code: &[Instr], place: usize, scope: u16) -> Option<usize
     }
 }
 
-/// Whether code is the whole code of commands over so many globals.
+/// Whether code is the whole code of commands over this many globals.
 pub(crate) fn is_code_of(body: &[Cmd], code: &[Instr], globals: u16) -> bool
     ensures { result ≡ true → code.now ≡ whole_code globals (sequence body.now) }
 {

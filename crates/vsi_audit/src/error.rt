@@ -8,24 +8,24 @@ use std::alloc::{AllocError, AllocFailed};
 use thiserror::Error;
 use vsi_infer::Walk;
 
-/// Why an image isn't accepted.
+/// The reason why an image isn't accepted.
 #[derive(Debug, Drop, Error)]
 pub enum AuditError {
     /// The lattice has no class of this global's class name; globals are numbered from 0.
     #[error("the class of global {0} is not in the lattice")]
     UnknownClass(usize),
-    /// The code isn't that of commands; the number is that of the first instruction that doesn't
-    /// fit, or the number of instructions.
+    /// The code isn't the code of commands; the number is that of the first instruction that
+    /// doesn't fit, or the number of instructions.
     #[error("the code has no commands that can be judged, at instruction {0}")]
     Unstructured(usize),
-    /// The slots or the stack field isn't the one that the code needs.
+    /// The number of slots or the stack field differs from what the code needs.
     #[error("the slots or the stack is not what the code needs")]
     WrongFields,
     /// The commands of the code have no text within the limits on texts.
     #[error("the commands have no text within the limits")]
     NoText,
     /// A flow breaks the policy. The places of the steps are numbers of instructions: of the LOAD
-    /// that reads and of the STORE that writes. The variables behind the globals are the locals, in
+    /// that reads and of the STORE that writes. The variables after the globals are the locals, in
     /// the order of the code.
     #[error("a flow breaks the policy")]
     Flow(Walk),
@@ -33,12 +33,12 @@ pub enum AuditError {
     Memory,
 }
 
-/// Why code wasn't read back.
+/// The reason why code wasn't read back.
 #[derive(Debug, Drop)]
 pub(crate) enum Unread {
-    /// The instruction of this number doesn't fit.
+    /// The instruction with this number doesn't fit.
     At(usize),
-    /// A field other than the code isn't that of the commands.
+    /// A field other than the code differs from that of the commands.
     Fields,
     Memory,
 }

@@ -1,26 +1,26 @@
-//! The commands of a code in a row: where each begins and ends.
+//! The commands of code as a list of events: where each begins and ends.
 
 use vsi_scope::Ex;
 
-/// What has commands within it, and ends behind them.
+/// A command that contains commands and ends after them.
 #[derive(Clone, Copy, PartialEq, Eq)]
 pub(crate) enum Part {
     If,
     While,
 }
 
-/// What a reader of the code comes by, in the order of the code. `place` is the number of the
-/// instruction that ends the expression, `reads` how many slots must be there for it to be read.
+/// An event in the order of the code. `place` is the number of the instruction that ends the
+/// expression, and `reads` is the number of slots that must exist to evaluate it.
 #[derive(Drop)]
 pub(crate) enum Event {
-    /// The value is put into the slot.
+    /// The value is stored in the slot.
     Store {
         slot: u16,
         place: usize,
         reads: u16,
         value: Ex,
     },
-    /// A conditional begins, with its first branch, or a loop.
+    /// A conditional with its first branch, or a loop, begins.
     Begin {
         part: Part,
         place: usize,
@@ -33,12 +33,12 @@ pub(crate) enum Event {
     End(Part),
 }
 
-/// What is known of the slots at an event.
+/// The facts about the slots at an event.
 #[derive(Clone, Copy)]
 pub(crate) struct Need {
-    /// How many slots must be in scope there, so that all that follows in the same sequence finds
-    /// its own.
+    /// The number of slots that must be in scope at the event, so that everything after it in the
+    /// same sequence finds its slots.
     pub scope: u16,
-    /// Whether a store begins a `letvar`, where it stands above all slots in scope.
+    /// Whether a store begins a `letvar` if its slot is above all slots in scope.
     pub begins: bool,
 }

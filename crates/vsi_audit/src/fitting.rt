@@ -1,4 +1,4 @@
-//! Whether commands keep the limits of a resolved program.
+//! Whether commands are within the limits of a resolved program.
 
 ghost use Rattle.std.specs.Prelude.{◌≡◌, true, IfSome};
 ghost use Rattle.vsi_scope.specs.View.{expression, command, sequence};
@@ -6,7 +6,7 @@ ghost use Rattle.vsi_audit.specs.Fitting.{Fits, FitsExpression};
 
 use vsi_scope::{Cmd, Ex};
 
-/// Whether an expression reads only the first slots, and goes no deeper than there is room.
+/// Whether an expression reads only the first slots and is no deeper than the room.
 fn fits_expression(e: &Ex, scope: u16, room: u16) -> bool
     ensures { result ≡ true → FitsExpression scope room (expression e.now) }
 {
@@ -25,8 +25,8 @@ fn fits_expression(e: &Ex, scope: u16, room: u16) -> bool
     }
 }
 
-/// The number of letvars of commands whose locations exist, with so many in scope, and that go no
-/// deeper than there is room; none for other commands.
+/// The number of letvars of commands, if their locations exist with `scope` slots in scope and they
+/// are no deeper than the room; none otherwise.
 #[cycle(fitting)]
 pub(crate) fn fit_all(body: &[Cmd], scope: u16, room: u16) -> Option<u32>
     ensures { IfSome result (λ n. Fits scope room n (sequence body.now)) }

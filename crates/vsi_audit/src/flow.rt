@@ -1,4 +1,4 @@
-//! What is told of a flow that breaks the policy.
+//! The report about a flow that breaks the policy.
 
 ghost use Rattle.std.specs.Prelude.{◌≡◌, ◌++◌, OnOk, IfOk, codes, decimal};
 ghost use Rattle.std.specs.List.{flat_map};
@@ -17,7 +17,7 @@ use vsi_scope::Var;
 use vsi_syntax::put_number;
 use vsi_types::{LOOP, Rule};
 
-/// The word of a rule.
+/// The name of a rule.
 fn rule_text(rule: Rule) -> &'static [u8]
     ensures { result.now ≡ explanation.rule_text rule }
 {
@@ -57,7 +57,7 @@ fn put_class(
     names.put_class(out, variable.0)
 }
 
-/// Adds the name of a variable and that of its class.
+/// Adds the name of a variable and the name of its class.
 fn put_variable(
     out: &mut Vec<u8>,
     lattice: &Lattice,
@@ -101,7 +101,7 @@ fn put_steps(out: &mut Vec<u8>, names: &Names<'_>, steps: &[Step]) -> Result<(),
     Ok(())
 }
 
-/// Adds the last line, from the first variable of a walk to its last one.
+/// Adds the last line, which names the first and the last variable of a walk.
 fn put_last(
     out: &mut Vec<u8>,
     lattice: &Lattice,
@@ -149,10 +149,10 @@ fn put_numbered(out: &mut Vec<u8>, start: &[u8], number: usize) -> Result<(), Al
     out.extend_from_slice(b"\n")
 }
 
-/// The text of a refusal of an image: its number and its name, and what it names; of a flow each
-/// step and the classes of the two ends. In place of lines and columns there are numbers of
-/// instructions, and the locals have the names of `source_text`. The image and the lattice are to
-/// be those that were refused.
+/// The text of a refusal of an image: its number, its name, and the details. For a flow, these are
+/// each step and the classes of the two ends. Numbers of instructions are given in place of lines
+/// and columns, and the locals have the names of `source_text`. The image and the lattice must be
+/// those of the refusal.
 pub fn audit_text(
     alloc: Global,
     lattice: &Lattice,

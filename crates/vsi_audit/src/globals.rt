@@ -1,4 +1,4 @@
-//! The globals of an image, as a program declares them.
+//! The globals of an image, as declarations of a program.
 
 ghost use Rattle.std.specs.Prelude.{◌≡◌, ℕ, true, map, IfOk, IfSome};
 ghost use Rattle.vsi_image.specs.Fields as fields;
@@ -17,7 +17,7 @@ use vsi_lattice::Lattice;
 use vsi_scope::{Resolved, ScopeError, resolve};
 use vsi_syntax::{Declaration, LexError, ParseError, lex, parse};
 
-/// The number of the first global whose class name the lattice doesn't have.
+/// The number of the first global whose class name isn't in the lattice.
 pub(crate) fn unknown_class(lattice: &Lattice, globals: &[(Vec<u8>, Vec<u8>)]) -> Option<usize>
     ensures { IfSome result (IsUnknownAt (class_named lattice.now) (fields.globals globals.now)) }
 {
@@ -31,7 +31,7 @@ pub(crate) fn unknown_class(lattice: &Lattice, globals: &[(Vec<u8>, Vec<u8>)]) -
     None
 }
 
-/// Adds the declarations of an image's globals, a line each.
+/// Adds the declarations of an image's globals, one line each.
 pub(crate) fn put_declarations(text: &mut Vec<u8>, image: &Image) -> Result<(), AllocError> {
     for global in &image.globals {
         text.extend_from_slice(b"var ")?;
@@ -43,7 +43,7 @@ pub(crate) fn put_declarations(text: &mut Vec<u8>, image: &Image) -> Result<(), 
     Ok(())
 }
 
-/// Whether a declaration is that of a global, by its name and its class name.
+/// Whether a declaration has the name and the class name of a global.
 fn is_declared(declared: &Declaration<'_>, global: &(Vec<u8>, Vec<u8>)) -> bool
     ensures { result ≡ true → words (syntax.declared declared.now) ≡ fields.global global.now }
 {
@@ -106,7 +106,7 @@ pub(crate) fn declared_program<'a>(
         Err(ScopeError::Memory) => return Err(Unread::Memory),
         Err(_) => return Err(Unread::Fields),
     };
-    // What `body` ensures says that the program is resolved, which the proofs ask for.
+    // The contract of `body` says that the program is resolved, and the proofs need that.
     let _body = resolved.body();
     Ok(resolved)
 }

@@ -1,13 +1,13 @@
 //! Images from elsewhere, judged without their source.
 //!
-//! A verified image comes in, whoever made it. `audit_in` reads the commands back from its code,
-//! makes the code of these again, compares it with the image's and judges their flows: what it
-//! accepts is noninterfering, whatever the reading back did. `source_text` writes the commands as a
-//! text, reads it again and compares both with the code and the commands; `audit_text` tells why an
-//! image is refused.
+//! The input is a verified image, whoever made it. `audit_in` reads the commands back from its
+//! code, compiles them again, compares the result with the image's code, and judges their flows. An
+//! accepted image is noninterfering, however the commands were read back. `source_text` writes the
+//! commands as a text, reads the text again, and compares both with the code and the commands.
+//! `audit_text` writes why an image is refused.
 //!
 //! To be believed: `specs/MadeNames`, `specs/Refusal`, `specs/Standing`, `specs/Telling`,
-//! `specs/Text`, `specs/Writing`; the other files of `specs/` are stepping stones of proofs.
+//! `specs/Text` and `specs/Writing`; the other files of `specs/` are only steps of proofs.
 #![tactic(auto)]
 
 mod audit;

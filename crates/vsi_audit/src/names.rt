@@ -1,4 +1,4 @@
-//! The names of globals and of locals, which have none in an image.
+//! The names of globals, and made-up names for locals, which have none in an image.
 
 ghost use Rattle.std.specs.Prelude.{◌≡◌, ◌⊎◌, ◌++◌, false, true, OnOk, MatchOption};
 ghost use Rattle.vsi_image.specs.Fields as fields;
@@ -9,7 +9,7 @@ ghost use Rattle.vsi_audit.specs.Telling.{local_name, class_name};
 use std::alloc::{AllocError, Global};
 use vsi_syntax::put_number;
 
-/// What made-up names begin with: a letter, and so many `_`.
+/// The beginning of made-up names: a letter and a number of `_`.
 #[derive(Clone, Copy)]
 pub(crate) struct Form {
     letter: u8,
@@ -21,12 +21,12 @@ pub(crate) struct Form {
 pub(crate) struct Names<'a> {
     globals: &'a [(Vec<u8>, Vec<u8>)],
     form: Form,
-    /// The numbers of the locals in scope, from 1, and how many there were so far.
+    /// The numbers of the locals in scope, from 1; `count` is the number of locals so far.
     scope: Vec<usize>,
     count: usize,
 }
 
-/// Whether a text is so many `_`, and digits behind them.
+/// Whether a text is `bars` times `_`, followed by digits.
 fn is_numbered(text: &[u8], bars: usize) -> bool
     ensures { result ≡ spec.is_numbered bars text.now }
 {
@@ -45,7 +45,7 @@ fn is_numbered(text: &[u8], bars: usize) -> bool
     false
 }
 
-/// Whether a name is of this form: its letter, so many `_`, and digits.
+/// Whether a name has this form: its letter, its `_`, and digits.
 fn is_made(name: &[u8], form: Form) -> bool
     ensures { result ≡ spec.is_made form name.now }
 {
@@ -70,7 +70,7 @@ fn is_taken(globals: &[(Vec<u8>, Vec<u8>)], form: Form) -> bool
     false
 }
 
-/// The fewest `_`, at most nine, with which no global has a form of this letter.
+/// The smallest number of `_`, at most nine, for which no global has a form with this letter.
 fn free_bars(globals: &[(Vec<u8>, Vec<u8>)], letter: u8) -> Option<usize>
     ensures { MatchOption result
         (AreTaken (fields.globals globals.now) letter 10)
@@ -85,13 +85,13 @@ fn free_bars(globals: &[(Vec<u8>, Vec<u8>)], letter: u8) -> Option<usize>
     None
 }
 
-/// The first form that no global has: `t1`, then `t_1` and so on, then `u1`. Each global takes one
-/// form at most, so that of 260 one is free for 256 globals.
+/// The first form that no global has: `t1`, then `t_1` and so on, then `u1`. Each global takes at
+/// most one form, so of 260 forms at least one is free with 256 globals.
 fn free_form(globals: &[(Vec<u8>, Vec<u8>)]) -> Form
     ensures { IsFirstFree (fields.globals globals.now) result ⊎
         IsLast (fields.globals globals.now) result }
 {
-    // 123 is the byte behind `z`.
+    // 123 is the byte after `z`.
     for letter in b'a'..123 {
         if let Some(bars) = free_bars(globals, letter) {
             return Form { letter, bars };
@@ -103,7 +103,7 @@ fn free_form(globals: &[(Vec<u8>, Vec<u8>)]) -> Form
     }
 }
 
-/// The form of the made-up names beside these globals.
+/// The form of the made-up names for these globals.
 fn form_beside(globals: &[(Vec<u8>, Vec<u8>)]) -> Form
     ensures { IsForm (fields.globals globals.now) result }
 {
@@ -121,7 +121,7 @@ fn form_beside(globals: &[(Vec<u8>, Vec<u8>)]) -> Form
 impl<'a> Names<'a> {
     ghost use Rattle.std.specs.Prelude.{◌<◌, length};
 
-    /// The names where no local is in scope.
+    /// The names with no local in scope.
     pub(crate) fn of(alloc: Global, globals: &'a [(Vec<u8>, Vec<u8>)]) -> Names<'a>
         ensures globals { result.globals.now ≡ globals.entry.now }
         ensures form { IsForm (fields.globals result.globals.now) result.form }
@@ -134,7 +134,7 @@ impl<'a> Names<'a> {
         }
     }
 
-    /// Adds the made-up name of a number.
+    /// Adds the made-up name with a number.
     pub(crate) fn put_made(&self, out: &mut Vec<u8>, number: usize) -> Result<(), AllocError>
         ensures { OnOk result (out.new.items ≡ out.old.items ++ spec.made self.now.form number) }
     {
@@ -188,14 +188,14 @@ impl<'a> Names<'a> {
         self.put_made(out, self.count.saturating_add(1))
     }
 
-    /// The next local comes into scope.
+    /// Brings the next local into scope.
     pub(crate) fn begin(&mut self) -> Result<(), AllocError> {
         self.count = self.count.saturating_add(1);
         self.scope.push(self.count)?;
         Ok(())
     }
 
-    /// The innermost local goes out of scope.
+    /// Removes the innermost local from scope.
     pub(crate) fn end(&mut self) {
         let _local = self.scope.pop();
     }

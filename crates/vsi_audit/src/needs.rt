@@ -1,10 +1,11 @@
-//! Which slots must be in scope at each event, told from the end of the code to its beginning.
+//! The slots that must be in scope at each event, computed from the end of the code to its
+//! beginning.
 
 use crate::events::{Event, Need, Part};
 use std::alloc::{AllocError, Global};
 
-/// The need before a store, and whether it begins a `letvar`: its value reads no slot from its own
-/// on, and nothing that follows needs a slot above it from before.
+/// The need before a store, and whether the store begins a `letvar`: it does if its value reads no
+/// slot at or above its own, and nothing after it needs an older value of a slot above.
 fn before_store(globals: u16, after: u16, slot: u16, reads: u16) -> Need {
     let above = slot.saturating_add(1);
     if slot >= globals && reads <= slot && after <= above {
@@ -19,8 +20,8 @@ fn before_store(globals: u16, after: u16, slot: u16, reads: u16) -> Need {
     }
 }
 
-/// The need at an event, before what follows needs this many slots. `saved` has what was needed
-/// behind the parts of the code that the event stands in.
+/// The need at an event, given the number of slots needed after it. `saved` has the needs after the
+/// parts of the code that enclose the event.
 fn need_at(
     saved: &mut Vec<u16>,
     globals: u16,
@@ -43,7 +44,8 @@ fn need_at(
     })
 }
 
-/// How many slots a part of the code and what follows it need, where its beginning needs so many.
+/// The number of slots that a part of the code and everything after it need, given the need at its
+/// beginning.
 fn before_part(saved: &mut Vec<u16>, part: Part, first: u16) -> u16 {
     let behind = saved.pop().unwrap_or(0);
     match part {
@@ -52,7 +54,7 @@ fn before_part(saved: &mut Vec<u16>, part: Part, first: u16) -> u16 {
     }
 }
 
-/// The needs at the events, the last one's first.
+/// The needs at the events, in reverse order.
 pub(crate) fn needs_of(
     alloc: Global,
     globals: u16,

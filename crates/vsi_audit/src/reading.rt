@@ -1,4 +1,4 @@
-//! From code to events, by its jumps.
+//! Reads the events of code from its jumps.
 
 use crate::error::Unread;
 use crate::events::{Event, Part};
@@ -14,14 +14,14 @@ struct Operand {
     depth: u16,
 }
 
-/// A part of the code that has begun and not ended.
+/// A part of the code that has begun but not ended.
 #[derive(Clone, Copy)]
 enum Region {
-    /// A first branch, which ends with the jump at `jump` to `end`.
+    /// A first branch; the jump at `jump` to `end` ends it.
     Yes { jump: usize, end: usize },
-    /// A second branch, which ends before `end`.
+    /// A second branch; it ends before `end`.
     No { end: usize },
-    /// The body of a loop, which ends with the jump at `jump`.
+    /// The body of a loop; the jump at `jump` ends it.
     Body { jump: usize },
 }
 
@@ -31,9 +31,9 @@ struct Reader {
     events: Vec<Event>,
     operands: Vec<Operand>,
     regions: Vec<Region>,
-    /// Where the expression began whose operands are there.
+    /// The start of the expression whose operands are on the stack.
     start: usize,
-    /// How many slots must be there for that expression to be read.
+    /// The number of slots that must exist to evaluate that expression.
     reads: u16,
 }
 
@@ -71,7 +71,7 @@ fn first_halt(code: &[Instr]) -> usize {
     code.len()
 }
 
-/// One instruction more.
+/// Reads one more instruction.
 fn put_instruction(
     reader: &mut Reader,
     alloc: Global,
@@ -96,7 +96,7 @@ fn put_instruction(
     }
 }
 
-/// A word that is read from a slot.
+/// Reads a LOAD of a slot.
 fn put_load(reader: &mut Reader, place: usize, slot: u16) -> Result<(), Unread> {
     reader.reads = reader.reads.max(slot.saturating_add(1));
     put_operand(reader, place, Ex::Loc(slot, span_at(place)), 0)
@@ -127,7 +127,7 @@ fn end_branches(reader: &mut Reader, place: usize) -> Result<(), Unread> {
     Ok(())
 }
 
-/// One operand more.
+/// Adds an operand.
 fn put_operand(reader: &mut Reader, place: usize, value: Ex, depth: u16) -> Result<(), Unread> {
     if reader.operands.is_empty() {
         reader.start = place;
@@ -147,7 +147,7 @@ fn top_operand(reader: &mut Reader, place: usize) -> Result<Operand, Unread> {
     }
 }
 
-/// An operator on the two operands on top.
+/// Applies an operator to the two operands on top.
 fn put_operator(reader: &mut Reader, alloc: Global, place: usize, op: Op) -> Result<(), Unread> {
     let start = reader.start;
     let right = top_operand(reader, place)?;
@@ -159,14 +159,14 @@ fn put_operator(reader: &mut Reader, alloc: Global, place: usize, op: Op) -> Res
     Ok(())
 }
 
-/// An operator on two operands.
+/// The expression of an operator and two operands.
 fn applied(alloc: Global, op: Op, left: Operand, right: Operand) -> Result<Ex, Unread> {
     let left = Box::new(alloc, left.value)?;
     let right = Box::new(alloc, right.value)?;
     Ok(Ex::Op(op, left, right))
 }
 
-/// The one operand that is there, and how many slots it reads.
+/// The only operand, and the number of slots that it reads.
 fn only_operand(reader: &mut Reader, place: usize) -> Result<(Ex, u16), Unread> {
     if reader.operands.len() > 1 {
         return Err(Unread::At(place));
@@ -177,7 +177,7 @@ fn only_operand(reader: &mut Reader, place: usize) -> Result<(Ex, u16), Unread> 
     Ok((operand.value, reads))
 }
 
-/// A store of the one operand.
+/// Reads a store of the only operand.
 fn put_store(reader: &mut Reader, place: usize, slot: u16) -> Result<(), Unread> {
     let (value, reads) = only_operand(reader, place)?;
     reader.events.push(Event::Store {
@@ -198,8 +198,8 @@ fn jump_before(code: &[Instr], place: usize) -> Option<(usize, usize)> {
     }
 }
 
-/// What a jump on 0 begins, as the jump before its target leads back to the guard of a loop, which
-/// starts at `start`, or ahead to the end of a conditional.
+/// The region that a jump on 0 begins. The jump before its target leads back to `start`, the guard
+/// of a loop, or ahead to the end of a conditional.
 fn region_at(code: &[Instr], start: usize, place: usize, target: usize) -> Result<Region, Unread> {
     let Some((jump, end)) = jump_before(code, target) else {
         return Err(Unread::At(place));
@@ -216,7 +216,7 @@ fn region_at(code: &[Instr], start: usize, place: usize, target: usize) -> Resul
     Ok(Region::Yes { jump, end })
 }
 
-/// A jump on 0, which begins a part of the code.
+/// Reads a jump on 0, which begins a part of the code.
 fn begin_region(
     reader: &mut Reader,
     code: &[Instr],
@@ -239,8 +239,8 @@ fn begin_region(
     Ok(())
 }
 
-/// A jump, which ends the innermost part of the code. Where it leads to is looked at by the jump on
-/// 0 that began the part, and by the comparison of the whole code.
+/// Reads a jump, which ends the innermost part of the code. Its target is checked by the jump on 0
+/// that began the part and by the comparison of the whole code.
 fn end_region(reader: &mut Reader, place: usize) -> Result<(), Unread> {
     let (jump, event) = match reader.regions.pop() {
         Some(Region::Yes { jump, end }) => {
@@ -257,7 +257,7 @@ fn end_region(reader: &mut Reader, place: usize) -> Result<(), Unread> {
     Ok(())
 }
 
-/// Looks whether the code ends where it halts, with nothing open.
+/// Checks that the code ends where it halts, with nothing open.
 fn look_at_end(reader: &Reader, place: usize, length: usize) -> Result<(), Unread> {
     if !reader.operands.is_empty() {
         return Err(Unread::At(place));

@@ -16,7 +16,7 @@ use vsi_image::{Image, Verified};
 use vsi_scope::{Cmd, Ex};
 use vsi_syntax::{LexError, Op, ParseError, Program, lex, parse, print, put_number};
 
-/// What an empty sequence is written as: it does nothing, and nothing flows out of it.
+/// Adds a command for an empty sequence: it does nothing, and nothing flows out of it.
 fn put_nothing(out: &mut Vec<u8>, names: &Names<'_>) -> Result<(), AllocError> {
     out.extend_from_slice(b"letvar ")?;
     names.put_made(out, 0)?;
@@ -47,8 +47,8 @@ fn level(op: Op) -> u8 {
     }
 }
 
-/// Adds a number. A number below 0 has no word: it is written as the difference or, for the least,
-/// the sum that gives it.
+/// Adds a number. A number below 0 has no token, so it is written as a difference or, for the least
+/// number, as a sum.
 fn put_word(out: &mut Vec<u8>, n: i64) -> Result<(), AllocError> {
     if n >= 0 {
         return put_number(out, n.unsigned_abs() as usize);
@@ -60,7 +60,8 @@ fn put_word(out: &mut Vec<u8>, n: i64) -> Result<(), AllocError> {
     put_number(out, n.unsigned_abs() as usize)
 }
 
-/// Adds an expression, in brackets where it binds less tightly than this level: 3 for an atom.
+/// Adds an expression, with brackets if it binds less tightly than this level; 3 is the level of an
+/// atom.
 fn put_expression(
     e: &Ex,
     out: &mut Vec<u8>,
@@ -87,7 +88,7 @@ fn put_expression(
     }
 }
 
-/// Adds an opening bracket, where there is one.
+/// Adds an opening bracket, if there is one.
 fn open(out: &mut Vec<u8>, is_bracketed: bool) -> Result<(), AllocError> {
     if is_bracketed {
         out.extend_from_slice(b"(")?;
@@ -95,7 +96,7 @@ fn open(out: &mut Vec<u8>, is_bracketed: bool) -> Result<(), AllocError> {
     Ok(())
 }
 
-/// Adds a closing bracket, where there is one.
+/// Adds a closing bracket, if there is one.
 fn close(out: &mut Vec<u8>, is_bracketed: bool) -> Result<(), AllocError> {
     if is_bracketed {
         out.extend_from_slice(b")")?;
@@ -115,7 +116,7 @@ fn put_assignment(
     put_expression(value, out, names, 0)
 }
 
-/// Adds a guard, and a word before it and behind it.
+/// Adds a guard with the keywords before and after it.
 fn put_guard(
     words: (&[u8], &[u8]),
     guard: &Ex,
@@ -127,7 +128,7 @@ fn put_guard(
     out.extend_from_slice(words.1)
 }
 
-/// Adds the beginning of a `letvar`, whose name comes into scope.
+/// Adds the beginning of a `letvar` and brings its name into scope.
 fn put_letvar(value: &Ex, out: &mut Vec<u8>, names: &mut Names<'_>) -> Result<(), AllocError> {
     out.extend_from_slice(b"letvar ")?;
     names.put_next(out)?;
@@ -149,7 +150,7 @@ fn put_all(body: &[Cmd], out: &mut Vec<u8>, names: &mut Names<'_>) -> Result<(),
     Ok(())
 }
 
-/// Adds a sequence as one command: as a block, where it has more than one.
+/// Adds a sequence as one command; a sequence of more than one becomes a block.
 #[cycle(writing)]
 fn put_part(body: &[Cmd], out: &mut Vec<u8>, names: &mut Names<'_>) -> Result<(), AllocError> {
     if body.len() <= 1 {
@@ -184,7 +185,7 @@ fn put_one(c: &Cmd, out: &mut Vec<u8>, names: &mut Names<'_>) -> Result<(), Allo
     }
 }
 
-/// The text of an image's globals and of commands, not laid out.
+/// The text of an image's globals and of commands, without layout.
 fn written(alloc: Global, image: &Image, body: &[Cmd]) -> Result<Vec<u8>, AllocError> {
     let mut out = Vec::new(alloc);
     put_declarations(&mut out, image)?;
@@ -230,14 +231,14 @@ fn check<'a>(
     check_all(body, program.body(), &mut names)
 }
 
-/// The text that an image's code stands for, in its canonical layout: a text of the language, over
-/// the image's globals. The locals have made-up names with numbers, as in `audit_text`; one with
-/// the number 0 stands where there is no command.
+/// The text of an image's code in its canonical layout: a text of the language over the image's
+/// globals. The locals have made-up names with numbers, as in `audit_text`; the name with the
+/// number 0 is used where there is no command.
 ///
 /// # Errors
 ///
-/// `Unstructured`; `NoText`, where the text would be out of the limits on texts; `Memory` may stand
-/// in place of any answer.
+/// `Unstructured`; `NoText` if the text would exceed the limits on texts. `Memory` can replace any
+/// answer.
 pub fn source_text(alloc: Global, image: &Verified) -> Result<Vec<u8>, AuditError>
     ensures { IfOk result (λ out. IsSourceText image.now out.items) }
 {
@@ -246,8 +247,8 @@ pub fn source_text(alloc: Global, image: &Verified) -> Result<Vec<u8>, AuditErro
     text_of(alloc, image, &body)
 }
 
-/// The canonical text of commands over an image's globals, where it has been read again and both
-/// are the image's.
+/// The canonical text of commands over an image's globals, if the text was read again and declares
+/// the image's globals and writes commands of its code.
 fn text_of(alloc: Global, image: &Image, body: &[Cmd]) -> Result<Vec<u8>, AuditError>
     ensures { IfOk result (λ out. IsSourceText image.now out.items) }
 {

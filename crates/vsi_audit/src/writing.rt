@@ -1,4 +1,4 @@
-//! Whether a tree writes commands, by a walk through both.
+//! Whether a tree writes commands, found by a walk through both.
 
 ghost use Rattle.std.specs.Prelude.{◌≡◌, true, None, IfSome, IfOk, OnOk, map, pos};
 ghost use Rattle.vsi_syntax.specs.declared.token.Span.{Span};
@@ -17,7 +17,7 @@ use std::alloc::{AllocError, Global};
 use vsi_scope::{Cmd, Ex};
 use vsi_syntax::{Expr, Name, Op, Stmt};
 
-/// The names in scope, those of globals first and the innermost last.
+/// The names in scope, with those of globals first and the innermost last.
 #[derive(Drop)]
 pub(crate) struct InScope<'a> {
     names: Vec<&'a [u8]>,
@@ -41,14 +41,14 @@ impl<'a> InScope<'a> {
         Ok(InScope { names })
     }
 
-    /// The location that a name stands for: the last place where it is.
+    /// The location that a name denotes: the last place that has the name.
     fn place(&self, name: &[u8]) -> Option<usize>
         ensures { IfSome result (StandsFor (names_of self.now) name.now) }
     {
         last_place(&self.names, name)
     }
 
-    /// A letvar's name comes into scope.
+    /// Brings a letvar's name into scope.
     fn enter(&mut self, name: &'a [u8]) -> Result<(), AllocError>
         ensures { OnOk result
             (self.new.names.items ≡ self.old.names.items ++ name.entry ∷ []) }
@@ -57,7 +57,7 @@ impl<'a> InScope<'a> {
         Ok(())
     }
 
-    /// The innermost letvar's name goes out of scope.
+    /// Removes the innermost letvar's name from scope.
     fn leave(&mut self)
         requires { 0 < length self.old.names.items }
         ensures { self.new.names.items ≡
@@ -68,7 +68,7 @@ impl<'a> InScope<'a> {
     }
 }
 
-/// The last place of a name, by a look at every name from the last on.
+/// The last place of a name, found by comparing every name from the last one on.
 fn last_place(names: &[&[u8]], name: &[u8]) -> Option<usize>
     ensures { IfSome result (StandsFor (map (λ x. x.now) names.now) name.now) }
 {
@@ -128,7 +128,7 @@ fn writes_number(written: &Expr<'_>, number: &i64) -> bool
     }
 }
 
-/// Whether a tree is a name that stands for a location.
+/// Whether a tree is a name that denotes a location.
 fn writes_location(written: &Expr<'_>, location: u16, names: &InScope<'_>) -> bool
     ensures { (span : Span) → result ≡ true →
         WritesExpression (names_of names.now) (Location location span) (view.tree written.now) }
@@ -139,7 +139,7 @@ fn writes_location(written: &Expr<'_>, location: u16, names: &InScope<'_>) -> bo
     stands_for(*name, location, names)
 }
 
-/// Whether a name stands for a location.
+/// Whether a name denotes a location.
 fn stands_for(name: Name<'_>, location: u16, names: &InScope<'_>) -> bool
     ensures { result ≡ true → StandsFor (names_of names.now) name.entry.text.now location }
 {
@@ -187,7 +187,7 @@ fn check_expression(written: &Expr<'_>, e: &Ex, names: &InScope<'_>) -> Result<(
     }
 }
 
-/// Refuses a name that doesn't stand for a location.
+/// Refuses a name that doesn't denote a location.
 fn check_name(name: Name<'_>, location: u16, names: &InScope<'_>) -> Result<(), AuditError>
     ensures { OnOk result (StandsFor (names_of names.now) name.entry.text.now location) }
 {
@@ -198,7 +198,7 @@ fn check_name(name: Name<'_>, location: u16, names: &InScope<'_>) -> Result<(), 
     }
 }
 
-/// Refuses a pair of trees that aren't both 0.
+/// Refuses two trees unless both are 0.
 fn check_zeros(first: &Expr<'_>, second: &Expr<'_>) -> Result<(), AuditError>
     ensures first { OnOk result (view.tree first.now ≡ tree.Number (pos 0)) }
     ensures second { OnOk result (view.tree second.now ≡ tree.Number (pos 0)) }
@@ -212,7 +212,7 @@ fn check_zeros(first: &Expr<'_>, second: &Expr<'_>) -> Result<(), AuditError>
     Ok(())
 }
 
-/// Refuses a command that isn't a letvar that is given 0 and put to 0.
+/// Refuses a command unless it is a letvar that is initialised with 0 and set to 0.
 fn check_idle(written: &Stmt<'_>) -> Result<(), AuditError>
     ensures { (names : Names) → OnOk result
         (WritesAll names Skip (tree.Then (syntax.command written.now) tree.Done)) }

@@ -1,4 +1,4 @@
--- What is left of a table without the pairs that are allowed.
+-- The pairs of a table that remain when the allowed ones are removed.
 use Rattle.std.proofs.Common.{◌≡◌, ℕ, ◌+◌, ◌<◌, Bool, true, false, List, [], ◌∷◌, ◌++◌, length, Option, Some, refl, sym, ap, ◌∙◌, subst, arith, inl, inr}
 use Rattle.std.specs.Prelude.{if◌then◌else◌, Result, Ok, Err, IfOk}
 use Rattle.std.specs.List.{All, Contains}
@@ -13,7 +13,7 @@ use Rattle.vsi_flows.specs.declared.pair.Pair.{Pair}
 use Rattle.vsi_flows.specs.Table.{IsJoined, IsTold, IsTable, HasPair, Precedes, AreSorted}
 use Rattle.vsi_blame.specs.Refused.{IsRefused, refused_of, AreRefused}
 
--- One pair more, which is refused or is not.
+-- One more pair is kept if it is refused.
 pub refused_push : (pairs : List Pair) (r : Pair)
     → refused_of (pairs ++ r ∷ []) ≡ refused_of pairs ++ (if r.allowed then [] else r ∷ [])
 refused_push [] r = refl
@@ -25,7 +25,7 @@ refused_push (q ∷ pairs) r = by q.allowed (refused_push pairs r)
     by true h = h
     by false h = ap (λ l. q ∷ l) h
 
--- What is so of each pair is so of each refused one.
+-- A property of each pair is a property of each refused pair.
 all_refused : (Q : Pair → Type 0) (pairs : List Pair) → All Q pairs → All Q (refused_of pairs)
 all_refused Q [] h = h
 all_refused Q (r ∷ pairs) h = by r.allowed (all_refused Q pairs (All-tail Q r pairs h))
@@ -44,7 +44,7 @@ are_down (r ∷ pairs) = by r.allowed refl (are_down pairs)
     by true e h = h
     by false e h = All-cons (λ q. q.allowed ≡ false) r (refused_of pairs) e h
 
--- The refused ones are sorted as all are.
+-- The refused pairs are sorted if all pairs are.
 sorted_refused : (pairs : List Pair) → AreSorted pairs → AreSorted (refused_of pairs)
 sorted_refused [] s = s
 sorted_refused (r ∷ pairs) s = by r.allowed (sorted_refused pairs s.1)
@@ -53,15 +53,15 @@ sorted_refused (r ∷ pairs) s = by r.allowed (sorted_refused pairs s.1)
     by true h = h
     by false h = (all_refused (Precedes r) pairs s.0, h)
 
--- The head of a list is in it, and so is what is in the rest.
+-- The head of a list is in the list.
 pub head_there : (r : Pair) (l : List Pair) → Contains (r ∷ l) r
 head_there r l = All-head (Contains (r ∷ l)) r l (All-contains_itself (r ∷ l))
 
--- What is in a list is in a longer one.
+-- An element of a list is in a longer list.
 rest_there : (r q : Pair) (l : List Pair) → Contains l q → Contains (r ∷ l) q
 rest_there r q l h = Contains-append_right (r ∷ []) l q h
 
--- A refused pair of the list is left.
+-- A refused pair of the list is kept.
 kept : (pairs : List Pair) → All (λ r. r.allowed ≡ false → Contains (refused_of pairs) r) pairs
 kept [] = All-nil (λ r. r.allowed ≡ false → Contains (refused_of []) r)
 kept (r ∷ pairs) = by r.allowed refl (kept pairs)
@@ -78,11 +78,11 @@ kept (r ∷ pairs) = by r.allowed refl (kept pairs)
         (λ q k d. rest_there r q (refused_of pairs) (k d)) pairs h)
 
 module _ (L : Lattice) (P : Profile) (p : Program) where
-  -- What fails doesn't hold.
+  -- A truth value that is false isn't true.
   down_of : (b : Bool) → b ≡ false → b ≡ true → ⊥
   down_of b e t = false≢true (sym e ∙ t)
 
-  -- What isn't allowed and is told is refused.
+  -- A pair of the table that isn't allowed is refused.
   refused_told : (r : Pair) → IsTold L P p r → r.allowed ≡ false → IsRefused L P p r.source r.target
   refused_told r t e = record {
     joined = record {
@@ -97,7 +97,7 @@ module _ (L : Lattice) (P : Profile) (p : Program) where
     down = down_of (L.leq t.low t.high) (sym t.verdict ∙ e);
   }
 
-  -- What is told of two variables that are refused isn't allowed.
+  -- A pair of the table with two variables that are refused isn't allowed.
   not_allowed : (a b : ℕ) → IsRefused L P p a b → (r : Pair) → IsTold L P p r → r.source ≡ a → r.target ≡ b
       → r.allowed ≡ false
   not_allowed a b d r t ea eb = by r.allowed refl
@@ -113,7 +113,7 @@ module _ (L : Lattice) (P : Profile) (p : Program) where
           absurd (d.down (subst (λ (x : ℕ). Below L x d.joined.high) low
           (subst (λ (x : ℕ). Below L t.low x) high below)))
 
-  -- The refused pairs of a table.
+  -- The pairs of a table that aren't allowed are its refused pairs.
   pub are_refused : (pairs : List Pair) → IsTable L P p pairs → AreRefused L P p (refused_of pairs)
   are_refused pairs table = record {
     told = told;
@@ -141,7 +141,7 @@ module _ (L : Lattice) (P : Profile) (p : Program) where
           (refused_told r (All-head (IsTold L P p) r l t) (All-head (λ q. q.allowed ≡ false) r l d))
           (each l (All-tail (IsTold L P p) r l t) (All-tail (λ q. q.allowed ≡ false) r l d))
 
-  -- What is left of a table is its refused pairs.
+  -- The remaining pairs of a table are its refused pairs.
   pub refused_table : {V E : Type 0} (pairs : List Pair) → IsTable L P p pairs → (f : V → List Pair) (o : Result V E)
       → IfOk o (λ v. f v ≡ refused_of pairs) → IfOk o (λ v. AreRefused L P p (f v))
   refused_table pairs table f (Ok v) h = subst (AreRefused L P p) (sym h) (are_refused pairs table)

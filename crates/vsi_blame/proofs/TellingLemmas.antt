@@ -1,4 +1,4 @@
--- The text of pairs, one behind another.
+-- The texts of pairs, one after another.
 use Rattle.std.proofs.Common.{◌≡◌, ℕ, List, [], ◌∷◌, ◌++◌, refl, sym, ap, ◌∙◌, subst}
 use Rattle.std.specs.Prelude.{Result, Ok, Err, OnOk}
 use Rattle.std.specs.List.{flat_map}
@@ -10,7 +10,7 @@ use Rattle.vsi_blame.specs.declared.walking.Walked.{Walked}
 use Rattle.vsi_blame.specs.Telling.{odds, Told, told_text, AreTold}
 
 module _ (l : Lattice) (r : Resolved) where
-  -- No pairs have no text.
+  -- No pairs have an empty text.
   pub told_none : (text : List ℕ) → text ≡ [] → AreTold l r [] text
   told_none text e = record {
     told = [];
@@ -18,7 +18,7 @@ module _ (l : Lattice) (r : Resolved) where
     whole = e;
   }
 
-  -- One pair more.
+  -- One more pair adds its text.
   pub told_more : (walked : List Walked) (text with more rest : List ℕ) (w : Walked) → AreTold l r walked text
       → with ≡ text ++ odds l r w.pair.source w.pair.target → more ≡ with ++ rest → AreTold l r (walked ++ w ∷ []) more
   told_more walked text with more rest w a e f =
@@ -34,16 +34,16 @@ module _ (l : Lattice) (r : Resolved) where
       joined : (x y z : List ℕ) → (x ++ y) ++ z ≡ x ++ ((y ++ z) ++ [])
       joined x y z = append_assoc x y z ∙ ap (λ t. x ++ t) (sym (append-nil (y ++ z)))
 
--- What follows from what a call's success brings is brought too.
+-- A fact about a call's success implies its consequence there.
 pub on_ok : {V E : Type 0} {A B : Type 0} (o : Result V E) → (A → B) → OnOk o A → OnOk o B
 on_ok (Ok v) f h = f h
 on_ok (Err e) f h = tt
 
--- What is added to a text with a part stands behind that part.
+-- A part added to a text with another part comes after that part.
 moved : (n m k a b : List ℕ) → n ≡ m ++ b → m ≡ k ++ a → n ≡ k ++ (a ++ b)
 moved n m k a b h e = h ∙ ap (λ t. t ++ b) e ∙ append_assoc k a b
 
--- Six parts that were added one by one.
+-- Six parts are added one after another.
 pub six_parts : (k a b c d e f m₁ m₂ m₃ m₄ m₅ n : List ℕ) → m₁ ≡ k ++ a → m₂ ≡ m₁ ++ b → m₃ ≡ m₂ ++ c → m₄ ≡ m₃ ++ d
     → m₅ ≡ m₄ ++ e → n ≡ m₅ ++ f → n ≡ k ++ (((((a ++ b) ++ c) ++ d) ++ e) ++ f)
 six_parts k a b c d e f m₁ m₂ m₃ m₄ m₅ n h₁ h₂ h₃ h₄ h₅ h =

@@ -1,4 +1,4 @@
--- A told pair has a walk down the row of its target.
+-- A pair of the table has a walk down the row of its target.
 use Rattle.std.proofs.Common.{◌≡◌, ℕ, ◌+◌, Bool, List, [], ◌∷◌, ◌++◌, length, refl, sym, ap, ◌∙◌, subst, arith}
 use Rattle.std.proofs.lemmas.List.{map_push}
 use Rattle.std.proofs.lemmas.List.Elements.{All-nil, All-push}
@@ -23,7 +23,7 @@ use Rattle.vsi_blame.specs.Telling.{AreWalked}
 
 module _ (L : Lattice) (laws : IsLattice L) (P : Profile) (p : Program) (res : IsWellFormed L p)
     (ds : AreClasses L p.declared) (flows : ℕ → ℕ → Bool) (are : AreFlowsOf P p flows) where
-  -- The row of a told pair's target finds its walk.
+  -- In the row of its target, a pair of the table has its walk.
   pub finds_pair : (r : Pair) → IsTold L P p r → (b : ℕ) → b ≡ row_of (size_of p) r.target → (row : List ℕ)
       → AreLeast flows (size_of p + 1) b row → (w : WalksTo) → FindsWalks (steps_of P p) (size_of p) row w
       → FindsPair (steps_of P p) r w
@@ -41,7 +41,7 @@ module _ (L : Lattice) (laws : IsLattice L) (P : Profile) (p : Program) (res : I
           (i.2 ∙ ap (variable_at (size_of p)) (sym same))
           (omega (arith, lt, q.0)) told (omega (arith, n)) w f
 
-  -- The same, where the row and its last place are known by equations.
+  -- The same, with the row and its last place given by equations.
   pub finds_row : (r : Pair) → IsTold L P p r → (last : ℕ) → last ≡ size_of p → (b : ℕ) → b ≡ row_of last r.target
       → (items row : List ℕ) → AreLeast flows (last + 1) b items → row ≡ items → (w : WalksTo)
       → FindsWalks (steps_of P p) last row w → FindsPair (steps_of P p) r w
@@ -51,7 +51,7 @@ module _ (L : Lattice) (laws : IsLattice L) (P : Profile) (p : Program) (res : I
       (subst (λ (l : List ℕ). FindsWalks (steps_of P p) (size_of p) l w) same
       (subst (λ (n : ℕ). FindsWalks (steps_of P p) n row w) e f))
 
--- One walked pair more.
+-- One more pair has a walk.
 pub walked_more : (ss : List Step) (pairs : List Pair) (walked : List Walked) (w : Walked) → AreWalked ss pairs walked
     → IsWalkOf ss w.pair w.steps.items → AreWalked ss (pairs ++ w.pair ∷ []) (walked ++ w ∷ [])
 walked_more ss pairs walked w a h = record {
@@ -59,7 +59,7 @@ walked_more ss pairs walked w a h = record {
   walks = All-push (λ v. IsWalkOf ss v.pair v.steps.items) walked w a.walks h;
 }
 
--- No pairs are walked.
+-- No pairs have no walks.
 pub walked_none : (ss : List Step) (walked : List Walked) → walked ≡ [] → AreWalked ss [] walked
 walked_none ss walked e = subst (AreWalked ss []) (sym e) (record {
   kept = refl;

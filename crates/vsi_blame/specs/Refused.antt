@@ -18,14 +18,15 @@ abbrev pub refused_of : List Pair → List Pair
 refused_of [] = []
 refused_of (r ∷ rest) = if r.allowed then refused_of rest else r ∷ refused_of rest
 
--- What each pair tells is so, each is refused, each two variables that are refused are a pair, and the pairs are sorted.
+-- Each pair has correct facts and is refused, every two variables that are refused are a pair, and the pairs are
+-- sorted.
 pub record AreRefused (L : Lattice) (P : Profile) (p : Program) (pairs : List Pair) : Type 0 where
   pub told : All (IsTold L P p) pairs
   pub refused : All (λ r. IsRefused L P p r.source r.target) pairs
   pub sorted : AreSorted pairs
   pub whole : (a b : ℕ) → IsRefused L P p a b → HasPair pairs a b
 
--- The class is the join of the classes of the pair's source and target: the least that the source may flow to and that
+-- The class is the join of the classes of the pair's source and target: the least to which the source may flow and that
 -- isn't lower than the target's own.
 pub record IsRaised (L : Lattice) (p : Program) (r : Pair) (c : ℕ) : Type 0 where
   pub low : ℕ

@@ -1,4 +1,4 @@
--- What is told of refused pairs.
+-- The report about refused pairs.
 use Rattle.std.specs.Prelude.{◌≡◌, ℕ, min, ◌==◌, if◌then◌else◌, List, [], ◌++◌, map, length, take, codes, decimal}
 use Rattle.std.specs.List.{All, flat_map}
 use Rattle.vsi_caret.specs.Safe.{shown, told as told_bytes}
@@ -26,19 +26,19 @@ variable_words r v =
 abbrev pub class_words : Lattice → Resolved → ℕ → List ℕ
 class_words l r v = shown (class_text l (declared_class (order l) (program r) v))
 
--- From which variable to which a flow leads.
+-- The flow from one variable to another.
 abbrev pub flow_words : Resolved → ℕ → ℕ → List ℕ
 flow_words r a b = variable_words r a ++ codes " flows to " ++ variable_words r b ++ codes ": "
 
--- Which class a variable has.
+-- The class that a variable has.
 abbrev pub has_words : Lattice → Resolved → ℕ → List ℕ
 has_words l r v = variable_words r v ++ codes " is " ++ class_words l r v
 
--- How the classes of two variables stand to each other.
+-- The relation of the classes of two variables.
 abbrev pub order_words : Lattice → Resolved → ℕ → ℕ → List ℕ
 order_words l r a b = class_words l r a ++ codes " is not at or below " ++ class_words l r b ++ codes ".\n"
 
--- What is at odds about a refused flow.
+-- The conflict in a refused flow.
 abbrev pub odds : Lattice → Resolved → ℕ → ℕ → List ℕ
 odds l r a b =
     flow_words r a b ++ has_words l r a ++ codes " and " ++ has_words l r b ++ codes ", and " ++ order_words l r a b
@@ -48,22 +48,22 @@ pub record AreWalked (ss : List Step) (pairs : List Pair) (walked : List Walked)
   pub kept : map (λ w. w.pair) walked ≡ pairs
   pub walks : All (λ w. IsWalkOf ss w.pair w.steps.items) walked
 
--- A pair with its walk, and what is told of both behind the words that say what is at odds.
+-- A pair with its walk, and the text about both after the sentence that states the conflict.
 pub record Told : Type 0 where
   pub entry : Walked
   pub rest : List ℕ
 
--- All that is told of a pair.
+-- The whole text about a pair.
 abbrev pub told_text : Lattice → Resolved → Told → List ℕ
 told_text l r t = odds l r t.entry.pair.source t.entry.pair.target ++ t.rest
 
--- The text tells these pairs, one behind another.
+-- The text is made of the texts of these pairs, one after another.
 pub record AreTold (l : Lattice) (r : Resolved) (walked : List Walked) (text : List ℕ) : Type 0 where
   pub told : List Told
   pub kept : map (λ t. t.entry) told ≡ walked
   pub whole : text ≡ flat_map (told_text l r) told
 
--- How many pairs are refused and how many of them are told, where those aren't all.
+-- The number of refused pairs and of reported ones, if not all are reported.
 abbrev pub count_words : ℕ → ℕ → List ℕ
 count_words refused told =
     if refused == told
@@ -71,7 +71,8 @@ count_words refused told =
     else codes "Refused flows: " ++ shown (decimal refused) ++ codes ". Told here: " ++ shown (decimal told)
     ++ codes ".\n"
 
--- The text tells the first refused pairs of the source text's program, 20 at most, and how many there are if more.
+-- The text reports the first refused pairs of the source text's program, at most 20, and their number if there are
+-- more.
 pub record TellsRefused (l : Lattice) (P : Profile) (source out : List ℕ) : Type 0 where
   pub resolved : Resolved
   pub stands : Stands (class_named l) source resolved

@@ -21,11 +21,11 @@ use vsi_compiler::{CompileError, Source, read_source};
 use vsi_lattice::Lattice;
 use vsi_types::Profile;
 
-/// How many pairs the prose names at most.
+/// The largest number of pairs that the report names.
 const TOLD: usize = 20;
 
-/// The prose on the refused flows of a source text under a profile, and what would fix them: at most
-/// 20 pairs, each with the steps of a shortest walk, and how many there are if more.
+/// The report about the refused flows of a source text under a profile, and possible fixes: at most
+/// 20 pairs, each with the steps of a shortest walk, and the number of pairs if there are more.
 pub fn refused_flows_of(
     alloc: Global,
     profile: Profile,
@@ -54,11 +54,11 @@ pub fn refused_flows_of(
     Ok(answer)
 }
 
-/// The prose on the refused flows of a text, by `refused_flows_of`.
+/// The report about the refused flows of a text, by `refused_flows_of`.
 ///
 /// # Errors
 ///
-/// Those of `read_source`: no flow is refused here.
+/// Those of `read_source`; no flow is refused here.
 pub fn refused_flows(
     alloc: Global,
     profile: Profile,

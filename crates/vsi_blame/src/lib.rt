@@ -1,9 +1,9 @@
-//! Why a text is refused, and what would fix it, in whole sentences.
+//! Why a text is refused, and possible fixes, in whole sentences.
 //!
-//! A source text, its path and a profile come in. Out comes prose for a person: for each refused
-//! pair of variables what is at odds, the steps of a shortest walk, each with its place and its
-//! line, and what would fix it. Clause `told` of `refused_flows_of` says which pairs it names, and
-//! clause `plain` that no byte of the answer drives a terminal.
+//! The input is a source text, its path and a profile. The output is prose for a person: for each
+//! refused pair of variables, the conflict; the steps of a shortest walk, each with its position
+//! and its line; and possible fixes. Clause `told` of `refused_flows_of` says which pairs the prose
+//! names, and clause `plain` says that no byte of it controls a terminal.
 //!
 //! To be believed: all files of `specs/`.
 #![tactic(auto)]

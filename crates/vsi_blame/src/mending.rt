@@ -1,4 +1,4 @@
-//! What would mend a refused flow.
+//! Possible fixes of a refused flow.
 
 ghost use Rattle.std.specs.Prelude.{IfSome};
 ghost use Rattle.std.specs.List.{All};
@@ -19,11 +19,11 @@ use vsi_lattice::{Class, Classes, Lattice};
 use vsi_scope::{Resolved, Var};
 use vsi_types::{LOOP, Step};
 
-/// How many steps are told at either end of a walk.
+/// The number of steps that are reported at either end of a walk.
 pub(crate) const TOLD_AT_AN_END: usize = 8;
 
-/// The class that mends a pair as the class of its target: of those at or above the target's own
-/// the least that the source may flow to. The ending of loops has its class from the lattice.
+/// The class that fixes a pair if the target is declared with it: the least class at or above the
+/// target's own to which the source may flow. The ending of loops has its class from the lattice.
 fn raised(lattice: &Lattice, program: &Resolved<'_>, pair: Pair) -> Option<Class>
     requires globals { All (IsClass (order lattice.now)) (program_of program.now).globals }
     requires declared { AreClasses (order lattice.now) (program_of program.now).declared }
@@ -42,7 +42,7 @@ fn raised(lattice: &Lattice, program: &Resolved<'_>, pair: Pair) -> Option<Class
     Some(lattice.join(low, high))
 }
 
-/// Whether two steps are one and the same place of the text.
+/// Whether two steps are equal and at the same position of the text.
 fn is_same(one: &Step, other: &Step) -> bool {
     one.source == other.source
         && one.target == other.target
@@ -60,7 +60,7 @@ fn passes(steps: &[Step], wanted: &Step) -> bool {
     false
 }
 
-/// How many of the walks pass a step.
+/// The number of walks that pass a step.
 fn passing(walks: &[Walked], wanted: &Step) -> usize {
     let mut count: usize = 0;
     for walk in walks {
@@ -71,12 +71,12 @@ fn passing(walks: &[Walked], wanted: &Step) -> usize {
     count
 }
 
-/// Whether a step of a walk is told: it stands near an end.
+/// Whether a step of a walk is reported, because it is near an end.
 pub(crate) fn is_told(count: usize, number: usize) -> bool {
     number < TOLD_AT_AN_END || count.saturating_sub(number) <= TOLD_AT_AN_END
 }
 
-/// The step of a walk that the most of the walks pass, and how many do; of several the last one.
+/// The step of a walk that most walks pass, and their number; the last one if there are several.
 fn busiest(walks: &[Walked], steps: &[Step]) -> Option<(Step, usize)> {
     let mut best: Option<(Step, usize)> = None;
     let mut most: usize = 0;
@@ -93,7 +93,7 @@ fn busiest(walks: &[Walked], steps: &[Step]) -> Option<(Step, usize)> {
     best
 }
 
-/// Adds which place is to be changed.
+/// Adds the position to change.
 fn put_break(
     text: &mut Vec<u8>,
     page: &Page<'_, '_>,
@@ -119,7 +119,7 @@ fn put_break(
     Ok(())
 }
 
-/// Adds which class the target would need.
+/// Adds the class that the target would need.
 fn put_raise(
     text: &mut Vec<u8>,
     lattice: &Lattice,
@@ -147,7 +147,7 @@ fn put_raise(
     text.extend_from_slice(b" alone then doesn't see it.\n")
 }
 
-/// Whether a pair is the first one that is told of its source.
+/// Whether a pair is the first reported pair of its source.
 fn is_first(walks: &[Walked], source: Var, target: Var) -> bool {
     for walk in walks {
         if walk.pair.source == source {
@@ -157,7 +157,7 @@ fn is_first(walks: &[Walked], source: Var, target: Var) -> bool {
     false
 }
 
-/// Adds, once for each source, that its declaration is not to be lowered.
+/// Adds, once for each source, the advice not to lower its declaration.
 fn put_warning(
     text: &mut Vec<u8>,
     program: &Resolved<'_>,
@@ -173,7 +173,7 @@ fn put_warning(
     text.extend_from_slice(b" lower is no mend: it gives it away.\n")
 }
 
-/// Adds behind the last pair what holds of all of them.
+/// Adds the remarks about all pairs, after the last one.
 pub(crate) fn put_closing(
     text: &mut Vec<u8>,
     walks: &[Walked],
@@ -192,7 +192,7 @@ pub(crate) fn put_closing(
     )
 }
 
-/// Adds what would mend a pair.
+/// Adds the possible fixes of a pair.
 pub(crate) fn put_mending(
     text: &mut Vec<u8>,
     lattice: &Lattice,

@@ -34,7 +34,7 @@ fn name<'a>(program: &'a Resolved<'_>, variable: Var) -> &'a [u8]
     }
 }
 
-/// Adds a variable as it stands in a sentence.
+/// Adds a variable as named in a sentence.
 pub(crate) fn put_variable(
     text: &mut Vec<u8>,
     program: &Resolved<'_>,
@@ -69,7 +69,7 @@ pub(crate) fn put_class_of(
     }
 }
 
-/// Adds from where a pair flows to where.
+/// Adds the source and the target of a flow.
 fn put_flow(
     text: &mut Vec<u8>,
     program: &Resolved<'_>,
@@ -85,7 +85,7 @@ fn put_flow(
     text.extend_from_slice(b": ")
 }
 
-/// Adds which class a variable has.
+/// Adds the class that a variable has.
 fn put_has(
     text: &mut Vec<u8>,
     lattice: &Lattice,
@@ -102,7 +102,7 @@ fn put_has(
     put_class_of(text, lattice, program, variable)
 }
 
-/// Adds how the classes of a pair stand to each other.
+/// Adds the relation of the classes of a pair.
 fn put_order(
     text: &mut Vec<u8>,
     lattice: &Lattice,
@@ -121,7 +121,7 @@ fn put_order(
     text.extend_from_slice(b".\n")
 }
 
-/// Adds what is at odds about a pair.
+/// Adds the conflict of a pair.
 pub(crate) fn put_odds(
     text: &mut Vec<u8>,
     lattice: &Lattice,

@@ -36,7 +36,7 @@ fn without_allowed(alloc: Global, pairs: &[Pair]) -> Result<Vec<Pair>, AllocErro
     Ok(kept)
 }
 
-/// The refused pairs of a program, by the source and then by the target.
+/// The refused pairs of a program, ordered by the source and then by the target.
 pub(crate) fn refused_pairs<C: Classes>(
     alloc: Global,
     profile: Profile,

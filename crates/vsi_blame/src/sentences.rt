@@ -1,4 +1,4 @@
-//! What happens at a step, in whole sentences.
+//! The sentences about a step.
 
 use crate::names::put_variable;
 use std::alloc::AllocError;
@@ -7,14 +7,14 @@ use vsi_scope::Resolved;
 use vsi_syntax::line_column;
 use vsi_types::{Rule, Step};
 
-/// A text that places are told of: its path and its bytes.
+/// A text in which positions are reported: its path and its bytes.
 #[derive(Clone, Copy)]
 pub(crate) struct Page<'a, 'b> {
     pub(crate) path: &'a [u8],
     pub(crate) source: &'b [u8],
 }
 
-/// Adds the path, the line and the column of a place.
+/// Adds the path, the line and the column of a position.
 pub(crate) fn put_where(
     text: &mut Vec<u8>,
     page: &Page<'_, '_>,
@@ -28,7 +28,7 @@ pub(crate) fn put_where(
     put_number(text, column)
 }
 
-/// What stands before the name of what is read.
+/// The text before the name of the variable that is read.
 fn before_read(rule: Rule) -> &'static [u8] {
     match rule {
         Rule::Assign | Rule::Letvar => b"Here ",
@@ -38,7 +38,7 @@ fn before_read(rule: Rule) -> &'static [u8] {
     }
 }
 
-/// What stands between the name of what is read and that of what is written.
+/// The text between the name of the variable that is read and that of the variable that is written.
 fn before_written(rule: Rule) -> &'static [u8] {
     match rule {
         Rule::Assign => b" is read, and what is computed from it is put into ",
@@ -49,7 +49,7 @@ fn before_written(rule: Rule) -> &'static [u8] {
     }
 }
 
-/// Adds what a step under a guard tells without a copy, and where its target is assigned.
+/// Adds what a step under a guard reveals without a copy, and where its target is assigned.
 fn put_guarded(
     text: &mut Vec<u8>,
     page: &Page<'_, '_>,
@@ -65,7 +65,7 @@ fn put_guarded(
     put_place(text, page.path, page.source, written.start, written.stop)
 }
 
-/// Adds what stands behind the name of what is written.
+/// Adds the text after the name of the variable that is written.
 fn put_consequence(
     text: &mut Vec<u8>,
     page: &Page<'_, '_>,
@@ -79,7 +79,7 @@ fn put_consequence(
     }
 }
 
-/// Adds a step: its place, its line, and what happens there.
+/// Adds a step: its position, its line, and what happens there.
 pub(crate) fn put_step(
     text: &mut Vec<u8>,
     page: &Page<'_, '_>,

@@ -1,4 +1,4 @@
-//! What is told of refused pairs.
+//! The report about refused pairs.
 
 ghost use Rattle.std.specs.Prelude.{◌≡◌, ◌++◌, ◌≤◌, IfOk, OnOk};
 ghost use Rattle.std.specs.List.{All};
@@ -18,7 +18,7 @@ use vsi_infer::declared_class;
 use vsi_lattice::{Classes, Lattice};
 use vsi_scope::{Resolved, Var};
 
-/// Adds which class a new variable without a declared one has by what is put into it.
+/// Adds the class that a new variable without a declared class gets from the value assigned to it.
 fn put_follows(
     text: &mut Vec<u8>,
     lattice: &Lattice,
@@ -45,7 +45,7 @@ fn put_follows(
     text.extend_from_slice(b".\n")
 }
 
-/// Adds the steps of a walk from a variable; of a long one those near its ends.
+/// Adds the steps of a walk; of a long walk, only those near its ends.
 fn put_steps(
     text: &mut Vec<u8>,
     lattice: &Lattice,
@@ -71,8 +71,8 @@ fn put_steps(
     Ok(())
 }
 
-/// What is told of a pair behind the words that say what is at odds: the steps, and what would
-/// mend it.
+/// The text about a pair after the sentence that states the conflict: the steps, and possible
+/// fixes.
 fn rest_of(
     alloc: Global,
     lattice: &Lattice,
@@ -93,7 +93,7 @@ fn rest_of(
     Ok(text)
 }
 
-/// What is told of each pair, one behind another.
+/// The texts about the pairs, one after another.
 pub(crate) fn told_of(
     alloc: Global,
     lattice: &Lattice,
@@ -117,7 +117,7 @@ pub(crate) fn told_of(
     Ok(text)
 }
 
-/// How many pairs are refused and how many of them are told, where those aren't all.
+/// The number of refused pairs and of reported ones, if not all are reported.
 pub(crate) fn count_text(alloc: Global, refused: usize, told: usize) -> Result<Vec<u8>, AllocError>
     ensures { IfOk result (λ text. text.items ≡ spec.count_words refused told) }
 {

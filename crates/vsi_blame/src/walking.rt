@@ -1,4 +1,4 @@
-//! A shortest walk of each pair that is told.
+//! A shortest walk for each reported pair.
 
 ghost use Rattle.std.specs.Prelude.{◌≡◌, ℕ, ◌+◌, ◌<◌, ◌≤◌, map, take, IfOk};
 ghost use Rattle.std.specs.List.{All};
@@ -29,12 +29,12 @@ fn declarations(program: &Resolved<'_>) -> u16
     ensures count { result ≡ size_of (program_of program.now) }
     ensures small { result ≤ 1024 }
 {
-    // What `body` ensures says that the program is resolved, and so that its declarations are few.
+    // The contract of `body` says that the program is resolved, which bounds its declarations.
     let _body = program.body();
     program.globals().len() as u16 + program.letvars().len() as u16
 }
 
-/// A walk of a pair's fewest steps.
+/// A walk of a pair with the fewest steps.
 fn walk_of<C: Classes>(
     alloc: Global,
     profile: Profile,
@@ -51,7 +51,7 @@ fn walk_of<C: Classes>(
     ensures { IfOk result (λ w.
         IsWalkOf (steps_of profile (program_of program.now)) pair w.items) }
 {
-    // What `body` ensures says that the program is resolved, which the proofs ask for.
+    // The contract of `body` says that the program is resolved, and the proofs need that.
     let _body = program.body();
     let last = declarations(program);
     let place = row_of(last, pair.target);
@@ -60,7 +60,7 @@ fn walk_of<C: Classes>(
     walks.walk_from(alloc, profile, program, pair.source, pair.steps)
 }
 
-/// Each pair with a walk of its fewest steps.
+/// Each pair with a walk of the fewest steps.
 pub(crate) fn walks_of<C: Classes>(
     alloc: Global,
     profile: Profile,

@@ -1,4 +1,4 @@
--- An image of which nothing is told fits.
+-- An image without points fits.
 use Rattle.std.proofs.Common.{◌≡◌, ℕ, ◌+◌, Bool, true, false, List, [], ◌∷◌, Option, Some, None, if◌then◌else◌, refl, sym, ◌∙◌}
 use Rattle.vsi_lattice.specs.declared.lattice.Lattice.{Lattice}
 use Rattle.vsi_lattice.specs.LatticeView.{class_named, order}
@@ -15,12 +15,12 @@ use Rattle.vsi_conform.specs.Conforms.{EndsAsAsked, AllEndAsAsked, Fits, IsAccep
 use Rattle.vsi_conform.specs.Points.{entries, word_points, words_of, state_points, trial_points, trials_points, global_points, points_of, is_none_told}
 use Rattle.vsi_conform.proofs.Points.{both_empty, globals_kept, words_kept}
 
--- A test that tells nothing holds, and nothing is told of it.
+-- If a test and its points add up to no point, the test holds and the points are empty.
 halts : (b : Bool) (n : ℕ) (ps : List Point) → (if b then ps else OutOfBudget n ∷ []) ≡ [] → (b ≡ true) × (ps ≡ [])
 halts true n ps h = (refl, h)
 halts false n ps h = absurd cc
 
--- A state of which nothing is told has halted with the expected words.
+-- A final state without points has halted with the expected words.
 state_kept : (image : Image) (n : ℕ) (t : Trial) (o : Option State) → state_points image n t o ≡ [] →
     (s : State) × (o ≡ Some s) × (s.halted ≡ true)
     × HasWords (globals image.globals.items) (globals_of image s) (entries t.expect.items)
@@ -34,20 +34,20 @@ state_kept image n t (Some s) h =
       words_kept n 0 (entries t.expect.items) (globals image.globals.items) (globals_of image s) p.1,
     )
 
--- A run of which nothing is told ends as is asked for.
+-- A run without points ends as required.
 trial_kept : (image : Image) (n : ℕ) (t : Trial) → trial_points image n t ≡ [] → EndsAsAsked image t
 trial_kept image n t h =
     let p = state_kept image n t (run_of image (words_of image t) t.budget) h in
     record { last = p.0; reached = p.1; halted = p.2; words = p.3 }
 
--- So do all runs.
+-- Runs without points all end as required.
 trials_kept : (image : Image) (n : ℕ) (ts : List Trial) → trials_points image n ts ≡ [] → AllEndAsAsked image ts
 trials_kept image n [] h = tt
 trials_kept image n (t ∷ ts) h =
     let p = both_empty (trial_points image n t) (trials_points image (n + 1) ts) h in
     (trial_kept image n t p.0, trials_kept image (n + 1) ts p.1)
 
--- An image of which nothing is told fits.
+-- An image without points fits.
 pub image_fits : (image : Image) (i : Interface) → points_of image i ≡ [] → Fits i image
 image_fits image i h =
     let p = both_empty (global_points i.is_ordered (globals i.globals.items) (globals image.globals.items))
@@ -57,12 +57,12 @@ image_fits image i h =
       trials = trials_kept image 0 i.trials.items p.1;
     }
 
--- No point is told.
+-- If the test says that no point is reported, the list is empty.
 nothing_told : (ps : List Point) → is_none_told ps ≡ true → ps ≡ []
 nothing_told [] h = refl
 nothing_told (p ∷ ps) h = absurd cc
 
--- A text conforms whose image is accepted and of which nothing is told.
+-- A text conforms if its image is accepted and has no points.
 pub conforms_so : (l : Lattice) (text : List ℕ) (i : Interface) (image : Image) (ps qs : List Point) →
     IsAcceptedAs (class_named l) (order l) i.judgement text image → ps ≡ points_of image i → qs ≡ ps →
     is_none_told qs ≡ true → Conforms l text i

@@ -6,7 +6,7 @@ use Rattle.toml.specs.Data.{Data, Members, member, as_integer}
 use Rattle.vsi_conform.specs.Points.{Entry, entry, entries}
 use Rattle.vsi_conform.specs.Reading.{entry_more, numbers_of}
 
--- What is found, and one more, before what the rest gives.
+-- The entries found, and one more, come before those of the rest.
 more_found : (found : List Entry) (e : Entry) (o : Option (List Entry)) →
     option_map (λ rest. found ++ rest) (entry_more e.0 (Some e.1) o)
     ≡ option_map (λ rest. (found ++ e ∷ []) ++ rest) o

@@ -1,4 +1,4 @@
--- What is told as JSON has no number that isn't whole, so its text is known.
+-- The JSON of an answer has no number that isn't whole, so its text is determined.
 use Rattle.std.proofs.Common.{◌≡◌, ℕ, ℤ, pos, negsuc, false, List, [], ◌∷◌, codes, Option, Some, None, refl, slice_get}
 use Rattle.serde_json.specs.Data.{number, Members}
 use Rattle.serde_json.specs.Find.{of_integer}
@@ -15,17 +15,17 @@ use Rattle.vsi_conform.specs.Points.{Entry}
 use Rattle.vsi_conform.specs.Shown.{Page, Shown, asked, expected, by_name, by_class, run_number}
 use Rattle.vsi_conform.specs.Json as json
 
--- A word.
+-- A word has no such number.
 word_plain : (w : ℤ) → has_float (number (of_integer w)) ≡ false
 word_plain (pos n) = refl
 word_plain (negsuc n) = refl
 
--- A word that is found or not.
+-- An optional word has none.
 found_plain : (o : Option ℤ) → has_float (json.found o) ≡ false
 found_plain None = refl
 found_plain (Some w) = word_plain w
 
--- A global of the text more.
+-- The members of a global of the text add none.
 shown_plain : (s : Shown) (ms : Members) → members_have_float ms ≡ false →
     members_have_float (json.with_shown s ms) ≡ false
 shown_plain s ms e =
@@ -35,14 +35,14 @@ shown_plain s ms e =
     natural_plain (codes "column") s.column lined (natural_plain (codes "line") s.line classed
     (text_plain (codes "class") s.class named (text_plain (codes "name") s.name ms e)))
 
--- A global that the text lacks.
+-- A global that the text lacks has none.
 missing_plain : (g : Global) → members_have_float (json.missing g) ≡ false
 missing_plain g =
     let kind = json.kind (codes "missing") in
     text_plain (codes "class") g.1 (with_text (codes "name") g.0 kind)
     (text_plain (codes "name") g.0 kind refl)
 
--- A run that doesn't halt.
+-- A run that doesn't halt has none.
 budget_plain : (run : ℕ) (t : Option Trial) → members_have_float (json.out_of_budget run t) ≡ false
 budget_plain run None = natural_plain (codes "run") (run_number run) (json.kind (codes "budget")) refl
 budget_plain run (Some t) =
@@ -50,7 +50,7 @@ budget_plain run (Some t) =
     natural_plain (codes "budget") t.budget (json.with_run run kind)
     (natural_plain (codes "run") (run_number run) kind refl)
 
--- A word that isn't as is expected.
+-- A word that differs from the expected one has none.
 wrong_plain : (run : ℕ) (e : Entry) (word : Option ℤ) → members_have_float (json.wrong_word run e word) ≡ false
 wrong_plain run e word =
     let kind = json.kind (codes "word") in
@@ -60,13 +60,13 @@ wrong_plain run e word =
     (put_plain (codes "expected") (number (of_integer e.1)) named (word_plain e.1)
     (text_plain (codes "name") e.0 begun (natural_plain (codes "run") (run_number run) kind refl)))
 
--- A global of the text, and what is expected of it.
+-- A global of the text with what was expected in its place has none.
 expected_plain : (kind : List ℕ) (s : Shown) (bytes : List ℕ) →
     members_have_float (with_text (codes "expected") bytes (json.with_shown s (json.kind kind))) ≡ false
 expected_plain kind s bytes =
     text_plain (codes "expected") bytes (json.with_shown s (json.kind kind)) (shown_plain s (json.kind kind) refl)
 
--- A point.
+-- A point has none.
 point_plain : (p : Page) (point : Point) → members_have_float (json.members_of_point p point) ≡ false
 point_plain p (Missing n) = missing_plain (asked p.interface n)
 point_plain p (Unexpected place) = shown_plain (by_name p place) (json.kind (codes "unexpected")) refl
@@ -76,7 +76,7 @@ point_plain p (OutOfBudget run) = budget_plain run (slice_get p.interface.trials
 point_plain p (WrongWord run n word) = wrong_plain run (expected p.interface run n) (Some word)
 point_plain p (NoWord run n) = wrong_plain run (expected p.interface run n) None
 
--- Points.
+-- Points have none.
 pub points_plain : (p : Page) (points : List Point) →
     items_have_float (items_of (json.objects_of_points p points)) ≡ false
 points_plain p [] = refl
@@ -85,7 +85,7 @@ points_plain p (point ∷ points) =
     (items_have_float (items_of (json.objects_of_points p points)))
     (point_plain p point) (points_plain p points)
 
--- The object of a refusal.
+-- The object of a refusal has none.
 pub refusal_plain : (r : Option UnsteadyError) (lines : List ℕ) →
     items_have_float (items_of (json.objects_of_refusal r lines)) ≡ false
 refusal_plain None lines = refl

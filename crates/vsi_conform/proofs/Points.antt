@@ -1,4 +1,4 @@
--- Where no point is told all is as is asked for, and the other way round.
+-- There are no points exactly if everything is as required.
 use Rattle.std.proofs.Common.{◌≡◌, ℕ, ◌+◌, ℤ, Bool, true, false, ◌&&◌, List, [], ◌∷◌, ◌++◌, Option, Some, None, if◌then◌else◌, bytes_eq, refl, sym, ap, ◌∙◌, unwrap_or}
 use Rattle.std.specs.Ordering.{int_eq}
 use Rattle.std.proofs.lemmas.Bool.Decides.{Decides-int_eq}
@@ -9,12 +9,12 @@ use Rattle.vsi_conform.specs.declared.point.Point.TheVariants.{Unexpected, Wrong
 use Rattle.vsi_conform.specs.Points.{told, class_point, entry_point, entry_points, unexpected_points, set_points, first_difference, points_from, global_points, Entry, word_of, word_point, expected_point, word_points}
 use Rattle.vsi_conform.specs.Asked.{class_of, HasEach, AreAskedFor, HasGlobals, HasWords}
 
--- Lists that are empty one behind the other are empty.
+-- If two lists joined are empty, both are.
 pub both_empty : {A : Type 0} (xs ys : List A) → xs ++ ys ≡ [] → (xs ≡ []) × (ys ≡ [])
 both_empty [] ys h = (refl, h)
 both_empty (x ∷ xs) ys h = absurd cc
 
--- No point is told where there is none.
+-- If no point is listed, there is none.
 none_told : (o : Option Point) → told o ≡ [] → o ≡ None
 none_told None h = refl
 none_told (Some p) h = absurd cc
@@ -24,17 +24,17 @@ holds : (b : Bool) (p : Point) → ◌≡◌ {A = Option Point} (if b then None 
 holds true p h = refl
 holds false p h = absurd cc
 
--- Texts that compare equal are the same.
+-- Texts that compare as equal are the same.
 same_bytes : (xs ys : List ℕ) → bytes_eq xs ys ≡ true → xs ≡ ys
 same_bytes xs ys h = (bytes_eq-Decides xs ys).0 h
 
--- Words that compare equal are the same.
+-- Words that compare as equal are the same.
 same_words : (x y : ℤ) → int_eq x y ≡ true → x ≡ y
 same_words x y h = (Decides-int_eq x y).0 h
 
--- ---- no point, so all is as is asked for.
+-- ---- no point, so everything is as required.
 
--- One more global.
+-- One more global is looked at.
 class_more : (b : Bool) (n place : ℕ) (w g : Global) (gs : List Global) →
     ◌≡◌ {A = Option Point} (if b then class_point n place w g else entry_point n w (place + 1) gs) None →
     (entry_point n w (place + 1) gs ≡ None → class_of gs w.0 ≡ Some w.1) →
@@ -43,47 +43,47 @@ class_more true n place w g gs h more =
     ap Some (same_bytes g.1 w.1 (holds (bytes_eq g.1 w.1) (WrongClass place n) h))
 class_more false n place w g gs h more = more h
 
--- A global of which nothing is told is there, with its class.
+-- A global without a point is there, with its class.
 has_class : (n : ℕ) (w : Global) (place : ℕ) (gs : List Global) → entry_point n w place gs ≡ None →
     class_of gs w.0 ≡ Some w.1
 has_class n w place [] h = absurd cc
 has_class n w place (g ∷ gs) h =
     class_more (bytes_eq g.0 w.0) n place w g gs h (has_class n w (place + 1) gs)
 
--- So are all.
+-- All globals without points are there, with their classes.
 has_each : (n : ℕ) (ws gs : List Global) → entry_points n ws gs ≡ [] → HasEach gs ws
 has_each n [] gs h = tt
 has_each n (w ∷ ws) gs h =
     let p = both_empty (told (entry_point n w 0 gs)) (entry_points (n + 1) ws gs) h in
     (has_class n w 0 gs (none_told (entry_point n w 0 gs) p.0), has_each (n + 1) ws gs p.1)
 
--- A test that tells nothing more holds, and nothing more is told.
+-- If a test and its points add up to no point, the test holds and the points are empty.
 nothing_more : (b : Bool) (p : Point) (ps : List Point) → (if b then ps else p ∷ ps) ≡ [] →
     (b ≡ true) × (ps ≡ [])
 nothing_more true p ps h = (refl, h)
 nothing_more false p ps h = absurd cc
 
--- Where no global is unexpected each is asked for.
+-- If no global is unexpected, each is required.
 asked_for : (place : ℕ) (ws gs : List Global) → unexpected_points place ws gs ≡ [] → AreAskedFor ws gs
 asked_for place ws [] h = tt
 asked_for place ws (g ∷ gs) h =
     let p = nothing_more (is_taken ws g.0) (Unexpected place) (unexpected_points (place + 1) ws gs) h in
     (p.0, asked_for (place + 1) ws gs p.1)
 
--- Where nothing is told of the globals they are those that are asked for, in any order.
+-- Globals without points are the required ones, in any order.
 set_kept : (ws gs : List Global) → set_points ws gs ≡ [] → HasGlobals false ws gs
 set_kept ws gs h =
     let p = both_empty (entry_points 0 ws gs) (unexpected_points 0 ws gs) h in
     (has_each 0 ws gs p.0, asked_for 0 ws gs p.1)
 
--- A test of two parts.
+-- If a test of two parts finds nothing, both parts hold and so does the rest.
 both_parts : (a b : Bool) (n : ℕ) (o : Option ℕ) → (if a && b then o else Some n) ≡ None →
     (a ≡ true) × (b ≡ true) × (o ≡ None)
 both_parts true true n o h = (refl, refl, h)
 both_parts true false n o h = absurd cc
 both_parts false b n o h = absurd cc
 
--- Lists that differ nowhere are the same.
+-- Lists with no first difference are the same.
 same_globals : (n : ℕ) (ws gs : List Global) → first_difference n ws gs ≡ None → gs ≡ ws
 same_globals n [] [] h = refl
 same_globals n [] (g ∷ gs) h = absurd cc
@@ -94,26 +94,26 @@ same_globals n (w ∷ ws) (g ∷ gs) h =
     ∙ ap (λ x. (w.0, x) ∷ gs) (sym (same_bytes w.1 g.1 p.1))
     ∙ ap (λ xs. w ∷ xs) (same_globals (n + 1) ws gs p.2)
 
--- Where nothing is told of two lists they differ nowhere.
+-- If two lists give no point, they have no first difference.
 differ_nowhere : (o : Option ℕ) (ps : List Point) → points_from o ps ≡ [] → o ≡ None
 differ_nowhere None ps h = refl
 differ_nowhere (Some n) [] h = absurd cc
 differ_nowhere (Some n) (p ∷ ps) h = absurd cc
 
--- Where nothing is told of the globals they are those that are asked for.
+-- Globals without points are the required ones.
 pub globals_kept : (is_ordered : Bool) (ws gs : List Global) → global_points is_ordered ws gs ≡ [] →
     HasGlobals is_ordered ws gs
 globals_kept true ws gs h =
     same_globals 0 ws gs (differ_nowhere (first_difference 0 ws gs) (set_points ws gs) h)
 globals_kept false ws gs h = set_kept ws gs h
 
--- A word of which nothing is told is the expected one.
+-- A word without a point is the expected one.
 word_kept : (trial n : ℕ) (expected : ℤ) (o : Option ℤ) → word_point trial n expected o ≡ None → o ≡ Some expected
 word_kept trial n expected None h = absurd cc
 word_kept trial n expected (Some w) h =
     ap Some (same_words w expected (holds (int_eq w expected) (WrongWord trial n w) h))
 
--- So are all.
+-- Words without points are the expected ones.
 pub words_kept : (trial n : ℕ) (es : List Entry) (gs : List Global) (ws : List ℤ) →
     word_points trial n es gs ws ≡ [] → HasWords gs ws es
 words_kept trial n [] gs ws h = tt
@@ -123,25 +123,25 @@ words_kept trial n (e ∷ es) gs ws h =
       words_kept trial (n + 1) es gs ws p.1,
     )
 
--- ---- all as is asked for, so no point.
+-- ---- everything as required, so no point.
 
--- Where nothing is told twice nothing is told at all.
+-- Two empty lists joined are empty.
 pub empty_both : {A : Type 0} (xs ys : List A) → xs ≡ [] → ys ≡ [] → xs ++ ys ≡ []
 empty_both xs ys h k = ap (λ l. l ++ ys) h ∙ k
 
--- The same texts compare equal.
+-- The same texts compare as equal.
 equal_bytes : (xs ys : List ℕ) → xs ≡ ys → bytes_eq xs ys ≡ true
 equal_bytes xs ys h = (bytes_eq-Decides xs ys).1 h
 
--- The same words compare equal.
+-- The same words compare as equal.
 equal_words : (x y : ℤ) → x ≡ y → int_eq x y ≡ true
 equal_words x y h = (Decides-int_eq x y).1 h
 
--- What is there is one.
+-- Optional texts that are present and equal have equal contents.
 some_is : (x y : List ℕ) → Some x ≡ Some y → x ≡ y
 some_is x y h = ap (λ o. unwrap_or o x) h
 
--- One more global.
+-- One more global is looked at.
 class_told : (b : Bool) (n place : ℕ) (w g : Global) (gs : List Global) →
     (if b then Some g.1 else class_of gs w.0) ≡ Some w.1 →
     (class_of gs w.0 ≡ Some w.1 → entry_point n w (place + 1) gs ≡ None) →
@@ -150,28 +150,28 @@ class_told true n place w g gs h more =
     ap (λ b. if b then None else Some (WrongClass place n)) (equal_bytes g.1 w.1 (some_is g.1 w.1 h))
 class_told false n place w g gs h more = more h
 
--- Of a global that is there, with its class, nothing is told.
+-- A global that is there, with its class, has no point.
 class_there : (n : ℕ) (w : Global) (place : ℕ) (gs : List Global) → class_of gs w.0 ≡ Some w.1 →
     entry_point n w place gs ≡ None
 class_there n w place [] h = absurd cc
 class_there n w place (g ∷ gs) h =
     class_told (bytes_eq g.0 w.0) n place w g gs h (class_there n w (place + 1) gs)
 
--- So it is of all.
+-- Globals that are all there, with their classes, have no points.
 each_there : (n : ℕ) (ws gs : List Global) → HasEach gs ws → entry_points n ws gs ≡ []
 each_there n [] gs h = refl
 each_there n (w ∷ ws) gs h =
     empty_both (told (entry_point n w 0 gs)) (entry_points (n + 1) ws gs)
     (ap told (class_there n w 0 gs h.0)) (each_there (n + 1) ws gs h.1)
 
--- Where each global is asked for none is unexpected.
+-- If each global is required, none is unexpected.
 none_unexpected : (place : ℕ) (ws gs : List Global) → AreAskedFor ws gs → unexpected_points place ws gs ≡ []
 none_unexpected place ws [] h = refl
 none_unexpected place ws (g ∷ gs) h =
     ap (λ b. if b then unexpected_points (place + 1) ws gs else Unexpected place ∷ unexpected_points (place + 1) ws gs)
     h.0 ∙ none_unexpected (place + 1) ws gs h.1
 
--- A list differs nowhere from itself.
+-- A list has no difference from itself.
 differs_nowhere : (n : ℕ) (gs : List Global) → first_difference n gs gs ≡ None
 differs_nowhere n [] = refl
 differs_nowhere n (g ∷ gs) =
@@ -179,7 +179,7 @@ differs_nowhere n (g ∷ gs) =
     ∙ ap (λ b. if b then first_difference (n + 1) gs gs else Some n) (equal_bytes g.1 g.1 refl)
     ∙ differs_nowhere (n + 1) gs
 
--- Of globals that are those that are asked for nothing is told.
+-- The required globals have no points.
 pub globals_told : (is_ordered : Bool) (ws gs : List Global) → HasGlobals is_ordered ws gs →
     global_points is_ordered ws gs ≡ []
 globals_told true ws gs h =
@@ -189,12 +189,12 @@ globals_told false ws gs h =
     empty_both (entry_points 0 ws gs) (unexpected_points 0 ws gs) (each_there 0 ws gs h.0)
     (none_unexpected 0 ws gs h.1)
 
--- Of the expected word nothing is told.
+-- The expected word has no point.
 word_told : (trial n : ℕ) (expected : ℤ) → word_point trial n expected (Some expected) ≡ None
 word_told trial n expected =
     ap (λ b. if b then None else Some (WrongWord trial n expected)) (equal_words expected expected refl)
 
--- So it is of all.
+-- The expected words have no points.
 pub words_told : (trial n : ℕ) (es : List Entry) (gs : List Global) (ws : List ℤ) → HasWords gs ws es →
     word_points trial n es gs ws ≡ []
 words_told trial n [] gs ws h = refl

@@ -1,4 +1,4 @@
--- The map of a table beside its members.
+-- The map of a table, compared with its members.
 use Rattle.std.proofs.Common.{◌≡◌, List, [], ◌∷◌, Ordering, Less, Equal, Greater, String, Global, string_bytes, string_cmp, refl, ◌∙◌}
 use Rattle.std.specs.Ordering.{match_ordering}
 use Rattle.std.specs.BTreeMap.{insert_entry}
@@ -17,7 +17,7 @@ one_of_three Less a b c = refl
 one_of_three Equal a b c = refl
 one_of_three Greater a b c = refl
 
--- An entry more is a member more.
+-- One more entry in the map is one more member.
 pub put_entry : (es : List Entry) (k : String Global) (v : Value) →
     members_view (insert_entry string_cmp es k v) ≡ put (string_bytes k) (view v) (members_view es)
 put_entry [] k v = refl

@@ -1,4 +1,4 @@
--- The line of an answer as JSON.
+-- The line of an answer in JSON.
 use Rattle.std.proofs.Common.{◌≡◌, ℕ, Bool, true, false, not, ◌&&◌, List, [], ◌∷◌, ◌++◌, codes, Option, Some, None, is_some, ap, ◌∙◌}
 use Rattle.serde_json.specs.Data.{Data}
 use Rattle.serde_json.specs.View.{items_of}
@@ -17,7 +17,7 @@ use Rattle.vsi_diagnostics.proofs.Plain.{append_plain}
 use Rattle.vsi_conform.proofs.Plain.{refusal_plain, points_plain}
 use Rattle.vsi_conform.proofs.Begins.{conforming_so, differing_so}
 
--- Where there is no refusal and no point, the line is known.
+-- The line without a refusal and points is fixed.
 conforming_line_so : (l : Lattice) (p : Page) (r : Option UnsteadyError) (ps : List Point) (first : List Data)
     (out : List ℕ) → json.TellsRefusal l p r first → (not (is_some r) && is_none_told ps) ≡ true →
     out ≡ json.answer_line (not (is_some r) && is_none_told ps) (first ++ json.objects_of_points p ps) →
@@ -27,14 +27,14 @@ conforming_line_so l p None [] first out told h line =
 conforming_line_so l p None (point ∷ ps) first out told h line = absurd cc
 conforming_line_so l p (Some e) ps first out told h line = absurd cc
 
--- Where there is one, the line begins so.
+-- The line with a refusal or a point has a fixed beginning.
 differing_line_so : (b : Bool) (ds : List Data) (out : List ℕ) → out ≡ json.answer_line b ds → b ≡ false →
     (rest : List ℕ) × (out ≡ json.differing_begin ++ rest)
 differing_line_so true ds out line h = absurd cc
 differing_line_so false ds out line h =
     ((items_text false (items_of ds) ++ codes "}") ++ codes "\n", line ∙ differing_so ds)
 
--- The object of the refusal, and those of the points behind it.
+-- The object of the refusal is followed by those of the points.
 pub json_so : (l : Lattice) (text : List ℕ) (i : Interface) (a : Answer) (ds : List Declared) (first all : List Data)
     (out : List ℕ) → Declares text ds → json.TellsRefusal l (page_of text ds i) a.refusal first →
     all ≡ first ++ json.objects_of_points (page_of text ds i) a.points.items →

@@ -14,25 +14,25 @@ use Rattle.vsi_conform.specs.declared.interface.Judgement.{Judgement}
 use Rattle.vsi_conform.specs.Conforms.{IsAcceptedAs, IsRefusedAs}
 use Rattle.vsi_conform.specs.Lines.{IsRefusalLines, is_steady}
 
--- The refusal of an image that isn't steady; none where memory was wanting.
+-- The refusal of an image that isn't steady; none if memory ran out.
 abbrev pub steady_diagnostic : SteadyError → Option Diagnostic
 steady_diagnostic (steady.UnknownClass i) = refused 43 (codes "ClassNotInLattice") (number i)
 steady_diagnostic (steady.Flow place) = refused 25 (codes "Refused") nothing
 steady_diagnostic steady.Memory = None
 
--- The refusal of a source text, whether its image is to be steady or not; none where memory was wanting.
+-- The refusal of a source text, with or without a demand for a steady image; none if memory ran out.
 abbrev pub unsteady_diagnostic : List ℕ → UnsteadyError → Option Diagnostic
 unsteady_diagnostic text (unsteady.Compile e) = refusal_diagnostic text e
 unsteady_diagnostic text (unsteady.Image e) = steady_diagnostic e
 unsteady_diagnostic text unsteady.Memory = None
 
--- The text has an image, as is asked for, and the line says so.
+-- The text has an image as required, and the line says so.
 pub record TellsAccepted (l : Lattice) (j : Judgement) (text out : List ℕ) : Type 0 where
   pub image : Image
   pub accepted : IsAcceptedAs (class_named l) (order l) j text image
   pub line : out ≡ accepted_line
 
--- The line is that of a refusal, with the lines that `check` prints of it.
+-- The line is that of a refusal, with the lines that `check` prints for it.
 pub record WritesRefusal (l : Lattice) (j : Judgement) (text : List ℕ) (e : UnsteadyError) (out : List ℕ) : Type 0 where
   pub diagnostic : Diagnostic
   pub is : unsteady_diagnostic text e ≡ Some diagnostic
@@ -40,7 +40,7 @@ pub record WritesRefusal (l : Lattice) (j : Judgement) (text : List ℕ) (e : Un
   pub printed : IsRefusalLines l text (is_steady j) e lines
   pub json : IsRefusalJson l text diagnostic lines out
 
--- The text is refused, and the line is that of its refusal, which begins so.
+-- The text is refused, and the line is that of its refusal, with the fixed beginning.
 pub record TellsRefused (l : Lattice) (j : Judgement) (text out : List ℕ) : Type 0 where
   pub error : UnsteadyError
   pub refused : IsRefusedAs (class_named l) (order l) j text error
@@ -48,11 +48,11 @@ pub record TellsRefused (l : Lattice) (j : Judgement) (text out : List ℕ) : Ty
   pub rest : List ℕ
   pub line : out ≡ refused_begin ++ rest
 
--- The line is the answer of the judgement of the text, by whether it is accepted.
+-- The line is the answer for a text that is accepted or refused.
 abbrev pub TellsAnswer : Lattice → Judgement → List ℕ → Bool → List ℕ → Type 0
 TellsAnswer l j text true out = TellsAccepted l j text out
 TellsAnswer l j text false out = TellsRefused l j text out
 
--- What begins as the line of a refused text isn't the line of an accepted one.
+-- A line that begins like that of a refused text isn't the line of an accepted one.
 abbrev pub BeginApart : Type 0
 BeginApart = (rest : List ℕ) → ¬ (accepted_line ≡ refused_begin ++ rest)

@@ -1,4 +1,4 @@
--- When a text conforms to an interface, and what is told of one that doesn't.
+-- When a text conforms to an interface, and what is reported for one that doesn't.
 use Rattle.std.specs.Prelude.{◌≡◌, ◌≢◌, ℕ, ◌⊎◌, true, List, [], ◌∷◌, Option, Some, None}
 use Rattle.vsi_lattice.specs.Order.{Lattice}
 use Rattle.vsi_lattice.specs.declared.lattice.Lattice as named
@@ -28,68 +28,68 @@ use Rattle.vsi_conform.specs.Points.{entries, points_of, words_of}
 
 -- ---- the runs.
 
--- A run halts within its budget with the words that are expected.
+-- A run halts within its budget with the expected words.
 pub record EndsAsAsked (image : Image) (t : Trial) : Type 0 where
   pub last : State
   pub reached : run_of image (words_of image t) t.budget ≡ Some last
   pub halted : last.halted ≡ true
   pub words : HasWords (globals image.globals.items) (globals_of image last) (entries t.expect.items)
 
--- Each of these runs does.
+-- Each of these runs ends so.
 abbrev pub AllEndAsAsked : Image → List Trial → Type 0
 AllEndAsAsked image [] = Unit {0}
 AllEndAsAsked image (t ∷ ts) = EndsAsAsked image t × AllEndAsAsked image ts
 
--- An image has the globals and the runs that are asked for.
+-- An image has the globals and the runs that an interface requires.
 pub record Fits (i : Interface) (image : Image) : Type 0 where
   pub globals : HasGlobals i.is_ordered (globals i.globals.items) (globals image.globals.items)
   pub trials : AllEndAsAsked image i.trials.items
 
 -- ---- the judgement.
 
--- The image is that of a text that is accepted under a profile.
+-- The image is compiled from a text that is accepted under a profile.
 abbrev pub IsCompiled : Known → Lattice → Profile → List ℕ → Image → Type 0
 IsCompiled = compiler.IsCompiled
 
--- The image is that of a text with steady flows, and steady.
+-- The image is compiled from a text with steady flows, and is steady.
 pub record IsSteadilyCompiled (known : Known) (L : Lattice) (text : List ℕ) (image : Image) : Type 0 where
   pub compiled : compiler.IsCompiled known L profile.Strict text image
   pub flows : HasSteadyFlows known L text
   pub steady : IsSteady known L image
 
--- The image is that of a text that is accepted as is asked for.
+-- The image is compiled from a text that is accepted as required.
 abbrev pub IsAcceptedAs : Known → Lattice → Judgement → List ℕ → Image → Type 0
 IsAcceptedAs known L Base text image = IsCompiled known L profile.Base text image
 IsAcceptedAs known L Strict text image = IsCompiled known L profile.Strict text image
 IsAcceptedAs known L Steady text image = IsSteadilyCompiled known L text image
 
--- The text conforms to the interface: it is accepted as is asked for, and its image fits.
+-- The text conforms to the interface: it is accepted as required, and its image fits.
 pub record Conforms (l : named.Lattice) (text : List ℕ) (i : Interface) : Type 0 where
   pub image : Image
   pub accepted : IsAcceptedAs (class_named l) (order l) i.judgement text image
   pub fits : Fits i image
 
--- ---- what is told.
+-- ---- the answer.
 
--- A refusal of a text under a profile, which isn't accepted.
+-- The text isn't accepted under the profile, and this is its refusal.
 abbrev pub IsRefused : Known → Lattice → Profile → List ℕ → UnsteadyError → Type 0
 IsRefused known L P text (unsteady.Compile e) = refusal.IsRefused known L P text e
 IsRefused known L P text (unsteady.Image e) = ⊥
 IsRefused known L P text unsteady.Memory = ⊥
 
--- A refusal of a text whose image is to be steady, which isn't want of memory, and the text isn't accepted so.
+-- The text isn't accepted with a steady image, and this is its refusal, for a reason other than memory.
 pub record IsSteadilyRefused (known : Known) (L : Lattice) (text : List ℕ) (e : UnsteadyError) : Type 0 where
   pub other : e ≢ unsteady.Memory
   pub told : RefusesSteady known L text e
   pub unaccepted : ¬ (IsSteadilyAccepted known L text)
 
--- A refusal of a text that is to be accepted as is asked for.
+-- The text isn't accepted as required, and this is its refusal.
 abbrev pub IsRefusedAs : Known → Lattice → Judgement → List ℕ → UnsteadyError → Type 0
 IsRefusedAs known L Base text e = IsRefused known L profile.Base text e
 IsRefusedAs known L Strict text e = IsRefused known L profile.Strict text e
 IsRefusedAs known L Steady text e = IsSteadilyRefused known L text e
 
--- These are the points of the one image of a text whose flows aren't judged.
+-- These are the points of the one image that the text has when its flows aren't judged.
 pub record TellsImage (known : Known) (text : List ℕ) (i : Interface) (ps : List Point) : Type 0 where
   pub image : Image
   pub globals : compiler.HasGlobals text image
@@ -97,32 +97,32 @@ pub record TellsImage (known : Known) (text : List ℕ) (i : Interface) (ps : Li
   pub code : compiler.IsImageOf known text image
   pub points : ps ≡ points_of image i
 
--- The text has no program, and no point is told.
+-- The text has no program, and there are no points.
 pub record TellsNothing (known : Known) (text : List ℕ) (ps : List Point) : Type 0 where
   pub unreadable : ¬ (HasProgram known text)
   pub nothing : ps ≡ []
 
--- What is told of a refused text beside its refusal.
+-- The points of a refused text.
 abbrev pub TellsReadable : Known → List ℕ → Interface → List Point → Type 0
 TellsReadable known text i ps = TellsImage known text i ps ⊎ TellsNothing known text ps
 
--- What is told of an accepted text: the points of its image.
+-- The points of an accepted text are those of its image.
 pub record TellsAccepted (l : named.Lattice) (text : List ℕ) (i : Interface) (ps : List Point) : Type 0 where
   pub image : Image
   pub accepted : IsAcceptedAs (class_named l) (order l) i.judgement text image
   pub points : ps ≡ points_of image i
 
--- What is told of a refused text: its refusal, and the points of its image where it has a program.
+-- A refused text has its refusal and, if it has a program, the points of its image.
 pub record TellsRefused (l : named.Lattice) (text : List ℕ) (i : Interface) (e : UnsteadyError)
     (ps : List Point) : Type 0 where
   pub refused : IsRefusedAs (class_named l) (order l) i.judgement text e
   pub points : TellsReadable (class_named l) text i ps
 
--- What is told by whether there is a refusal.
+-- The answer with or without a refusal is correct.
 abbrev pub TellsBoth : named.Lattice → List ℕ → Interface → Option UnsteadyError → List Point → Type 0
 TellsBoth l text i None ps = TellsAccepted l text i ps
 TellsBoth l text i (Some e) ps = TellsRefused l text i e ps
 
--- What is told is so.
+-- The answer is correct.
 abbrev pub Tells : named.Lattice → List ℕ → Interface → Answer → Type 0
 Tells l text i a = TellsBoth l text i a.refusal a.points.items

@@ -22,7 +22,7 @@ name_of (NothingExpected run) = codes "NothingExpected"
 name_of (UnknownGlobal run name) = codes "UnknownGlobal"
 name_of Memory = codes "Memory"
 
--- The number of the run that is faulty, from 1.
+-- The number of the faulty run, from 1.
 abbrev pub run_of : InterfaceError → Option ℕ
 run_of (BadRun run) = Some run
 run_of (BadStore run) = Some run
@@ -31,7 +31,7 @@ run_of (NothingExpected run) = Some run
 run_of (UnknownGlobal run name) = Some run
 run_of _ = None
 
--- The name or the key that is faulty.
+-- The faulty name or key.
 abbrev pub word_of : InterfaceError → Option (List ℕ)
 word_of (UnknownKey key) = Some key.items
 word_of (BadName name) = Some name.items
@@ -40,12 +40,12 @@ word_of (UnknownClass name) = Some name.items
 word_of (UnknownGlobal run name) = Some name.items
 word_of _ = None
 
--- A number behind a space, where there is one.
+-- A space and a number, if there is one.
 abbrev pub run_field : Option ℕ → List ℕ
 run_field None = []
 run_field (Some run) = codes " " ++ decimal run
 
--- A name or a key behind a space, where there is one.
+-- A space and a name or a key, if there is one.
 abbrev pub word_field : Option (List ℕ) → List ℕ
 word_field None = []
 word_field (Some word) = codes " " ++ word

@@ -1,4 +1,4 @@
--- What is written of an answer as JSON.
+-- The JSON of an answer.
 use Rattle.std.specs.Prelude.{◌≡◌, ℕ, ℤ, Bool, true, false, List, [], ◌∷◌, ◌++◌, map, codes, Option, Some, None, slice_get}
 use Rattle.serde_json.specs.Data.{Data, null, boolean, number, string, array, object, Members, no_members, put}
 use Rattle.serde_json.specs.Find.{of_integer}
@@ -18,9 +18,9 @@ use Rattle.vsi_conform.specs.Points.{Entry, is_conforming}
 use Rattle.vsi_conform.specs.Shown.{asked, expected, run_number, Declares, Shown, Page, by_name, by_class}
 use Rattle.vsi_conform.specs.Lines.{AreFirst, page_of}
 
--- ---- members of objects, whose keys stand in byte order.
+-- ---- members of objects, with their keys in byte order.
 
--- A word more.
+-- The members with a word added.
 abbrev pub with_word : List ℕ → ℤ → Members → Members
 with_word key word ms = put key (number (of_integer word)) ms
 
@@ -28,35 +28,35 @@ with_word key word ms = put key (number (of_integer word)) ms
 abbrev pub kind : List ℕ → Members
 kind word = put (codes "point") (string word) no_members
 
--- A global of the text more, with its place.
+-- The members with a global of the text and its position added.
 abbrev pub with_shown : Shown → Members → Members
 with_shown s ms =
     with_natural (codes "column") s.column (with_natural (codes "line") s.line
     (with_text (codes "class") s.class (with_text (codes "name") s.name ms)))
 
--- ---- points.
+-- ---- points as objects.
 
 -- A global that the text lacks.
 abbrev pub missing : Global → Members
 missing g = with_text (codes "class") g.1 (with_text (codes "name") g.0 (kind (codes "missing")))
 
--- A global that isn't asked for.
+-- A global that isn't required.
 abbrev pub unexpected : Shown → Members
 unexpected s = with_shown s (kind (codes "unexpected"))
 
--- A global with another class than this one.
+-- A global with a class other than this one.
 abbrev pub wrong_class : Shown → List ℕ → Members
 wrong_class s class = with_text (codes "expected") class (with_shown s (kind (codes "class")))
 
--- A global out of order, where one of this name is expected.
+-- A global out of order, in the place of one with this name.
 abbrev pub wrong_order : Shown → List ℕ → Members
 wrong_order s name = with_text (codes "expected") name (with_shown s (kind (codes "order")))
 
--- The number of a run more.
+-- The members with the number of a run added.
 abbrev pub with_run : ℕ → Members → Members
 with_run run ms = with_natural (codes "run") (run_number run) ms
 
--- A budget more, where the run is there.
+-- The members with a budget added, if the run is there.
 abbrev pub with_budget : Option Trial → Members → Members
 with_budget None ms = ms
 with_budget (Some t) ms = with_natural (codes "budget") t.budget ms
@@ -65,12 +65,12 @@ with_budget (Some t) ms = with_natural (codes "budget") t.budget ms
 abbrev pub out_of_budget : ℕ → Option Trial → Members
 out_of_budget run t = with_budget t (with_run run (kind (codes "budget")))
 
--- The word that is found, or `null`.
+-- The word, or `null` if there is none.
 abbrev pub found : Option ℤ → Data
 found None = null
 found (Some word) = number (of_integer word)
 
--- A word that isn't as is expected.
+-- A word that differs from the expected one.
 abbrev pub wrong_word : ℕ → Entry → Option ℤ → Members
 wrong_word run e word =
     put (codes "word") (found word) (with_word (codes "expected") e.1
@@ -90,13 +90,13 @@ members_of_point p (NoWord run n) = wrong_word run (expected p.interface run n) 
 abbrev pub objects_of_points : Page → List Point → List Data
 objects_of_points p points = map (λ point. object (members_of_point p point)) points
 
--- ---- the whole.
+-- ---- the whole answer.
 
 -- The members of the object of a refusal with these lines.
 abbrev pub members_of_refusal : List ℕ → Members
 members_of_refusal lines = with_text (codes "text") lines (kind (codes "refused"))
 
--- The object of a refusal with these lines, where there is one.
+-- The object of a refusal with these lines, if there is a refusal.
 abbrev pub objects_of_refusal : Option UnsteadyError → List ℕ → List Data
 objects_of_refusal None lines = []
 objects_of_refusal (Some e) lines = object (members_of_refusal lines) ∷ []
@@ -120,11 +120,11 @@ answer_line conforms points = compact_text (answer_data conforms points) ++ code
 abbrev pub conforming_line : List ℕ
 conforming_line = codes "{\"conforms\":true,\"points\":[]}\n"
 
--- The beginning of the line of another one.
+-- The beginning of the line of a text that doesn't conform.
 abbrev pub differing_begin : List ℕ
 differing_begin = codes "{\"conforms\":false,\"points\":["
 
--- Whether it conforms, the object of the refusal, and then one for each point, in order.
+-- The line has whether the text conforms, the object of the refusal, and then one object for each point, in order.
 pub record TellsObjects (l : Lattice) (text : List ℕ) (i : Interface) (a : Answer) (out : List ℕ) : Type 0 where
   pub globals : List Declared
   pub declares : Declares text globals
@@ -133,12 +133,12 @@ pub record TellsObjects (l : Lattice) (text : List ℕ) (i : Interface) (a : Ans
   pub line : out ≡ answer_line (is_conforming a)
       (first ++ objects_of_points (page_of text globals i) a.points.items)
 
--- The line of an answer as JSON: what it tells, and how it begins.
+-- The line of an answer in JSON: its objects and its beginning.
 pub record IsConformJson (l : Lattice) (text : List ℕ) (i : Interface) (a : Answer) (out : List ℕ) : Type 0 where
   pub tells : TellsObjects l text i a out
   pub conforms : is_conforming a ≡ true → out ≡ conforming_line
   pub differs : is_conforming a ≡ false → (rest : List ℕ) × (out ≡ differing_begin ++ rest)
 
--- What begins as the line of a text that doesn't conform isn't that of one that does.
+-- A line that begins like that of a text that doesn't conform isn't the line of one that does.
 abbrev pub BeginApart : Type 0
 BeginApart = (rest : List ℕ) → ¬ (conforming_line ≡ differing_begin ++ rest)

@@ -1,4 +1,4 @@
--- The lines that are written of an answer.
+-- The lines of an answer.
 use Rattle.std.specs.Prelude.{◌≡◌, ℕ, ℤ, Bool, true, false, List, [], ◌++◌, codes, decimal, Option, Some, None, slice_get}
 use Rattle.std.specs.Fmt.{signed_decimal}
 use Rattle.std.specs.List.{flat_map}
@@ -28,7 +28,7 @@ use Rattle.vsi_conform.specs.declared.point.Point.TheVariants.{Missing, Unexpect
 use Rattle.vsi_conform.specs.Points.{Entry, is_conforming}
 use Rattle.vsi_conform.specs.Shown.{asked, expected, run_number, Declares, Shown, Page, by_name, by_class}
 
--- ---- points.
+-- ---- lines of points.
 
 -- `LINE:COLUMN`
 abbrev pub place : Shown → List ℕ
@@ -86,12 +86,12 @@ line_of_point p (NoWord run n) = word_line run (expected p.interface run n) None
 
 -- ---- the refusal.
 
--- The line of a refused flow, and the explanation of the walk as it is judged where each choice is a loop.
+-- The line of a refused flow, followed by the explanation of the walk, where each choice is judged as a loop.
 abbrev pub IsWatchedText : Lattice → List ℕ → List Step → List ℕ → Type 0
 IsWatchedText l text steps out =
     (more : List ℕ) × ExplainsWatchedWalk l text steps more × (out ≡ codes "refused: 25 Refused\n" ++ more)
 
--- The text of a refusal of the compiler, where each choice is judged as a loop or not.
+-- The text of a refusal by the compiler, where choices are judged as loops or not.
 abbrev pub IsCompileText : Lattice → List ℕ → Bool → CompileError → List ℕ → Type 0
 IsCompileText l text false e out = IsRefusalText l text e out
 IsCompileText l text true (compiler.Flow walk) out = IsWatchedText l text walk.steps.items out
@@ -100,7 +100,7 @@ IsCompileText l text true (compiler.Parse e) out = IsRefusalText l text (compile
 IsCompileText l text true (compiler.Scope e) out = IsRefusalText l text (compiler.Scope e) out
 IsCompileText l text true compiler.Memory out = IsRefusalText l text compiler.Memory out
 
--- The text of a refusal of the image of a text.
+-- The text of the refusal of a text's image.
 pub record IsImageText (l : Lattice) (text : List ℕ) (e : SteadyError) (out : List ℕ) : Type 0 where
   pub program : HasProgram (class_named l) text
   pub image : Image
@@ -113,24 +113,24 @@ IsRefusalLines l text is_steady (unsteady.Compile e) out = IsCompileText l text 
 IsRefusalLines l text is_steady (unsteady.Image e) out = IsImageText l text e out
 IsRefusalLines l text is_steady unsteady.Memory out = ⊥
 
--- The image is to be steady.
+-- The judgement requires a steady image.
 abbrev pub is_steady : Judgement → Bool
 is_steady Base = false
 is_steady Strict = false
 is_steady Steady = true
 
--- The lines of the refusal, where there is one.
+-- The lines of the refusal, if there is one.
 abbrev pub AreFirst : Lattice → List ℕ → Interface → Option UnsteadyError → List ℕ → Type 0
 AreFirst l text i None out = out ≡ []
 AreFirst l text i (Some e) out = IsRefusalLines l text (is_steady i.judgement) e out
 
--- ---- the whole.
+-- ---- the whole answer.
 
--- The page of a text whose globals are these.
+-- The page of a text with these globals.
 abbrev pub page_of : List ℕ → List Declared → Interface → Page
 page_of text ds i = record { text = text; globals = ds; interface = i }
 
--- The lines of the refusal, and then one for each point, in order.
+-- The lines of the refusal, followed by one line for each point, in order.
 pub record TellsLines (l : Lattice) (text : List ℕ) (i : Interface) (a : Answer) (out : List ℕ) : Type 0 where
   pub globals : List Declared
   pub declares : Declares text globals
@@ -138,7 +138,7 @@ pub record TellsLines (l : Lattice) (text : List ℕ) (i : Interface) (a : Answe
   pub refusal : AreFirst l text i a.refusal first
   pub lines : out ≡ first ++ flat_map (line_of_point (page_of text globals i)) a.points.items
 
--- What is written of an answer: `conforms`, or in what the text differs.
+-- The text of an answer: `conforms`, or the differences.
 pub record IsConformText (l : Lattice) (text : List ℕ) (i : Interface) (a : Answer) (out : List ℕ) : Type 0 where
   pub conforms : is_conforming a ≡ true → out ≡ codes "conforms\n"
   pub differs : is_conforming a ≡ false → TellsLines l text i a out

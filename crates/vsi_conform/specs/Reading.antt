@@ -1,4 +1,4 @@
--- What an interface file holds, over the table that its text is.
+-- The contents of an interface file, in terms of the table that its text denotes.
 use Rattle.std.specs.Prelude.{◌≡◌, ℕ, ℤ, pos, negsuc, List, [], ◌∷◌, Bool, true, false, ◌&&◌, ◌||◌, if◌then◌else◌, Option, Some, None, option_map, option_and_then, map, codes, bytes_eq}
 use Rattle.std.specs.Borrow.{Bor}
 use Rattle.std.specs.List.{All}
@@ -19,11 +19,11 @@ use Rattle.vsi_conform.specs.declared.reader.Policy.TheVariants.{File, Tables}
 use Rattle.vsi_conform.specs.Points.{Entry, entries}
 use Rattle.vsi_conform.specs.Tables.{IsTablesText}
 
--- The bytes are text, and TOML reads it as this table.
+-- The bytes are UTF-8, and TOML reads them as this table.
 abbrev pub IsDocument : List ℕ → Members → Type 0
 IsDocument bytes ms = IsUtf8 bytes × (parse_document bytes ≡ Some ms)
 
--- The text isn't read: it is no document, or memory was wanting.
+-- The text isn't read, because it is no document or memory ran out.
 abbrev pub IsNoTable : List ℕ → InterfaceError → Type 0
 IsNoTable text NotToml = (ms : Members) → ¬ (IsDocument text ms)
 IsNoTable text Memory = Unit {0}
@@ -31,7 +31,7 @@ IsNoTable text e = ⊥
 
 -- ---- the keys.
 
--- The texts that references show.
+-- The texts that references point to.
 abbrev pub shown : List (Bor (List ℕ)) → List (List ℕ)
 shown references = map (λ r. r.now) references
 
@@ -59,22 +59,22 @@ run_keys = codes "store" ∷ codes "budget" ∷ codes "expect" ∷ codes "halts"
 abbrev pub text_at : List ℕ → Members → Option (List ℕ)
 text_at key ms = option_and_then as_str (get_member key ms)
 
--- The judgement of a word.
+-- The judgement with this name.
 abbrev pub judgement_of : List ℕ → Option Judgement
 judgement_of word =
     if bytes_eq word (codes "base") then Some Base else if bytes_eq word (codes "strict") then Some Strict
     else if bytes_eq word (codes "steady") then Some Steady else None
 
--- How a text is to be accepted: the word at `profile`.
+-- How a text must be accepted: the name at `profile`.
 abbrev pub judgement_at : Members → Option Judgement
 judgement_at ms = option_and_then judgement_of (text_at (codes "profile") ms)
 
--- Whether the globals are to stand in order, by a word.
+-- Whether the order of the globals is required, by name.
 abbrev pub order_of : List ℕ → Option Bool
 order_of word =
     if bytes_eq word (codes "exact") then Some true else if bytes_eq word (codes "set") then Some false else None
 
--- By what is at `order`, which may be missing.
+-- Whether the order is required, from the value at `order`, which may be missing.
 abbrev pub order_from : Option Data → Option Bool
 order_from None = Some true
 order_from (Some d) = option_and_then order_of (as_str d)
@@ -83,7 +83,7 @@ order_from (Some d) = option_and_then order_of (as_str d)
 abbrev pub globals_at : Members → Option (List Global)
 globals_at ms = array_at pair_of (codes "globals") ms
 
--- One more entry, where its value is a number.
+-- The entries with one more, if its value is a number.
 abbrev pub entry_more : List ℕ → Option ℤ → Option (List Entry) → Option (List Entry)
 entry_more key None rest = None
 entry_more key (Some word) rest = option_map (λ es. (key, word) ∷ es) rest
@@ -99,17 +99,17 @@ entries_of d = option_and_then numbers_of (as_table d)
 
 -- ---- runs.
 
--- What a run asks, without where it lies in memory.
+-- A required run, as a value of these definitions.
 pub record Run : Type 0 where
   pub store : List Entry
   pub budget : ℕ
   pub expect : List Entry
 
--- What a run that lies in memory asks.
+-- A required run of the code.
 abbrev pub run : Trial → Run
 run t = record { store = entries t.store.items; budget = t.budget; expect = entries t.expect.items }
 
--- The words that a run begins with, by what is at `store`, which may be missing.
+-- The words at the start of a run, from the value at `store`, which may be missing.
 abbrev pub store_from : Option Data → Option (List Entry)
 store_from None = Some []
 store_from (Some d) = entries_of d
@@ -119,23 +119,23 @@ abbrev pub natural : ℤ → Option ℕ
 natural (pos n) = Some n
 natural (negsuc n) = None
 
--- The budget: the number at `budget`, at least 0.
+-- The budget: the number at `budget`, if it is at least 0.
 abbrev pub budget_from : Option Data → Option ℕ
 budget_from o = option_and_then natural (option_and_then as_integer o)
 
--- Where a run only has to halt no word is expected.
+-- A run that only has to halt expects no word.
 abbrev pub halting : Option Bool → Option (List Entry)
 halting None = None
 halting (Some b) = if b then Some [] else None
 
--- The expected words, by what is at `expect` and what is at `halts`: just one of them is there.
+-- The expected words, from the values at `expect` and `halts`; exactly one of them must be there.
 abbrev pub expect_from : Option Data → Option Data → Option (List Entry)
 expect_from None None = None
 expect_from None (Some d) = halting (as_bool d)
 expect_from (Some d) None = entries_of d
 expect_from (Some d) (Some e) = None
 
--- A run of these parts.
+-- A run with these parts.
 abbrev pub run_from : Option (List Entry) → Option ℕ → Option (List Entry) → Option Run
 run_from None budget expect = None
 run_from (Some store) None expect = None
@@ -143,47 +143,47 @@ run_from (Some store) (Some budget) None = None
 run_from (Some store) (Some budget) (Some expect) =
     Some (record { store = store; budget = budget; expect = expect })
 
--- The run that a table gives, which has no key but those of a run.
+-- The run of a table that has no keys other than those of a run.
 abbrev pub run_in : Members → Option Run
 run_in ms =
     if has_keys run_keys ms then
     run_from (store_from (get_member (codes "store") ms)) (budget_from (get_member (codes "budget") ms))
     (expect_from (get_member (codes "expect") ms) (get_member (codes "halts") ms)) else None
 
--- The run that a value gives, which is a table.
+-- The run of a value that is a table.
 abbrev pub run_of : Data → Option Run
 run_of d = option_and_then run_in (as_table d)
 
--- The runs, by what is at `runs`, which may be missing.
+-- The runs, from the value at `runs`, which may be missing.
 abbrev pub runs_from : Option Data → Option (List Run)
 runs_from None = Some []
 runs_from (Some d) = option_and_then (all_of run_of) (as_array d)
 
--- ---- the whole.
+-- ---- the whole interface.
 
--- Where the lattice is: at a path at `lattice`, with no table of a lattice file beside it, or in such tables, whose
--- text this is.
+-- The lattice is either in the file whose path is at `lattice`, with no lattice table beside it, or in lattice tables,
+-- which have this text.
 abbrev pub IsPolicy : Members → Policy → Type 0
 IsPolicy ms (File path) =
     (text_at (codes "lattice") ms ≡ Some path.items)
     × (get_member (codes "classes") ms ≡ None) × (get_member (codes "below") ms ≡ None)
 IsPolicy ms (Tables text) = (get_member (codes "lattice") ms ≡ None) × IsTablesText ms text.items
 
--- Each name is that of a global.
+-- Each name is the name of a global.
 abbrev pub are_named : List Global → List Entry → Bool
 are_named gs [] = true
 are_named gs (e ∷ es) = is_taken gs e.0 && are_named gs es
 
--- The run names no variable but these globals.
+-- The run names no variables other than these globals.
 pub record NamesGlobals (gs : List Global) (r : Run) : Type 0 where
   pub store : are_named gs r.store ≡ true
   pub expect : are_named gs r.expect ≡ true
 
--- The runs of an interface name no variable but its globals.
+-- The runs of an interface name no variables other than its globals.
 abbrev pub NameGlobals : Interface → Type 0
 NameGlobals i = All (NamesGlobals (globals i.globals.items)) (map run i.trials.items)
 
--- What a table asks of a text.
+-- The table requires this interface of a text.
 pub record Asks (ms : Members) (i : Interface) : Type 0 where
   pub judgement : judgement_at ms ≡ Some i.judgement
   pub order : order_from (get_member (codes "order") ms) ≡ Some i.is_ordered
@@ -191,7 +191,7 @@ pub record Asks (ms : Members) (i : Interface) : Type 0 where
   pub runs : runs_from (get_member (codes "runs") ms) ≡ Some (map run i.trials.items)
   pub named : NameGlobals i
 
--- The text is a document that has this policy and asks this, and no key but those of an interface.
+-- The text is a document with this policy and this interface, and with no keys other than those of an interface.
 pub record IsReadAs (text : List ℕ) (a : Asked) : Type 0 where
   pub table : Members
   pub document : IsDocument text table

@@ -1,4 +1,4 @@
--- What the lines of a point name: globals of the text and of the interface, and runs.
+-- The parts of the lines of points: globals of the text and of the interface, and runs.
 use Rattle.std.specs.Prelude.{◌≡◌, ℕ, ◌+◌, ◌-◌, ◌^◌, min, ℤ, pos, ◌⊎◌, Bool, true, false, if◌then◌else◌, List, [], map, take, length, Option, Some, None, slice_get}
 use Rattle.std.specs.Global.{Vec}
 use Rattle.vsi_syntax.specs.Lines.{breaks, last_line}
@@ -12,36 +12,36 @@ use Rattle.vsi_conform.specs.declared.interface.Trial.{Trial}
 use Rattle.vsi_conform.specs.declared.texts.Pages.{Pages}
 use Rattle.vsi_conform.specs.Points.{Entry, entry}
 
--- ---- what the interface asks.
+-- ---- the interface.
 
--- The name and the class of a global that is asked for, both empty where there is none.
+-- The name and the class of a required global, both empty if there is none.
 abbrev pub global_of : Option (Vec ℕ × Vec ℕ) → Global
 global_of None = ([], [])
 global_of (Some g) = global g
 
--- The n-th global that is asked for.
+-- The n-th required global.
 abbrev pub asked : Interface → ℕ → Global
 asked i n = global_of (slice_get i.globals.items n)
 
--- The name and the word that are expected, empty and 0 where there is none.
+-- The expected name and word, empty and 0 if there is none.
 abbrev pub entry_of : Option (Vec ℕ × ℤ) → Entry
 entry_of None = ([], pos 0)
 entry_of (Some e) = entry e
 
--- What a run expects under a number.
+-- The n-th expectation of a run.
 abbrev pub expected_of : Option Trial → ℕ → Entry
 expected_of None n = ([], pos 0)
 expected_of (Some t) n = entry_of (slice_get t.expect.items n)
 
--- What the run of a number expects under a number.
+-- The n-th expectation of a run, by the number of the run.
 abbrev pub expected : Interface → ℕ → ℕ → Entry
 expected i run n = expected_of (slice_get i.trials.items run) n
 
--- The number of a run as it is told, from 1, where the greatest stands for all from there on.
+-- The number of a run in the output, from 1; the largest number is used for all runs beyond it.
 abbrev pub run_number : ℕ → ℕ
 run_number run = min (run + 1) (2 ^ 64 - 1)
 
--- ---- what the text declares.
+-- ---- the text.
 
 -- The globals are those of the tree that reads the text.
 pub record DeclaresEach (text : List ℕ) (ds : List Declared) : Type 0 where
@@ -58,22 +58,23 @@ pub record DeclaresNone (text : List ℕ) (ds : List Declared) : Type 0 where
 abbrev pub Declares : List ℕ → List Declared → Type 0
 Declares text ds = DeclaresEach text ds ⊎ DeclaresNone text ds
 
--- What is told of a global of the text: its name, its class name, and the line and the column, from 1, of one of them.
+-- The reported facts of a global of the text: its name, its class name, and the line and column, from 1, of one of
+-- them.
 pub record Shown : Type 0 where
   pub name : List ℕ
   pub class : List ℕ
   pub line : ℕ
   pub column : ℕ
 
--- What is told by the code.
+-- The reported facts of a global of the code.
 abbrev pub shown : code.Shown → Shown
 shown s = record { name = s.name.now; class = s.class.now; line = s.line; column = s.column }
 
--- Where the class name of a global stands, or its name.
+-- The start of a global's class name, or of its name.
 abbrev pub start_of : Bool → Declared → ℕ
 start_of is_class d = if is_class then d.class.span.start else d.name.span.start
 
--- A global at a place of the text.
+-- A global with the line and column of a position in the text.
 abbrev pub shown_at : List ℕ → Declared → ℕ → Shown
 shown_at text d at =
     record {
@@ -83,27 +84,27 @@ shown_at text d at =
       column = 1 + length (last_line (take at text));
     }
 
--- A global of the text, where it stands; one without a name where there is none.
+-- A global of the text with the line and column of its name or class; an empty one if there is none.
 abbrev pub shown_of : List ℕ → Bool → Option Declared → Shown
 shown_of text is_class None = record { name = []; class = []; line = 1; column = 1 }
 shown_of text is_class (Some d) = shown_at text d (start_of is_class d)
 
--- ---- both.
+-- ---- the page.
 
--- A text, the globals that it declares, and what is asked of it.
+-- A text, the globals that it declares, and the interface for it.
 pub record Page : Type 0 where
   pub text : List ℕ
   pub globals : List Declared
   pub interface : Interface
 
--- What lies in memory, seen so.
+-- The page of the code, as a value of these definitions.
 abbrev pub page : Pages → Page
 page p = record { text = p.text.now; globals = map declared p.found.now; interface = p.interface.now }
 
--- The n-th global of the text, by the place of its name.
+-- The n-th global of the text, with the position of its name.
 abbrev pub by_name : Page → ℕ → Shown
 by_name p n = shown_of p.text false (slice_get p.globals n)
 
--- The n-th global of the text, by the place of its class name.
+-- The n-th global of the text, with the position of its class name.
 abbrev pub by_class : Page → ℕ → Shown
 by_class p n = shown_of p.text true (slice_get p.globals n)

@@ -1,4 +1,4 @@
-//! Whether a text is accepted as is asked for.
+//! Whether a text is accepted as required.
 
 ghost use Rattle.std.specs.Prelude.{◌≡◌, IfOk, IsOk, MatchResult};
 ghost use Rattle.vsi_lattice.specs.LatticeView.{class_named, order};
@@ -49,8 +49,8 @@ fn compiled_steadily(
     }
 }
 
-/// The image of a text that is accepted as is asked for, or its refusal. An error is want of
-/// memory.
+/// The image of a text that is accepted as required, or its refusal. An error means that memory ran
+/// out.
 pub fn judged(
     alloc: Global,
     judgement: Judgement,

@@ -21,7 +21,7 @@ pub struct Checked {
     pub line: Vec<u8>,
 }
 
-/// The refusal of an image that isn't steady; none where memory was wanting.
+/// The refusal of an image that isn't steady; none if memory ran out.
 pub fn steady_diagnostic(error: &SteadyError) -> Option<Diagnostic<'static>>
     ensures refusal { option_map diagnostic_of result ≡ spec.steady_diagnostic error.now }
 {
@@ -34,8 +34,8 @@ pub fn steady_diagnostic(error: &SteadyError) -> Option<Diagnostic<'static>>
     }
 }
 
-/// The refusal of a source text, whether its image is to be steady or not; none where memory was
-/// wanting.
+/// The refusal of a source text, with or without a demand for a steady image; none if memory ran
+/// out.
 pub fn unsteady_diagnostic<'a>(text: &[u8], error: &'a UnsteadyError) -> Option<Diagnostic<'a>>
     ensures refusal { option_map diagnostic_of result
         ≡ spec.unsteady_diagnostic text.now error.now }
@@ -66,8 +66,8 @@ fn refused_line(
     Ok(line)
 }
 
-/// The answer of `vsi check` to a text as a line of JSON: an object with `accepted`, and of a
-/// refused text the keys of `refusal_json`, in byte order. An error is want of memory.
+/// The answer of `vsi check` to a text as a line of JSON: an object with `accepted` and, for a
+/// refused text, the keys of `refusal_json`, in byte order. An error means that memory ran out.
 pub fn check_json(
     alloc: Global,
     judgement: Judgement,

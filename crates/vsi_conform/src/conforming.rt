@@ -15,7 +15,7 @@ use vsi_compiler::{CompileError, unjudged_image};
 use vsi_image::Verified;
 use vsi_lattice::Lattice;
 
-/// In what the globals and the runs of an image differ from those that are asked for.
+/// The differences between the globals and runs of an image and the required ones.
 fn image_points(
     alloc: Global,
     verified: &Verified,
@@ -30,7 +30,7 @@ fn image_points(
     Ok(points)
 }
 
-/// In what a refused text differs, as far as it has a program.
+/// The differences of a refused text, if it has a program.
 fn refused_points(
     alloc: Global,
     lattice: &Lattice,
@@ -50,8 +50,8 @@ fn refused_points(
     }
 }
 
-/// In what a text differs from an interface: why it isn't accepted, and, where it has a program,
-/// each global and each run that isn't as is asked for. An error is want of memory.
+/// The differences between a text and an interface: why it isn't accepted and, if it has a program,
+/// each global and each run that isn't as required. An error means that memory ran out.
 pub fn conform(
     alloc: Global,
     lattice: &Lattice,

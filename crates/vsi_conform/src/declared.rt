@@ -1,4 +1,4 @@
-//! The globals that a text declares, with their places.
+//! The globals that a text declares, with their positions.
 
 ghost use Rattle.std.specs.Prelude.{◌≡◌, map, slice_get, IfOk};
 ghost use Rattle.vsi_syntax.specs.CommandView.{declared};
@@ -16,7 +16,7 @@ fn globals_of<'a>(alloc: Global, program: &Program<'a>) -> Result<Vec<Declaratio
     Ok(found)
 }
 
-/// The globals of a text, in its order; of a text that has no tree there are none.
+/// The globals of a text, in its order; a text without a tree has none.
 pub(crate) fn declarations<'a>(
     alloc: Global,
     text: &'a [u8],
@@ -45,8 +45,8 @@ pub(crate) fn declarations<'a>(
     Ok(found)
 }
 
-/// What is told of a global of the text: its name, its class name, and the line and the column,
-/// both from 1, of the one or the other.
+/// The reported facts of a global of the text: its name, its class name, and the line and column,
+/// both from 1, of one of them.
 #[derive(Clone, Copy)]
 pub(crate) struct Shown<'a> {
     pub(crate) name: &'a [u8],
@@ -55,8 +55,8 @@ pub(crate) struct Shown<'a> {
     pub(crate) column: usize,
 }
 
-/// The global at a place of the text, with the line and the column of its name or of its class; one
-/// without a name where there is none.
+/// The global at an index, with the line and column of its name or its class; one with an empty
+/// name if there is none.
 pub(crate) fn global_at<'a>(
     text: &[u8],
     found: &[Declaration<'a>],

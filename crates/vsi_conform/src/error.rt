@@ -13,52 +13,53 @@ use vsi_syntax::put_number;
 /// Why an interface file is refused. Runs are numbered from 1.
 #[derive(Debug, Drop, Error)]
 pub enum InterfaceError {
-    /// The text is no TOML document.
+    /// The text isn't a TOML document.
     #[error("the interface is no TOML")]
     NotToml,
-    /// No interface has this key.
+    /// An interface has no such key.
     #[error("the interface has a key that is none")]
     UnknownKey(Vec<u8>),
-    /// There isn't just one of a text at `lattice` and the keys of a lattice file.
+    /// The interface has neither a text at `lattice` nor the keys of a lattice file, or it has
+    /// both.
     #[error("the interface has no lattice, or two")]
     BadLattice,
-    /// There is none of `base`, `strict` and `steady` at `profile`.
+    /// The value at `profile` is none of `base`, `strict` and `steady`.
     #[error("the interface has no profile")]
     BadProfile,
-    /// What is at `order` is neither `exact` nor `set`.
+    /// The value at `order` is neither `exact` nor `set`.
     #[error("the order of the globals is none")]
     BadOrder,
-    /// There is no array of pairs of texts at `globals`.
+    /// The value at `globals` isn't an array of pairs of texts.
     #[error("the interface has no array of globals")]
     BadGlobals,
-    /// A global has this name, which is none of the language.
+    /// This name of a global isn't a name of the language.
     #[error("the name of a global is none")]
     BadName(Vec<u8>),
     /// Two globals have this name.
     #[error("two globals have one name")]
     RepeatedGlobal(Vec<u8>),
-    /// The class of the global of this name is none of the lattice.
+    /// The class of the global with this name isn't a class of the lattice.
     #[error("the class of a global is none")]
     UnknownClass(Vec<u8>),
-    /// What is at `runs` is no array.
+    /// The value at `runs` isn't an array.
     #[error("the runs are no array")]
     BadRuns,
-    /// The run is no table, or has another key than those of a run.
+    /// The run isn't a table, or has a key that runs don't have.
     #[error("run {0} is no run")]
     BadRun(usize),
-    /// The store of the run is no table of numbers.
+    /// The store of the run isn't a table of numbers.
     #[error("the store of run {0} is none")]
     BadStore(usize),
     /// The run has no budget of at least 0.
     #[error("run {0} has no budget")]
     NoBudget(usize),
-    /// The run has neither a table of numbers at `expect` nor `halts = true`, or both.
+    /// The run has neither a table of numbers at `expect` nor `halts = true`, or it has both.
     #[error("run {0} expects nothing")]
     NothingExpected(usize),
-    /// The run names this global, which isn't among those of the interface.
+    /// The run names this global, which the interface doesn't have.
     #[error("run {0} names an unknown global")]
     UnknownGlobal(usize, Vec<u8>),
-    /// A growth was refused.
+    /// Memory ran out.
     #[error("out of memory")]
     Memory,
 }
@@ -103,7 +104,7 @@ fn fault_name(error: &InterfaceError) -> &'static [u8]
     }
 }
 
-/// What stands behind the name of a fault: a run's number, and a name or a key.
+/// The fields after the name of a fault: the number of a run, and a name or a key.
 fn fault_fields(error: &InterfaceError) -> (Option<usize>, Option<&[u8]>)
     ensures run { result.0 ≡ spec.run_of error.now }
     ensures word { option_copied result.1 ≡ spec.word_of error.now }
@@ -122,8 +123,8 @@ fn fault_fields(error: &InterfaceError) -> (Option<usize>, Option<&[u8]>)
     }
 }
 
-/// The line of a refused interface: the name of its fault, and the run and the name or the key that
-/// is faulty, where there is one.
+/// The line of a refused interface: the name of the fault and, if there is one, the faulty run and
+/// the faulty name or key.
 pub fn interface_text(alloc: Global, error: &InterfaceError) -> Result<Vec<u8>, AllocError>
     ensures line { IfOk result (λ text. text.items ≡ spec.interface_line error.now) }
 {

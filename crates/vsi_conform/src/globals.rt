@@ -1,4 +1,4 @@
-//! The globals of a text beside those that are asked for.
+//! The globals of a text, compared with the required ones.
 
 ghost use Rattle.std.specs.Prelude.{◌≡◌, ◌++◌, IfOk, OnOk};
 ghost use Rattle.vsi_image.specs.Fields.{global, globals, is_taken};
@@ -7,7 +7,7 @@ ghost use Rattle.vsi_conform.specs.Points as spec;
 use crate::point::{Point, push_told};
 use std::alloc::{AllocError, Global};
 
-/// What is wrong with a class, where the names are the same.
+/// The point of a global with a known name, by its class.
 fn class_point(
     number: usize,
     place: usize,
@@ -26,7 +26,7 @@ fn class_point(
     }
 }
 
-/// What is wrong with one global that is asked for.
+/// The point of one required global.
 fn entry_point(
     number: usize,
     wanted: &(Vec<u8>, Vec<u8>),
@@ -42,7 +42,7 @@ fn entry_point(
     Some(Point::Missing(number))
 }
 
-/// What is wrong with the globals that are asked for.
+/// Adds the points of the required globals.
 fn push_entries(
     points: &mut Vec<Point>,
     wanted: &[(Vec<u8>, Vec<u8>)],
@@ -69,7 +69,7 @@ pub(crate) fn is_named(variables: &[(Vec<u8>, Vec<u8>)], name: &[u8]) -> bool
     false
 }
 
-/// The globals that aren't asked for.
+/// Adds the points of the globals that aren't required.
 fn push_unexpected(
     points: &mut Vec<Point>,
     wanted: &[(Vec<u8>, Vec<u8>)],
@@ -86,7 +86,7 @@ fn push_unexpected(
     Ok(())
 }
 
-/// What is wrong with the globals, their order aside.
+/// The points of the globals, apart from their order.
 fn set_points(
     alloc: Global,
     wanted: &[(Vec<u8>, Vec<u8>)],
@@ -108,7 +108,7 @@ fn are_same(one: &(Vec<u8>, Vec<u8>), other: &(Vec<u8>, Vec<u8>)) -> bool
     one.0.as_slice() == other.0.as_slice() && one.1.as_slice() == other.1.as_slice()
 }
 
-/// The first place where two lists of globals differ.
+/// The position of the first difference between two lists of globals.
 fn first_difference(wanted: &[(Vec<u8>, Vec<u8>)], found: &[(Vec<u8>, Vec<u8>)]) -> Option<usize>
     ensures { result ≡ spec.first_difference 0 (globals wanted.now) (globals found.now) }
 {
@@ -126,7 +126,7 @@ fn first_difference(wanted: &[(Vec<u8>, Vec<u8>)], found: &[(Vec<u8>, Vec<u8>)])
     Some(wanted.len())
 }
 
-/// What is wrong with the globals, which are to stand in order.
+/// The points of globals whose order is required.
 fn ordered_points(
     alloc: Global,
     wanted: &[(Vec<u8>, Vec<u8>)],
@@ -145,7 +145,7 @@ fn ordered_points(
     Ok(points)
 }
 
-/// What is wrong with the globals.
+/// The points of the globals.
 pub(crate) fn global_points(
     alloc: Global,
     is_ordered: bool,

@@ -1,6 +1,6 @@
-//! What is asked of a text.
+//! The requirements on a text.
 
-/// How a text is to be accepted.
+/// How a text must be accepted.
 #[derive(Clone, Copy, PartialEq, Eq, Debug)]
 pub enum Judgement {
     /// Under the base profile.
@@ -11,26 +11,26 @@ pub enum Judgement {
     Steady,
 }
 
-/// A run that is asked for: it halts within its budget with these words.
+/// A required run: it halts within its budget with these words.
 #[derive(Debug, Drop)]
 pub struct Trial {
-    /// Names of globals with the words that the run begins with; another global begins with 0.
+    /// Names of globals with their words at the start of the run; every other global starts with 0.
     pub store: Vec<(Vec<u8>, i64)>,
-    /// The greatest number of instructions.
+    /// The largest number of instructions.
     pub budget: u64,
-    /// Names of globals with the words that they end with.
+    /// Names of globals with their words at the end.
     pub expect: Vec<(Vec<u8>, i64)>,
 }
 
-/// What is asked of a text.
+/// The requirements on a text.
 #[derive(Debug, Drop)]
 pub struct Interface {
-    /// How it is accepted.
+    /// How it must be accepted.
     pub judgement: Judgement,
-    /// Whether its globals stand in the order of these.
+    /// Whether its globals must be in this order.
     pub is_ordered: bool,
     /// The names of its globals and of their classes.
     pub globals: Vec<(Vec<u8>, Vec<u8>)>,
-    /// The runs of its image.
+    /// The required runs of its image.
     pub trials: Vec<Trial>,
 }

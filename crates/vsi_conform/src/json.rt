@@ -1,4 +1,4 @@
-//! What is told, as JSON.
+//! An answer as JSON.
 
 ghost use Rattle.std.specs.Prelude.{◌≡◌, ◌++◌, false, map, slice_get, IfOk, OnOk};
 ghost use Rattle.serde_json.specs.View.{items_view, members_view, view};
@@ -16,7 +16,7 @@ use vsi_diagnostics::members::{put_natural, put_text};
 use vsi_lattice::Lattice;
 use vsi_steady::UnsteadyError;
 
-/// An object of this point.
+/// An object for this kind of point.
 fn object(alloc: Global, point: &str) -> Result<Map<String, Value>, AllocError>
     ensures { IfOk result (λ map. members_view map.entries ≡ spec.kind point.now) }
 {
@@ -26,7 +26,7 @@ fn object(alloc: Global, point: &str) -> Result<Map<String, Value>, AllocError>
     Ok(map)
 }
 
-/// A global of the text, with its place.
+/// Adds a global of the text, with its position.
 fn put_shown(
     alloc: Global,
     map: &mut Map<String, Value>,
@@ -57,7 +57,7 @@ fn missing(alloc: Global, pages: &Pages, number: usize) -> Result<Map<String, Va
     Ok(map)
 }
 
-/// A global that isn't asked for.
+/// A global that isn't required.
 fn unexpected(alloc: Global, pages: &Pages, place: usize) -> Result<Map<String, Value>, AllocError>
     ensures { IfOk result (λ map. members_view map.entries
         ≡ spec.unexpected (told.by_name (told.page pages.now) place)) }
@@ -67,7 +67,7 @@ fn unexpected(alloc: Global, pages: &Pages, place: usize) -> Result<Map<String, 
     Ok(map)
 }
 
-/// A global with another class.
+/// A global with a class other than the required one.
 fn wrong_class(
     alloc: Global,
     pages: &Pages,
@@ -115,7 +115,7 @@ fn out_of_budget(
     Ok(map)
 }
 
-/// A word that isn't as is expected; nothing where the text has no such global.
+/// A word that differs from the expected one; `word` is `None` if the text has no such global.
 fn wrong_word(
     alloc: Global,
     pages: &Pages,
@@ -173,7 +173,7 @@ fn refused(alloc: Global, lines: &[u8]) -> Result<Map<String, Value>, AllocError
     Ok(map)
 }
 
-/// The object of the refusal, where there is one.
+/// The object of the refusal, if there is one.
 fn refusal_objects(
     alloc: Global,
     lattice: &Lattice,
@@ -196,7 +196,7 @@ fn refusal_objects(
     }
 }
 
-/// The objects of the points more.
+/// Adds the objects of the points.
 fn push_objects(
     alloc: Global,
     found: &mut Vec<Value>,
@@ -225,8 +225,8 @@ fn answer_line(alloc: Global, conforms: bool, objects: Vec<Value>) -> Result<Vec
     Ok(line)
 }
 
-/// An answer as a line of JSON: an object with `conforms` and `points`, an array of an object for
-/// each line, or block of lines, of `points_text`.
+/// An answer as a line of JSON: an object with `conforms` and `points`. `points` is an array with
+/// an object for each line, or block of lines, of `points_text`.
 pub fn points_json(
     alloc: Global,
     lattice: &Lattice,

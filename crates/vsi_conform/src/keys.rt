@@ -1,4 +1,4 @@
-//! What stands at the keys of a table.
+//! The values at the keys of a table.
 
 ghost use Rattle.std.specs.Prelude.{◌≡◌, false, true, IfOk, MatchResult, option_map};
 ghost use Rattle.std.specs.Option.{MatchOption, option_copied};
@@ -72,7 +72,7 @@ pub(crate) fn text_at<'t>(table: &'t Table, key: &str) -> Option<&'t str>
     }
 }
 
-/// The names and the words of a table of numbers; nothing where a value is no number.
+/// The names and the words of a table of numbers; nothing if a value isn't a number.
 pub(crate) fn entries_of(
     alloc: Global,
     value: &Value,
@@ -86,7 +86,7 @@ pub(crate) fn entries_of(
     numbers_of(alloc, table)
 }
 
-/// The names and the words of a table; nothing where a value is no number.
+/// The names and the words of a table; nothing if a value isn't a number.
 fn numbers_of(alloc: Global, table: &Table) -> Result<Option<Vec<(Vec<u8>, i64)>>, AllocError>
     ensures { IfOk result (λ found. option_map (λ es. entries es.items) found
         ≡ spec.numbers_of (table_view table.now)) }

@@ -1,11 +1,11 @@
-//! Interfaces that are fixed from outside a program, and whether a text conforms to one.
+//! Interfaces that are fixed outside a program, and whether a text conforms to one.
 //!
-//! `check_json` judges a source text as `vsi check` does, and writes the answer as a line of JSON,
-//! as `specs/Checking` says. `read_interface` reads an interface file: the lattice, the judgement, the globals with their
-//! classes, and the runs that are asked for. `conform` tells each point in which a text differs
-//! from an interface; where it tells none, the text conforms to it, as `specs/Conforms` says.
-//! `points_text` and `points_json` write what is told, as `specs/Lines` and `specs/Json` say,
-//! `interface_text` why an interface is refused, as `specs/Faulty` says.
+//! `check_json` judges a source text as `vsi check` does, and writes the answer as a line of JSON
+//! (`specs/Checking`). `read_interface` reads an interface file: the lattice, the judgement, the
+//! globals with their classes, and the required runs. `conform` reports each point in which a text
+//! differs from an interface; if there is none, the text conforms to it (`specs/Conforms`).
+//! `points_text` and `points_json` write an answer (`specs/Lines`, `specs/Json`), and
+//! `interface_text` writes why an interface is refused (`specs/Faulty`).
 //!
 //! To be believed: all files of `specs/`.
 #![tactic(auto)]

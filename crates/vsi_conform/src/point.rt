@@ -1,4 +1,4 @@
-//! In what a text differs from an interface.
+//! The differences between a text and an interface.
 
 ghost use Rattle.std.specs.Prelude.{◌≡◌, ◌++◌, OnOk};
 ghost use Rattle.vsi_conform.specs.Points.{told, is_conforming};
@@ -6,43 +6,42 @@ ghost use Rattle.vsi_conform.specs.Points.{told, is_conforming};
 use std::alloc::AllocError;
 use vsi_steady::UnsteadyError;
 
-/// A point in which the globals or the runs of a text differ from those that are asked for. All
-/// numbers count from 0, in the order of the interface, or for a `place` in that of the text.
+/// A difference between the globals or runs of a text and the required ones. All numbers count from
+/// 0, in the order of the interface or, for a `place`, in the order of the text.
 #[derive(Clone, Copy, PartialEq, Eq, Debug)]
 pub enum Point {
-    /// The text has no global of the name of this one.
+    /// The text has no global with the name of this required one.
     Missing(usize),
-    /// The global at this place has a name that isn't asked for.
+    /// The global at this place has a name that isn't required.
     Unexpected(usize),
-    /// A global has another class than the one that is asked for.
+    /// A global has a class other than the required one.
     WrongClass {
         place: usize,
         wanted: usize,
     },
-    /// The globals are those that are asked for, and from this place on they stand in another
-    /// order.
+    /// The globals are the required ones, but in another order from this place on.
     WrongOrder(usize),
     /// This run doesn't halt within its budget.
     OutOfBudget(usize),
-    /// A global ends a run with another word than the one that is expected.
+    /// A global ends a run with a word other than the expected one.
     WrongWord {
         trial: usize,
         wanted: usize,
         word: i64,
     },
-    /// The text has no global of the name for which a run expects a word.
+    /// The text has no global with the name for which a run expects a word.
     NoWord {
         trial: usize,
         wanted: usize,
     },
 }
 
-/// What is told of a text and an interface.
+/// The answer for a text and an interface.
 #[derive(Debug, Drop)]
 pub struct Answer {
     /// Why the text isn't accepted.
     pub refusal: Option<UnsteadyError>,
-    /// What else differs.
+    /// All other differences.
     pub points: Vec<Point>,
 }
 
@@ -55,7 +54,7 @@ impl Answer {
     }
 }
 
-/// A point more, if there is one.
+/// Adds a point, if there is one.
 pub(crate) fn push_told(points: &mut Vec<Point>, point: Option<Point>) -> Result<(), AllocError>
     ensures { OnOk result (points.new.items ≡ points.old.items ++ told point) }
 {

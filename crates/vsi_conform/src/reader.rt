@@ -34,25 +34,25 @@ const KEYS: [&str; 7] = [
 /// The keys of a run.
 const RUN_KEYS: [&str; 4] = ["store", "budget", "expect", "halts"];
 
-/// Where the lattice of an interface is.
+/// The place of an interface's lattice.
 #[derive(Debug, Drop)]
 pub enum Policy {
-    /// In the lattice file at this path, which is relative to the folder of the interface.
+    /// The lattice file at this path, which is relative to the folder of the interface.
     File(Vec<u8>),
-    /// In the interface: the text of a lattice file with its tables.
+    /// The interface itself: the text of a lattice file with its tables.
     Tables(Vec<u8>),
 }
 
-/// What an interface file has.
+/// The contents of an interface file.
 #[derive(Debug, Drop)]
 pub struct Asked {
     /// The lattice.
     pub policy: Policy,
-    /// What is asked of a text.
+    /// The requirements on a text.
     pub interface: Interface,
 }
 
-/// The path of a file that an interface names: relative to the folder of the interface.
+/// The path of a file that an interface names, taken relative to the folder of the interface.
 pub fn path_beside(alloc: Global, interface: &str, path: &[u8]) -> Result<String, AllocError>
     ensures path { IfOk result (λ found. IsUtf8 (beside interface.now path.now)
         → string_bytes found ≡ beside interface.now path.now) }
@@ -69,7 +69,7 @@ pub fn path_beside(alloc: Global, interface: &str, path: &[u8]) -> Result<String
     String::from_utf8_lossy(alloc, &bytes)
 }
 
-/// How many bytes of a path name its folder, with the slash behind it.
+/// The number of bytes of a path that name its folder, including the slash at its end.
 fn folder_length(path: &[u8]) -> usize
     ensures folder { take result path.now ≡ folder path.now }
     ensures within { result ≤ length path.now }
@@ -95,7 +95,7 @@ fn tables_text(alloc: Global, table: &Table) -> Result<Vec<u8>, InterfaceError>
     }
 }
 
-/// What a table has at a key, in another table.
+/// Copies the value at a key from one table to another.
 fn put_copy(alloc: Global, tables: &mut Table, table: &Table, key: &str) -> Result<(), AllocError>
     ensures { OnOk result (table_view tables.new
         ≡ with_copy key.now (table_view table.now) (table_view tables.old)) }
@@ -134,7 +134,7 @@ fn file_in(alloc: Global, table: &Table) -> Result<Policy, InterfaceError>
     Ok(Policy::File(path))
 }
 
-/// Where the lattice is.
+/// The place of the lattice.
 fn policy_in(alloc: Global, table: &Table) -> Result<Policy, InterfaceError>
     ensures { IfOk result (spec.IsPolicy (table_view table.now)) }
 {
@@ -148,7 +148,7 @@ fn policy_in(alloc: Global, table: &Table) -> Result<Policy, InterfaceError>
     Ok(Policy::Tables(text))
 }
 
-/// How a text is to be accepted.
+/// How a text must be accepted.
 fn judgement_in(table: &Table) -> Result<Judgement, InterfaceError>
     ensures { IfOk result (λ judgement. spec.judgement_at (table_view table.now) ≡ Some judgement) }
 {
@@ -161,7 +161,7 @@ fn judgement_in(table: &Table) -> Result<Judgement, InterfaceError>
     }
 }
 
-/// The judgement of a word.
+/// The judgement with this name.
 fn judgement_of(word: &[u8]) -> Option<Judgement>
     ensures { result ≡ spec.judgement_of word.now }
 {
@@ -176,7 +176,7 @@ fn judgement_of(word: &[u8]) -> Option<Judgement>
     }
 }
 
-/// Whether the globals are to stand in order.
+/// Whether the order of the globals is required.
 fn order_in(table: &Table) -> Result<bool, InterfaceError>
     ensures { IfOk result (λ is_ordered. spec.order_from
         (get_member (codes "order") (table_view table.now)) ≡ Some is_ordered) }
@@ -193,7 +193,7 @@ fn order_in(table: &Table) -> Result<bool, InterfaceError>
     }
 }
 
-/// Whether the globals are to stand in order, by a word.
+/// Whether the order of the globals is required, by name.
 fn order_of(word: &[u8]) -> Option<bool>
     ensures { result ≡ spec.order_of word.now }
 {
@@ -206,7 +206,7 @@ fn order_of(word: &[u8]) -> Option<bool>
     }
 }
 
-/// The two texts of an array of just two.
+/// The two texts of an array with exactly two elements.
 fn pair_of(value: &Value) -> Option<(&str, &str)>
     ensures { option_map (λ p. (p.0.now, p.1.now)) result ≡ shape.pair_of (view value.now) }
 {
@@ -219,7 +219,7 @@ fn pair_of(value: &Value) -> Option<(&str, &str)>
     Some((name, class))
 }
 
-/// The name of a global, which is none of those before it.
+/// The name of a global, if no earlier global has it.
 fn fresh_name(
     alloc: Global,
     name: &[u8],
@@ -237,7 +237,7 @@ fn fresh_name(
     Ok(fresh)
 }
 
-/// A global that is asked for, whose name is none of those before it.
+/// A required global, if no earlier global has its name.
 fn global_of(
     alloc: Global,
     value: &Value,
@@ -253,7 +253,7 @@ fn global_of(
     Ok((name, class))
 }
 
-/// The globals that are asked for.
+/// The required globals.
 fn globals_in(alloc: Global, table: &Table) -> Result<Vec<(Vec<u8>, Vec<u8>)>, InterfaceError>
     ensures { IfOk result
         (λ found. spec.globals_at (table_view table.now) ≡ Some (globals found.items)) }
@@ -280,8 +280,8 @@ fn globals_of(alloc: Global, array: &[Value]) -> Result<Vec<(Vec<u8>, Vec<u8>)>,
     Ok(found)
 }
 
-/// The names and the words of a table of numbers, of which each name is one of the globals; nothing
-/// where a value is no number.
+/// The names and the words of a table of numbers, if each name is one of the globals; nothing if a
+/// value isn't a number.
 fn known_entries(
     alloc: Global,
     number: usize,
@@ -318,7 +318,7 @@ fn know_names(
     Ok(())
 }
 
-/// The store of a run, from 1; without one it is empty.
+/// The store of a run, numbered from 1; without one it is empty.
 fn store_in(
     alloc: Global,
     number: usize,
@@ -381,7 +381,7 @@ fn is_halting(table: &Table) -> bool
     halts
 }
 
-/// The words that a run expects; where it only halts there are none.
+/// The words that a run expects; there are none if it only has to halt.
 fn expect_in(
     alloc: Global,
     number: usize,
@@ -409,7 +409,7 @@ fn expect_in(
     }
 }
 
-/// The table of a run, whose keys are those of one.
+/// The table of a run, if it has only the keys of a run.
 fn run_table(number: usize, value: &Value) -> Result<&Table, InterfaceError>
     ensures table { IfOk result (λ table. as_table (view value.now) ≡ Some (table_view table.now)) }
     ensures keys { IfOk result
@@ -424,7 +424,7 @@ fn run_table(number: usize, value: &Value) -> Result<&Table, InterfaceError>
     }
 }
 
-/// A run, whose number begins with 1.
+/// A run; the numbers of runs begin with 1.
 fn trial_of(
     alloc: Global,
     number: usize,
@@ -446,7 +446,7 @@ fn trial_of(
     })
 }
 
-/// The runs that are asked for.
+/// The required runs.
 fn trials_in(
     alloc: Global,
     table: &Table,
@@ -485,7 +485,7 @@ fn trials_of(
     Ok(trials)
 }
 
-/// What a table asks of a text.
+/// The requirements of a table on a text.
 fn interface_in(alloc: Global, table: &Table) -> Result<Interface, InterfaceError>
     ensures { IfOk result (spec.Asks (table_view table.now)) }
 {
@@ -501,12 +501,12 @@ fn interface_in(alloc: Global, table: &Table) -> Result<Interface, InterfaceErro
     })
 }
 
-/// What an interface file has. Whether its classes are those of the lattice isn't judged.
+/// The contents of an interface file. Whether its classes are classes of the lattice isn't checked.
 ///
 /// # Errors
 ///
-/// `NotToml` where the text is no document, no UTF-8, or has an integer beyond 64 bits; else the
-/// first fault in the order keys, lattice, profile, order, globals, runs.
+/// `NotToml` if the text is no document, isn't UTF-8, or has an integer beyond 64 bits; otherwise
+/// the first fault in the order keys, lattice, profile, order, globals, runs.
 pub fn read_interface(alloc: Global, text: &[u8]) -> Result<Asked, InterfaceError>
     ensures read { IfOk result (spec.IsReadAs text.now) }
 {
@@ -520,7 +520,7 @@ pub fn read_interface(alloc: Global, text: &[u8]) -> Result<Asked, InterfaceErro
     Ok(Asked { policy, interface })
 }
 
-/// The number, from 0, of the first global that is asked for whose class is none of the lattice.
+/// The number, from 0, of the first required global whose class isn't in the lattice.
 pub fn unknown_class(lattice: &Lattice, interface: &Interface) -> Option<usize>
     ensures { result
         ≡ first_unknown (class_named lattice.now) 0 (globals interface.now.globals.items) }

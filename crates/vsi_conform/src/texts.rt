@@ -1,4 +1,4 @@
-//! The lines of what is told.
+//! The lines of an answer.
 
 ghost use Rattle.std.specs.Prelude.{◌≡◌, ◌++◌, Some, true, IfOk, OnOk};
 ghost use Rattle.std.specs.List.{flat_map};
@@ -17,7 +17,7 @@ use vsi_lattice::Lattice;
 use vsi_steady::{SteadyError, UnsteadyError, steady_explanation, steady_text};
 use vsi_syntax::{Declaration, put_number, put_word};
 
-/// A source text and what is asked of it.
+/// A source text and the interface for it.
 #[derive(Clone, Copy)]
 pub(crate) struct Pages<'a> {
     pub(crate) text: &'a [u8],
@@ -25,7 +25,7 @@ pub(crate) struct Pages<'a> {
     pub(crate) interface: &'a Interface,
 }
 
-/// Some texts more.
+/// Adds some texts.
 pub(crate) fn push_parts(text: &mut Vec<u8>, parts: &[&[u8]]) -> Result<(), AllocError>
     ensures { OnOk result (text.new.items ≡ text.old.items ++ flat_map (λ p. p.now) parts.now) }
 {
@@ -35,7 +35,7 @@ pub(crate) fn push_parts(text: &mut Vec<u8>, parts: &[&[u8]]) -> Result<(), Allo
     Ok(())
 }
 
-/// The lines of a flow as it is judged where the image is to be steady.
+/// The lines of a refused flow, judged as for a steady image.
 fn watched_lines(
     alloc: Global,
     lattice: &Lattice,
@@ -51,7 +51,7 @@ fn watched_lines(
     Ok(lines)
 }
 
-/// The lines of a refusal where the image is to be steady.
+/// The lines of a refusal of a steady image.
 fn steady_lines(
     alloc: Global,
     lattice: &Lattice,
@@ -70,7 +70,7 @@ fn steady_lines(
     }
 }
 
-/// The lines of the refusal of the image of a text.
+/// The lines of the refusal of a text's image.
 fn image_lines(
     alloc: Global,
     lattice: &Lattice,
@@ -89,8 +89,8 @@ fn image_lines(
     }
 }
 
-/// The lines of a refusal, as of a text that is to be accepted. A flow of a text whose image is to
-/// be steady is told as it is judged there.
+/// The lines of the refusal of a text. If a steady image is required, a flow is reported as it is
+/// judged there.
 pub fn refusal_lines(
     alloc: Global,
     lattice: &Lattice,
@@ -114,7 +114,7 @@ pub fn refusal_lines(
     }
 }
 
-/// A line and a column more.
+/// Adds a line and a column.
 fn push_place(text: &mut Vec<u8>, shown: &Shown) -> Result<(), AllocError>
     ensures { OnOk result (text.new.items ≡ text.old.items ++ spec.place (told.shown shown.now)) }
 {
@@ -123,7 +123,7 @@ fn push_place(text: &mut Vec<u8>, shown: &Shown) -> Result<(), AllocError>
     put_number(text, shown.column)
 }
 
-/// The start of a run's line more.
+/// Adds the start of a run's line.
 fn push_run(text: &mut Vec<u8>, trial: usize) -> Result<(), AllocError>
     ensures { OnOk result (text.new.items ≡ text.old.items ++ spec.run_text trial) }
 {
@@ -131,7 +131,7 @@ fn push_run(text: &mut Vec<u8>, trial: usize) -> Result<(), AllocError>
     put_number(text, trial.saturating_add(1))
 }
 
-/// The global that is asked for under this number.
+/// The required global with this number.
 pub(crate) fn asked<'a>(interface: &'a Interface, number: usize) -> (&'a [u8], &'a [u8])
     ensures { (result.0.now, result.1.now) ≡ told.asked interface.now number }
 {
@@ -141,7 +141,7 @@ pub(crate) fn asked<'a>(interface: &'a Interface, number: usize) -> (&'a [u8], &
     }
 }
 
-/// The name and the word that a run expects under this number.
+/// The name and the word that a run expects, by number.
 pub(crate) fn expected(interface: &Interface, trial: usize, wanted: usize) -> (&[u8], i64)
     ensures { (result.0.now, result.1) ≡ told.expected interface.now trial wanted }
 {
@@ -151,7 +151,7 @@ pub(crate) fn expected(interface: &Interface, trial: usize, wanted: usize) -> (&
     expected_of(trial, wanted)
 }
 
-/// The name and the word under this number.
+/// The name and the word with this number.
 fn expected_of(trial: &Trial, wanted: usize) -> (&[u8], i64)
     ensures { (result.0.now, result.1) ≡ told.expected_of (Some trial.now) wanted }
 {
@@ -161,7 +161,7 @@ fn expected_of(trial: &Trial, wanted: usize) -> (&[u8], i64)
     }
 }
 
-/// The line of a global that the text lacks.
+/// Adds the line of a global that the text lacks.
 fn push_missing(text: &mut Vec<u8>, global: (&[u8], &[u8])) -> Result<(), AllocError>
     ensures { OnOk result (text.new.items
         ≡ text.old.items ++ spec.missing_line (global.entry.0.now, global.entry.1.now)) }
@@ -169,7 +169,7 @@ fn push_missing(text: &mut Vec<u8>, global: (&[u8], &[u8])) -> Result<(), AllocE
     push_parts(text, &[b"missing ", global.0, b" : ", global.1, b"\n"])
 }
 
-/// The line of a global with another class than this one.
+/// Adds the line of a global with a class other than this one.
 fn push_class(text: &mut Vec<u8>, shown: &Shown, class: &[u8]) -> Result<(), AllocError>
     ensures { OnOk result (text.new.items
         ≡ text.old.items ++ spec.class_line (told.shown shown.now) class.now) }
@@ -189,7 +189,7 @@ fn push_class(text: &mut Vec<u8>, shown: &Shown, class: &[u8]) -> Result<(), All
     )
 }
 
-/// The line of a global that isn't asked for.
+/// Adds the line of a global that isn't required.
 fn push_unexpected(text: &mut Vec<u8>, shown: &Shown) -> Result<(), AllocError>
     ensures { OnOk result (text.new.items
         ≡ text.old.items ++ spec.unexpected_line (told.shown shown.now)) }
@@ -201,7 +201,7 @@ fn push_unexpected(text: &mut Vec<u8>, shown: &Shown) -> Result<(), AllocError>
     )
 }
 
-/// The line of another order, where one of this name is expected.
+/// Adds the line of another order, where a global with this name is expected.
 fn push_order(text: &mut Vec<u8>, shown: &Shown, name: &[u8]) -> Result<(), AllocError>
     ensures { OnOk result (text.new.items
         ≡ text.old.items ++ spec.order_line (told.shown shown.now) name.now) }
@@ -210,7 +210,7 @@ fn push_order(text: &mut Vec<u8>, shown: &Shown, name: &[u8]) -> Result<(), Allo
     push_parts(text, &[b" order ", shown.name, b", expected ", name, b"\n"])
 }
 
-/// The word that is found, or that there is none.
+/// Adds the word found, or that there is none.
 fn push_found(text: &mut Vec<u8>, name: &[u8], word: Option<i64>) -> Result<(), AllocError>
     ensures { OnOk result (text.new.items
         ≡ text.old.items ++ spec.found_text name.now word) }
@@ -224,7 +224,7 @@ fn push_found(text: &mut Vec<u8>, name: &[u8], word: Option<i64>) -> Result<(), 
     }
 }
 
-/// The line of a word that isn't as is expected.
+/// Adds the line of a word that differs from the expected one.
 fn push_wrong(
     text: &mut Vec<u8>,
     trial: usize,
@@ -241,7 +241,7 @@ fn push_wrong(
     text.extend_from_slice(b"\n")
 }
 
-/// The budget of a run.
+/// Adds the budget of a run.
 fn push_budget(text: &mut Vec<u8>, trial: Option<&Trial>) -> Result<(), AllocError>
     ensures { OnOk result (text.new.items
         ≡ text.old.items ++ spec.budget_text (option_copied trial.entry)) }
@@ -252,7 +252,7 @@ fn push_budget(text: &mut Vec<u8>, trial: Option<&Trial>) -> Result<(), AllocErr
     }
 }
 
-/// The line of a run that doesn't halt.
+/// Adds the line of a run that doesn't halt.
 fn push_endless(text: &mut Vec<u8>, number: usize, trial: Option<&Trial>) -> Result<(), AllocError>
     ensures { OnOk result (text.new.items
         ≡ text.old.items ++ spec.budget_line number (option_copied trial.entry)) }
@@ -263,7 +263,7 @@ fn push_endless(text: &mut Vec<u8>, number: usize, trial: Option<&Trial>) -> Res
     push_parts(text, &[b"\n"])
 }
 
-/// The line of a point more.
+/// Adds the line of a point.
 fn push_point(text: &mut Vec<u8>, pages: &Pages, point: Point) -> Result<(), AllocError>
     ensures { OnOk result (text.new.items
         ≡ text.old.items ++ spec.line_of_point (told.page pages.now) point) }
@@ -294,7 +294,7 @@ fn push_point(text: &mut Vec<u8>, pages: &Pages, point: Point) -> Result<(), All
     }
 }
 
-/// The lines of points more.
+/// Adds the lines of points.
 fn push_points(text: &mut Vec<u8>, pages: &Pages, points: &[Point]) -> Result<(), AllocError>
     ensures { OnOk result (text.new.items
         ≡ text.old.items ++ flat_map (spec.line_of_point (told.page pages.now)) points.now) }
@@ -305,7 +305,7 @@ fn push_points(text: &mut Vec<u8>, pages: &Pages, points: &[Point]) -> Result<()
     Ok(())
 }
 
-/// The lines of a refusal, where there is one.
+/// The lines of a refusal, if there is one.
 fn first_lines(
     alloc: Global,
     lattice: &Lattice,
@@ -325,7 +325,7 @@ fn first_lines(
     }
 }
 
-/// Whether the text is to be steady.
+/// Whether the image must be steady.
 pub(crate) fn is_steady(judgement: Judgement) -> bool
     ensures { result ≡ spec.is_steady judgement }
 {
@@ -333,8 +333,7 @@ pub(crate) fn is_steady(judgement: Judgement) -> bool
 }
 
 /// The lines of an answer: `conforms`, or those of the refusal and one for each point. Names, lines
-/// and columns are taken from the lattice, the text and the interface that are handed in, which are
-/// to be those of the answer.
+/// and columns come from the given lattice, text and interface, which must be those of the answer.
 pub fn points_text(
     alloc: Global,
     lattice: &Lattice,

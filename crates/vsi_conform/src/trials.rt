@@ -1,4 +1,4 @@
-//! The runs that are asked for.
+//! The required runs.
 
 ghost use Rattle.std.specs.Prelude.{◌≡◌, ◌++◌, IfOk, OnOk, length};
 ghost use Rattle.vsi_image.specs.Fields.{global, globals};
@@ -13,7 +13,7 @@ use vsi_machine::{Machine, Outcome};
 /// The word of a global that a run doesn't name.
 const UNNAMED: i64 = 0;
 
-/// The word that a name is given, or 0.
+/// The word given for a name, or 0.
 fn given_word(entries: &[(Vec<u8>, i64)], name: &[u8]) -> i64
     ensures { result ≡ spec.given_word (spec.entries entries.now) name.now }
 {
@@ -25,7 +25,7 @@ fn given_word(entries: &[(Vec<u8>, i64)], name: &[u8]) -> i64
     UNNAMED
 }
 
-/// The words that a run begins with.
+/// The words at the start of a run.
 fn given_words(
     alloc: Global,
     entries: &[(Vec<u8>, i64)],
@@ -42,7 +42,7 @@ fn given_words(
     Ok(words)
 }
 
-/// The word of the global of a name.
+/// The word of the global with a name.
 fn word_of(variables: &[(Vec<u8>, Vec<u8>)], words: &[i64], name: &[u8]) -> Option<i64>
     ensures { result ≡ spec.word_of (globals variables.now) words.now name.now }
 {
@@ -57,7 +57,7 @@ fn word_of(variables: &[(Vec<u8>, Vec<u8>)], words: &[i64], name: &[u8]) -> Opti
     None
 }
 
-/// What is wrong with one word, where this one is found.
+/// The point of one expected word, by the word found.
 fn word_point(trial: usize, wanted: usize, expected: i64, found: Option<i64>) -> Option<Point>
     ensures { result ≡ spec.word_point trial wanted expected found }
 {
@@ -77,7 +77,7 @@ fn word_point(trial: usize, wanted: usize, expected: i64, found: Option<i64>) ->
     }
 }
 
-/// What is wrong with the word that is expected of a name.
+/// The point of the word expected for a name.
 fn expected_point(
     trial: usize,
     wanted: usize,
@@ -92,7 +92,7 @@ fn expected_point(
     word_point(trial, wanted, entry.1, found)
 }
 
-/// What is wrong with the words that are expected.
+/// Adds the points of the expected words.
 fn push_words(
     points: &mut Vec<Point>,
     trial: usize,
@@ -128,7 +128,7 @@ fn started<'a>(
     }
 }
 
-/// What is wrong with one run.
+/// Adds the points of one run.
 fn push_trial(
     alloc: Global,
     points: &mut Vec<Point>,
@@ -155,7 +155,7 @@ fn push_trial(
     }
 }
 
-/// What is wrong with the runs.
+/// Adds the points of the runs.
 pub(crate) fn push_trials(
     alloc: Global,
     points: &mut Vec<Point>,

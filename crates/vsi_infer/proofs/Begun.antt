@@ -1,24 +1,24 @@
--- Texts that begin with what they were.
+-- Texts that begin with an earlier text.
 use Rattle.std.proofs.Common.{◌≡◌, ℕ, ◌≤◌, List, ◌++◌, length, take, drop, ap, sym, ◌∙◌, arith}
 use Rattle.std.proofs.Math.Seq.{take-append_seam}
 use Rattle.std.proofs.lemmas.List.{length-take, take-append-drop, take-append-le}
 
--- A text with something after it begins with the text.
+-- A text followed by more begins with itself.
 pub begins : (old now more : List ℕ) → now ≡ old ++ more → take (length old) now ≡ old
 begins old now more is = ap (take (length old)) is ∙ take-append_seam old more
 
--- A text that begins with another one does so too with more after it.
+-- A text that begins with another one still does when more is added after it.
 pub begins_more : (old text more : List ℕ) → take (length old) text ≡ old → take (length old) (text ++ more) ≡ old
 begins_more old text more h =
     let within : length old ≤ length text = omega (arith, ap length h, length-take (length old) text) in
     take-append-le (length old) text more within ∙ h
 
--- So does a text that is another one with more after it.
+-- A text that equals another one followed by more begins with it.
 pub begins_on : (old text more now : List ℕ) → take (length old) text ≡ old → now ≡ text ++ more →
     take (length old) now ≡ old
 begins_on old text more now h is = ap (take (length old)) is ∙ begins_more old text more h
 
--- What begins with a text begins with what that text begins with.
+-- A text that begins with a second text also begins with whatever the second one begins with.
 pub begins_longer : (old text now more : List ℕ) → text ≡ old ++ more → take (length text) now ≡ text →
     take (length old) now ≡ old
 begins_longer old text now more is h =

@@ -1,11 +1,11 @@
--- One number more.
+-- One more variable gets its number.
 use Rattle.std.proofs.Common.{◌≡◌, ◌≢◌, ℕ, zero, suc, ◌+◌, ◌<◌, ◌≤◌, ◌==◌, cond, Bool, true, false, ◌||◌, List, length, get_or, set, refl, sym, ap, ◌∙◌, subst, arith, inl, inr, length-set, get_or-set_other, get_or-set_same, eq-eqb, ne_eqb, sum_by}
 use Rattle.std.proofs.lemmas.Bool.{cases_eq, cases_lt, true≢false}
 use Rattle.std.proofs.lemmas.List.Sums.{sum_by-set}
 use Rattle.vsi_infer.specs.Distances.{Leads, IsGoal, IsAway, AreDistances, Spreads, AtMost, IsSeen, Moved, unreached}
 
 module _ (flows : ℕ → ℕ → Bool) (goals : List Bool) (level : ℕ) (small : level < 65534) where
-  -- Where nothing moves no number does.
+  -- If no number changes, nothing has moved.
   pub moved_none : (far : List ℕ) → Moved flows level far far false
   moved_none far = record { down = λ v. omega arith; level_kept = λ v e. e; quiet = λ e. refl; fewer = omega arith }
 
@@ -26,14 +26,14 @@ module _ (flows : ℕ → ℕ → Bool) (goals : List Bool) (level : ℕ) (small
       | inr n ↦ omega (arith, other v n)
     ]
 
-    -- A number that is small was there before.
+    -- A number up to the level was there before.
     old_there : (v x : ℕ) → x ≤ level → get_or (set far from (level + 1)) v 0 ≡ x → get_or far v 0 ≡ x
     old_there v x le e = elim (cases_eq v from) [
       | inl q ↦ absurd (omega (arith, ap (λ (u : ℕ). get_or (set far from (level + 1)) u 0) q, same, e, le))
       | inr n ↦ sym (other v n) ∙ e
     ]
 
-    -- With one number more the numbers spread as before.
+    -- After one more number, the numbers spread as before.
     pub one_more : (to : ℕ) → flows from to ≡ true → get_or far to 0 ≡ level → to < length far
         → Spreads flows goals level far → Spreads flows goals level (set far from (level + 1))
     one_more to fl at tl s = record {
@@ -65,7 +65,7 @@ module _ (flows : ℕ → ℕ → Bool) (goals : List Bool) (level : ℕ) (small
           omega (arith, c, e, down a);
     }
 
-    -- With one number more something has moved.
+    -- After one more number, something has moved.
     pub one_moved : (old : List ℕ) (more : Bool) → Moved flows level old far more
         → Moved flows level old (set far from (level + 1)) true
     one_moved old more m = record {
@@ -83,7 +83,7 @@ module _ (flows : ℕ → ℕ → Bool) (goals : List Bool) (level : ℕ) (small
           omega (arith, sums, a, b, m.fewer);
     }
 
-  -- One step after another.
+  -- Two moves in a row are one move.
   pub moved_on : (old mid new : List ℕ) (x y : Bool) → Moved flows level old mid x → Moved flows level mid new y
       → Moved flows level old new (x || y)
   moved_on old mid new x y m n = record {
@@ -107,7 +107,7 @@ module _ (flows : ℕ → ℕ → Bool) (goals : List Bool) (level : ℕ) (small
 
 module _ (flows : ℕ → ℕ → Bool) (goals : List Bool) (level : ℕ) (small : level < 65534)
     (within : (a b : ℕ) → flows a b ≡ true → (a < length goals) × (b < length goals)) where
-  -- Where each place of a level was seen no flow to it is left out.
+  -- Once every place of a level has been seen, no flow to it is left out.
   seen_closed : (new : List ℕ) → Spreads flows goals level new
       → ((b : ℕ) → b < length new → get_or new b 0 ≡ level → IsSeen flows level new b) → (a b : ℕ)
       → flows a b ≡ true → get_or new b 0 < level + 1 → get_or new a 0 ≤ get_or new b 0 + 1
@@ -117,7 +117,7 @@ module _ (flows : ℕ → ℕ → Bool) (goals : List Bool) (level : ℕ) (small
         seen b (omega (arith, (within a b f).1, s.len)) e a f in omega (arith, q, e))
   ]
 
-  -- The next level.
+  -- The next level is reached.
   pub level_on : (old new : List ℕ) → AtMost flows goals level old → Spreads flows goals level new
       → ((b : ℕ) → b < length new → get_or new b 0 ≡ level → IsSeen flows level new b)
       → AtMost flows goals (level + 1) new
@@ -132,7 +132,7 @@ module _ (flows : ℕ → ℕ → Bool) (goals : List Bool) (level : ℕ) (small
     within = s.below;
   }
 
-  -- The last level.
+  -- After the last level the numbers are distances.
   pub level_last : (new : List ℕ) → level ≤ length goals → AtMost flows goals level new
       → ((b : ℕ) → b < length new → get_or new b 0 ≡ level → IsSeen flows level new b) → AreDistances flows goals new
   level_last new le w seen = record {
@@ -144,7 +144,7 @@ module _ (flows : ℕ → ℕ → Bool) (goals : List Bool) (level : ℕ) (small
         w.within b (omega (arith, (within a b f).1, w.spreads.len)) h in omega (arith, q));
   }
 
--- No walk to a goal is shorter, and some number was found.
+-- If a goal is n flows away, the number was found and is at most n.
 pub fewest : (flows : ℕ → ℕ → Bool) (goals : List Bool) (far : List ℕ) → length goals ≤ 1025
     → ((a b : ℕ) → flows a b ≡ true → (a < length goals) × (b < length goals))
     → AreDistances flows goals far → (n v b : ℕ) → Leads flows n v b → IsGoal goals b → (get_or far v 0 < 65535)

@@ -1,4 +1,4 @@
--- The text of a walk from its parts.
+-- The text of a walk is put together from its parts.
 use Rattle.std.proofs.Common.{◌≡◌, ℕ, zero, suc, ◌-◌, ◌<◌, ◌==◌, false, List, [], ◌∷◌, ◌++◌, length, get_or, refl, ap, ◌∙◌, arith}
 use Rattle.std.specs.List.{flat_map}
 use Rattle.std.proofs.lemmas.Bool.{false≢true}
@@ -8,7 +8,7 @@ use Rattle.vsi_types.specs.declared.rules.Step.{Step}
 use Rattle.vsi_types.specs.Walks.{last_target}
 use Rattle.vsi_infer.specs.Explanation.{step_line, last_text, explanation}
 
--- Where the last step of a walk goes.
+-- The target of the last step is the target of the walk.
 last_at : (x d : Step) (xs : List Step) → (get_or (x ∷ xs) (length xs) d).target ≡ last_target x xs
 last_at x d [] = refl
 last_at x d (y ∷ xs) = last_at y d xs
@@ -23,7 +23,7 @@ explained l source r (x ∷ xs) d e lt =
     ap (λ (i : ℕ). flat_map (step_line source r) (x ∷ xs) ++ last_text l r x.source (get_or (x ∷ xs) i e).target) n
     ∙ ap (λ v. flat_map (step_line source r) (x ∷ xs) ++ last_text l r x.source v) (last_at x e xs)
 
--- What isn't 0 is above it.
+-- A number that isn't 0 is above 0.
 pub positive : (n : ℕ) → false ≡ (n == 0) → 0 < n
 positive zero e = absurd (false≢true e)
 positive (suc n) e = omega arith

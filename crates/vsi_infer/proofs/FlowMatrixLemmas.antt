@@ -1,4 +1,4 @@
--- The rows of a command's parts make the rows of the command.
+-- The rows of a command are made from the rows of its parts.
 use Rattle.std.proofs.Common.{◌≡◌, ℕ, ◌+◌, ◌<◌, ◌≤◌, ◌==◌, Bool, true, false, ◌&&◌, ◌||◌, List, [], ◌∷◌, ◌++◌, take, length, get_or, refl, sym, ap, ◌∙◌, subst, arith}
 use Rattle.std.specs.Prelude.{slice_index}
 use Rattle.std.specs.List.{All}
@@ -16,7 +16,7 @@ use Rattle.vsi_infer.specs.FlowRows.{flow_has}
 use Rattle.vsi_infer.specs.declared.rule_filter.RuleFilter.{RuleFilter}
 use Rattle.vsi_infer.specs.Leading.{leads, inside, reads_by, observes_ending, Position, IsReady, IsNoted}
 
--- Tests.
+-- The order of two added facts doesn't matter.
 or_swap : (x y z : Bool) → ((x || y) || z) ≡ (x || (z || y))
 or_swap true y z = refl
 or_swap false true true = refl
@@ -24,13 +24,13 @@ or_swap false true false = refl
 or_swap false false true = refl
 or_swap false false false = refl
 
--- What is added twice under one condition is added at once.
+-- Two facts added under one condition can be added together.
 both_to : (x t r g : Bool) → ((x || (t && r)) || (t && g)) ≡ (x || (t && (r || g)))
 both_to true t r g = refl
 both_to false true r g = refl
 both_to false false r g = refl
 
--- Guards that read the same.
+-- Guards that read the same lead the same.
 pub leads_same : (F : RuleFilter) (P : Profile) (k : ℕ) (f g : ℕ → Bool) → ((v : ℕ) → f v ≡ g v)
     → (scope : List ℕ) (n : ℕ) (c : Command) (a b : ℕ) → leads F P k f scope n c a b
     ≡ leads F P k g scope n c a b
@@ -59,9 +59,9 @@ leads_same F P k f g h scope n (Letvar e c) a b =
     ap (λ x. ((b == n) && reads_by F typing.Letvar scope e a) || x) (leads_same F P k f g h (scope ++ n ∷ [])
     (n + 1) c a b)
 
--- One command more of a list.
+-- One more command of a list.
 module _ (F : RuleFilter) (P : Profile) (k : ℕ) (around : ℕ → Bool) (scope : List ℕ) (a b : ℕ) where
-  -- A sequence leads by a rule where its commands do, one after the other.
+  -- A sequence leads by a rule if one of its commands does.
   leads_push : (n : ℕ) (cs : List Cmd) (c : Cmd) → leads F P k around scope n (sequence (cs ++ c ∷ [])) a b ≡
       (leads F P k around scope n (sequence cs) a b || leads F P k around scope (n + letvars (sequence cs))
       (command c) a b)
@@ -79,7 +79,7 @@ module _ (F : RuleFilter) (P : Profile) (k : ℕ) (around : ℕ → Bool) (scope
       (command x))
       (sequence cs) a b) || leads F P k around scope m (command c) a b) e
 
-  -- One more command leads where it does by the rule.
+  -- With one more command, the list leads where that command does by the rule.
   pub leads_more : (n : ℕ) (cs : List Cmd) (i : ℕ) (c : Cmd) → i < length cs → c ≡ get_or cs i c
       → leads F P k around scope n (sequence (take (i + 1) cs)) a b ≡
       (leads F P k around scope n (sequence (take i cs)) a b || leads F P k around scope
@@ -95,13 +95,13 @@ abbrev pub position : List ℕ → List ℕ → ℕ → Position
 position r s n = record { rows = r; scope = s; next = n }
 
 module _ (F : RuleFilter) (P : Profile) (k : ℕ) (around : ℕ → Bool) where
-  -- The same places lead the same by the rule.
+  -- Equal places lead to the same flows by the rule.
   moved : (s s' : List ℕ) (n n' : ℕ) (c : Command) (x y : ℕ) → s ≡ s' → n ≡ n'
       → leads F P k around s n c x y ≡ leads F P k around s' n' c x y
   moved s s' n n' c x y p q = ap (λ z. leads F P k around z n c x y) p ∙ ap
       (λ m. leads F P k around s' m c x y) q
 
-  -- Nothing yet.
+  -- Before the first command nothing is noted.
   pub noted_none : (a : Position) → IsNoted F P k around a Skip a
   noted_none a = record {
     scope = refl;
@@ -111,7 +111,7 @@ module _ (F : RuleFilter) (P : Profile) (k : ℕ) (around : ℕ → Bool) where
         λ x y. sym (or-false (flow_has a.rows y x));
   }
 
-  -- One command after another.
+  -- Two commands in a row are noted as one sequence.
   pub noted_then : (a b d : Position) (c₁ c₂ : Command) → IsNoted F P k around a c₁ b → IsNoted F P k around b c₂ d
       → IsNoted F P k around a (Sequence c₁ c₂) d
   noted_then a b d c₁ c₂ h g = record {
@@ -125,7 +125,7 @@ module _ (F : RuleFilter) (P : Profile) (k : ℕ) (around : ℕ → Bool) where
         ∙ or_assoc (flow_has a.rows y x) (leads F P k around a.scope a.next c₁ x y) _;
   }
 
-  -- A list of commands, up to a place in it.
+  -- The first commands of a list are noted, and one more.
   pub noted_more : (a b d : Position) (cs : List Cmd) (i : ℕ) (c : Cmd) → i < length cs → c ≡ get_or cs i c
       → letvars (sequence (take (i + 1) cs)) ≡ letvars (sequence (take i cs)) + letvars (command c)
       → IsNoted F P k around a (sequence (take i cs)) b → IsNoted F P k around b (command c) d
@@ -145,7 +145,7 @@ module _ (F : RuleFilter) (P : Profile) (k : ℕ) (around : ℕ → Bool) where
       → IsNoted F P k around a (sequence (take i cs)) b → IsNoted F P k around a (sequence cs) b
   noted_all a b cs i le h = subst (λ l. IsNoted F P k around a (sequence l) b) (take_all i cs le) h
 
-  -- An assignment.
+  -- An assignment is noted.
   pub noted_put : (a b : Position) (mid : List ℕ) (l : ℕ) (s : Span) (e : Expression) (to : ℕ) → to
       ≡ slice_index a.scope l
       → b.scope ≡ a.scope → b.next ≡ a.next → length b.rows ≡ length a.rows
@@ -161,7 +161,7 @@ module _ (F : RuleFilter) (P : Profile) (k : ℕ) (around : ℕ → Bool) where
         ∙ ap (λ (t : ℕ). flow_has a.rows y x || ((y == t) && (reads_by F typing.Assign a.scope e x || around x))) at;
   }
 
-  -- A choice: both branches under its guard, and then its ending.
+  -- A choice is noted: both branches under its guard, and then its ending.
   pub noted_if : (inner : ℕ → Bool) (a b d : Position) (e : Expression) (c₁ c₂ : Command) (looping : Bool)
       → ((v : ℕ) → inner v ≡ inside F typing.If around a.scope e v) → looping ≡ (has_loop c₁ || has_loop c₂)
       → IsNoted F P k inner a (Sequence c₁ c₂) b → d.scope ≡ b.scope → d.next ≡ b.next → length d.rows
@@ -187,7 +187,7 @@ module _ (F : RuleFilter) (P : Profile) (k : ℕ) (around : ℕ → Bool) where
         (inside F typing.If around a.scope e) same a.scope a.next (Sequence c₁ c₂) x y);
   }
 
-  -- A loop: its ending, and then its body under its guard.
+  -- A loop is noted: its ending, and then its body under its guard.
   pub noted_while : (inner : ℕ → Bool) (a b d : Position) (e : Expression) (c : Command)
       → ((v : ℕ) → inner v ≡ inside F typing.While around b.scope e v) → b.scope ≡ a.scope → b.next ≡ a.next
       → length b.rows ≡ length a.rows
@@ -208,7 +208,7 @@ module _ (F : RuleFilter) (P : Profile) (k : ℕ) (around : ℕ → Bool) where
         ∙ or_assoc (flow_has a.rows y x) _ _;
   }
 
-  -- A letvar: its initial value, and then its body in a longer scope.
+  -- A letvar is noted: its initial value, and then its body in a longer scope.
   pub noted_letvar : (a b d f : Position) (e : Expression) (c : Command) → b.scope ≡ a.scope ++ a.next ∷ []
       → b.next ≡ a.next + 1 → length b.rows ≡ length a.rows
       → ((x y : ℕ) → flow_has b.rows y x ≡ (flow_has a.rows y x ||
@@ -227,9 +227,9 @@ module _ (F : RuleFilter) (P : Profile) (k : ℕ) (around : ℕ → Bool) where
         ∙ or_assoc (flow_has a.rows y x) _ _;
   }
 
--- Where the rows have room for a command, they have it for its parts.
+-- Rows with room for a command have room for its parts.
 module _ (k : ℕ) where
-  -- A position of the same places is ready for a command of fewer declarations.
+  -- A position with the same places is ready for a command with fewer declarations.
   pub ready_same : (a b : Position) (c d : Command) → HasPlaces (length a.scope) d → letvars d ≤ letvars c
       → IsReady k a c → b.scope ≡ a.scope → b.next ≡ a.next → length b.rows ≡ length a.rows → IsReady k b d
   ready_same a b c d places le r sc ne len = record {
@@ -240,7 +240,7 @@ module _ (k : ℕ) where
     room = omega (arith, r.room, len);
   }
 
-  -- Behind one command a position is ready for the next.
+  -- After one command a position is ready for the next.
   pub ready_after : (F : RuleFilter) (P : Profile) (around : ℕ → Bool) (a b : Position) (c c₁ d : Command) → HasPlaces
       (length a.scope) d
       → letvars c₁ + letvars d ≤ letvars c → IsReady k a c → IsNoted F P k around a c₁ b → IsReady k b d
@@ -252,7 +252,7 @@ module _ (k : ℕ) where
     room = omega (arith, r.room, h.room);
   }
 
-  -- Inside of a `letvar` a position is ready for its body.
+  -- Inside a `letvar` a position is ready for its body.
   pub ready_letvar : (a b : Position) (e : Expression) (c : Command) → IsReady k a (Letvar e c) → b.scope ≡ a.scope
       ++ a.next ∷ [] → b.next ≡ a.next + 1 → length b.rows ≡ length a.rows → IsReady k b c
   ready_letvar a b e c r sc ne len =

@@ -1,4 +1,4 @@
--- What is kept of the parts of a command is kept of the command.
+-- The steps kept of a command are those kept of its parts.
 use Rattle.std.proofs.Common.{◌≡◌, ℕ, ◌+◌, ◌<◌, Bool, true, false, ◌||◌, inl, inr, List, [], ◌∷◌, ◌++◌, take, length, length-append, get_or, refl, sym, ap, ◌∙◌, subst, arith}
 use Rattle.std.specs.Prelude.{◌≤◌, ◌⊎◌, Option, Some, None, IfSome}
 use Rattle.std.specs.List.{All, Contains, list_any}
@@ -27,19 +27,19 @@ use Rattle.vsi_infer.specs.Leading.{observes_ending}
 use Rattle.vsi_infer.specs.FirstSteps.{Kept, MayKeep, IsAmong, IsFrom, IsGathered}
 use Rattle.vsi_infer.specs.Membership.{same_step}
 
--- The reads of two operands.
+-- The flows from two operands are the flows from each.
 pub flows_both : (target : ℕ) (written : Span) (rule : Rule) (xs ys : List Read)
     → flows target written (guarded rule (xs ++ ys)) ≡ flows target written (guarded rule xs)
     ++ flows target written (guarded rule ys)
 flows_both target written rule xs ys = ap (flows target written) (map-append _ xs ys)
     ∙ map-append (flow target written) (guarded rule xs) (guarded rule ys)
 
--- The endings of two lists of reads are those of each.
+-- The endings of two lists of reads are the endings of each.
 pub endings_both : (xs ys : List Read) → endings Strict true (xs ++ ys) ≡ endings Strict true xs
     ++ endings Strict true ys
 endings_both xs ys = map-append ending xs ys
 
--- The flows of one guard more.
+-- One more guard adds its flow.
 pub flows_more : (target : ℕ) (written : Span) (gs : List Guard) (i : ℕ) (g : Guard) → i < length gs
     → g ≡ get_or gs i g → flows target written (take (i + 1) gs)
     ≡ flows target written (take i gs) ++ flow target written g ∷ []
@@ -47,7 +47,7 @@ flows_more target written gs i g lt is =
     ap (flows target written) (take_more gs i g lt) ∙ map-append _ (take i gs) (get_or gs i g ∷ [])
     ∙ ap (λ x. flows target written (take i gs) ++ flows target written (x ∷ [])) (sym is)
 
--- The only step of a list.
+-- A list of one step has no other step.
 alone : (s x : Step) → Contains (s ∷ []) x → s ≡ x
 alone s x c = elim (Contains-push_cases [] s x c) [
   | inl l ↦ absurd (omega (arith, l.1))
@@ -55,11 +55,11 @@ alone s x c = elim (Contains-push_cases [] s x c) [
 ]
 
 module _ (wants : Step → Bool) where
-  -- Nothing more is kept.
+  -- Keeping nothing more is allowed.
   pub among_none : (ss : List Step) (k : Kept) → IsAmong wants ss k k
   among_none ss k = record { each = λ x c. inl c; more = omega arith; every = refl }
 
-  -- The steps are some of others.
+  -- Steps kept from a list are kept from any list that contains it.
   pub among_some : (xs ys : List Step) (a b : Kept) → ((x : Step) → Contains xs x → Contains ys x)
       → IsAmong wants xs a b → IsAmong wants ys a b
   among_some xs ys a b f h = record {
@@ -68,7 +68,7 @@ module _ (wants : Step → Bool) where
     every = h.every;
   }
 
-  -- What is kept twice of the same steps.
+  -- Keeping twice from the same steps is like keeping once.
   pub among_again : (ss : List Step) (a b c : Kept) → IsAmong wants ss a b → IsAmong wants ss b c
       → IsAmong wants ss a c
   among_again ss a b c f g = record {
@@ -77,36 +77,36 @@ module _ (wants : Step → Bool) where
     every = g.every ∙ f.every;
   }
 
-  -- What is kept of one list and then of another, in whichever order the steps of both stand.
+  -- Keeping from one list and then from another is keeping from both, in whatever order their steps come.
   among_then : (xs ys ss : List Step) (a b c : Kept) → ((x : Step) → Contains xs x → Contains ss x)
       → ((x : Step) → Contains ys x → Contains ss x) → IsAmong wants xs a b → IsAmong wants ys b c
       → IsAmong wants ss a c
   among_then xs ys ss a b c i j f g =
       among_again ss a b c (among_some xs ss a b i f) (among_some ys ss b c j g)
 
-  -- Of no steps nothing is kept.
+  -- Nothing is kept from an empty list.
   pub from_none : (k : Kept) → IsFrom wants [] k k
   from_none k = record { among = among_none [] k; some = λ e x c t. absurd (omega (arith, c.1)) }
 
-  -- Of what is left out nothing is kept, where not every step is looked at.
+  -- If not every step is looked at, it is enough that each kept step is one of the wanted ones.
   pub from_quick : (ss : List Step) (a b : Kept) → a.every ≡ false → IsAmong wants ss a b → IsFrom wants ss a b
   from_quick ss a b not h = record { among = h; some = λ e x c t. absurd (false≢true (sym not ∙ e)) }
 
-  -- A step was left out.
+  -- A step may be left out if not every step is looked at.
   pub from_left_out : (ss : List Step) (a b : Kept) (out : Bool) → b ≡ a → (a.every ≡ true → out ≡ false)
       → out ≡ true → IsFrom wants ss a b
   from_left_out ss a b out same every is =
       subst (λ (k : Kept). IsFrom wants ss a k) (sym same)
       (record { among = among_none ss a; some = λ e x c t. absurd (false≢true (sym (every e) ∙ is)) })
 
-  -- A step that isn't wanted.
+  -- An unwanted step changes nothing.
   pub from_unwanted : (s : Step) (k : Kept) → wants s ≡ false → IsFrom wants (s ∷ []) k k
   from_unwanted s k not = record {
     among = among_none (s ∷ []) k;
     some = λ e x c t. absurd (false≢true (sym not ∙ ap wants (alone s x c) ∙ t));
   }
 
-  -- Each step that is kept was kept before, or is the one that came.
+  -- Each kept step was kept before or is the new one.
   each_kept : (s x : Step) (old new : List Step) → MayKeep s old new → wants s ≡ true → Contains new x
       → Contains old x ⊎ (Contains (s ∷ []) x × (wants x ≡ true))
   each_kept s x old new (inl e) t c = inl (subst (λ l. Contains l x) e c)
@@ -115,12 +115,12 @@ module _ (wants : Step → Bool) where
     | inr r ↦ inr (subst (Contains (s ∷ [])) r (Contains-push [] s), ap wants (sym r) ∙ t)
   ]
 
-  -- None is lost.
+  -- No kept step is lost.
   more_kept : (s : Step) (old new : List Step) → MayKeep s old new → length old ≤ length new
   more_kept s old new (inl e) = let l = ap length e in omega (arith, l)
   more_kept s old new (inr e) = let l = ap length e ∙ length-append old (s ∷ []) in omega (arith, l)
 
-  -- A step that is wanted.
+  -- A wanted step is kept.
   pub from_kept : (s : Step) (a b : Kept) → wants s ≡ true → b.every ≡ a.every → MayKeep s a.steps b.steps
       → (a.every ≡ true → 1 ≤ length b.steps) → IsFrom wants (s ∷ []) a b
   from_kept s a b t same k one = record {
@@ -132,7 +132,7 @@ module _ (wants : Step → Bool) where
     some = λ e x c h. one e;
   }
 
-  -- What is kept of one list and then of another.
+  -- Steps are kept from one list and then from another.
   pub from_then : (xs ys : List Step) (a b c : Kept) → IsFrom wants xs a b → IsFrom wants ys b c
       → IsFrom wants (xs ++ ys) a c
   from_then xs ys a b c f g = record {
@@ -144,7 +144,7 @@ module _ (wants : Step → Bool) where
     ];
   }
 
-  -- The same in the other order.
+  -- The same holds in the other order.
   pub from_before : (xs ys : List Step) (a b c : Kept) → IsFrom wants ys a b → IsFrom wants xs b c
       → IsFrom wants (xs ++ ys) a c
   from_before xs ys a b c f g = record {
@@ -156,7 +156,7 @@ module _ (wants : Step → Bool) where
     ];
   }
 
-  -- What was kept of an empty beginning.
+  -- Steps kept from an empty start come from the list alone.
   pub from_start : (ss tt' : List Step) (a b : Kept) (every : Bool) → ss ≡ tt' → a.steps ≡ [] → a.every ≡ every
       → IsFrom wants ss a b
       → IsFrom wants tt' (record { steps = []; every = every }) (record { steps = b.steps; every = every })
@@ -171,7 +171,7 @@ module _ (wants : Step → Bool) where
         some = λ f. h.some (same ∙ f);
       })
 
-  -- What was kept of an empty beginning is among the steps, and wanted.
+  -- A step kept from an empty start is in the list and wanted.
   pub kept_there : (ss new : List Step) (every : Bool)
       → IsFrom wants ss (record { steps = []; every = every }) (record { steps = new; every = every })
       → (x : Step) → Contains new x → Contains ss x × (wants x ≡ true)
@@ -180,13 +180,13 @@ module _ (wants : Step → Bool) where
     | inr r ↦ r
   ]
 
-  -- All that was kept of an empty beginning are steps of the list.
+  -- All steps kept from an empty start are in the list.
   pub all_kept : (ss new : List Step) (every : Bool)
       → IsFrom wants ss (record { steps = []; every = every }) (record { steps = new; every = every })
       → All (Contains ss) new
   all_kept ss new every h k d lt = (kept_there ss new every h (get_or new k d) (Contains-get_or new k d lt)).0
 
-  -- The flows of an assignment: those of its value, and those of the guards.
+  -- The flows of an assignment are those of its value and those of the guards.
   pub put_from : (target target' : ℕ) → target ≡ target' → (written : Span) (xs xs' : List Guard) → xs ≡ xs'
       → (gs gs' : List Guard) → gs ≡ gs' → (a b c : Kept) → IsFrom wants (flows target written xs) a b
       → IsFrom wants (flows target written gs) b c → IsFrom wants (flows target' written (xs' ++ gs')) a c
@@ -198,7 +198,7 @@ module _ (wants : Step → Bool) where
       (subst (λ l. IsFrom wants (flows target' written l) b c) same'
       (subst (λ (t : ℕ). IsFrom wants (flows t written gs) b c) at g)))
 
--- The flow of a guard is one of those of the guards.
+-- The flow of a guard is among the flows of the guards.
 pub guard_there : (target : ℕ) (written : Span) (gs : List Guard) (g : Guard) → Contains gs g
     → (x : Step) → Contains (flow target written g ∷ []) x → Contains (flows target written gs) x
 guard_there target written gs g c x h = there gs g c (alone (flow target written g) x h)
@@ -211,27 +211,27 @@ guard_there target written gs g c x h = there gs g c (alone (flow target written
       get_or-map (flow target written) gs k g x lt ∙ ap (flow target written) is ∙ e,
     )
 
--- The flows to the ending of what loops, where the profile asks after it.
+-- If the profile observes the ending of a loop, there is a flow from each read to the ending.
 pub endings_asked : (P : Profile) (looping : Bool) (rs : List Read) → observes_ending P looping ≡ true
     → endings Strict true rs ≡ endings P looping rs
 endings_asked Base looping rs e = absurd (false≢true e)
 endings_asked Strict false rs e = absurd (false≢true e)
 endings_asked Strict true rs e = refl
 
--- Where it doesn't there are none.
+-- If the profile doesn't observe it, there is none.
 pub endings_unasked : (P : Profile) (looping : Bool) (rs : List Read) → observes_ending P looping ≡ false
     → endings P looping rs ≡ []
 endings_unasked Base looping rs e = refl
 endings_unasked Strict false rs e = refl
 endings_unasked Strict true rs e = absurd (false≢true (sym e))
 
--- A step that is known to be one of others.
+-- A step found among known steps of a list is in the list.
 pub some_known : (ss known : List Step) (o : Option Step) → All (Contains ss) known → IfSome o (Contains known)
     → IfSome o (Contains ss)
 some_known ss known None all h = tt
 some_known ss known (Some x) all h = All-contains (Contains ss) known x all h
 
--- A step that is the same as one of others.
+-- A step equal to one of a list's steps is in the list.
 pub proposed_there : (ss : List Step) (x : Step) (o : Option Step) → IfSome o (Contains ss)
     → (y : Step) × (o ≡ Some y) × (same_step x y ≡ true) → list_any (same_step x) ss ≡ true
 proposed_there ss x o h (y, e, t) =
@@ -239,11 +239,11 @@ proposed_there ss x o h (y, e, t) =
     list_any_at (same_step x) ss c.0 y c.1 (subst (λ z. same_step x z ≡ true) (sym c.2) t)
 
 module _ (wants : Step → Bool) (P : Profile) (names : ℕ → Span) where
-  -- The steps of a command from a place on.
+  -- The steps of a command, from a place on.
   abbrev here : Place → Command → List Step
   here a c = steps P names a.guards a.scope a.next c
 
-  -- The steps at a place that is the same.
+  -- Steps at an equal place are the same.
   pub moved : (a b : Place) (c : Command) (n : ℕ) (x y : Kept) → b.scope ≡ a.scope → b.guards ≡ a.guards
       → b.next ≡ n → IsFrom wants (here b c) x y → IsFrom wants (steps P names a.guards a.scope n c) x y
   moved a b c n x y s g e h =
@@ -251,14 +251,14 @@ module _ (wants : Step → Bool) (P : Profile) (names : ℕ → Span) where
       (subst (λ t. IsFrom wants (steps P names t b.scope n c) x y) g
       (subst (λ (t : ℕ). IsFrom wants (steps P names b.guards b.scope t c) x y) e h))
 
-  -- A place whose parts are known.
+  -- A place with known parts is the place of the command.
   pub gathered_at : (t t' : List ℕ) (g g' : List Guard) (n : ℕ) (b : Place) (c : Command) (x y : Kept) → t ≡ t'
       → g ≡ g' → IsGathered wants P names (place t g n) x c b y → IsGathered wants P names (place t' g' n) x c b y
   gathered_at t t' g g' n b c x y e f h =
       subst (λ u. IsGathered wants P names (place u g' n) x c b y) e
       (subst (λ u. IsGathered wants P names (place t u n) x c b y) f h)
 
-  -- Nothing was gathered of no command.
+  -- Nothing is gathered from no commands.
   pub gathered_none : (a : Place) (x : Kept) (cs : List Cmd) → IsGathered wants P names a x (sequence (take 0 cs)) a x
   gathered_none a x cs = record {
     kept = from_none wants x;
@@ -267,12 +267,12 @@ module _ (wants : Step → Bool) (P : Profile) (names : ℕ → Span) where
     next = omega arith;
   }
 
-  -- An assignment's steps.
+  -- An assignment's steps are gathered.
   pub gathered_put : (a : Place) (x y : Kept) (l : ℕ) (s : Span) (e : Expression)
       → IsFrom wants (here a (Assign l s e)) x y → IsGathered wants P names a x (Assign l s e) a y
   gathered_put a x y l s e h = record { kept = h; scope = refl; guards = refl; next = omega arith }
 
-  -- A choice's steps; those of its ending come first in the program.
+  -- A choice's steps are gathered; those of its ending come first in the program.
   pub gathered_choose : (a b d z : Place) (e : Expression) (c k : Command) (w x y v : Kept)
       → IsGathered wants P names (inside typing.If e a) w c b x → IsGathered wants P names b x k d y
       → IsFrom wants (endings P (has_loop c || has_loop k) (reads a.scope e)) y v
@@ -290,7 +290,7 @@ module _ (wants : Step → Bool) (P : Profile) (names : ℕ → Span) where
     next = omega (arith, n, j.next, i.next);
   }
 
-  -- A loop's steps.
+  -- A loop's steps are gathered.
   pub gathered_repeat : (a b z : Place) (e : Expression) (c : Command) (w x y : Kept)
       → IsFrom wants (endings P true (reads a.scope e)) w x
       → IsGathered wants P names (inside typing.While e a) x c b y
@@ -304,7 +304,7 @@ module _ (wants : Step → Bool) (P : Profile) (names : ℕ → Span) where
     next = n ∙ i.next;
   }
 
-  -- A letvar's steps.
+  -- A letvar's steps are gathered.
   pub gathered_allocate : (a b z : Place) (e : Expression) (c : Command) (w x y : Kept)
       → IsFrom wants (flows a.next (names a.next) (guarded typing.Letvar (reads a.scope e))) w x
       → IsGathered wants P names (within_letvar a) x c b y → z.scope ≡ take (length a.scope) b.scope
@@ -321,7 +321,7 @@ module _ (wants : Step → Bool) (P : Profile) (names : ℕ → Span) where
   -- The commands of a list, up to a place in it.
   module _ (a b : Place) (w x : Kept) (cs : List Cmd) (i : ℕ) (c : Cmd) (lt : i < length cs)
       (is : c ≡ get_or cs i c) (h : IsGathered wants P names a w (sequence (take i cs)) b x) where
-    -- Behind the next command one more of the list has been gathered.
+    -- After the next command, one more command of the list has been gathered.
     pub gathered_more : (d : Place) (y : Kept) → IsGathered wants P names b x (command c) d y
         → IsGathered wants P names a w (sequence (take (i + 1) cs)) d y
     gathered_more d y j = record {

@@ -1,4 +1,4 @@
--- The steps of the base profile are steps of the strict one.
+-- The steps under the base profile are steps under the strict profile.
 use Rattle.std.proofs.Common.{ℕ, ◌+◌, ◌∷◌, ◌++◌, [], ◌||◌, true, List, inl, inr}
 use Rattle.std.specs.List.{All, Contains}
 use Rattle.std.proofs.lemmas.List.Elements.{All-nil, All-cons, All-head, All-tail, Contains-append_left, Contains-append_right, Contains-append_cases}
@@ -47,7 +47,7 @@ stays names x gs scope n (Letvar e c) h =
           (stays names x gs (scope ++ n ∷ []) (n + 1) c k)
     ]
 
--- What is bad under the base profile is bad under the strict one.
+-- A walk that is bad under the base profile is bad under the strict one.
 pub base_stay_bad : BaseWalksStayBad
 base_stay_bad L p [] bad = bad
 base_stay_bad L p (s ∷ rest) bad = record {

@@ -1,23 +1,23 @@
--- Rows of distances, one after another, and the fewest steps.
+-- Rows of distances, built one after another, and the fewest steps.
 use Rattle.std.proofs.Common.{◌≡◌, ℕ, zero, suc, ◌+◌, ◌<◌, ◌≤◌, ◌⊎◌, ◌==◌, min, false, List, [], ◌∷◌, ◌++◌, map, length, get_or, set, get_or-set_other, get_or-set_same, Option, Some, None, slice_get, refl, sym, ap, ◌∙◌, subst, arith, inl, inr}
 use Rattle.std.proofs.lemmas.Bool.{cases_eq, cases_lt, false≢true}
 use Rattle.std.proofs.lemmas.Option.{slice_get-get_or, slice_get_within}
 use Rattle.vsi_infer.specs.Shortest.{far_at}
 
--- A row is empty, or has what it is to have.
+-- A row is empty or satisfies its claim.
 module _ (Q : ℕ → List ℕ → Type 0) where
-  -- A row is empty, or what is claimed of it holds.
+  -- A row is empty or its claim holds.
   abbrev pub EmptyOr : List (List ℕ) → ℕ → Type 0
   EmptyOr rows k = (get_or rows k [] ≡ []) ⊎ Q k (get_or rows k [])
 
-  -- A row that was put in has what it was put in with.
+  -- A row that was put in satisfies its claim.
   pub set_has : (rows : List (List ℕ)) (i : ℕ) (row : List ℕ) → i < length rows → Q i row → (k : ℕ) → k ≡ i
       → Q k (get_or (set rows i row) k [])
   set_has rows i row lt q k e =
       subst (λ (m : ℕ). Q m (get_or (set rows i row) m [])) (sym e)
       (subst (Q i) (sym (get_or-set_same rows i row [] lt)) q)
 
-  -- With one row put in each is empty or has what is claimed of it.
+  -- After one row is put in, each row is empty or satisfies its claim.
   pub set_each : (rows : List (List ℕ)) (i : ℕ) (row : List ℕ) → i < length rows → Q i row
       → ((k : ℕ) → EmptyOr rows k) → (k : ℕ) → EmptyOr (set rows i row) k
   set_each rows i row lt q h k = elim (cases_eq k i) [
@@ -25,7 +25,7 @@ module _ (Q : ℕ → List ℕ → Type 0) where
     | inr n ↦ subst (λ r. (r ≡ []) ⊎ Q k r) (sym (get_or-set_other rows i k row [] n)) (h k)
   ]
 
-  -- What is claimed of a row stays when another one is put in.
+  -- A row's claim still holds after another row is put in.
   pub set_kept : (rows : List (List ℕ)) (i : ℕ) (row : List ℕ) → i < length rows → Q i row → (k : ℕ)
       → Q k (get_or rows k []) → Q k (get_or (set rows i row) k [])
   set_kept rows i row lt q k h = elim (cases_eq k i) [
@@ -33,19 +33,19 @@ module _ (Q : ℕ → List ℕ → Type 0) where
     | inr n ↦ subst (Q k) (sym (get_or-set_other rows i k row [] n)) h
   ]
 
-  -- A row that isn't empty has what is claimed of it.
+  -- A row that isn't empty satisfies its claim.
   pub has_filled : (rows : List (List ℕ)) (k : ℕ) → (get_or rows k [] ≡ [] → ⊥) → EmptyOr rows k
       → Q k (get_or rows k [])
   has_filled rows k full h = elim h [ inl e ↦ absurd (full e) | inr q ↦ q ]
 
--- The rows are set as the vectors are.
+-- Setting a vector sets the row that it maps to.
 pub map_set : {X : Type 0} (f : X → List ℕ) (xs : List X) (i : ℕ) (x : X)
     → map f (set xs i x) ≡ set (map f xs) i (f x)
 map_set f [] i x = refl
 map_set f (y ∷ xs) zero x = refl
 map_set f (y ∷ xs) (suc i) x = ap (λ l. f y ∷ l) (map_set f xs i x)
 
--- One more empty row leaves all of them empty.
+-- With one more empty row, all rows are still empty.
 pub empty_more : (rows : List (List ℕ)) (row : List ℕ) → row ≡ [] → ((k : ℕ) → get_or rows k [] ≡ []) → (k : ℕ)
     → get_or (rows ++ row ∷ []) k [] ≡ []
 empty_more [] row e h zero = e
@@ -53,7 +53,7 @@ empty_more [] row e h (suc k) = refl
 empty_more (x ∷ rows) row e h zero = h 0
 empty_more (x ∷ rows) row e h (suc k) = empty_more rows row e (λ i. h (suc i)) k
 
--- A class that is declared at the next variable.
+-- The class is declared at the next variable.
 pub class_at : (ds : List (Option ℕ)) (v class c : ℕ) (o : Option ℕ) → v < length ds → get_or ds v o ≡ Some class
     → slice_get ds v ≡ Some (Some c) → class ≡ c
 class_at ds v class c o lt is e = unwrap (unwrap' (sym (slice_get-get_or ds v o lt ∙ ap Some is) ∙ e))
@@ -64,7 +64,7 @@ class_at ds v class c o lt is e = unwrap (unwrap' (sym (slice_get-get_or ds v o 
     unwrap' : {a b : Option ℕ} → Some a ≡ Some b → a ≡ b
     unwrap' {a} e = ap (λ o. elim o as (λ _. Option ℕ) [ None ↦ a | Some x ↦ x ]) e
 
--- What holds of each class declared at the first variables, with one variable more.
+-- A property of the classes declared at the first variables holds with one more variable that has no class.
 pub next_none : (R : ℕ → Type 0) (ds : List (Option ℕ)) (v : ℕ) (o : Option ℕ) → v < length ds
     → ((x : ℕ) → get_or ds v o ≡ Some x → ⊥) → ((u c : ℕ) → u < v → slice_get ds u ≡ Some (Some c) → R c)
     → (u c : ℕ) → u < v + 1 → slice_get ds u ≡ Some (Some c) → R c
@@ -77,7 +77,7 @@ next_none R ds v o lt never h u c le e = elim (cases_eq u v) [
     inner : (a : Option ℕ) (c : ℕ) → Some a ≡ Some (Some c) → a ≡ Some c
     inner a c e = ap (λ o. elim o as (λ _. Option ℕ) [ None ↦ a | Some x ↦ x ]) e
 
--- What holds of the first variables holds of one more, where it holds of this one.
+-- A property of the classes declared at the first variables holds with one more variable whose class has it.
 pub next_some : (R R' : ℕ → Type 0) → ((c : ℕ) → R c → R' c) → (ds : List (Option ℕ)) (v class : ℕ) (o : Option ℕ)
     → v < length ds → get_or ds v o ≡ Some class → R' class →
     ((u c : ℕ) → u < v → slice_get ds u ≡ Some (Some c) → R c)
@@ -96,15 +96,15 @@ module _ (ds : List (Option ℕ)) (rows : List (List ℕ)) where
   abbrev pub Lower : ℕ → ℕ → Type 0
   Lower best v = (u c : ℕ) → u < v → slice_get ds u ≡ Some (Some c) → best ≤ far_at rows c u
 
-  -- Two classes that were found are equal where the findings are.
+  -- If two optional classes are equal and present, the classes are equal.
   some_of : (a b : Option ℕ) → Some a ≡ Some b → a ≡ b
   some_of a b e = ap (λ o. elim o as (λ _. Option ℕ) [ None ↦ a | Some x ↦ x ]) e
 
-  -- Two classes that were found are one where the findings are equal.
+  -- Two classes are equal if their optional values are.
   class_of : (a b : ℕ) → Some a ≡ Some b → a ≡ b
   class_of a b e = ap (λ o. elim o as (λ _. ℕ) [ None ↦ a | Some x ↦ x ]) e
 
-  -- A variable without a class leaves the lower bound as it is.
+  -- A variable without a class leaves the lower bound unchanged.
   pub lower_none : (best v : ℕ) (o : Option ℕ) → v < length ds → ((x : ℕ) → get_or ds v o ≡ Some x → ⊥)
       → Lower best v → Lower best (v + 1)
   lower_none best v o lt never h u c le e = elim (cases_eq u v) [
@@ -113,7 +113,7 @@ module _ (ds : List (Option ℕ)) (rows : List (List ℕ)) where
     | inr n ↦ h u c (omega (arith, le, n)) e
   ]
 
-  -- A variable with a class keeps the lower bound, where its distance is no smaller.
+  -- A variable with a class keeps the lower bound if its distance is no smaller.
   pub lower_some : (best best' v class : ℕ) (o : Option ℕ) → v < length ds → get_or ds v o ≡ Some class
       → best' ≤ best → best' ≤ far_at rows class v → Lower best v → Lower best' (v + 1)
   lower_some best best' v class o lt is less here h u c le e = elim (cases_eq u v) [
@@ -123,11 +123,11 @@ module _ (ds : List (Option ℕ)) (rows : List (List ℕ)) where
     | inr n ↦ (let r = h u c (omega (arith, le, n)) e in omega (arith, r, less))
   ]
 
-  -- The number is some declared variable's distance, or none was found.
+  -- The number is the distance of some declared variable, or no distance was found.
   abbrev pub Attained : ℕ → Type 0
   Attained n = (n ≡ 65535) ⊎ ((v : ℕ) × (c : ℕ) × (slice_get ds v ≡ Some (Some c)) × (far_at rows c v ≡ n))
 
-  -- Where the smaller of two is taken a distance attains it.
+  -- The smaller of two distances is attained.
   pub fewer : (best far best' v class : ℕ) (o : Option ℕ) → v < length ds → get_or ds v o ≡ Some class
       → best' ≡ min best far → far_at rows class v ≡ far → Attained best → Attained best'
   fewer best far best' v class o lt is m f h = elim (cases_lt far best) [
@@ -136,7 +136,7 @@ module _ (ds : List (Option ℕ)) (rows : List (List ℕ)) where
     | inr ge ↦ (let e : best' ≡ best = omega (arith, m, ge) in subst Attained (sym e) h)
   ]
 
-  -- At the end the lower bound is one for all of the declared variables.
+  -- At the end, the lower bound holds for all declared variables.
   pub lower_all : (best v : ℕ) → length ds ≤ v → Lower best v → (u c : ℕ) → slice_get ds u ≡ Some (Some c)
       → best ≤ far_at rows c u
   lower_all best v le h u c e = h u c (let lt = slice_get_within ds u (Some c) e in omega (arith, lt, le)) e

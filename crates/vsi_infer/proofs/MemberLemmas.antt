@@ -1,4 +1,4 @@
--- How answers on parts make an answer on the whole, and what they say of a program's steps.
+-- How answers for the parts combine into an answer for the whole, and their relation to the steps of a program.
 use Rattle.std.proofs.Common.{◌≡◌, ℕ, zero, suc, ◌+◌, ◌<◌, ◌≤◌, Bool, false, ◌||◌, List, [], ◌∷◌, ◌++◌, take, length, get_or, refl, sym, ap, ◌∙◌, subst, arith}
 use Rattle.std.proofs.lemmas.List.{take_more, take_all}
 use Rattle.std.proofs.Math.Bool.{or-false, or_assoc}
@@ -37,7 +37,7 @@ module _ (x : Step) (P : Profile) (names : ℕ → Span) (around : Bool) (scope 
       ∙ ap (λ k. (passes x P names around scope n (command y) || passes x P names around scope
       (n + letvars (command y)) (sequence cs)) || passes x P names around scope k (command c)) e
 
-  -- The answer for the first commands of a list, and for one more.
+  -- The answer for the first commands of a list and one more.
   pub passes_more : (n : ℕ) (cs : List Cmd) (i : ℕ) (c : Cmd) → i < length cs → c ≡ get_or cs i c
       → passes x P names around scope n (sequence (take (i + 1) cs))
       ≡ (passes x P names around scope n (sequence (take i cs)) || passes x P names around scope
@@ -65,12 +65,12 @@ for_next x P names around first count a b cs i c found lt is f p =
       room = omega (arith, f.room, d, ap length p.scope);
     }
 
--- Nothing was passed yet.
+-- Before the first command nothing was passed.
 pub past_none : (x : Step) (P : Profile) (names : ℕ → Span) (around : Bool) (a : Stand)
     → IsPast x P names around a (sequence []) a false
 past_none x P names around a = record { answer = refl; scope = refl; next = omega arith }
 
--- One command more was passed.
+-- One more command was passed.
 pub past_more : (x : Step) (P : Profile) (names : ℕ → Span) (around : Bool) (a b d : Stand) (cs : List Cmd) (i : ℕ)
     (c : Cmd) (found one : Bool) → i < length cs → c ≡ get_or cs i c
     → IsPast x P names around a (sequence (take i cs)) b found → IsPast x P names around b (command c) d one
@@ -86,7 +86,7 @@ past_more x P names around a b d cs i c found one lt is p q = record {
   next = (let e = letvars_more cs i c lt is in omega (arith, q.next, p.next, e));
 }
 
--- All were passed.
+-- All commands were passed.
 pub past_all : (x : Step) (P : Profile) (names : ℕ → Span) (around : Bool) (a b : Stand) (cs : List Cmd) (i : ℕ)
     (found : Bool) → length cs ≤ i
     → IsPast x P names around a (sequence (take i cs)) b found → IsPast x P names around a (sequence cs) b found

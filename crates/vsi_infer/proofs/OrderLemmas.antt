@@ -1,8 +1,8 @@
--- A lattice has what the search needs.
+-- A lattice satisfies the order laws that the search needs.
 use Rattle.vsi_lattice.specs.Order.{Lattice, IsLattice}
 use Rattle.vsi_infer.specs.Orders.{OrderLaws}
 
--- A lattice has the laws of its order.
+-- A lattice satisfies the laws of its order.
 pub order_laws : (L : Lattice) → IsLattice L → OrderLaws L.count L.leq L.bottom L.top
 order_laws L l = record {
   reflexive = l.reflexive;

@@ -26,18 +26,18 @@ use Rattle.vsi_infer.specs.StepsBetween.{same_rule}
 use Rattle.vsi_infer.specs.Membership.{same_span, read_is, written_is, same_step, reads_pass, ends_pass, passes}
 use Rattle.vsi_infer.specs.Paths.{IsPath}
 
--- A step before all others.
+-- Inserting at position 0 puts a step before all others.
 pub insert_first : (xs : List Step) (s : Step) → insert xs 0 s ≡ s ∷ xs
 insert_first xs s = refl
 
 module _ (ss : List Step) where
-  -- A path goes on with a step.
+  -- A path extended by a step is a path.
   pub path_push : (a b : ℕ) (xs : List Step) (s : Step) → IsPath ss a xs b → s.source ≡ b → Contains ss s
       → IsPath ss a (xs ++ s ∷ []) s.target
   path_push a b [] s p e c = (e ∙ sym p, c, refl)
   path_push a b (x ∷ xs) s p e c = (p.0, p.1, path_push x.target b xs s p.2 e c)
 
-  -- The steps up to one of a path, and that step.
+  -- The steps before one of a path are a path to its source, and the step is in the list.
   pub path_at : (a b : ℕ) (xs : List Step) (i : ℕ) (s : Step) → i < length xs → s ≡ get_or xs i s → IsPath ss a xs b
       → (m : ℕ) × IsPath ss a (take i xs) m × (s.source ≡ m) × Contains ss s
   path_at a b [] i s lt is p = absurd (omega arith)
@@ -57,14 +57,14 @@ module _ (ss : List Step) where
   path_end a b d [] p q = sym p ∙ q
   path_end a b d (x ∷ xs) p q = path_end x.target b d xs p.2 q.2
 
-  -- One step more of a path.
+  -- One more step extends a path.
   pub path_more : (a b : ℕ) (xs : List Step) (i : ℕ) (s : Step) → i < length xs → s ≡ get_or xs i s
       → IsPath ss a (take i xs) b → s.source ≡ b → Contains ss s → IsPath ss a (take (i + 1) xs) s.target
   path_more a b xs i s lt is p e c =
       subst (λ l. IsPath ss a l s.target) (ap (λ y. take i xs ++ y ∷ []) is ∙ sym (take_more xs i s lt))
       (path_push a b (take i xs) s p e c)
 
-  -- A path that isn't there.
+  -- If the next step starts elsewhere or isn't in the list, there is no path.
   pub path_turns : (a b m : ℕ) (xs : List Step) (i : ℕ) (s : Step) → i < length xs → s ≡ get_or xs i s
       → IsPath ss a (take i xs) m → (s.source ≡ m → Contains ss s → ⊥) → IsPath ss a xs b → ⊥
   path_turns a b m xs i s lt is p never q =
@@ -92,7 +92,7 @@ module _ (ss : List Step) where
       let r = chain_path t rest (All-tail (Contains ss) s (t ∷ rest) all) c.1 in
       (refl, All-head (Contains ss) s (t ∷ rest) all, (sym c.0, r.1, r.2))
 
--- A path between declared variables is a bad walk where their classes are not in order.
+-- A path between declared variables is a bad walk if their classes are not in order.
 pub path_bad : (L : Lattice) (P : Profile) (p : Program) (s : Step) (rest : List Step) (b low high : ℕ)
     → IsPath (steps_of P p) s.source (s ∷ rest) b
     → declared_class L p s.source ≡ Some low → declared_class L p b ≡ Some high → (Below L low high → ⊥)
@@ -109,7 +109,7 @@ path_bad L P p s rest b low high w l h down =
       down = down;
     }
 
--- The same of steps whose first one is known.
+-- The same for a list of steps whose first one is known.
 pub bad_steps : (L : Lattice) (P : Profile) (p : Program) (xs : List Step) (s : Step) (b low high : ℕ)
     → slice_get xs 0 ≡ Some s → IsPath (steps_of P p) s.source xs b
     → declared_class L p s.source ≡ Some low → declared_class L p b ≡ Some high → (Below L low high → ⊥)
@@ -131,7 +131,7 @@ pub record Bad (L : Lattice) (P : Profile) (p : Program) (xs : List Step) (s : S
   pub target : declared_class L p end ≡ Some high
   pub down : Below L low high → ⊥
 
--- What makes a walk bad, told by its first step.
+-- A bad walk, described from its first step.
 pub bad_parts : (L : Lattice) (P : Profile) (p : Program) (xs : List Step) (s : Step) → slice_get xs 0 ≡ Some s
     → IsBad L P p xs → Bad L P p xs s
 bad_parts L P p [] s e bad = absurd bad
@@ -147,7 +147,7 @@ bad_parts L P p (x ∷ xs) s e bad =
       down = bad.down;
     })
 
--- Steps that are the same are equal.
+-- Rules that compare as equal are equal.
 rule_is : (r q : Rule) → same_rule r q ≡ true → r ≡ q
 rule_is typing.Assign typing.Assign e = refl
 rule_is typing.If typing.If e = refl
@@ -175,7 +175,7 @@ rule_is typing.Loop typing.If e = absurd (false≢true e)
 rule_is typing.Loop typing.While e = absurd (false≢true e)
 rule_is typing.Loop typing.Letvar e = absurd (false≢true e)
 
--- A rule is the same as itself.
+-- A rule equals itself.
 rule_self : (r : Rule) → same_rule r r ≡ true
 rule_self typing.Assign = refl
 rule_self typing.If = refl
@@ -183,29 +183,29 @@ rule_self typing.While = refl
 rule_self typing.Letvar = refl
 rule_self typing.Loop = refl
 
--- Numbers that compare equal are equal.
+-- Numbers that compare as equal are equal.
 pub equal : (a b : ℕ) → (a == b) ≡ true → a ≡ b
 equal a b t = grind (arith, nat_tests)
 
--- What a test of two numbers tells.
+-- If the test for a difference fails, the numbers are equal.
 pub same_from : (a b : ℕ) → false ≡ not (a == b) → a ≡ b
 same_from a b t = grind (arith, nat_tests)
 
--- Numbers that compare different differ.
+-- If the test for a difference holds, the numbers differ.
 pub differ_from : (a b : ℕ) → true ≡ not (a == b) → a ≡ b → ⊥
 differ_from a b t e = false≢true (sym (t ∙ ap not (eq-eqb a b e)))
 
--- A test doesn't hold where its equal fails.
+-- If the negation of a test holds, an equal test doesn't.
 pub not_true : (a b : Bool) → a ≡ b → not a ≡ true → b ≡ true → ⊥
 not_true true b e n t = false≢true n
 not_true false b e n t = false≢true (e ∙ t)
 
--- Where a test can't hold its equal fails.
+-- If a test can't hold, the negation of an equal test does.
 pub true_not : (a b : Bool) → a ≡ b → (b ≡ true → ⊥) → not a ≡ true
 true_not true b e n = absurd (n (sym e))
 true_not false b e n = refl
 
--- Spans that compare equal are equal.
+-- Spans that compare as equal are equal.
 span_is : (s t : Span) → same_span s t ≡ true → s ≡ t
 span_is s t e =
     let q = and_parts (s.start == t.start) (s.stop == t.stop) e in
@@ -213,12 +213,12 @@ span_is s t e =
     let b = equal s.stop t.stop q.1 in
     ap (λ x. record { start = x; stop = s.stop }) a ∙ ap (λ x. record { start = t.start; stop = x }) b
 
--- A span is the same as itself.
+-- A span equals itself.
 span_self : (s : Span) → same_span s s ≡ true
 span_self s = and_from (s.start == s.start) (s.stop == s.stop) (eq-eqb s.start s.start refl)
     (eq-eqb s.stop s.stop refl)
 
--- Steps that compare equal are equal.
+-- Steps that compare as equal are equal.
 step_is : (x s : Step) → same_step x s ≡ true → s ≡ x
 step_is x s e =
     let q = and_parts (read_is x s.rule s.source s.read) (written_is x s.target s.written) e in
@@ -236,7 +236,7 @@ step_is x s e =
     ∙ ap (λ y. record { rule = x.rule; source = x.source; target = x.target; read = y; written = s.written }) c
     ∙ ap (λ y. record { rule = x.rule; source = x.source; target = x.target; read = x.read; written = y }) f
 
--- A step is the same as itself.
+-- A step equals itself.
 step_self : (x : Step) → same_step x x ≡ true
 step_self x =
     and_from (read_is x x.rule x.source x.read) (written_is x x.target x.written)
@@ -245,7 +245,7 @@ step_self x =
     (and_from (x.target == x.target) (same_span x.written x.written) (eq-eqb x.target x.target refl)
     (span_self x.written))
 
--- A step is in a list exactly where a step of the list is the same.
+-- A step is in a list if it equals a step of the list.
 pub same_there : (x : Step) (ss : List Step) → list_any (same_step x) ss ≡ true → Contains ss x
 same_there x [] e = absurd (false≢true e)
 same_there x (s ∷ ss) e = elim (or_cases (same_step x s) (list_any (same_step x) ss) e) [
@@ -262,7 +262,7 @@ module _ (x : Step) where
   abbrev pub guards_pass : List Guard → Bool
   guards_pass gs = list_any (λ g. read_is x g.rule g.read.variable g.read.place) gs
 
-  -- The guards of an expression pass a step as the expression does.
+  -- The guards of an expression pass a step if the expression does.
   reads_as : (rule : Rule) (scope : List ℕ) (e : Expression) → guards_pass
       (guarded rule (reads scope e)) ≡ reads_pass x rule scope e
   reads_as rule scope (Number z) = refl
@@ -279,7 +279,7 @@ module _ (x : Step) where
           ∙ sym (or_assoc (read_is x rule r.variable r.place) (guards_pass (guarded rule rs))
           (guards_pass (guarded rule qs)))
 
-  -- The endings of a loop pass a step as its guard does.
+  -- The endings of a loop pass a step if its guard does.
   ends_as : (scope : List ℕ) (e : Expression) → list_any (same_step x)
       (endings Strict true (reads scope e)) ≡ ends_pass x scope e
   ends_as scope (Number z) = refl
@@ -295,24 +295,24 @@ module _ (x : Step) where
           (more rs qs) ∙ sym (or_assoc (read_is x typing.Loop r.variable r.place && written_is x sink r.place)
           (list_any (same_step x) (endings Strict true rs)) (list_any (same_step x) (endings Strict true qs)))
 
-  -- Nothing is lost of a fact by a true one beside it.
+  -- A true second fact changes nothing.
   and_true : (t : Bool) → t ≡ (t && true)
   and_true true = refl
   and_true false = refl
 
-  -- With a false one beside it nothing holds.
+  -- With a false second fact nothing holds.
   and_false : (t : Bool) → false ≡ (t && false)
   and_false true = refl
   and_false false = refl
 
-  -- The endings pass a step where the profile looks at them.
+  -- The endings pass a step if the profile observes them.
   endings_as : (P : Profile) (looping : Bool) (scope : List ℕ) (e : Expression)
       → list_any (same_step x) (endings P looping (reads scope e)) ≡ (ends_pass x scope e && observes_ending P looping)
   endings_as Base looping scope e = and_false (ends_pass x scope e)
   endings_as Strict false scope e = and_false (ends_pass x scope e)
   endings_as Strict true scope e = ends_as scope e ∙ and_true (ends_pass x scope e)
 
-  -- The flows of a target pass a step that its guards pass and that is written there.
+  -- The flows to a target pass a step that the guards pass and that is written there.
   flows_as : (target : ℕ) (written : Span) (gs : List Guard) → list_any (same_step x) (flows target written gs) ≡
       (guards_pass gs && written_is x target written)
   flows_as target written [] = refl
@@ -326,16 +326,16 @@ module _ (x : Step) where
       distribute true false false = refl
       distribute false y b = refl
 
-  -- A step of two lists is one of either.
+  -- A step of two joined lists is in one of them.
   any_append : (xs ys : List Step) → list_any (same_step x) (xs ++ ys) ≡
       (list_any (same_step x) xs || list_any (same_step x) ys)
   any_append xs ys = list_any-append (same_step x) xs ys
 
-  -- A guard of two lists is one of either.
+  -- A guard of two joined lists is in one of them.
   guards_append : (gs hs : List Guard) → guards_pass (gs ++ hs) ≡ (guards_pass gs || guards_pass hs)
   guards_append gs hs = list_any-append (λ (g : Guard). read_is x g.rule g.read.variable g.read.place) gs hs
 
-  -- The walk over the commands tells which steps are theirs.
+  -- The walk over the commands decides whether a step is one of theirs.
   pub steps_pass : (P : Profile) (names : ℕ → Span) (gs : List Guard) (scope : List ℕ) (n : ℕ) (c : Command)
       → list_any (same_step x) (steps P names gs scope n c) ≡ passes x P names (guards_pass gs) scope n c
   steps_pass P names gs scope n Skip = refl

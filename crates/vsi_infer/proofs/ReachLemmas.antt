@@ -12,7 +12,7 @@ use Rattle.vsi_infer.specs.FlowRows.{flow_has}
 use Rattle.vsi_infer.specs.Distances.{Leads, AreLeast, unreached}
 use Rattle.vsi_infer.specs.Reach.{IsNumbered, IsCollected, IsSpread, IsLevel}
 
--- A word without the bits of another one.
+-- The difference of two words has the bits of the first that the second lacks.
 left_bit : (x y : ℕ) → x < 2 → y < 2 → ((max x y + y) % 2 == 1) ≡ ((x == 1) && not (y == 1))
 left_bit zero zero h k = refl
 left_bit zero (suc zero) h k = refl
@@ -21,19 +21,19 @@ left_bit (suc zero) (suc zero) h k = refl
 left_bit (suc (suc x)) y h k = absurd (omega arith)
 left_bit x (suc (suc y)) h k = absurd (omega arith)
 
--- A condition of what is left is one of the whole and of what is left out.
+-- A condition on a difference applies to both of its sides.
 and_inside : (t x z : Bool) → (t && (x && not z)) ≡ ((t && x) && not (t && z))
 and_inside true x z = refl
 and_inside false x z = refl
 
--- Nothing is lost of a fact by a true one beside it.
+-- A true second fact changes nothing.
 and_true : (x : Bool) → x ≡ (x && true)
 and_true true = refl
 and_true false = refl
 
 module _ (old new reached : List ℕ) (i : ℕ) (fits : i < length old)
     (e : new ≡ set old i (bit_xor (bit_or (get_or old i 0) (get_or reached i 0)) (get_or reached i 0))) where
-  -- In the word itself what is reached is left out.
+  -- The word at this index loses the bits that were reached.
   left_here : (a : ℕ) → a / 64 ≡ i → flow_has new 0 a ≡ (flow_has old 0 a && not (flow_has reached 0 a))
   unfolding flow_has
   left_here a q =
@@ -52,14 +52,14 @@ module _ (old new reached : List ℕ) (i : ℕ) (fits : i < length old)
       (bit_at-lt x (a % 64)) (bit_at-lt y (a % 64)))
       ∙ and_inside (nat_lt a 1024) (bit_at x (a % 64) == 1) (bit_at y (a % 64) == 1)
 
-  -- Another word stays.
+  -- Another word is unchanged.
   left_there : (a : ℕ) → a / 64 ≢ i → flow_has new 0 a ≡ flow_has old 0 a
   unfolding flow_has
   left_there a n = ap (λ l. nat_lt a 1024 && (bit_at (get_or l (0 * 16 + a / 64) 0) (a % 64) == 1)) e
       ∙ ap (λ (m : ℕ). nat_lt a 1024 && (bit_at m (a % 64) == 1))
       (get_or-set_other old i (0 * 16 + a / 64) _ 0 (λ q. n (omega (arith, q))))
 
-  -- What is left of a set when a word of what is reached is taken out.
+  -- Leaving one word of the reached set out of a set leaves the rest of the set.
   pub left_word : (a : ℕ) → flow_has new 0 a ≡ (flow_has old 0 a && not ((a / 64 == i) && flow_has reached 0 a))
   left_word a = elim (cases_eq (a / 64) i) [
     | inl q ↦ left_here a q ∙ ap (λ t. flow_has old 0 a && not (t && flow_has reached 0 a))
@@ -81,20 +81,20 @@ left_shuffle true true q m false h = left_none q m
     left_none false false = refl
 left_shuffle true false q m w h = ap (λ t. not (t && w)) (sym h)
 
--- Below the next number is below this one, or this one.
+-- A number below the next one is below this one or is this one.
 next_one : (q i : ℕ) → nat_lt q (i + 1) ≡ (nat_lt q i || (q == i))
 next_one q i = grind (arith, nat_tests)
 
--- One word more.
+-- One more word is left out.
 pub left_more : (x w : Bool) (q i : ℕ)
     → ((x && not (nat_lt q i && w)) && not ((q == i) && w)) ≡ (x && not (nat_lt q (i + 1) && w))
 left_more x w q i = left_shuffle x (nat_lt q i) (q == i) (nat_lt q (i + 1)) w (next_one q i)
 
--- No word yet.
+-- No word is left out yet.
 pub left_start : (x w : Bool) (q : ℕ) → x ≡ (x && not (nat_lt q 0 && w))
 left_start x w q = and_true x ∙ ap (λ t. x && not (t && w)) (sym (le-ltb q 0 (omega arith)))
 
--- A word of no bits.
+-- A word that is 0 has no bits.
 pub no_bits : (words : List ℕ) (v u : ℕ) → get_or words (v / 64) 0 ≡ 0 → u / 64 ≡ v / 64 → flow_has words 0 u ≡ false
 unfolding flow_has
 no_bits words v u z e =
@@ -102,7 +102,7 @@ no_bits words v u z e =
     ap (λ (n : ℕ). get_or words n 0) (let q : 0 * 16 + u / 64 ≡ v / 64 = omega (arith, e) in q) ∙ z in
     and_right (nat_lt u 1024) _ (ap (λ n. bit_at n (u % 64) == 1) word ∙ ap (λ n. n == 1) (bit_at-zero (u % 64)))
 
--- Bits stand below 1,024.
+-- Bits are below 1,024.
 pub has_small : (words : List ℕ) (row v : ℕ) → flow_has words row v ≡ true → v < 1024
 unfolding flow_has
 has_small words row v h = elim (cases_lt v 1024) [
@@ -110,13 +110,13 @@ has_small words row v h = elim (cases_lt v 1024) [
   | inr le ↦ absurd (false≢true (sym (and_left (nat_lt v 1024) _ (le-ltb v 1024 le)) ∙ h))
 ]
 
--- What isn't true is false.
+-- A truth value that isn't true is false.
 not_true : (x : Bool) → (x ≡ true → ⊥) → x ≡ false
 not_true true f = absurd (f refl)
 not_true false f = refl
 
 module _ (flows : ℕ → ℕ → Bool) (front : ℕ → Bool) (level : ℕ) (small : level < 65535) (old : List ℕ) where
-  -- Nothing was done yet.
+  -- At the start nothing is done.
   pub spread_start : (next : ℕ → Bool) → ((v : ℕ) → next v ≡ false) → IsSpread flows front level 0 old old next false
   spread_start next none = record {
     len = refl;
@@ -131,7 +131,7 @@ module _ (flows : ℕ → ℕ → Bool) (front : ℕ → Bool) (level : ℕ) (sm
 
   module _ (v : ℕ) (far : List ℕ) (next : ℕ → Bool) (more : Bool) (s : IsSpread flows front level v old far next more)
     where
-      -- Places that the set doesn't have.
+      -- Places that aren't in the set are skipped.
       pub spread_skip : (w : ℕ) → v ≤ w → ((u : ℕ) → v ≤ u → u < w → front u ≡ false)
           → IsSpread flows front level w old far next more
       spread_skip w le no' = record {
@@ -154,7 +154,7 @@ module _ (flows : ℕ → ℕ → Bool) (front : ℕ → Bool) (level : ℕ) (sm
         ];
       }
 
-      -- A place that the set has.
+      -- A place in the set is numbered.
       module _ (here : front v ≡ true) (lt : v < length old) (free : get_or old v 0 ≡ 65535) (next' : ℕ → Bool)
           (more' : (a : ℕ) → next' a ≡ (next a || flows a v)) where
         there : get_or far v 0 ≡ 65535
@@ -210,7 +210,7 @@ module _ (flows : ℕ → ℕ → Bool) (front : ℕ → Bool) (level : ℕ) (sm
           quiet = λ e. absurd (true≢false e);
         }
 
-  -- All places.
+  -- At the end all places of the set have their number.
   pub spread_numbered : (far : List ℕ) (next : ℕ → Bool) (more : Bool) (v : ℕ)
       → ((u : ℕ) → front u ≡ true → u < 1024) → 1024 ≤ v → IsSpread flows front level v old far next more
       → IsNumbered front level old far
@@ -220,7 +220,7 @@ module _ (flows : ℕ → ℕ → Bool) (front : ℕ → Bool) (level : ℕ) (sm
     outside = s.outside;
   }
 
-  -- Behind the last of the places the set has been collected.
+  -- After the last place, the sources of the set are collected.
   pub spread_collected : (far : List ℕ) (next : ℕ → Bool) (more : Bool) (v : ℕ)
       → ((u : ℕ) → front u ≡ true → u < 1024) → 1024 ≤ v → IsSpread flows front level v old far next more
       → IsCollected flows front next
@@ -229,7 +229,7 @@ module _ (flows : ℕ → ℕ → Bool) (front : ℕ → Bool) (level : ℕ) (sm
     sound = s.sound;
   }
 
-  -- Where nothing was found the set is empty.
+  -- If nothing was found, the set is empty.
   pub spread_quiet : (far : List ℕ) (next : ℕ → Bool) (more : Bool) (v : ℕ)
       → ((u : ℕ) → front u ≡ true → u < 1024) → 1024 ≤ v → IsSpread flows front level v old far next more
       → more ≡ false → (u : ℕ) → front u ≡ false
@@ -238,38 +238,38 @@ module _ (flows : ℕ → ℕ → Bool) (front : ℕ → Bool) (level : ℕ) (sm
     | inr g ↦ not_true (front u) (λ t. let l = few u t in omega (arith, l, g))
   ]
 
--- A slice that was written back.
+-- A slice written back is the vector's beginning.
 pub written : (n : ℕ) (x y : List ℕ) → n ≡ length x → take n (x ++ y) ≡ x
 written n x y e = ap (λ (k : ℕ). take k (x ++ y)) e ∙ take-append_seam x y
 
--- A bit that two sets have, or one of them.
+-- A conjunction implies its first part.
 and_first : (x y : Bool) → (x && y) ≡ true → x ≡ true
 and_first true y e = refl
 and_first false y e = absurd (false≢true e)
 
--- What is in one set without another isn't in the other.
+-- A member of the difference of two sets isn't in the second.
 and_not : (x y : Bool) → (x && not y) ≡ true → y ≡ false
 and_not true true e = absurd (false≢true e)
 and_not true false e = refl
 and_not false y e = absurd (false≢true e)
 
--- What is in one set, and not in it without another, is in the other.
+-- A member of a set that isn't in its difference with another is in the other.
 one_of : (x y : Bool) → x ≡ true → (x && not y) ≡ false → y ≡ true
 one_of true true e f = refl
 one_of true false e f = absurd (true≢false f)
 one_of false y e f = absurd (false≢true e)
 
--- One of two holds.
+-- If a disjunction holds, one of its sides does.
 either_of : (x y : Bool) → (x || y) ≡ true → (x ≡ true) ⊎ (y ≡ true)
 either_of true y e = inl refl
 either_of false y e = inr e
 
--- Of two that fail the first does.
+-- If a disjunction fails, its first side does.
 neither_left : (x y : Bool) → (x || y) ≡ false → x ≡ false
 neither_left true y e = absurd (true≢false e)
 neither_left false y e = refl
 
--- Of two that fail the second does.
+-- If a disjunction fails, its second side does.
 neither_right : (x y : Bool) → (x || y) ≡ false → y ≡ false
 neither_right true y e = absurd (true≢false e)
 neither_right false y e = e
@@ -279,7 +279,7 @@ true_or_false : (x : Bool) → (x ≡ true) ⊎ (x ≡ false)
 true_or_false true = inl refl
 true_or_false false = inr refl
 
--- A bit of a set to which one place was added.
+-- If only one place was added to an empty set, every member is that place.
 pub only_one : (v b : ℕ) (x : Bool) → x ≡ false → (x || (true && (v == b))) ≡ true → v ≡ b
 only_one v b true e h = absurd (true≢false e)
 only_one v b false e h = elim (cases_eq v b) [
@@ -292,22 +292,22 @@ module _ (flows : ℕ → ℕ → Bool) (count b : ℕ) (few : count ≤ 1025)
   module _ (level : ℕ) (far : List ℕ) (reached front front' reached' : ℕ → Bool)
       (s : IsLevel flows count b level far reached front) (bits : (a : ℕ) → front a ≡ true → a < 1024)
       (left : (a : ℕ) → front' a ≡ (front a && not (reached a))) where
-    -- The places that are new.
+    -- The places of the new set are below the count.
     pub fresh_within : (a : ℕ) → front' a ≡ true → a < count
     fresh_within a h =
         let c = s.sources a (and_first (front a) (not (reached a)) (sym (left a) ∙ h)) in (within a c.0 c.2).0
 
-    -- What is in the new set has no number yet.
+    -- A place in the new set has no number yet.
     pub fresh_free : (a : ℕ) → front' a ≡ true → get_or far a 0 ≡ 65535
     fresh_free a h =
         let f = and_first (front a) (not (reached a)) (sym (left a) ∙ h) in
         s.unreached_free a (fresh_within a h) (bits a f) (and_not (front a) (reached a) (sym (left a) ∙ h))
 
-    -- What has a number isn't in the new set.
+    -- A place with a number isn't in the new set.
     numbered_old : (v : ℕ) → get_or far v 0 < 65535 → front' v ≡ false
     numbered_old v lt = not_true (front' v) (λ h. let e = fresh_free v h in omega (arith, e, lt))
 
-    -- What flows to a place of the last level is new or was reached.
+    -- A source of a place of an earlier level is new and one flow further away, or has a number at most one larger.
     step_below : (v c : ℕ) → flows v c ≡ true → get_or far c 0 < level → get_or far c 0 < 65535
         → (front' v ≡ true × (get_or far c 0 + 1 ≡ level)) ⊎ ((get_or far v 0 ≤ get_or far c 0 + 1)
         × (front' v ≡ false))
@@ -327,7 +327,7 @@ module _ (flows : ℕ → ℕ → Bool) (count b : ℕ) (few : count ≤ 1025)
     module _ (new : List ℕ) (next : ℕ → Bool) (more : Bool) (num : IsNumbered front' level far new)
         (both : (a : ℕ) → reached' a ≡ (reached a || front' a)) (got : IsCollected flows front' next)
         (fewer : unreached new + cond more 1 0 ≤ unreached far) (yes' : more ≡ true) (small : level < 65535) where
-      -- A place with a number leads there in so many flows.
+      -- A place with a number leads to the target in that many flows.
       sound : (v : ℕ) → v < count → get_or new v 0 < 65535 → Leads flows (get_or new v 0) v b
       sound v lt h = elim (true_or_false (front' v)) [
         | inl t ↦ (let c = s.sources v (and_first (front v) (not (reached v)) (sym (left v) ∙ t)) in
@@ -345,14 +345,14 @@ module _ (flows : ℕ → ℕ → Bool) (count b : ℕ) (few : count ≤ 1025)
         | inr n ↦ (let q = s.below v lt (omega (arith, h, num.outside v n)) in omega (arith, q, num.outside v n))
       ]
 
-      -- A place that flows to one with a number gets at most one more.
+      -- A place that flows to a numbered place gets at most one more.
       least_at : (v c n : ℕ) → flows v c ≡ true → get_or far c 0 ≤ n → n + 1 ≡ level → get_or new v 0 ≤ n + 1
       least_at v c n f le e = elim (step_below v c f (omega (arith, le, e)) (omega (arith, le, e, small))) [
         | inl q ↦ omega (arith, num.inside v q.0, e)
         | inr q ↦ omega (arith, num.outside v q.1, q.0, le)
       ]
 
-      -- A place that leads there in so many flows has no larger number.
+      -- A place that leads to the target in n flows has a number of at most n.
       least : (n v : ℕ) → n < level + 1 → Leads flows n v b → get_or new v 0 ≤ n
       least zero v lt w =
           let le = s.least zero v (omega (arith, s.some)) w in
@@ -364,7 +364,7 @@ module _ (flows : ℕ → ℕ → Bool) (count b : ℕ) (few : count ≤ 1025)
             let q = least_at v c n f le (omega (arith, g, lt)) in omega (arith, q))
       ]
 
-      -- One level more.
+      -- One more level is complete.
       more_is : IsLevel flows count b (level + 1) new reached' next
       more_is = record {
         some = omega arith;
@@ -396,10 +396,10 @@ module _ (flows : ℕ → ℕ → Bool) (count b : ℕ) (few : count ≤ 1025)
       pub level_more : (all : List ℕ) → all ≡ new → IsLevel flows count b (level + 1) all reached' next
       level_more all e = subst (λ l. IsLevel flows count b (level + 1) l reached' next) (sym e) more_is
 
-    -- No place is new.
+    -- The next level has no new place.
     module _ (new : List ℕ) (num : IsNumbered front' level far new) (none : (a : ℕ) → front' a ≡ false)
         (small : level < 65535) where
-      -- What leads there at all has a number, and no larger one.
+      -- A place that leads to the target at all has a number, and it is least.
       all_least : (n v : ℕ) → Leads flows n v b → (get_or far v 0 < 65535) × (get_or far v 0 ≤ n)
       all_least zero v w = let le = s.least zero v (omega (arith, s.some)) w in (omega (arith, le), le)
       all_least (suc n) v (c, f, w) =
@@ -410,7 +410,7 @@ module _ (flows : ℕ → ℕ → Bool) (count b : ℕ) (few : count ≤ 1025)
             | inr t ↦ (omega (arith, t.0, l, small), omega (arith, t.0, q.1))
           ]
 
-      -- Behind the last level all numbers are least.
+      -- After the last level all numbers are least.
       pub level_last : (all : List ℕ) → all ≡ new → AreLeast flows count b all
       level_last all e = subst (AreLeast flows count b) (sym e) record {
         len = num.len ∙ s.len;
@@ -420,7 +420,7 @@ module _ (flows : ℕ → ℕ → Bool) (count b : ℕ) (few : count ≤ 1025)
             (omega (arith, q.0, num.outside v (none v)), omega (arith, q.1, num.outside v (none v)));
       }
 
-  -- The place itself.
+  -- The first level is the target itself.
   pub level_first : (far : List ℕ) (reached front : ℕ → Bool) → b < count → far ≡ set (replicate count 65535) b 0
       → ((v : ℕ) → reached v ≡ true → v ≡ b) → (b < 1024 → reached b ≡ true)
       → ((v : ℕ) → front v ≡ flows v b) → IsLevel flows count b 1 far reached front

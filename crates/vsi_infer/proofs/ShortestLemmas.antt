@@ -1,4 +1,4 @@
--- Distances lead to a bad walk, and none has fewer steps.
+-- Following the distances gives a bad walk, and no bad walk has fewer steps.
 use Rattle.std.proofs.Common.{◌≡◌, ℕ, zero, suc, ◌+◌, ◌-◌, ◌<◌, ◌≤◌, ◌==◌, inl, inr, cond, Bool, true, false, not, List, [], ◌∷◌, ◌++◌, map, length, get_or, Option, Some, None, slice_get, refl, sym, ap, ◌∙◌, subst, arith, eq-eqb, ne_eqb}
 use Rattle.std.specs.Prelude.{IfSome}
 use Rattle.std.specs.List.{All, Contains}
@@ -25,13 +25,13 @@ use Rattle.vsi_infer.proofs.Bridge.{all_targets, step_there, there_step, at_plac
 use Rattle.vsi_infer.proofs.DistanceLemmas.{fewest}
 use Rattle.vsi_infer.proofs.PathLemmas.{path_bad, equal}
 
--- The class of a goal.
+-- A high class is a declared one.
 high_is : (leq : ℕ → ℕ → Bool) (low : ℕ) (d : Option ℕ) → is_high leq low d ≡ true → (h : ℕ) × (d ≡ Some h)
     × (leq low h ≡ true → ⊥)
 high_is leq low None e = absurd (false≢true e)
 high_is leq low (Some h) e = (h, refl, λ t. false≢true (sym (ap not t) ∙ e))
 
--- A declared class that the lower one isn't at or below is high.
+-- A declared class that `low` isn't at or below is high.
 is_high_of : (leq : ℕ → ℕ → Bool) (low : ℕ) (d : Option ℕ) (h : ℕ) → d ≡ Some h → (leq low h ≡ true → ⊥)
     → is_high leq low d ≡ true
 is_high_of leq low d h e n = ap (is_high leq low) e ∙ by (leq low h) n
@@ -40,17 +40,17 @@ is_high_of leq low d h e n = ap (is_high leq low) e ∙ by (leq low h) n
     by true n = absurd (n refl)
     by false n = refl
 
--- Flows from the first on.
+-- A flow added at the end makes the chain one longer.
 pub leads_push : (flows : ℕ → ℕ → Bool) (n a b c : ℕ) → Leads flows n a b → flows b c ≡ true → Leads flows (suc n) a c
 leads_push flows zero a b c w f = (c, ap (λ (x : ℕ). flows x c) w ∙ f, refl)
 leads_push flows (suc n) a b c (d, g, w) f = (d, g, leads_push flows n d b c w f)
 
--- A walk of so many flows leads there.
+-- A walk of n flows is a chain of n flows.
 leads_of : (flows : ℕ → ℕ → Bool) (n a b : ℕ) → Walk flows n a b → Leads flows n a b
 leads_of flows zero a b w = w
 leads_of flows (suc n) a b (c, w, f) = leads_push flows n a c b (leads_of flows n a c w) f
 
--- What a step that begins a walk tells.
+-- The properties of a step that begins a walk.
 pub begin_parts : (rows : List (List ℕ)) (last now after : ℕ) (o : Option ℕ) (s : Step)
     → steps_from rows last now after o s ≡ true
     → (c : ℕ) × (o ≡ Some c) × (far_at rows c s.source ≡ now) × (far_at rows c (row_of last s.target) ≡ after)
@@ -65,7 +65,7 @@ module _ (L : Lattice) (laws : IsLattice L) (P : Profile) (p : Program) (res : I
   size : length (table L p) ≡ size_of p + 1
   size = table_length L p res.entries res.limit
 
-  -- The goals of a class are as many as the table has entries.
+  -- The list of goals of a class is as long as the table.
   goals_size : (c : ℕ) → length (goals_of L.leq (table L p) c) ≡ size_of p + 1
   goals_size c = length-map (table L p) (is_high L.leq c) ∙ size
 
@@ -78,7 +78,7 @@ module _ (L : Lattice) (laws : IsLattice L) (P : Profile) (p : Program) (res : I
       × (b < length (goals_of L.leq (table L p) c))
   inside c a b f = let w = are.within a b f in (omega (arith, w.0, goals_size c), omega (arith, w.1, goals_size c))
 
-  -- A goal has a declared class that the class isn't at or below.
+  -- A goal has a declared class, and the start's class isn't at or below it.
   goal_is : (c v : ℕ) → IsGoal (goals_of L.leq (table L p) c) v → (h : ℕ) × (get_or (table L p) v None ≡ Some h)
       × (Below L c h → ⊥)
   goal_is c v g = elim (cases_lt v (length (table L p))) [
@@ -88,7 +88,7 @@ module _ (L : Lattice) (laws : IsLattice L) (P : Profile) (p : Program) (res : I
         (omega (arith, ge, goals_size c, size))) ∙ g))
   ]
 
-  -- A variable with a declared class that the class isn't at or below is a goal.
+  -- A variable is a goal if the start's class isn't at or below its declared class.
   is_goal : (c v h : ℕ) → get_or (table L p) v None ≡ Some h → (Below L c h → ⊥)
       → IsGoal (goals_of L.leq (table L p) c) v
   is_goal c v h e n = elim (cases_lt v (length (table L p))) [
@@ -97,7 +97,7 @@ module _ (L : Lattice) (laws : IsLattice L) (P : Profile) (p : Program) (res : I
     | inr ge ↦ absurd (none-some h (sym (get_or_past (table L p) v None ge) ∙ e))
   ]
 
-  -- A variable and its row.
+  -- The row of the variable at a place is that place.
   pub row_back : (b : ℕ) → b ≤ size_of p → row_of (size_of p) (variable_at (size_of p) b) ≡ b
   row_back b le = elim (cases_eq b (size_of p)) [
     | inl e ↦ ap (λ t. row_of (size_of p) (cond t sink b)) (eq-eqb b (size_of p) e) ∙ sym e
@@ -105,7 +105,7 @@ module _ (L : Lattice) (laws : IsLattice L) (P : Profile) (p : Program) (res : I
         ∙ ap (λ t. cond t (size_of p) b) (ne_eqb b sink (λ e. omega (arith, e, le, are.size)))
   ]
 
-  -- A row before the last is that of its variable.
+  -- A row before the last one belongs to the variable with its number.
   pub row_plain : (v : ℕ) → row_of (size_of p) v < size_of p → row_of (size_of p) v ≡ v
   row_plain v lt = elim (cases_eq v sink) [
     | inl e ↦ absurd (let q : row_of (size_of p) v ≡ size_of p = ap (λ t. cond t (size_of p) v) (eq-eqb v sink e) in
@@ -114,7 +114,7 @@ module _ (L : Lattice) (laws : IsLattice L) (P : Profile) (p : Program) (res : I
   ]
 
   module _ (c : ℕ) (row : List ℕ) (d : AreDistances flows (goals_of L.leq (table L p) c) row) where
-    -- A step leads down.
+    -- From a number above 0, a step leads to the next lower number.
     down_at : (i n : ℕ) → get_or row i 0 ≡ suc n → suc n < 65535 → (i < size_of p)
         × ((s : Step) × Contains (steps_of P p) s × (s.source ≡ i) × (get_or row (row_of (size_of p) s.target) 0 ≡ n))
     down_at i n e lt =
@@ -146,7 +146,7 @@ module _ (L : Lattice) (laws : IsLattice L) (P : Profile) (p : Program) (res : I
         let r = down_at (row_of (size_of p) v) n e lt in
         (r.1.0, r.1.1, r.1.2 ∙ row_plain v r.0, r.1.3)
 
-  -- A step as a flow.
+  -- The target of a step is at some place, and the source flows to that place.
   pub step_flow : (x : Step) → Contains (steps_of P p) x → (b : ℕ) × (b ≤ size_of p)
       × (x.target ≡ variable_at (size_of p) b) × (flows x.source b ≡ true)
   step_flow x there =
@@ -159,11 +159,11 @@ module _ (L : Lattice) (laws : IsLattice L) (P : Profile) (p : Program) (res : I
             ∙ there_step (steps_of P p) x there,
       )
 
-  -- A step is read from a variable of the program.
+  -- The source of a step is a variable of the program.
   pub source_within : (x : Step) → Contains (steps_of P p) x → x.source < size_of p
   source_within x there = let f = step_flow x there in (are.within x.source f.0 f.3).0
 
-  -- The place of a variable that is a source too.
+  -- If the variable at a place is one of the program's, the place is its number.
   pub same_place : (b v : ℕ) → b ≤ size_of p → v < size_of p → variable_at (size_of p) b ≡ v → b ≡ v
   same_place b v le lt e = elim (cases_lt b (size_of p)) [
     | inl l ↦ sym (at_place L p res.entries res.limit b l) ∙ e
@@ -172,7 +172,7 @@ module _ (L : Lattice) (laws : IsLattice L) (P : Profile) (p : Program) (res : I
         omega (arith, s, lt, are.size))
   ]
 
-  -- A chain of steps is as many flows.
+  -- A chain of steps is a chain of as many flows.
   chain_leads : (s : Step) (rest : List Step) → All (Contains (steps_of P p)) (s ∷ rest) → IsChain s rest → (b : ℕ)
       × (b ≤ size_of p) × (last_target s rest ≡ variable_at (size_of p) b)
       × Leads flows (length (s ∷ rest)) s.source b
@@ -195,7 +195,7 @@ module _ (L : Lattice) (laws : IsLattice L) (P : Profile) (p : Program) (res : I
 
   module _ (rows : List (List ℕ)) (levels : AreLevels L flows (table L p) rows) (n : ℕ)
       (best : IsFewest (table L p) rows n) where
-    -- The distance of the source bounds a bad walk.
+    -- The fewest steps are a lower bound for the length of a bad walk.
     pub no_shorter : (s : Step) (rest : List Step) → IsBadFrom L P p s rest → n ≤ length (s ∷ rest)
     no_shorter s rest bad =
         let w = chain_leads s rest bad.steps bad.chain in
@@ -213,7 +213,7 @@ module _ (L : Lattice) (laws : IsLattice L) (P : Profile) (p : Program) (res : I
         let b = best.lower s.source bad.low g in
         omega (arith, f.1, b)
 
-    -- A program with a bad walk has a shortest length, and a step that begins such a walk.
+    -- If there is a bad walk, the number of fewest steps was found.
     pub some_length : HasPlacedBadWalk L.count L.leq flows (table L p) → n < 65535
     some_length has = elim (cases_lt n 65535) [
       | inl lt ↦ lt
@@ -233,7 +233,7 @@ module _ (L : Lattice) (laws : IsLattice L) (P : Profile) (p : Program) (res : I
         unwrap : (d : Option ℕ) (c : ℕ) → Some d ≡ Some (Some c) → d ≡ Some c
         unwrap d c e = ap (λ o. elim o as (λ _. Option ℕ) [ None ↦ d | Some x ↦ x ]) e
 
-    -- Where a bad walk exists some step begins a shortest one.
+    -- If there is a bad walk, some step begins a shortest one.
     pub begin_there : HasPlacedBadWalk L.count L.leq flows (table L p) → (1 ≤ n)
         × ((s : Step) × Contains (steps_of P p) s × (begins (table L p) rows (size_of p) n (n - 1) s ≡ true))
     begin_there has = elim best.attained [
@@ -308,7 +308,7 @@ module _ (L : Lattice) (laws : IsLattice L) (P : Profile) (p : Program) (res : I
         shorter e [] bad = absurd bad
         shorter e (x ∷ xs) bad = let q = no_shorter x xs bad in omega (arith, q, e)
 
-  -- What the table declares are classes.
+  -- The table declares classes of the lattice.
   pub table_classes : AreClasses L (table L p)
   table_classes =
       All-append (λ d. IfSome d (IsClass L)) (map Some p.globals) (p.declared ++ Some L.bottom ∷ [])
@@ -322,7 +322,7 @@ module _ (L : Lattice) (laws : IsLattice L) (P : Profile) (p : Program) (res : I
       all_some (x ∷ xs) h = All-cons (λ d. IfSome d (IsClass L)) (Some x) (map Some xs)
           (All-head (IsClass L) x xs h) (all_some xs (All-tail (IsClass L) x xs h))
 
--- What is known once the fewest steps of a walk that breaks the policy have been counted.
+-- The facts known once the fewest steps of a walk that breaks the policy have been counted.
 pub record IsCounted (L : Lattice) (P : Profile) (p : Program) (flows : ℕ → ℕ → Bool) (T : List (Option ℕ))
     (rows : List (List ℕ)) (n : ℕ) : Type 0 where
   pub laws : IsLattice L
@@ -334,7 +334,7 @@ pub record IsCounted (L : Lattice) (P : Profile) (p : Program) (flows : ℕ → 
   pub best : IsFewest T rows n
   pub bad : HasPlacedBadWalk L.count L.leq flows (table L p)
 
--- The same for a list that is the table.
+-- The same for a list that equals the table.
 module _ (L : Lattice) (P : Profile) (p : Program) (flows : ℕ → ℕ → Bool) (T : List (Option ℕ)) (rows : List (List ℕ))
     (n : ℕ) (k : IsCounted L P p flows T rows n) where
   -- The rows have the fewest flows from each declared class.
@@ -345,11 +345,11 @@ module _ (L : Lattice) (P : Profile) (p : Program) (flows : ℕ → ℕ → Bool
   best' : IsFewest (table L p) rows n
   best' = subst (λ t. IsFewest t rows n) k.same k.best
 
-  -- The last entry of the table is the ending.
+  -- The last entry of the table is the ending's.
   pub last_is : length T - 1 ≡ size_of p
   last_is = omega (arith, ap length k.same, size L k.laws P p k.resolved k.letvars flows k.are)
 
-  -- A bad walk has a step at least.
+  -- A bad walk has at least one step.
   pub length_some : 1 ≤ n
   length_some = (begin_there L k.laws P p k.resolved k.letvars flows k.are rows levels' n best' k.bad).0
 
@@ -381,7 +381,7 @@ module _ (L : Lattice) (P : Profile) (p : Program) (flows : ℕ → ℕ → Bool
         (leads_down L k.laws P p k.resolved k.letvars flows k.are c (get_or rows c [])
         (levels' s.source c declared_here))
 
-    -- Behind the first step one step less is left.
+    -- After the first step, one step less is left.
     pub level_after : begins T rows (length T - 1) n (n - 1) s ≡ true
         → get_or (get_or rows c []) (row_of (length T - 1) s.target) 0 ≡ n - 1
     level_after w =
@@ -389,7 +389,7 @@ module _ (L : Lattice) (P : Profile) (p : Program) (flows : ℕ → ℕ → Bool
         let e = some_same c q.0 (o ∙ q.1) in
         ap (λ (l : ℕ). far_at rows l (row_of (length T - 1) s.target)) e ∙ q.3
 
-    -- What goes on so is a shortest bad walk.
+    -- A walk that continues in this way is a shortest bad walk.
     pub shortest : (items : List Step) → (rest : List Step) × (items ≡ s ∷ rest)
         × IsArrived (steps_of P p) (length T - 1) (get_or rows c []) s.source (n - 1 + 1) (s ∷ rest)
         → IsShortest L P p items

@@ -1,4 +1,4 @@
--- A walk over a whole program has what it needs at its start.
+-- A walk over a whole program has the room it needs at its start.
 use Rattle.std.proofs.Common.{◌≡◌, ℕ, List, [], length, sym, ap, ◌∙◌, subst, arith}
 use Rattle.std.proofs.lemmas.List.{length-map}
 use Rattle.vsi_scope.specs.declared.program.Cmd.{Cmd}
@@ -46,7 +46,7 @@ module _ (r : Resolved) (res : IsResolved r) where
 
   module _ (scope : List ℕ) (n : ℕ) (entries : List Entry) (body : List Cmd) (s : scope ≡ count_from 0 n)
       (g : n ≡ length r.globals) (ls : entries ≡ r.letvars) (b : body ≡ r.body) where
-    -- A beginning of the same globals has that room.
+    -- A start with the same globals has that room.
     pub start_room : HasRoom n (length entries) (place scope [] n) (sequence body)
     start_room =
         subst (λ t. HasRoom n (length entries) (place t [] n) (sequence body)) (sym s)
@@ -56,7 +56,7 @@ module _ (r : Resolved) (res : IsResolved r) where
         (subst (λ l. HasRoom (length r.globals) (length r.letvars)
         (place (count_from 0 (length r.globals)) [] (length r.globals)) (sequence l)) (sym b) whole_room)))
 
-    -- A beginning of the same globals fits.
+    -- A start with the same globals fits the body.
     pub start_for : IsFor n (length entries) (record { scope = scope; next = n }) (sequence body)
     start_for =
         subst (λ t. IsFor n (length entries) (record { scope = t; next = n }) (sequence body)) (sym s)
@@ -68,7 +68,7 @@ module _ (r : Resolved) (res : IsResolved r) where
         (record { scope = count_from 0 (length r.globals); next = length r.globals }) (sequence l))
         (sym b) whole_for)))
 
-    -- From there the steps are those of the program.
+    -- From that start, the steps are those of the program.
     pub start_steps : (P : Profile) → steps P (name_place entries n) [] scope n (sequence body) ≡ steps_of P
         (program r)
     start_steps P =
@@ -79,7 +79,7 @@ module _ (r : Resolved) (res : IsResolved r) where
         ∙ ap (λ (k : ℕ). steps P (name_place r.letvars k) [] (count_from 0 n) n (sequence r.body)) g
         ∙ ap (λ (k : ℕ). steps P (name_place r.letvars (length r.globals)) [] (count_from 0 k) k (sequence r.body)) m
 
-    -- From there a step passes where it is one of the program's.
+    -- From that start, a step passes if it is one of the program's steps.
     pub start_passes : (x : Step) (P : Profile) → passes x P (name_place entries n) false scope n
         (sequence body) ≡ list_any (same_step x) (steps_of P (program r))
     start_passes x P = sym (steps_pass x P (name_place entries n) [] scope n (sequence body))

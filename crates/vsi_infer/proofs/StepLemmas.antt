@@ -1,4 +1,4 @@
--- The steps of a command by the rules of a filter are what it leads from and to by them.
+-- The steps of a command by the rules of a filter are its flows by those rules.
 use Rattle.std.proofs.Common.{◌≡◌, ℕ, ◌+◌, ◌<◌, ◌≤◌, ◌==◌, cond, Bool, true, false, ◌&&◌, ◌||◌, List, [], ◌∷◌, ◌++◌, length, refl, sym, ap, ◌∙◌, subst, arith, eq-eqb, ne_eqb, ⊎_elim}
 use Rattle.std.specs.Prelude.{slice_index}
 use Rattle.std.specs.List.{All, list_any}
@@ -23,20 +23,20 @@ use Rattle.vsi_infer.specs.Leading.{takes, leads_taken, has_taken, reads_it, rea
 use Rattle.vsi_infer.specs.Flowing.{variable_at}
 use Rattle.vsi_infer.proofs.FlowMatrixLemmas.{leads_same}
 
--- The guards of the rules of the filter read the variable.
+-- The guards whose rules the filter takes read the variable.
 abbrev pub guards_read : RuleFilter → List Guard → ℕ → Bool
 guards_read F gs v = list_any (λ g. takes F g.rule && (g.read.variable == v)) gs
 
--- One of the reads is of the variable.
+-- Some read is of the variable.
 abbrev reads_list : List Read → ℕ → Bool
 reads_list rs v = list_any (λ r. r.variable == v) rs
 
--- A condition of one of two is one of both.
+-- A condition on both sides of a disjunction is one on the whole.
 and_out : (m x y : Bool) → ((m && x) || (m && y)) ≡ (m && (x || y))
 and_out true x y = refl
 and_out false x y = refl
 
--- A condition inside of one of two is one of the rest.
+-- A shared condition can be taken out of a disjunction.
 and_in : (m x y t : Bool) → ((m && (x && t)) || (t && y)) ≡ (t && ((m && x) || y))
 and_in true true true true = refl
 and_in true true true false = refl
@@ -51,7 +51,7 @@ and_in false x true false = refl
 and_in false x false true = refl
 and_in false x false false = refl
 
--- The reads of an expression are of the variables that it reads.
+-- The reads of an expression are of the variables that the expression reads.
 reads_as : (scope : List ℕ) (e : Expression) (v : ℕ) → reads_list (reads scope e) v ≡ reads_it scope e v
 reads_as scope (Number z) v = refl
 reads_as scope (Location l s) v = or-false (slice_index scope l == v)
@@ -60,25 +60,26 @@ reads_as scope (Operator o a b) v =
     ∙ ap (λ x. x || reads_list (reads scope b) v) (reads_as scope a v)
     ∙ ap (λ x. reads_it scope a v || x) (reads_as scope b v)
 
--- Guards made of reads read by a rule what these do, where they are of that rule.
+-- Guards made from reads read what the reads do, if the filter takes their rule.
 guarded_as : (F : RuleFilter) (rule : Rule) (rs : List Read) (v : ℕ)
     → guards_read F (guarded rule rs) v ≡ (takes F rule && reads_list rs v)
 guarded_as F rule [] v = sym (and-false (takes F rule))
 guarded_as F rule (r ∷ rs) v = ap (λ x. (takes F rule && (r.variable == v)) || x) (guarded_as F rule rs v)
     ∙ and_out (takes F rule) (r.variable == v) (reads_list rs v)
 
--- The guards of an expression read by a rule what it reads by that rule.
+-- The guards of an expression read what the expression reads, if the filter takes their rule.
 guards_as : (F : RuleFilter) (rule : Rule) (scope : List ℕ) (e : Expression) (v : ℕ)
     → guards_read F (guarded rule (reads scope e)) v ≡ reads_by F rule scope e v
 guards_as F rule scope e v = guarded_as F rule (reads scope e) v ∙ ap (λ x. takes F rule && x) (reads_as scope e v)
 
--- With the guards of an expression behind them guards read by a rule what they did, and what it reads by that rule.
+-- Guards followed by those of an expression read what the guards read and, if the filter takes the rule, what the
+-- expression reads.
 more_guards : (F : RuleFilter) (gs : List Guard) (rule : Rule) (scope : List ℕ) (e : Expression) (v : ℕ)
     → guards_read F (gs ++ guarded rule (reads scope e)) v ≡ inside F rule (guards_read F gs) scope e v
 more_guards F gs rule scope e v = list_any-append (λ (g : Guard). takes F g.rule && (g.read.variable == v)) gs
     (guarded rule (reads scope e)) ∙ ap (λ x. guards_read F gs v || x) (guards_as F rule scope e v)
 
--- A flow by a rule goes to its target from what its guards read by that rule.
+-- A flow by a rule goes to its target from a variable that the guards read by that rule.
 flows_as : (F : RuleFilter) (target : ℕ) (written : Span) (gs : List Guard) (a b : ℕ)
     → has_taken (flows target written gs) F a b ≡ ((target == b) && guards_read F gs a)
 flows_as F target written [] a b = sym (and-false (target == b))
@@ -86,7 +87,7 @@ flows_as F target written (g ∷ gs) a b =
     ap (λ x. (takes F g.rule && ((g.read.variable == a) && (target == b))) || x) (flows_as F target written gs a b)
     ∙ and_in (takes F g.rule) (g.read.variable == a) (guards_read F gs a) (target == b)
 
--- The endings of a loop go from what is read to the ending, by their own rule alone.
+-- The endings of a loop go from the reads to the ending, by the rule of endings alone.
 loops_as : (F : RuleFilter) (rs : List Read) (a b : ℕ) → has_taken (endings Strict true rs) F a b
     ≡ ((sink == b) && (takes F typing.Loop && reads_list rs a))
 loops_as F [] a b =
@@ -96,7 +97,7 @@ loops_as F (r ∷ rs) a b =
     ∙ and_in (takes F typing.Loop) (r.variable == a) (takes F typing.Loop && reads_list rs a) (sink == b)
     ∙ ap (λ x. (sink == b) && x) (and_out (takes F typing.Loop) (r.variable == a) (reads_list rs a))
 
--- An ending is observed by a rule by what an expression reads, where the profile looks at it.
+-- An ending is observed by a rule if an expression reads the variable and the profile observes the ending.
 endings_as : (F : RuleFilter) (P : Profile) (looping : Bool) (scope : List ℕ) (e : Expression) (a b : ℕ)
     → has_taken (endings P looping (reads scope e)) F a b
     ≡ (observes_ending P looping && ((sink == b) && reads_by F typing.Loop scope e a))
@@ -105,13 +106,13 @@ endings_as F Strict false scope e a b = refl
 endings_as F Strict true scope e a b = loops_as F (reads scope e) a b
     ∙ ap (λ x. (sink == b) && (takes F typing.Loop && x)) (reads_as scope e a)
 
--- Two lists together have the steps of each by a rule.
+-- Two lists joined have the steps of each by a rule.
 step_append : (F : RuleFilter) (xs ys : List Step) (a b : ℕ)
     → has_taken (xs ++ ys) F a b ≡ (has_taken xs F a b || has_taken ys F a b)
 step_append F xs ys a b = list_any-append (leads_taken F a b) xs ys
 
 module _ (k : ℕ) (small : k ≤ 1024) where
-  -- The ending is the last of the numbers.
+  -- The ending is at the last place.
   at_sink : (b : ℕ) → b ≤ k → (sink == variable_at k b) ≡ (b == k)
   at_sink b le = ⊎_elim
       (λ e. ap (λ t. sink == cond t sink b) (eq-eqb b k e) ∙ sym (eq-eqb b k e))
@@ -119,7 +120,7 @@ module _ (k : ℕ) (small : k ≤ 1024) where
       ∙ sym (ne_eqb b k n))
       (cases_eq b k)
 
-  -- A variable is the number that it has.
+  -- A variable is at the place of its number.
   at_variable : (t b : ℕ) → t < k → (t == variable_at k b) ≡ (b == t)
   at_variable t b lt = ⊎_elim
       (λ e. ap (λ x. t == cond x sink b) (eq-eqb b k e) ∙ ne_eqb t sink (λ q. omega (arith, lt, small, q))
@@ -128,12 +129,12 @@ module _ (k : ℕ) (small : k ≤ 1024) where
       (λ q. ne_eqb t b (λ r. q (sym r)) ∙ sym (ne_eqb b t q)) (cases_eq b t))
       (cases_eq b k)
 
-  -- A location stands for a variable.
+  -- A location gives a variable of the program.
   location : (scope : List ℕ) (l : ℕ) → All (λ v. v < k) scope → l < length scope → slice_index scope l < k
   location scope l all lt = All-get_or (λ v. v < k) scope l 0 lt all
 
   module _ (F : RuleFilter) (P : Profile) (names : ℕ → Span) (a b : ℕ) (le : b ≤ k) where
-    -- The steps of a command by a rule lead as its flows by that rule do.
+    -- The steps of a command by a rule are its flows by that rule.
     pub steps_as : (gs : List Guard) (scope : List ℕ) (n : ℕ) (c : Command) → HasPlaces (length scope) c
         → n + letvars c ≤ k → All (λ v. v < k) scope → has_taken (steps P names gs scope n c) F a
         (variable_at k b) ≡ leads F P k (guards_read F gs) scope n c a b
@@ -199,7 +200,7 @@ module _ (k : ℕ) (small : k ≤ 1024) where
         (steps_as gs (scope ++ n ∷ []) (n + 1) c (subst (λ m. HasPlaces m c) (sym size) places.1)
         (omega (arith, limit)) (All-push (λ v. v < k) scope n all lt))
 
-  -- What is read is a variable of the scope.
+  -- A variable that is read is a variable of the program.
   reads_within : (scope : List ℕ) (e : Expression) (v : ℕ) → HasLocations (length scope) e → All (λ v. v < k) scope
       → reads_it scope e v ≡ true → v < k
   reads_within scope (Number z) v places all h = absurd (false≢true h)
@@ -207,25 +208,25 @@ module _ (k : ℕ) (small : k ≤ 1024) where
   reads_within scope (Operator o a b) v places all h = ⊎_elim (reads_within scope a v places.0 all)
       (reads_within scope b v places.1 all) (or_cases (reads_it scope a v) (reads_it scope b v) h)
 
-  -- Only variables of the program are read around.
+  -- The surrounding guards read only variables of the program.
   abbrev Within : (ℕ → Bool) → Type 0
   Within around = (v : ℕ) → around v ≡ true → v < k
 
   module _ (F : RuleFilter) (P : Profile) (a b : ℕ) where
-    -- What is read by a rule of the filter is a variable of the scope.
+    -- A variable read by a rule of the filter is a variable of the program.
     taken_within : (rule : Rule) (scope : List ℕ) (e : Expression) (v : ℕ) → HasLocations (length scope) e
         → All (λ v. v < k) scope → reads_by F rule scope e v ≡ true → v < k
     taken_within rule scope e v places all h =
         reads_within scope e v places all (and_parts (takes F rule) (reads_it scope e v) h).1
 
-    -- With what an expression reads they are still variables of the program.
+    -- With the reads of an expression added, the guards still read only variables of the program.
     inside_within : (rule : Rule) (around : ℕ → Bool) (scope : List ℕ) (e : Expression)
         → HasLocations (length scope) e → All (λ v. v < k) scope → Within around
         → Within (inside F rule around scope e)
     inside_within rule around scope e places all w v h = ⊎_elim (w v) (taken_within rule scope e v places all)
         (or_cases (around v) (reads_by F rule scope e v) h)
 
-    -- An ending is observed by a variable of the program.
+    -- A flow to the ending of a loop goes from a variable of the program.
     ending_within : (looping : Bool) (scope : List ℕ) (e : Expression)
         → HasLocations (length scope) e → All (λ v. v < k) scope
         → (observes_ending P looping && ((b == k) && reads_by F typing.Loop scope e a)) ≡ true → (a < k) × (b ≤ k)
@@ -234,7 +235,7 @@ module _ (k : ℕ) (small : k ≤ 1024) where
         let r = and_parts (b == k) (reads_by F typing.Loop scope e a) q.1 in
         (taken_within typing.Loop scope e a places all r.1, (let t = r.0 in grind (arith, nat_tests)))
 
-    -- What leads anywhere goes from a variable to a variable or to the ending.
+    -- A flow goes from a variable to a variable or to the ending.
     pub leads_within : (around : ℕ → Bool) → Within around
         → (scope : List ℕ) (n : ℕ) (c : Command) → HasPlaces (length scope) c → n + letvars c ≤ k
         → All (λ v. v < k) scope → leads F P k around scope n c a b ≡ true → (a < k) × (b ≤ k)

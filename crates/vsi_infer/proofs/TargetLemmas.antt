@@ -1,4 +1,4 @@
--- Each step goes to a variable, or to the ending of a loop.
+-- Each step goes to a variable or to the ending of a loop.
 use Rattle.std.proofs.Common.{◌≡◌, ℕ, ◌+◌, ◌<◌, ◌≤◌, cond, Bool, true, false, ◌||◌, List, [], ◌∷◌, ◌++◌, length, refl, sym, ap, subst, arith, eq-eqb, ne_eqb}
 use Rattle.std.specs.Prelude.{slice_index}
 use Rattle.std.specs.List.{All}
@@ -15,12 +15,12 @@ use Rattle.vsi_types.specs.declared.rules.Step.{Step}
 use Rattle.vsi_types.specs.Steps.{sink, reads, guarded, flows, endings, steps}
 use Rattle.vsi_infer.specs.Flowing.{variable_at}
 
--- The target is a place.
+-- The target is a place of the table.
 abbrev pub HasTarget : ℕ → Step → Type 0
 HasTarget k s = (b : ℕ) × (b ≤ k) × (s.target ≡ variable_at k b)
 
 module _ (k : ℕ) where
-  -- A step to a variable has a target.
+  -- A step to a variable has a target in range.
   to_variable : (s : Step) → s.target < k → HasTarget k s
   to_variable s lt = (
     s.target,
@@ -29,7 +29,7 @@ module _ (k : ℕ) where
         (ne_eqb s.target k (λ e. omega (arith, lt, e)))),
   )
 
-  -- Flows to a variable have targets.
+  -- Flows to a variable have targets in range.
   flows_to : (target : ℕ) (written : Span) (gs : List Guard) → target < k
       → All (HasTarget k) (flows target written gs)
   flows_to target written [] lt = All-nil (HasTarget k)
@@ -44,7 +44,7 @@ module _ (k : ℕ) where
         written = written;
       }) lt) (flows_to target written gs lt)
 
-  -- The endings of a loop have targets.
+  -- The endings of a loop have targets in range.
   loops_to : (rs : List Read) → All (HasTarget k) (endings Strict true rs)
   loops_to [] = All-nil (HasTarget k)
   loops_to (r ∷ rs) = All-cons (HasTarget k) (record {
@@ -60,13 +60,13 @@ module _ (k : ℕ) where
     sym (ap (λ t. cond t sink k) (eq-eqb k k refl)),
   ) (loops_to rs)
 
-  -- Endings under any profile have targets.
+  -- Endings under any profile have targets in range.
   endings_to : (P : Profile) (looping : Bool) (rs : List Read) → All (HasTarget k) (endings P looping rs)
   endings_to Base looping rs = All-nil (HasTarget k)
   endings_to Strict false rs = All-nil (HasTarget k)
   endings_to Strict true rs = loops_to rs
 
-  -- All steps of a command have targets.
+  -- All steps of a command have targets in range.
   pub targets : (P : Profile) (names : ℕ → Span) (gs : List Guard) (scope : List ℕ) (n : ℕ) (c : Command)
       → HasPlaces (length scope) c → n + letvars c ≤ k → All (λ v. v < k) scope
       → All (HasTarget k) (steps P names gs scope n c)

@@ -1,4 +1,4 @@
--- One raise.
+-- The effect of one raise on the search.
 use Rattle.std.proofs.Common.{◌≡◌, ◌≢◌, ℕ, zero, suc, ◌+◌, ◌<◌, ◌≤◌, Bool, true, false, List, [], ◌∷◌, ◌++◌, length, get_or, set, slice_get, Option, Some, None, refl, sym, ap, ◌∙◌, subst, arith, inl, inr, ◌⊎◌, Contains, get_or-set_other, get_or-set_same, length-set, map}
 use Rattle.std.specs.Prelude.{unwrap_or}
 use Rattle.std.proofs.Common.{take, drop}
@@ -12,27 +12,27 @@ use Rattle.vsi_infer.specs.Choices.{KeepsDeclared, IsJustified, IsRaised, IsProg
 use Rattle.vsi_infer.specs.Ranks.{distance}
 use Rattle.vsi_infer.proofs.RankLemmas.{distance_falls}
 
--- What a place holds after the raise.
+-- A raise leaves every other place unchanged.
 at_other : (s s' : List ℕ) (to j v : ℕ) → s' ≡ set s to j → v ≢ to → get_or s' v 0 ≡ get_or s v 0
 at_other s s' to j v e n = ap (λ l. get_or l v 0) e ∙ rw get_or-set_other refl
 
--- The class that was put in stands there.
+-- The raised place has the class that was put in.
 at_same : (s s' : List ℕ) (to j : ℕ) → s' ≡ set s to j → to < length s → get_or s' to 0 ≡ j
 at_same s s' to j e lt = ap (λ l. get_or l to 0) e ∙ rw get_or-set_same refl
 
--- A list of one has no other.
+-- A list of one element has no other.
 only : (p q : ℕ) → Contains (p ∷ []) q → p ≡ q
 only p q (zero, lt, e) = e
 only p q (suc k, lt, e) = absurd (omega (arith, lt))
 
--- A variable has no class, or one, and not both.
+-- A variable can't be both without a class and with one.
 two_declared : (declared : List (Option ℕ)) (v k : ℕ) → slice_get declared v ≡ Some None
     → slice_get declared v ≡ Some (Some k) → ⊥
 two_declared declared v k p q = cc
 
 module _ (size : ℕ) (leq : ℕ → ℕ → Bool) (bottom top : ℕ) (laws : OrderLaws size leq bottom top)
     (flows : ℕ → ℕ → Bool) (declared : List (Option ℕ)) (program : IsProgram size leq flows declared) where
-  -- A choice that keeps to the declared classes does so when a class is raised.
+  -- A choice that keeps to the declared classes still does after a raise.
   pub raise_choice : (s s' : List ℕ) (from to : ℕ) → slice_get declared to ≡ Some None → flows from to ≡ true
       → KeepsDeclared size leq flows declared s → IsRaiseOf size leq s s' from to →
       KeepsDeclared size leq flows declared s'
@@ -51,7 +51,7 @@ module _ (size : ℕ) (leq : ℕ → ℕ → Bool) (bottom top : ℕ) (laws : Or
         ];
       }
 
-  -- A raised class has a cause, and the others keep theirs.
+  -- A raised class is justified, and the others still are.
   pub raise_justified : (s s' : List ℕ) (from to : ℕ) → flows from to ≡ true → KeepsDeclared size leq flows declared s
       → IsRaiseOf size leq s s' from to → IsJustified size leq flows declared s
       → IsJustified size leq flows declared s'
@@ -69,7 +69,7 @@ module _ (size : ℕ) (leq : ℕ → ℕ → Bool) (bottom top : ℕ) (laws : Or
 
   module _ (s s' w : List ℕ) (from to : ℕ) (flow : flows from to ≡ true) (c : KeepsDeclared size leq flows declared s)
       (r : IsRaiseOf size leq s s' from to) where
-    -- A flow elsewhere is in order as before.
+    -- A flow to another variable is in order as before.
     now_ordered : (a b : ℕ) → flows a b ≡ true → a ≢ to → leq (get_or s a 0) (get_or s b 0) ≡ true
         → leq (get_or s' a 0) (get_or s' b 0) ≡ true
     now_ordered a b fl na le =
@@ -87,7 +87,7 @@ module _ (size : ℕ) (leq : ℕ → ℕ → Bool) (bottom top : ℕ) (laws : Or
               (at_other s s' to r.class b r.is_set n) ∙ le
         ]
 
-    -- A flow is in order, or its source waits, or it is still to be looked at.
+    -- A flow is in order, or its source waits, or it hasn't been looked at yet.
     one_wait : (a b : ℕ) → flows a b ≡ true → a ≢ to → (Contains w a ⊎ (leq (get_or s a 0) (get_or s b 0) ≡ true))
         ⊎ ((a ≡ from) × (to ≤ b))
         → (Contains (w ++ to ∷ []) a ⊎ (leq (get_or s' a 0) (get_or s' b 0) ≡ true)) ⊎ ((a ≡ from) × (to + 1 ≤ b))
@@ -101,7 +101,7 @@ module _ (size : ℕ) (leq : ℕ → ℕ → Bool) (bottom top : ℕ) (laws : Or
       | inr n ↦ inr (e, omega (arith, n, le))
     ]
 
-    -- A raised variable waits, and what waited does.
+    -- The raised variable waits, and so do those that waited before.
     pub raise_waits : (w' : List ℕ) → w' ≡ w ++ to ∷ [] → Waits size leq flows declared s w from to
         → Waits size leq flows declared s' w' from (to + 1)
     raise_waits w' ew h = subst (λ l. Waits size leq flows declared s' l from (to + 1)) (sym ew) (record {
@@ -115,7 +115,7 @@ module _ (size : ℕ) (leq : ℕ → ℕ → Bool) (bottom top : ℕ) (laws : Or
       ];
     })
 
-  -- A flow that is in order, is not there, or goes to a declared variable.
+  -- If the flow to a variable needs no raise, the next variable can be looked at.
   pub quiet_waits : (s w : List ℕ) (from to : ℕ) → (slice_get declared to ≡ Some None → flows from to ≡ true
       → leq (get_or s from 0) (get_or s to 0) ≡ true)
       → Waits size leq flows declared s w from to → Waits size leq flows declared s w from (to + 1)
@@ -133,7 +133,7 @@ module _ (size : ℕ) (leq : ℕ → ℕ → Bool) (bottom top : ℕ) (laws : Or
     within = h.within;
   }
 
-  -- A raise leaves less to be raised.
+  -- A raise leaves less distance to the top.
   pub raise_nearer : (s s' : List ℕ) (from to : ℕ) → flows from to ≡ true → KeepsDeclared size leq flows declared s
       → IsRaiseOf size leq s s' from to → distance leq size s' < distance leq size s
   raise_nearer s s' from to flow c r =
@@ -149,7 +149,7 @@ module _ (size : ℕ) (leq : ℕ → ℕ → Bool) (bottom top : ℕ) (laws : Or
       (laws.reflexive r.class r.is_join.within) (λ k hk le. laws.transitive k
       (get_or s to 0) r.class hk hs r.is_join.within le r.is_join.right)
 
-  -- The last of those that wait is taken.
+  -- When the last waiting variable is taken, its flows are still to be looked at.
   pub pop_waits : (s w w' : List ℕ) (old from : ℕ) → w ≡ w' ++ from ∷ []
       → Waits size leq flows declared s w old (length declared) → Waits size leq flows declared s w' from 0
   pop_waits s w w' old from e h = record {
@@ -164,13 +164,13 @@ module _ (size : ℕ) (leq : ℕ → ℕ → Bool) (bottom top : ℕ) (laws : Or
     within = λ v m. h.within v (subst (λ l. Contains l v) (sym e) (Contains-append_left w' (from ∷ []) v m));
   }
 
-  -- What is taken from the worklist is a variable.
+  -- The entry taken from the worklist is a variable.
   pub last_within : (s w w' : List ℕ) (old from : ℕ) → w ≡ w' ++ from ∷ []
       → Waits size leq flows declared s w old (length declared) → from < length declared
   last_within s w w' old from e h = h.within from (subst (λ l. Contains l from) (sym e)
       (Contains-append_right w' (from ∷ []) from (0, omega arith, refl)))
 
-  -- Where none waits, the flows are in order.
+  -- If no variable waits, the flows are in order.
   pub all_raised : (s w : List ℕ) (old : ℕ) → length w ≡ 0 → Waits size leq flows declared s w old (length declared)
       → IsRaised size leq flows declared s
   all_raised s w old e h a b none fl = elim (h.each a b none fl) [
@@ -178,14 +178,14 @@ module _ (size : ℕ) (leq : ℕ → ℕ → Bool) (bottom top : ℕ) (laws : Or
     | inr p ↦ absurd (let lt = (program.flows_within a b fl).1 in omega (arith, lt, p.1))
   ]
 
-  -- At first all wait.
+  -- At first all variables wait.
   pub all_wait : (s w : List ℕ) → ((v : ℕ) → v < length declared → Contains w v)
       → ((v : ℕ) → Contains w v → v < length declared) → Waits size leq flows declared s w 0 (length declared)
   all_wait s w h k = record { each = λ a b none fl. inl (inl (h a (program.flows_within a b fl).0)); within = k }
 
-  -- ---- what the raised choice is.
+  -- ---- the raised choice.
 
-  -- Along a walk a typable choice climbs.
+  -- A typable choice rises along a walk.
   walk_climbs : (t : List ℕ) → IsOrderedChoice size leq flows declared t → (n a v : ℕ) → a < length declared
       → Walk flows n a v → (v < length declared) × (leq (get_or t a 0) (get_or t v 0) ≡ true)
   walk_climbs t w zero a v ha e = (
@@ -212,7 +212,7 @@ module _ (size : ℕ) (leq : ℕ → ℕ → Bool) (bottom top : ℕ) (laws : Or
       let ha = declared_place a c d in
       ap (λ x. leq x (get_or t v 0)) (sym (w.choice.keeps a c d)) ∙ (walk_climbs t w n a v ha walk).1)
 
-  -- Where a bad walk is, no choice is typable.
+  -- If there is a bad walk, no choice is typable.
   pub bad_walk_refuses : (n a b : ℕ) → IsBadWalk size leq flows declared n a b → (t : List ℕ)
       → IsOrderedChoice size leq flows declared t → ⊥
   bad_walk_refuses n a b w t ty =
@@ -221,7 +221,7 @@ module _ (size : ℕ) (leq : ℕ → ℕ → Bool) (bottom top : ℕ) (laws : Or
       ∙ ap (leq (get_or t a 0)) (sym (ty.choice.keeps b w.to_class w.to_declared))
       ∙ (walk_climbs t ty n a b (declared_place a w.from_class w.from_declared) w.walk).1)
 
-  -- Where a raised, justified choice has a flow out of order, not all walks to there are good.
+  -- If a justified choice has a flow out of order into a declared variable, not every walk to it is good.
   pub broken_has_bad : (s : List ℕ) → KeepsDeclared size leq flows declared s → IsJustified size leq flows declared s
       → (a b c : ℕ) → flows a b ≡ true → slice_get declared b ≡ Some (Some c) → leq (get_or s a 0) c ≡ false
       → ((n x : ℕ) → ¬ (IsBadWalk size leq flows declared n x b)) → ⊥
@@ -241,7 +241,7 @@ module _ (size : ℕ) (leq : ℕ → ℕ → Bool) (bottom top : ℕ) (laws : Or
         }))
       ]))
 
-  -- The choice to begin with: the declared classes, and the bottom for the others.
+  -- The starting choice has the declared classes and the bottom class for the others.
   pub start_choice : (s : List ℕ) → length s ≡ length declared
       → ((v : ℕ) → v < length declared → ((c : ℕ) × (slice_get declared v ≡ Some (Some c)) × (get_or s v 0 ≡ c))
       ⊎ ((slice_get declared v ≡ Some None) × (get_or s v 0 ≡ bottom)))
@@ -264,7 +264,7 @@ module _ (size : ℕ) (leq : ℕ → ℕ → Bool) (bottom top : ℕ) (laws : Or
     ],
   )
 
-  -- The choice to begin with, from the code's list.
+  -- The same for the list that the code builds.
   pub start_facts : (s : List ℕ) → s ≡ map (λ o. unwrap_or o bottom) declared → KeepsDeclared size leq flows declared s
       × IsJustified size leq flows declared s
   start_facts s e = start_choice s (ap length e ∙ simp length-map refl) (λ v hv.
@@ -278,7 +278,7 @@ module _ (size : ℕ) (leq : ℕ → ℕ → Bool) (bottom top : ℕ) (laws : Or
       by_class v None d f = inr (d, f)
       by_class v (Some c) d f = inl (c, d, f)
 
-  -- In order everywhere: the least typable choice.
+  -- If every flow is in order, the choice is the least typable one.
   pub is_least : (s : List ℕ) → KeepsDeclared size leq flows declared s → IsJustified size leq flows declared s
       → ((a b : ℕ) → a < length s → b < length s → flows a b ≡ true → leq (get_or s a 0) (get_or s b 0) ≡ true)
       → IsLeastOrderedChoice size leq flows declared s
@@ -291,7 +291,7 @@ module _ (size : ℕ) (leq : ℕ → ℕ → Bool) (bottom top : ℕ) (laws : Or
     least = justified_least s j;
   }
 
-  -- Out of order somewhere: no choice is typable.
+  -- If a flow is out of order, no choice is typable.
   pub none_typable : (s : List ℕ) → KeepsDeclared size leq flows declared s → IsJustified size leq flows declared s
       → IsRaised size leq flows declared s → (a b : ℕ) → IsOutOfOrder leq flows s a b
       → (t : List ℕ) → IsOrderedChoice size leq flows declared t → ⊥
@@ -308,7 +308,7 @@ module _ (size : ℕ) (leq : ℕ → ℕ → Bool) (bottom top : ℕ) (laws : Or
           ∙ laws.transitive _ _ _ (ch.within a fits.0) (ty.choice.within a fits.0) (ty.choice.within b fits.1)
           (justified_least s j t ty a fits.0) (ty.in_order a b fl))
 
-  -- Out of order somewhere: there is a bad walk.
+  -- If a flow is out of order, there is a bad walk.
   pub has_bad : (s : List ℕ) → KeepsDeclared size leq flows declared s → IsJustified size leq flows declared s
       → IsRaised size leq flows declared s → (a b : ℕ) → IsOutOfOrder leq flows s a b
       → ¬ ((n x y : ℕ) → ¬ (IsBadWalk size leq flows declared n x y))
@@ -321,7 +321,7 @@ module _ (size : ℕ) (leq : ℕ → ℕ → Bool) (bottom top : ℕ) (laws : Or
       by_class (Some c) d = broken_has_bad s ch j a b c fl d (ap (leq (get_or s a 0)) (sym (ch.keeps b c d)) ∙ un)
           (λ n x. none n x b)
 
--- What is written back to a vector.
+-- A slice written back to a vector is the vector.
 pub written_back : (n : ℕ) (old new : List ℕ) → length new ≡ n → length old ≡ n
     → take n (new ++ drop (length new) old) ≡ new
 written_back n old new e f =

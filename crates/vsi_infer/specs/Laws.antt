@@ -1,4 +1,4 @@
--- What a bad walk under the base profile is under the strict one.
+-- The relation of bad walks under the base profile to those under the strict profile.
 use Rattle.std.specs.Prelude.{List}
 use Rattle.vsi_lattice.specs.Order.{Lattice}
 use Rattle.vsi_types.specs.declared.rules.Profile.TheVariants.{Base, Strict}

@@ -1,4 +1,4 @@
--- A step among those of a program, without a list of the guards around.
+-- Whether a step is one of a program's, without a list of the surrounding guards.
 use Rattle.std.specs.Prelude.{◌≡◌, ℕ, ◌+◌, ◌≤◌, ◌==◌, Bool, true, false, ◌&&◌, ◌||◌, List, [], ◌∷◌, ◌++◌, length, slice_index}
 use Rattle.vsi_syntax.specs.declared.token.Span.{Span}
 use Rattle.vsi_scope.specs.Language.{Expression, Number, Location, Operator, Command, Skip, Assign, Sequence, If, While, Letvar, letvars, has_loop, nesting, HasPlaces}
@@ -11,35 +11,35 @@ use Rattle.vsi_infer.specs.Leading.{observes_ending}
 use Rattle.vsi_infer.specs.StepsBetween.{same_rule}
 use Rattle.vsi_infer.specs.declared.membership.Cursor.{Cursor}
 
--- Two places are one.
+-- Two spans are equal.
 abbrev pub same_span : Span → Span → Bool
 same_span s t = (s.start == t.start) && (s.stop == t.stop)
 
--- The step reads this variable there by this rule.
+-- The step reads this variable at this span by this rule.
 abbrev pub read_is : Step → Rule → ℕ → Span → Bool
 read_is x rule v place = same_rule rule x.rule && ((v == x.source) && same_span place x.read)
 
--- The step writes this variable there.
+-- The step writes this variable at this span.
 abbrev pub written_is : Step → ℕ → Span → Bool
 written_is x v place = (v == x.target) && same_span place x.written
 
--- Two steps are one.
+-- Two steps are equal.
 abbrev pub same_step : Step → Step → Bool
 same_step x s = read_is x s.rule s.source s.read && written_is x s.target s.written
 
--- The step reads what an expression reads.
+-- The step reads a variable that an expression reads.
 abbrev pub reads_pass : Step → Rule → List ℕ → Expression → Bool
 reads_pass x rule scope (Number z) = false
 reads_pass x rule scope (Location l s) = read_is x rule (slice_index scope l) s
 reads_pass x rule scope (Operator o a b) = reads_pass x rule scope a || reads_pass x rule scope b
 
--- The step goes from what an expression reads to the ending of a loop.
+-- The step goes from a variable that an expression reads to the ending of a loop.
 abbrev pub ends_pass : Step → List ℕ → Expression → Bool
 ends_pass x scope (Number z) = false
 ends_pass x scope (Location l s) = read_is x typing.Loop (slice_index scope l) s && written_is x sink s
 ends_pass x scope (Operator o a b) = ends_pass x scope a || ends_pass x scope b
 
--- The step is one of the command's, where `around` says whether it reads what a guard around reads.
+-- The step is one of the command's, where `around` says whether it reads what a surrounding guard reads.
 abbrev pub passes : Step → Profile → (ℕ → Span) → Bool → List ℕ → ℕ → Command → Bool
 passes x P names around scope n Skip = false
 passes x P names around scope n (Assign l s e) =
@@ -62,11 +62,11 @@ pub record Stand : Type 0 where
   pub scope : List ℕ
   pub next : ℕ
 
--- Where a cursor stands.
+-- The position of a cursor.
 abbrev pub stand_of : Cursor → Stand
 stand_of c = record { scope = c.scope.items; next = c.next }
 
--- The locations are there, and so are the names of the letvars, and the nesting isn't too deep.
+-- The locations and the names of the letvars are there, and the nesting isn't too deep.
 pub record IsFor (first count : ℕ) (a : Stand) (c : Command) : Type 0 where
   pub places : HasPlaces (length a.scope) c
   pub after : first ≤ a.next
@@ -74,7 +74,7 @@ pub record IsFor (first count : ℕ) (a : Stand) (c : Command) : Type 0 where
   pub small : first + count ≤ 1024
   pub room : length a.scope + nesting c ≤ 456
 
--- The answer for a command, and where the cursor stands after it.
+-- The answer for a command, and the position of the cursor after it.
 pub record IsPast (x : Step) (P : Profile) (names : ℕ → Span) (around : Bool) (a : Stand) (c : Command) (b : Stand)
     (found : Bool) : Type 0 where
   pub answer : found ≡ passes x P names around a.scope a.next c

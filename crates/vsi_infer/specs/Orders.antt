@@ -1,4 +1,4 @@
--- What the search for classes needs of a lattice.
+-- The laws of a lattice that the search for classes needs.
 use Rattle.std.specs.Prelude.{◌≡◌, ℕ, ◌<◌, Bool, true}
 
 -- A partial order with a least and a greatest class.

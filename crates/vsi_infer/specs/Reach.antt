@@ -1,19 +1,19 @@
--- Levels of a set that grows: which places have a number, and which come next.
+-- Levels of a growing set: the places that have a number, and those that come next.
 use Rattle.std.specs.Prelude.{◌≡◌, ℕ, ◌+◌, ◌<◌, ◌≤◌, Bool, true, false, cond, List, length, slice_index}
 use Rattle.vsi_infer.specs.Distances.{Leads, none, unreached}
 
--- The places of a set have the number, and the others what they had.
+-- The places of a set have the number, and the others are unchanged.
 pub record IsNumbered (has : ℕ → Bool) (level : ℕ) (old new : List ℕ) : Type 0 where
   pub len : length new ≡ length old
   pub inside : (v : ℕ) → has v ≡ true → slice_index new v ≡ level
   pub outside : (v : ℕ) → has v ≡ false → slice_index new v ≡ slice_index old v
 
--- A set has exactly what flows to the places of another one.
+-- A set has exactly the places that flow to a place of another set.
 pub record IsCollected (flows : ℕ → ℕ → Bool) (front next : ℕ → Bool) : Type 0 where
   pub whole : (a b : ℕ) → front b ≡ true → flows a b ≡ true → next a ≡ true
   pub sound : (a : ℕ) → next a ≡ true → (b : ℕ) × (front b ≡ true) × (flows a b ≡ true)
 
--- The places of a set below v have the number, and what flows to them is collected.
+-- The places of a set below v have the number, and the places that flow to them are collected.
 pub record IsSpread (flows : ℕ → ℕ → Bool) (front : ℕ → Bool) (level v : ℕ) (old far : List ℕ) (next : ℕ → Bool)
     (more : Bool) : Type 0 where
   pub len : length far ≡ length old
@@ -25,7 +25,7 @@ pub record IsSpread (flows : ℕ → ℕ → Bool) (front : ℕ → Bool) (level
   pub fewer : unreached far + cond more 1 0 ≤ unreached old
   pub quiet : more ≡ false → (u : ℕ) → u < v → front u ≡ false
 
--- The places that are fewer flows than the level from place b have their numbers; `front` has what flows to the last.
+-- Places that are fewer flows than the level from place b have numbers; `front` has those that flow to the last ones.
 pub record IsLevel (flows : ℕ → ℕ → Bool) (count b level : ℕ) (far : List ℕ) (reached front : ℕ → Bool)
     : Type 0 where
   pub some : 1 ≤ level

@@ -11,13 +11,13 @@ use std::alloc::{AllocError, Global as Heap};
 use vsi_scope::Resolved;
 use vsi_types::{Profile, Step};
 
-/// The number of no variable.
+/// The target of a variable that the walk doesn't leave.
 const NOWHERE: u16 = 65534;
 
-/// The steps that lead where a walk leads from their source.
+/// The steps that lead to the walk's target for their source.
 #[derive(Drop)]
 pub(crate) struct Along {
-    /// For each variable where the walk leads from there.
+    /// For each variable, the next variable of the walk.
     targets: Vec<u16>,
 }
 
@@ -30,7 +30,7 @@ impl Wanted for Along {
     }
 }
 
-/// Where a walk leads from each of so many variables.
+/// The next variable of the walk, for each of `count` variables.
 fn targets_of(alloc: Heap, count: usize, steps: &[Step]) -> Result<Vec<u16>, AllocError> {
     let mut targets = vec![in alloc; NOWHERE; count]?;
     for step in steps {
@@ -42,8 +42,8 @@ fn targets_of(alloc: Heap, count: usize, steps: &[Step]) -> Result<Vec<u16>, All
     Ok(targets)
 }
 
-/// For each step of a walk, up to the first one that has none, the program's first step that leads
-/// from its source where the walk leads.
+/// For each step of a walk, the program's first step from its source to the walk's next variable,
+/// up to the first step of the walk that has none.
 pub(crate) fn steps_along(
     alloc: Heap,
     profile: Profile,

@@ -1,4 +1,4 @@
-//! Why no classes are found.
+//! Why the inference finds no classes.
 
 ghost use Rattle.std.specs.Prelude.{◌≡◌};
 ghost use Rattle.vsi_infer.specs.declared.error.InferError.TheVariants.{Memory};
@@ -7,13 +7,13 @@ use crate::walk::Walk;
 use std::alloc::{AllocError, AllocFailed};
 use thiserror::Error;
 
-/// Why no classes are found.
+/// The reason why no classes were found.
 #[derive(Debug, Drop, Error)]
 pub enum InferError {
-    /// There was too little memory.
+    /// Memory ran out.
     #[error("out of memory")]
     Memory,
-    /// No choice of classes is typable: a bad walk, and none has fewer steps.
+    /// No choice of classes is typable; the walk is bad, and no bad walk has fewer steps.
     #[error("no choice of classes is typable")]
     Refused(Walk),
 }

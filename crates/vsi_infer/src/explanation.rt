@@ -1,4 +1,4 @@
-//! A walk as text.
+//! The text of a walk.
 
 ghost use Rattle.std.specs.Prelude.{◌≡◌, ◌++◌, [], OnOk, IfOk, IfSome, codes, is_ok, if◌then◌else◌, length, take};
 ghost use Rattle.std.specs.List.{All, flat_map};
@@ -20,7 +20,7 @@ use vsi_scope::{Resolved, Var};
 use vsi_syntax::put_line_column;
 use vsi_types::{LOOP, Rule, Step};
 
-/// Adds the line and the column of a place, or leaves the text as it was.
+/// Adds the line and the column of a position, or leaves the text unchanged.
 fn put_place(text: &mut Vec<u8>, source: &[u8], marks: &[Mark], at: usize) -> Result<(), AllocError>
     requires { All (IsMarkOf source.now) marks.now }
     ensures { text.new.items ≡ (if is_ok result
@@ -30,7 +30,7 @@ fn put_place(text: &mut Vec<u8>, source: &[u8], marks: &[Mark], at: usize) -> Re
     put_line_column(text, line, column)
 }
 
-/// The word of a rule.
+/// The name of a rule.
 fn rule_text(rule: Rule) -> &'static [u8]
     ensures { result.now ≡ spec.rule_text rule }
 {
@@ -43,7 +43,7 @@ fn rule_text(rule: Rule) -> &'static [u8]
     }
 }
 
-/// Adds the name of a variable, or leaves the text as it was.
+/// Adds the name of a variable, or leaves the text unchanged.
 fn put_name(text: &mut Vec<u8>, program: &Resolved<'_>, variable: Var) -> Result<(), AllocError>
     ensures { text.new.items ≡ (if is_ok result
         then text.old.items ++ spec.name_of program.now variable else text.old.items) }
@@ -62,7 +62,7 @@ fn put_name(text: &mut Vec<u8>, program: &Resolved<'_>, variable: Var) -> Result
     }
 }
 
-/// Adds the name of a class, or leaves the text as it was.
+/// Adds the name of a class, or leaves the text unchanged.
 fn put_class(text: &mut Vec<u8>, lattice: &Lattice, class: Option<Class>) -> Result<(), AllocError>
     requires { IfSome class (IsClass (order lattice.now)) }
     ensures { text.new.items ≡ (if is_ok result
@@ -74,7 +74,7 @@ fn put_class(text: &mut Vec<u8>, lattice: &Lattice, class: Option<Class>) -> Res
     }
 }
 
-/// Adds ` : ` and the name of a class, or leaves the text as it was.
+/// Adds ` : ` and the name of a class, or leaves the text unchanged.
 fn put_class_after_colon(
     text: &mut Vec<u8>,
     lattice: &Lattice,
@@ -94,8 +94,8 @@ fn put_class_after_colon(
     added
 }
 
-/// Adds the name of a variable and that of its declared class. Where memory runs out the text stays
-/// as it was.
+/// Adds the name of a variable and the name of its declared class. If memory runs out, the text is
+/// unchanged.
 pub fn put_variable(
     text: &mut Vec<u8>,
     lattice: &Lattice,
@@ -118,7 +118,7 @@ pub fn put_variable(
     added
 }
 
-/// Adds the line of a step, or a part of it where memory runs out.
+/// Adds the line of a step, or a part of it if memory runs out.
 #[tactic(auto, using(crate::proofs::Begun::begins_more))]
 fn put_step(
     text: &mut Vec<u8>,
@@ -145,7 +145,7 @@ fn put_step(
     Ok(())
 }
 
-/// Adds the lines of steps, or a part of them where memory runs out.
+/// Adds the lines of steps, or a part of them if memory runs out.
 fn put_lines(
     text: &mut Vec<u8>,
     source: &[u8],
@@ -164,7 +164,7 @@ fn put_lines(
     Ok(())
 }
 
-/// Adds the lines of steps. Where memory runs out the text stays as it was.
+/// Adds the lines of steps. If memory runs out, the text is unchanged.
 pub fn put_steps(
     text: &mut Vec<u8>,
     source: &[u8],
@@ -185,7 +185,7 @@ pub fn put_steps(
     added
 }
 
-/// Adds the last line, from the first variable of a walk to its last one.
+/// Adds the last line, which names the first and the last variable of a walk.
 fn put_last(
     text: &mut Vec<u8>,
     lattice: &Lattice,
@@ -204,9 +204,9 @@ fn put_last(
     text.extend_from_slice(b"\n")
 }
 
-/// The text of a walk that `check_walk_in` calls bad under the strict profile, which a walk that is
-/// bad under the base profile is too: a line for each step, and a last line with the classes. The
-/// places are those of the source text.
+/// The text of a walk that `check_walk_in` calls bad under the strict profile: a line for each
+/// step, and a last line with the classes. A walk that is bad under the base profile is bad under
+/// the strict profile too. The positions are those of the source text.
 pub fn explain(
     alloc: Heap,
     source: &[u8],

@@ -1,4 +1,4 @@
-//! The flows of a program by the rules of a filter, by one walk over its commands.
+//! The flows of a program by the rules of a filter, found in one walk over its commands.
 
 ghost use Rattle.std.specs.Prelude.{◌≡◌, ◌+◌, ◌*◌, ◌<◌, ◌≤◌, ◌&&◌, ◌||◌, ◌==◌, ℕ, length};
 ghost use Rattle.std.specs.List.{All};
@@ -15,8 +15,8 @@ use vsi_scope::{Cmd, Ex, Var};
 use vsi_syntax::Span;
 use vsi_types::{Profile, Rule};
 
-/// For each variable a row of what flows to it, the variable of each location, and the next
-/// declaration's number.
+/// For each variable, a row of the variables that flow to it; also the variable of each location,
+/// and the number of the next declaration.
 #[derive(Drop)]
 pub(crate) struct FlowMatrix {
     pub(crate) rows: Vec<u64>,
@@ -24,7 +24,7 @@ pub(crate) struct FlowMatrix {
     pub(crate) next: u16,
 }
 
-/// Notes what an expression reads in a row.
+/// Notes the reads of an expression in a row.
 fn note_reads(rows: &mut [u64], row: usize, scope: &[Var], e: &Ex)
     requires places { HasLocations (length scope.now) (expression e.now) }
     requires scope { All (λ v. v < 1024) scope.now }
@@ -46,7 +46,7 @@ fn note_reads(rows: &mut [u64], row: usize, scope: &[Var], e: &Ex)
     }
 }
 
-/// Notes what an expression reads by a rule in a row, if the filter takes it.
+/// Notes the reads of an expression in a row, if the filter takes the rule.
 fn note_reads_by(
     filter: RuleFilter,
     rule: Rule,
@@ -67,7 +67,7 @@ fn note_reads_by(
     }
 }
 
-/// Whether the profile asks after the ending of what loops.
+/// Whether the profile observes the ending of a command that loops.
 pub(crate) fn observes_ending(profile: Profile, looping: bool) -> bool
     ensures { result ≡ observes profile looping }
 {
@@ -77,7 +77,7 @@ pub(crate) fn observes_ending(profile: Profile, looping: bool) -> bool
     }
 }
 
-/// Notes the ending of what loops.
+/// Notes the ending of a command that loops.
 fn note_ending(
     walk: &mut FlowMatrix,
     filter: RuleFilter,
@@ -103,7 +103,7 @@ fn note_ending(
     }
 }
 
-/// The guards around, and one more where the filter takes its rule.
+/// The surrounding guards, and one more if the filter takes its rule.
 fn within(
     filter: RuleFilter,
     rule: Rule,

@@ -13,8 +13,8 @@ use std::alloc::{AllocError, Global as Heap};
 use vsi_scope::Resolved;
 use vsi_types::{Profile, Rule, first_variables};
 
-/// For each variable 16 words, a bit for each variable that flows to it; the last row is that of
-/// the loops' ending.
+/// For each variable 16 words, with a bit for each variable that flows to it; the last row belongs
+/// to the ending of loops.
 #[derive(Drop)]
 pub struct FlowRows {
     pub(crate) rows: Vec<u64>,

@@ -1,4 +1,5 @@
-//! The wanted steps of a program, in one walk over it: the first from each variable, or one.
+//! The wanted steps of a program, gathered in one walk over it: the first from each variable, or
+//! one step in all.
 
 ghost use Rattle.std.specs.Prelude.{ℕ, length, IfOk, IsTrue, [], true, false};
 ghost use Rattle.std.specs.List.{All, Contains};
@@ -259,7 +260,7 @@ pub(crate) fn first_steps<W: Wanted>(
     Ok(kept)
 }
 
-/// A wanted step of a program that has one, where every step is looked at.
+/// A wanted step of a program that has one. Every step is looked at.
 pub(crate) fn wanted_step<W: Wanted>(
     alloc: Heap,
     profile: Profile,

@@ -1,4 +1,4 @@
-//! The least classes of a program, or that there are none.
+//! The least classes of a program, or the answer that there are none.
 
 ghost use Rattle.std.specs.Prelude.{◌≡◌, ◌++◌, ◌∷◌, [], ℕ, List, map, take, drop, length, Some, IfOk, IfErr};
 ghost use Rattle.std.specs.List.{All};
@@ -35,8 +35,8 @@ fn declared_table<C: Classes>(
     Ok(table)
 }
 
-/// The least typable choice of classes under a profile, a class for each `letvar` in text order;
-/// else `Refused`.
+/// The least typable choice of classes under a profile, with a class for each `letvar` in text
+/// order; otherwise `Refused`.
 pub fn infer_in<C: Classes>(
     alloc: Heap,
     profile: Profile,
@@ -50,7 +50,7 @@ pub fn infer_in<C: Classes>(
     ensures refused { IfErr result
         (Refuses (C.lattice lattice.now) profile (program_of program.now)) }
 {
-    // What `body` ensures says that the program is resolved, which the proofs ask for.
+    // The contract of `body` says that the program is resolved, and the proofs need that.
     let _body = program.body();
     let first = program.globals().len();
     let count = program.letvars().len();

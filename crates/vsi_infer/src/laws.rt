@@ -1,9 +1,9 @@
-//! The laws of bad walks. Each function's contract is a law, and its body does nothing.
+//! The laws of bad walks. Each law is the contract of a function whose body does nothing.
 
 ghost use Rattle.vsi_types.specs.Walks.{BadWalksRefute};
 ghost use Rattle.vsi_infer.specs.Laws.{BaseWalksStayBad};
 
-/// Where a bad walk exists, no choice of classes is typable.
+/// If there is a bad walk, no choice of classes is typable.
 pub fn bad_walks_refute()
     ensures { BadWalksRefute }
 {}

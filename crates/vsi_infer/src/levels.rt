@@ -1,4 +1,4 @@
-//! For each class the fewest steps from each variable to one where a walk from that class is bad.
+//! For each class, the fewest steps from each variable to one where a walk from that class is bad.
 
 ghost use Rattle.std.specs.Prelude.{◌≡◌, ◌≤◌, ◌<◌, ℕ, Bool, true, List, [], map, length, slice_index, slice_index_or, IfOk, IfSome};
 ghost use Rattle.vsi_lattice.specs.Order.{IsClass};
@@ -40,7 +40,7 @@ fn goals<C: Classes>(
     Ok(goals)
 }
 
-/// As many empty rows.
+/// A vector of `count` empty rows.
 fn empty_rows(alloc: Global, count: usize) -> Result<Vec<Vec<u16>>, AllocError>
     ensures count { IfOk result (λ t. length t.items ≡ count) }
     ensures empty { IfOk result
@@ -54,7 +54,7 @@ fn empty_rows(alloc: Global, count: usize) -> Result<Vec<Vec<u16>>, AllocError>
     Ok(rows)
 }
 
-/// A row of distances for each class that is declared.
+/// A row of distances for each declared class.
 pub(crate) fn levels<C: Classes, F: Flow>(
     alloc: Global,
     lattice: &C,
@@ -106,7 +106,7 @@ pub(crate) fn far_at(rows: &[Vec<u16>], class: Class, place: usize) -> u16
     }
 }
 
-/// The fewest steps of a bad walk; 65535 where there is none.
+/// The fewest steps of a bad walk, or 65535 if there is none.
 pub(crate) fn fewest(rows: &[Vec<u16>], declared: &[Option<Class>]) -> u16
     ensures { IsFewest declared.now (map (λ r. r.items) rows.now) result }
 {

@@ -1,14 +1,14 @@
 //! The inference of classes.
 //!
-//! A resolved program over a lattice comes in; out come the least classes that are typable, one for
+//! The input is a resolved program over a lattice. The output is the least typable classes, one for
 //! each `letvar` (clause `ok` of `infer_in`), or a bad walk such that no bad walk has fewer steps
-//! (clause `refused`). `check_walk_in` tells bad walks from others without memory, and `explain`
-//! writes one as text. The laws of bad walks stand in `laws`.
+//! (clause `refused`). `check_walk_in` decides whether a walk is bad and allocates nothing;
+//! `explain` writes a walk as text. The laws of bad walks are in `laws`.
 //!
-//! To be believed: `specs/Explanation`, `specs/Inference`, `specs/Laws`, `specs/Paths` for what
-//! users call; `specs/FlowRows`, `specs/Flowing`, `specs/StepsBetween`, `specs/Lines`,
-//! `specs/Shortest` and `AreLeast` of `specs/Distances` for what other crates call. The other
-//! definitions are stepping stones of proofs.
+//! To be believed: `specs/Explanation`, `specs/Inference`, `specs/Laws` and `specs/Paths` for the
+//! functions that users call; `specs/FlowRows`, `specs/Flowing`, `specs/StepsBetween`,
+//! `specs/Lines`, `specs/Shortest` and `AreLeast` of `specs/Distances` for those that other crates
+//! call. The other definitions are only steps of proofs.
 #![tactic(auto)]
 
 mod along;

@@ -1,7 +1,7 @@
-//! The lines and columns of many places of one text.
+//! The lines and columns of many positions of one text.
 //!
-//! To count from the start of the text for each place costs the product of both. Here the count
-//! starts at the last of the marks, which stand so close that none is far behind its place.
+//! Counting from the start of the text for each position takes time proportional to the product of
+//! both. Here the count starts at the last mark before the position, and marks are close together.
 
 ghost use Rattle.std.specs.Prelude.{◌≡◌, ◌+◌, ◌≤◌, take, length, IfOk};
 ghost use Rattle.std.specs.List.{All};
@@ -11,10 +11,10 @@ ghost use Rattle.vsi_infer.specs.Lines.{IsMarkOf};
 use std::alloc::{AllocError, Global};
 use vsi_syntax::line_column;
 
-/// How far apart the marks of a text are.
+/// The distance between two marks of a text.
 const SPACE: usize = 1024;
 
-/// A place of a text, and its line and column, both counted from 1.
+/// A position of a text, and its line and column, both counted from 1.
 #[derive(Clone, Copy)]
 pub struct Mark {
     at: usize,
@@ -22,7 +22,7 @@ pub struct Mark {
     column: usize,
 }
 
-/// The mark of the next place.
+/// The mark of the next position.
 fn next_mark(text: &[u8], mark: Mark) -> Mark
     requires mark { IsMarkOf text.now mark }
     requires more { mark.at + 1 ≤ length text.now }
@@ -44,7 +44,7 @@ fn next_mark(text: &[u8], mark: Mark) -> Mark
     }
 }
 
-/// A mark of a text at every so many places, from its start on.
+/// Marks of a text at regular distances, from its start on.
 pub fn marks_of(alloc: Global, text: &[u8]) -> Result<Vec<Mark>, AllocError>
     ensures { IfOk result (λ m. All (IsMarkOf text.now) m.items) }
 {
@@ -63,7 +63,7 @@ pub fn marks_of(alloc: Global, text: &[u8]) -> Result<Vec<Mark>, AllocError>
     Ok(marks)
 }
 
-/// The line and the column of a place behind a mark.
+/// The line and the column of a position after a mark.
 fn count_from(text: &[u8], mark: Mark, at: usize) -> (usize, usize)
     requires mark { IsMarkOf text.now mark }
     requires behind { mark.at ≤ at }
@@ -78,7 +78,7 @@ fn count_from(text: &[u8], mark: Mark, at: usize) -> (usize, usize)
     (here.line, here.column)
 }
 
-/// The line and the column of a place, as `line_column` tells them, where the marks are those of
+/// The line and the column of a position, as `line_column` computes them, if the marks are those of
 /// the text.
 pub(crate) fn place_among(text: &[u8], marks: &[Mark], at: usize) -> (usize, usize)
     requires { All (IsMarkOf text.now) marks.now }

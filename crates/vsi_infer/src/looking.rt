@@ -1,11 +1,12 @@
-//! What a walk over a program keeps: the first wanted step from each variable.
+//! The steps that a walk over a program keeps: the first wanted step from each variable.
 //!
-//! A search for one step goes over all flow steps of a program, of which there are as many as
-//! guards times assignments. Here each pair of variables is looked at once: of the guards in force
-//! that read a variable only the first can give its first step to a target, and a row of bits says
-//! which variables they read. What is promised of a kept step is that it is one of the program's
-//! and wanted. That it is the first from its variable is left to those who use it: they test what
-//! they need, and where a test fails they go over the program once more, looking at every step.
+//! A search for one step goes over all flow steps of a program, and there are as many as guards
+//! times assignments. This walk looks at each pair of variables once. Among the guards in force
+//! that read a variable, only the first can give its first step to a target, and a row of bits
+//! records which variables the guards read. The contracts promise that a kept step is one of the
+//! program's steps and wanted. They don't promise that it is the first from its variable. Callers
+//! test what they need, and if a test fails they walk over the program once more and look at every
+//! step.
 
 ghost use Rattle.std.specs.Prelude.{◌≡◌, ◌≤◌, ◌∷◌, [], true, false, length, OnOk, IfOk, IfSome};
 ghost use Rattle.std.specs.List.{Contains};
@@ -23,7 +24,7 @@ use vsi_scope::{Ex, Var};
 use vsi_syntax::Span;
 use vsi_types::{Guard, LOOP, Profile, Rule, Step};
 
-/// How far apart the turns of two commands are: more than there are guards.
+/// The distance between the turns of two commands; it is larger than the number of guards.
 pub(crate) const STRIDE: u64 = 4_294_967_296;
 
 /// The first wanted step from each variable.
@@ -31,30 +32,30 @@ pub(crate) const STRIDE: u64 = 4_294_967_296;
 pub(crate) struct FirstSteps {
     /// The steps that were kept.
     pub(crate) steps: Vec<Step>,
-    /// Their turns in the order of the program's steps.
+    /// The turns of the kept steps, which give their order in the program.
     turns: Vec<u64>,
-    /// For each variable the place of its step among them, or a place past the end.
+    /// For each variable, the index of its step in `steps`, or an index past the end.
     places: Vec<usize>,
 }
 
-/// What a gathering walk knows of the place where it stands.
+/// The state of a gathering walk at its current place.
 #[derive(Drop)]
 pub(crate) struct Gathering {
     pub(crate) kept: FirstSteps,
-    /// For each target a row of the sources that were looked at.
+    /// For each target, a row of the sources that were looked at.
     seen: Vec<u64>,
     /// The variables that the guards in force read.
     pub(crate) around: [u64; 16],
-    /// For each of these variables the place of the first guard that reads it.
+    /// For each of these variables, the index of the first guard that reads it.
     guarding: Vec<usize>,
-    /// The turn of the command.
+    /// The turn of the current command.
     pub(crate) turn: u64,
-    /// Whether every step is looked at, and one wanted step kept.
+    /// Whether every step is looked at and one wanted step is kept.
     every: bool,
 }
 
 impl FirstSteps {
-    /// The step that is kept from a variable.
+    /// The step that is kept for a source.
     pub(crate) fn from_source(&self, source: Var) -> Option<Step>
         ensures { IfSome result (Contains self.now.steps.items) }
     {
@@ -64,7 +65,7 @@ impl FirstSteps {
         }
     }
 
-    /// The first of the steps that are kept.
+    /// The first of the kept steps.
     pub(crate) fn earliest(&self) -> Option<Step>
         ensures { IfSome result (Contains self.now.steps.items) }
     {
@@ -79,7 +80,7 @@ impl FirstSteps {
         self.at(best)
     }
 
-    /// The step at a place.
+    /// The step at an index.
     fn at(&self, place: usize) -> Option<Step>
         ensures { IfSome result (Contains self.now.steps.items) }
     {
@@ -90,7 +91,7 @@ impl FirstSteps {
     }
 }
 
-/// Nothing is kept, for as many variables.
+/// An empty state for `count` variables.
 pub(crate) fn start(alloc: Heap, count: u16, every: bool) -> Result<Gathering, AllocError>
     ensures kept { IfOk result (λ g. g.kept.steps.items ≡ []) }
     ensures every { IfOk result (λ g. g.every ≡ every) }
@@ -110,7 +111,7 @@ pub(crate) fn start(alloc: Heap, count: u16, every: bool) -> Result<Gathering, A
     })
 }
 
-/// Keeps a step where none is kept from its source, or one of a later turn.
+/// Keeps a step if none is kept from its source, or only one of a later turn.
 fn keep(kept: &mut FirstSteps, step: Step, turn: u64) -> Result<(), AllocError>
     ensures { OnOk result (MayKeep step kept.old.steps.items kept.new.steps.items) }
 {
@@ -131,7 +132,7 @@ fn keep(kept: &mut FirstSteps, step: Step, turn: u64) -> Result<(), AllocError>
     Ok(())
 }
 
-/// Keeps a step where none is kept.
+/// Keeps a step if none is kept.
 fn keep_one(kept: &mut FirstSteps, step: Step) -> Result<(), AllocError>
     ensures kept { OnOk result (MayKeep step kept.old.steps.items kept.new.steps.items) }
     ensures one { OnOk result (1 ≤ length kept.new.steps.items) }
@@ -164,7 +165,7 @@ fn keep_wanted<W: Wanted>(
     Ok(())
 }
 
-/// Whether a flow was looked at before; now it was.
+/// Whether a flow was looked at before; it is marked as looked at.
 fn is_seen(seen: &mut [u64], source: Var, target: Var) -> bool {
     let row = target.0 as usize;
     let bit = source.0 as usize;
@@ -178,7 +179,7 @@ fn is_seen(seen: &mut [u64], source: Var, target: Var) -> bool {
     false
 }
 
-/// Whether a flow is left out, since it was looked at before.
+/// Whether a flow is left out because it was looked at before.
 fn is_left_out(log: &mut Gathering, source: Var, target: Var) -> bool
     ensures kept { kept_of log.new ≡ kept_of log.old }
     ensures every { log.old.every ≡ true → result ≡ false }
@@ -238,7 +239,7 @@ fn look_guard<W: Wanted>(
     Ok(())
 }
 
-/// The variables of a word of the guards in force whose flow to the target wasn't looked at before.
+/// The variables of a word of the guards in force whose flow to the target hasn't been looked at.
 fn unseen(log: &Gathering, target: Var, word: usize) -> u64 {
     let around = match log.around.get(word) {
         Some(bits) => *bits,
@@ -250,7 +251,7 @@ fn unseen(log: &Gathering, target: Var, word: usize) -> u64 {
     }
 }
 
-/// Looks at the flows of 64 variables that guards in force may read.
+/// Looks at the flows of 64 variables that the guards in force may read.
 fn look_word<W: Wanted>(
     wanted: &W,
     log: &mut Gathering,
@@ -315,7 +316,7 @@ pub(crate) fn look_guards<W: Wanted>(
     Ok(())
 }
 
-/// Looks at the flows of what is read.
+/// Looks at the flows of the reads.
 pub(crate) fn look_reads<W: Wanted>(
     wanted: &W,
     log: &mut Gathering,
@@ -352,7 +353,7 @@ pub(crate) fn look_reads<W: Wanted>(
     }
 }
 
-/// Looks at the flows of what is read to the ending of a loop, which come at the given turn.
+/// Looks at the flows of the reads to the ending of a loop, at the given turn.
 fn look_endings<W: Wanted>(
     wanted: &W,
     log: &mut Gathering,
@@ -386,8 +387,8 @@ fn look_endings<W: Wanted>(
     }
 }
 
-/// Looks at the flows of a guard's reads to the ending of what loops; they come before what the
-/// guard encloses.
+/// Looks at the flows of a guard's reads to the ending of a loop; they come before those of the
+/// commands that the guard encloses.
 pub(crate) fn look_ending<W: Wanted>(
     wanted: &W,
     profile: Profile,
@@ -409,7 +410,7 @@ pub(crate) fn look_ending<W: Wanted>(
     Ok(())
 }
 
-/// Puts the guards from a place on in force.
+/// Puts the guards in force, starting at index `from`.
 pub(crate) fn enter(log: &mut Gathering, guards: &[Guard], from: usize)
     ensures { kept_of log.new ≡ kept_of log.old }
 {

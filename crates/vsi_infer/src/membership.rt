@@ -1,4 +1,4 @@
-//! Whether a step is one of a program's, by one walk over its commands and without memory.
+//! Whether a step is one of a program's, found in one walk over its commands without allocation.
 
 ghost use Rattle.std.specs.Prelude.{◌≡◌, ◌+◌, ◌<◌, ◌||◌, ◌&&◌, length, slice_index};
 ghost use Rattle.vsi_scope.specs.Language.{HasLocations, Assign, If, While, Letvar};
@@ -14,7 +14,7 @@ use vsi_scope::{Cmd, Entry, Ex};
 use vsi_syntax::Span;
 use vsi_types::{LOOP, Profile, Rule, Step, loops};
 
-/// The most locations that are in scope at once, and some more.
+/// The capacity for locations: more than are ever in scope at once.
 pub(crate) const SCOPE: usize = 512;
 
 /// The variable of each location, and the next declaration's number.
@@ -24,28 +24,28 @@ pub(crate) struct Cursor {
     pub(crate) next: u16,
 }
 
-/// Whether two places are one.
+/// Whether two spans are equal.
 fn same_span(first: Span, second: Span) -> bool
     ensures { result ≡ same_span_of first second }
 {
     first.start == second.start && first.stop == second.stop
 }
 
-/// Whether the step reads this variable there by this rule.
+/// Whether the step reads this variable at this span by this rule.
 fn read_is(step: &Step, rule: Rule, variable: u16, place: Span) -> bool
     ensures { result ≡ read_is_of step.now rule variable place }
 {
     same_rule(rule, step.rule) && (variable == step.source.0 && same_span(place, step.read))
 }
 
-/// Whether the step writes this variable there.
+/// Whether the step writes this variable at this span.
 fn written_is(step: &Step, variable: u16, place: Span) -> bool
     ensures { result ≡ written_is_of step.now variable place }
 {
     variable == step.target.0 && same_span(place, step.written)
 }
 
-/// Whether two steps are one.
+/// Whether two steps are equal.
 pub(crate) fn same_step(step: &Step, other: &Step) -> bool
     ensures { result ≡ same_step_of step.now other.now }
 {
@@ -53,7 +53,7 @@ pub(crate) fn same_step(step: &Step, other: &Step) -> bool
         && written_is(step, other.target.0, other.written)
 }
 
-/// Whether the step reads what an expression reads.
+/// Whether the step reads a variable that an expression reads.
 fn reads_pass(step: &Step, rule: Rule, scope: &[u16], e: &Ex) -> bool
     requires { HasLocations (length scope.now) (expression e.now) }
     ensures { result ≡ reads_pass_of step.now rule scope.now (expression e.now) }
@@ -65,7 +65,7 @@ fn reads_pass(step: &Step, rule: Rule, scope: &[u16], e: &Ex) -> bool
     }
 }
 
-/// Whether the step goes from what an expression reads to the ending of a loop.
+/// Whether the step goes from a variable that an expression reads to the ending of a loop.
 fn ends_pass(step: &Step, scope: &[u16], e: &Ex) -> bool
     requires { HasLocations (length scope.now) (expression e.now) }
     ensures { result ≡ ends_pass_of step.now scope.now (expression e.now) }

@@ -1,4 +1,4 @@
-//! The fewest flows from each place to one, level by level, over rows of bits.
+//! The fewest flows from each place to a target, level by level, over rows of bits.
 
 ghost use Rattle.std.specs.Prelude.{◌≡◌, ℕ, ◌+◌, ◌*◌, ◌^◌, ◌<◌, ◌≤◌, ◌&&◌, ◌||◌, not, cond, true, false, length, slice_index, IfOk};
 ghost use Rattle.vsi_infer.specs.FlowRows.{flow_has};
@@ -10,7 +10,7 @@ use crate::rows::{has_bit, note, note_row};
 use crate::worklist::Flow;
 use std::alloc::{AllocError, Global};
 
-/// Leaves out of a set what was reached before.
+/// Removes the reached places from a set.
 fn leave_out(front: &mut [u64; 16], reached: &[u64; 16])
     ensures { (v : ℕ) → flow_has front.new 0 v
         ≡ (flow_has front.old 0 v && not (flow_has reached.now 0 v)) }
@@ -20,8 +20,8 @@ fn leave_out(front: &mut [u64; 16], reached: &[u64; 16])
     }
 }
 
-/// Numbers the places of a set, adds what flows to them to another set, and says whether there are
-/// such places.
+/// Numbers the places of a set, adds the places that flow to them to another set, and says whether
+/// the set has any.
 fn spread(
     rows: &[u64],
     front: &[u64; 16],
@@ -58,7 +58,7 @@ fn spread(
     more
 }
 
-/// A set of one place, where it isn't past the last bit.
+/// The set of one place, or the empty set if the place is past the last bit.
 fn only(place: usize) -> [u64; 16]
     ensures alone { (v : ℕ) → flow_has result 0 v ≡ true → v ≡ place }
     ensures there { place < 1024 → flow_has result 0 place ≡ true }
@@ -70,7 +70,7 @@ fn only(place: usize) -> [u64; 16]
     set
 }
 
-/// What flows to a place.
+/// The places that flow to a place.
 fn sources(rows: &[u64], place: usize) -> [u64; 16]
     requires { place < 2 ^ 48 }
     ensures { (v : ℕ) → flow_has result 0 v ≡ flow_has rows.now place v }
@@ -80,7 +80,7 @@ fn sources(rows: &[u64], place: usize) -> [u64; 16]
     set
 }
 
-/// The fewest flows from each place to one; 65535 where no chain of flows leads there.
+/// The fewest flows from each place to the target, or 65535 if no chain of flows leads there.
 pub fn fewest_flows(
     alloc: Global,
     flow: &FlowRows,

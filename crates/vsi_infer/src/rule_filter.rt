@@ -1,4 +1,4 @@
-//! The rules whose flows are asked for.
+//! The rules whose flows are wanted.
 
 ghost use Rattle.std.specs.Prelude.{◌≡◌};
 ghost use Rattle.vsi_infer.specs.Leading.{takes as takes_of};
@@ -6,14 +6,14 @@ ghost use Rattle.vsi_infer.specs.StepsBetween.{same_rule as same_rule_of};
 
 use vsi_types::Rule;
 
-/// The rules whose flows are asked for: every one, or one alone.
+/// A filter of rules: it takes every rule, or one alone.
 #[derive(Clone, Copy)]
 pub(crate) enum RuleFilter {
     Every,
     Only(Rule),
 }
 
-/// Whether two rules are one.
+/// Whether two rules are equal.
 pub(crate) fn same_rule(first: Rule, second: Rule) -> bool
     ensures { result ≡ same_rule_of first second }
 {
@@ -27,7 +27,7 @@ pub(crate) fn same_rule(first: Rule, second: Rule) -> bool
     }
 }
 
-/// Whether the flows of a rule are asked for.
+/// Whether the filter takes the flows of a rule.
 pub(crate) fn takes(filter: RuleFilter, rule: Rule) -> bool
     ensures { result ≡ takes_of filter rule }
 {

@@ -22,15 +22,15 @@ use vsi_lattice::{Class, Classes};
 use vsi_scope::{Resolved, Var};
 use vsi_types::{LOOP, Profile, Step};
 
-/// The place of a variable in a row: the ending of loops has the last.
+/// The place of a variable in a row; the ending of loops has the last place.
 pub fn row_of(last: u16, variable: Var) -> u16
     ensures { result ≡ row_of_variable last variable }
 {
     if variable == LOOP { last } else { variable.0 }
 }
 
-/// The steps that begin a shortest bad walk: from a declared variable that is `now` away to one
-/// that is `after` away.
+/// The steps that begin a shortest bad walk: from a declared variable at distance `now` to one at
+/// distance `after`.
 #[derive(Drop)]
 pub(crate) struct Begins<'a> {
     declared: &'a [Option<Class>],
@@ -54,7 +54,7 @@ impl<'a> Wanted for Begins<'a> {
     }
 }
 
-/// The steps that go on from a variable to one that is `after` away.
+/// The steps that go from a variable to one at distance `after`.
 #[derive(Drop)]
 pub(crate) struct GoesOn<'a> {
     at: Var,
@@ -72,7 +72,7 @@ impl<'a> Wanted for GoesOn<'a> {
     }
 }
 
-/// The steps that lead to a variable that is one step less away.
+/// The steps that lead to a variable that is one step nearer.
 #[derive(Drop)]
 pub(crate) struct Nearer<'a> {
     row: &'a [u16],
@@ -89,12 +89,12 @@ impl<'a> Wanted for Nearer<'a> {
     }
 }
 
-/// A wanted step of a program that has one: the one that is proposed where it is wanted, else one
-/// that a walk finds which looks at every step.
+/// A wanted step of a program that has one: the proposed step if it is wanted, otherwise one found
+/// by a walk that looks at every step.
 ///
-/// Whether a step is wanted depends on its source and its target alone, so that the first wanted
-/// step is among those that one walk over the program kept, and the second walk isn't needed. It
-/// stands in for a proof of that.
+/// Whether a step is wanted depends only on its source and its target. The first wanted step is
+/// therefore among those that one walk over the program kept, and the second walk never runs. It is
+/// there because this argument isn't proved.
 fn first_wanted<W: Wanted>(
     alloc: Heap,
     profile: Profile,
@@ -132,8 +132,8 @@ fn first_step<W: Wanted>(
     first_wanted(alloc, profile, program, wanted, known.earliest())
 }
 
-/// The first step from this variable to one that is `after` steps away, where the known steps are
-/// the program's.
+/// The first step from this variable to one at distance `after`; the known steps must be the
+/// program's.
 fn next_step(
     alloc: Heap,
     profile: Profile,
@@ -160,8 +160,8 @@ fn next_step(
     first_wanted(alloc, profile, program, &wanted, known.from_source(at))
 }
 
-/// Shortest walks to where a row of distances is 0: for each variable the first step of the program
-/// that leads nearer is found once, for all walks that pass there.
+/// Finds shortest walks to the variables where a row of distances is 0. For each variable, the
+/// program's first step that leads nearer is found once and serves all walks that pass there.
 #[derive(Drop)]
 pub struct WalksTo<'a> {
     known: FirstSteps,
@@ -169,8 +169,8 @@ pub struct WalksTo<'a> {
     last: u16,
 }
 
-/// The walks to where a row of distances is 0; the last place of the row is that of the ending of
-/// loops. It takes one walk over the program.
+/// The walks to the variables where a row of distances is 0; the last place of the row belongs to
+/// the ending of loops. This takes one walk over the program.
 pub fn walks_to<'a>(
     alloc: Heap,
     profile: Profile,
@@ -186,8 +186,8 @@ pub fn walks_to<'a>(
 }
 
 impl<'a> WalksTo<'a> {
-    /// The walk from a variable that is so many steps away. Of all shortest ones it is the first in
-    /// the order of the program's steps, step by step.
+    /// The walk from a variable at a known distance. It is the first of all shortest walks in the
+    /// order of the program's steps, step by step.
     pub fn walk_from(
         &self,
         alloc: Heap,
@@ -221,7 +221,7 @@ impl<'a> WalksTo<'a> {
     }
 }
 
-/// Goes on with a walk, step by step, to a variable that is no step away.
+/// Continues a walk, step by step, to a variable at distance 0.
 fn follow(
     alloc: Heap,
     profile: Profile,
@@ -265,7 +265,8 @@ fn row_at<'a>(rows: &'a [Vec<u16>], class: Class) -> &'a [u16]
     }
 }
 
-/// A shortest bad walk, the first of these by its steps' order, of a program that has a bad walk.
+/// A shortest bad walk of a program that has a bad walk; it is the first one in the order of its
+/// steps.
 pub(crate) fn shortest_walk<C: Classes, F: Flow>(
     alloc: Heap,
     profile: Profile,
@@ -284,7 +285,7 @@ pub(crate) fn shortest_walk<C: Classes, F: Flow>(
     ensures { IfOk result
         (λ w. IsShortest (C.lattice lattice.now) profile (program_of program.now) w.steps.items) }
 {
-    // What `body` ensures says that the program is resolved, which the proofs ask for.
+    // The contract of `body` says that the program is resolved, and the proofs need that.
     let _body = program.body();
     let rows = levels(alloc, lattice, flow, declared)?;
     let length = fewest(&rows, declared);

@@ -1,4 +1,4 @@
-//! Walks, and the test whether one is bad.
+//! Walks, and the test for bad ones.
 
 ghost use Rattle.std.specs.Prelude.{◌≡◌, ◌≤◌, ◌↔◌, ℕ, true, length, Some, IfOk, IfSome, IfNone, IsTrue};
 ghost use Rattle.std.specs.List.{All, Contains, list_any};
@@ -19,8 +19,8 @@ use vsi_lattice::{Class, Classes};
 use vsi_scope::{Resolved, Var};
 use vsi_types::{LOOP, Profile, Step};
 
-/// Flow steps in the order in which they are walked. A walk that `infer` answers is bad; one that
-/// is made elsewhere may be anything, and `check_walk` tells.
+/// Flow steps in the order in which they are walked. A walk that `infer` answers is bad. A walk
+/// made elsewhere may be anything; `check_walk` decides whether it is bad.
 #[derive(Debug, Drop)]
 pub struct Walk {
     pub steps: Vec<Step>,
@@ -60,7 +60,7 @@ fn is_step(profile: Profile, program: &Resolved<'_>, step: &Step) -> bool
     )
 }
 
-/// Whether a step is the one that is proposed.
+/// Whether a step is the proposed one.
 fn is_proposed(step: &Step, proposed: Option<Step>) -> bool
     ensures { result ≡ true → (x : Step) × (proposed ≡ Some x) × (same_step_of step.now x ≡ true) }
 {
@@ -70,7 +70,7 @@ fn is_proposed(step: &Step, proposed: Option<Step>) -> bool
     }
 }
 
-/// Whether the step is one of the program's, where the one that is proposed is.
+/// Whether the step is one of the program's, if the proposed one is.
 fn is_step_or(profile: Profile, program: &Resolved<'_>, proposed: Option<Step>, step: &Step) -> bool
     requires { IfSome proposed (Contains (steps_of profile (program_of program.now))) }
     ensures { result ≡ list_any (same_step_of step.now)
@@ -82,7 +82,7 @@ fn is_step_or(profile: Profile, program: &Resolved<'_>, proposed: Option<Step>, 
     is_step(profile, program, step)
 }
 
-/// The step at a place, if there is one.
+/// The step at an index, if there is one.
 fn step_at(steps: &[Step], place: usize) -> Option<Step>
     ensures { IfSome result (Contains steps.now) }
 {
@@ -92,8 +92,8 @@ fn step_at(steps: &[Step], place: usize) -> Option<Step>
     }
 }
 
-/// The variable where the steps lead from this one, where each is the program's and goes on from
-/// the one before. Each is looked for in the program, but where it is the known one at its place.
+/// The variable to which the steps lead from this one, if each is the program's and continues the
+/// one before it. A step is looked for in the program unless it is the known step at its index.
 fn path_end(
     profile: Profile,
     program: &Resolved<'_>,
@@ -144,7 +144,7 @@ pub fn declared_class<C: Classes>(
     }
 }
 
-/// Whether a walk is bad, where the known steps are the program's.
+/// Whether a walk is bad; the known steps must be the program's.
 fn check_known<C: Classes>(
     profile: Profile,
     lattice: &C,
@@ -174,9 +174,9 @@ fn check_known<C: Classes>(
     !lattice.leq(low, high)
 }
 
-/// Whether a walk is bad under a profile: its steps are the program's, each goes on where the one
-/// before it ended, and the first source's declared class isn't at or below the last target's. It
-/// takes no memory.
+/// Whether a walk is bad under a profile: its steps are the program's, each begins where the one
+/// before it ended, and the declared class of the first source isn't at or below that of the last
+/// target. It allocates nothing.
 pub fn check_walk_in<C: Classes>(
     profile: Profile,
     lattice: &C,
@@ -191,9 +191,9 @@ pub fn check_walk_in<C: Classes>(
     check_known(profile, lattice, program, &[], walk)
 }
 
-/// The same with memory, and by one walk over the program where each step is the program's first
-/// one from its source to its target and no source comes twice, as in the walks that `infer_in`
-/// answers.
+/// The same test with allocation. One walk over the program is enough if each step is the program's
+/// first one from its source to its target and no source occurs twice, as in the walks that
+/// `infer_in` answers.
 pub fn check_walk_once<C: Classes>(
     alloc: Heap,
     profile: Profile,

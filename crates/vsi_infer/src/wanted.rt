@@ -1,11 +1,11 @@
-//! Which steps are wanted.
+//! The steps that a search wants.
 
 ghost use Rattle.std.specs.Prelude.{◌≡◌, Bool};
 ghost use Rattle.vsi_types.specs.declared.rules.Step.{Step};
 
 use vsi_types::Step;
 
-/// Which steps are wanted.
+/// A test for wanted steps.
 pub(crate) trait Wanted {
     ghost wants: { Self → Step → Bool };
 

@@ -15,7 +15,7 @@ pub trait Flow {
         ensures { result ≡ flows self.now from to };
 }
 
-/// Raises the class of `to`, where the flow to it is out of order.
+/// Raises the class of `to` if the flow to it is out of order.
 pub(crate) fn raise_one<C: Classes>(
     lattice: &C,
     choice: &mut [Class],
@@ -39,7 +39,7 @@ pub(crate) fn raise_one<C: Classes>(
     true
 }
 
-/// Sees to the flows from one variable, and notes which variables were raised.
+/// Looks at the flows from one variable, and notes which variables were raised.
 pub(crate) fn spread<C: Classes, F: Flow>(
     lattice: &C,
     flow: &F,

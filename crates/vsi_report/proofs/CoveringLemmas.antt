@@ -6,7 +6,7 @@ use Rattle.std.proofs.lemmas.List.Elements.{Contains-push, Contains-push_cases, 
 use Rattle.vsi_lattice.specs.Order.{Lattice, IsClass}
 use Rattle.vsi_report.specs.Covering.{Covers, HasJust, IsCoveringPair, IsRowSoFar}
 
--- What is so of the same pairs.
+-- A list that has just the pairs of one property has just the pairs of an equivalent one.
 pub just_same : (P Q : ℕ → ℕ → Type 0) (ps : List (ℕ × ℕ)) → ((a b : ℕ) → Q a b → P a b) →
     ((a b : ℕ) → P a b → Q a b) → HasJust P ps → HasJust Q ps
 just_same P Q ps to from h =
@@ -15,11 +15,11 @@ just_same P Q ps to from h =
       only = λ a b at. from a b (h.only a b at);
     }
 
--- Pairs of the same are the same.
+-- Pairs of equal numbers are equal.
 pair_same : (x y a b : ℕ) → x ≡ a → y ≡ b → ◌≡◌ {A = ℕ × ℕ} (x, y) (a, b)
 pair_same x y a b e f = ap (λ z. (z, y)) e ∙ ap (λ z. (a, z)) f
 
--- What is so of one pair more.
+-- With one more pair in the list, the property holds of one more pair.
 pub just_more : (P Q : ℕ → ℕ → Type 0) (ps : List (ℕ × ℕ)) (x y : ℕ) → Q x y →
     ((a b : ℕ) → Q a b → P a b ⊎ ((x ≡ a) × (y ≡ b))) → ((a b : ℕ) → P a b → Q a b) →
     HasJust P ps → HasJust Q (ps ++ (x, y) ∷ [])
@@ -34,11 +34,11 @@ just_more P Q ps x y here to from h =
     so a b (inl at) = from a b (h.only a b at)
     so a b (inr e) = subst (λ (p : ℕ × ℕ). Q p.0 p.1) e here
 
--- What is below the next number is below this one or is it.
+-- A number below the next one is below this one or is this one.
 next_cases : (b h : ℕ) → b < h + 1 → (b < h) ⊎ (b ≡ h)
 next_cases b h l = elim (cases_lt b h) [ inl lt ↦ inl lt | inr ge ↦ inr (omega (arith, l, ge)) ]
 
--- A pair that comes before the next place of a row comes before this one, or stands at it.
+-- A pair before the next place of a row is before this place or at it.
 next_place : (L : Lattice) (low high a b : ℕ) → IsRowSoFar L low (high + 1) a b →
     IsRowSoFar L low high a b ⊎ ((low ≡ a) × (high ≡ b))
 next_place L low high a b q = elim q.before [
@@ -49,14 +49,14 @@ next_place L low high a b q = elim q.before [
   ]
 ]
 
--- A pair that comes before this place of a row comes before the next one.
+-- A pair before this place of a row is before the next place.
 later_place : (L : Lattice) (low high a b : ℕ) → IsRowSoFar L low high a b → IsRowSoFar L low (high + 1) a b
 later_place L low high a b p = record {
   pair = p.pair;
   before = elim p.before [ inl l ↦ inl l | inr r ↦ inr (r.0, omega (arith, r.1)) ];
 }
 
--- A pair at this place is one, so the place after it has one pair more.
+-- If there is a pair at this place, the next place has one more pair before it.
 pub row_more : (L : Lattice) (low high : ℕ) (ps : List (ℕ × ℕ)) → IsClass L low → IsClass L high →
     Covers L low high → HasJust (IsRowSoFar L low high) ps →
     HasJust (IsRowSoFar L low (high + 1)) (ps ++ (low, high) ∷ [])
@@ -65,7 +65,7 @@ row_more L low high ps is is' covers =
     (record { pair = record { low = is; high = is'; covers = covers }; before = inr (refl, omega arith) })
     (next_place L low high) (later_place L low high)
 
--- Where no pair stands at this place, the place after it has the same pairs.
+-- If there is no pair at this place, the next place has the same pairs before it.
 pub row_same : (L : Lattice) (low high : ℕ) (ps : List (ℕ × ℕ)) → ¬ (Covers L low high) →
     HasJust (IsRowSoFar L low high) ps → HasJust (IsRowSoFar L low (high + 1)) ps
 row_same L low high ps none =
@@ -76,7 +76,7 @@ row_same L low high ps none =
     ])
     (later_place L low high)
 
--- Behind the last place of a row the next row begins.
+-- After the last place of a row comes the first place of the next row.
 pub row_end : (L : Lattice) (low : ℕ) (ps : List (ℕ × ℕ)) → HasJust (IsRowSoFar L low L.count) ps →
     HasJust (IsRowSoFar L (low + 1) 0) ps
 row_end L low ps =
@@ -104,7 +104,7 @@ rows_begin L = record {
   only = λ a b at. absurd (omega (arith, at.1));
 }
 
--- Behind the last row there are all pairs.
+-- After the last row the list has all pairs.
 pub rows_end : (L : Lattice) (ps : List (ℕ × ℕ)) → HasJust (IsRowSoFar L L.count 0) ps →
     HasJust (IsCoveringPair L) ps
 rows_end L ps =

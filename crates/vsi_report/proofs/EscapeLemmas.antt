@@ -1,48 +1,48 @@
--- What a reader sees of an escaped text, and of tags.
+-- The text that a reader sees of an escaped text, and of tags.
 use Rattle.std.proofs.Common.{◌≡◌, ℕ, List, [], ◌∷◌, ◌++◌, ap, sym, ◌∙◌, arith, refl, append_assoc}
 use Rattle.std.specs.Prelude.{codes, decimal}
 use Rattle.vsi_report.specs.Escape.{escape, escaped}
 use Rattle.vsi_report.specs.Panel.{line_tag, next_tag, open_tag, close_tag}
 use Rattle.vsi_report.specs.Reading.{Between, Within, seen, Shows}
 
--- Behind the markup a reader who stood between tags stands in one, and has seen nothing.
+-- After the markup, a reader who was between tags is in a tag and has seen nothing.
 abbrev Opens : List ℕ → Type 0
 Opens m = (rest : List ℕ) → seen Between (m ++ rest) ≡ seen Within rest
 
--- Behind the markup a reader who stood in a tag stands in it still.
+-- After the markup, a reader who was in a tag is still in it.
 abbrev Stays : List ℕ → Type 0
 Stays m = (rest : List ℕ) → seen Within (m ++ rest) ≡ seen Within rest
 
--- Behind the markup a reader who stood in a tag stands between tags.
+-- After the markup, a reader who was in a tag is between tags.
 abbrev Closes : List ℕ → Type 0
 Closes m = (rest : List ℕ) → seen Within (m ++ rest) ≡ seen Between rest
 
--- Of an escaped byte the byte is seen.
+-- An escaped byte shows the byte.
 pub byte_shows : (b : ℕ) → Shows (escape b) (b ∷ [])
 byte_shows b rest = grind arith
 
--- An escaped byte leaves no tag.
+-- An escaped byte doesn't close a tag.
 byte_stays : (b : ℕ) → Stays (escape b)
 byte_stays b rest = grind arith
 
--- An escaped text leaves no tag.
+-- An escaped text doesn't close a tag.
 text_stays : (t : List ℕ) → Stays (escaped t)
 text_stays [] rest = refl
 text_stays (b ∷ bs) rest =
     ap (seen Within) (append_assoc (escape b) (escaped bs) rest)
     ∙ byte_stays b (escaped bs ++ rest) ∙ text_stays bs rest
 
--- Of one markup behind another what is seen of both.
+-- Two pieces of markup in a row show the texts of both.
 pub both_show : (a b s t : List ℕ) → Shows a s → Shows b t → Shows (a ++ b) (s ++ t)
 both_show a b s t ha hb rest =
     ap (seen Between) (append_assoc a b rest) ∙ ha (b ++ rest) ∙ ap (λ x. s ++ x) (hb rest)
     ∙ sym (append_assoc s t (seen Between rest))
 
--- What stays in a tag, and then goes on to close it, closes it.
+-- Markup that stays in a tag, followed by markup that closes it, closes the tag.
 stays_closes : (a b : List ℕ) → Stays a → Closes b → Closes (a ++ b)
 stays_closes a b ha hb rest = ap (seen Within) (append_assoc a b rest) ∙ ha (b ++ rest) ∙ hb rest
 
--- What opens a tag, and then goes on to close it, shows nothing.
+-- Markup that opens a tag, followed by markup that closes it, shows nothing.
 opens_closes : (a b : List ℕ) → Opens a → Closes b → Shows (a ++ b) []
 opens_closes a b ha hb rest = ap (seen Between) (append_assoc a b rest) ∙ ha (b ++ rest) ∙ hb rest
 
@@ -56,7 +56,7 @@ line_shows n =
 pub next_shows : (n : ℕ) → Shows (next_tag n) []
 next_shows n = both_show (codes "</span>") (line_tag n) [] [] (λ rest. refl) (line_shows n)
 
--- The beginning of a word shows nothing.
+-- The beginning of a token shows nothing.
 pub open_shows : (kind class step : List ℕ) → Shows (open_tag kind class step) []
 open_shows kind class step =
     let last = escaped step ++ codes "\">" in
@@ -70,11 +70,11 @@ open_shows kind class step =
     (stays_closes (codes "\" data-step=\"") last (λ rest. refl)
     (stays_closes (escaped step) (codes "\">") (text_stays step) (λ rest. refl))))))
 
--- The end of a word shows nothing.
+-- The end of a token shows nothing.
 pub close_shows : Shows close_tag []
 close_shows rest = refl
 
--- What shows nothing may stand behind what shows a text.
+-- Markup that shows nothing can follow markup that shows a text.
 pub more_shows : (a b t : List ℕ) → Shows a t → Shows b [] → Shows (a ++ b) t
 more_shows a b t ha hb rest =
     ap (seen Between) (append_assoc a b rest) ∙ ha (b ++ rest) ∙ ap (λ x. t ++ x) (hb rest)
@@ -83,7 +83,7 @@ more_shows a b t ha hb rest =
 pub end_shows : Shows (codes "</span>") []
 end_shows rest = refl
 
--- Four parts written one behind the other.
+-- Four parts appended one after another are the whole.
 pub parts_so : (a o p e f t u v w : List ℕ) → t ≡ a ++ o → u ≡ t ++ p → v ≡ u ++ e → w ≡ v ++ f →
     w ≡ a ++ (o ++ (p ++ (e ++ f)))
 parts_so a o p e f t u v w h1 h2 h3 h4 =

@@ -1,4 +1,4 @@
--- Lines for numbers, one number after another, and the lines of the same flows.
+-- Lines for one number after another, and the lines of equal flows.
 use Rattle.std.proofs.Common.{◌≡◌, ℕ, zero, suc, ◌+◌, ◌<◌, ◌≤◌, cond, List, [], ◌∷◌, ◌++◌, refl, sym, ap, ◌∙◌, arith, append_assoc, append-nil}
 use Rattle.std.specs.List.{flat_map}
 use Rattle.std.proofs.lemmas.List.Concat.{flat_map-append}
@@ -12,7 +12,7 @@ use Rattle.vsi_report.specs.declared.by_rule.Flows.{Flows}
 use Rattle.vsi_report.specs.ByRule.{flows_in_rows, HasFlows}
 use Rattle.vsi_report.specs.FlowsGraph.{Flowing, flow_line, line_by, lines_between, edge_lines, flows_by_step}
 
--- The lines of one number more.
+-- The lines of one more number are added.
 pub more_lines : (f : ℕ → List ℕ) (start before after : List ℕ) (i : ℕ) → before ≡ start ++ flat_map f (count_from 0 i)
     → after ≡ before ++ f i → after ≡ start ++ flat_map f (count_from 0 (i + 1))
 more_lines f start before after i b a =
@@ -23,11 +23,11 @@ more_lines f start before after i b a =
     ∙ ap (λ m. start ++ flat_map f (count_from 0 i ++ m ∷ [])) e
     ∙ ap (λ l. start ++ flat_map f l) (sym (count_more 0 i))
 
--- One text more behind others.
+-- One more text is appended.
 added : (t x b u v : List ℕ) → u ≡ t ++ x → v ≡ u ++ b → v ≡ t ++ (x ++ b)
 added t x b u v p q = q ∙ ap (λ l. l ++ b) p ∙ append_assoc t x b
 
--- Five texts that were added one after another.
+-- Five texts are appended one after another.
 pub added_five : (t t₁ t₂ t₃ t₄ t₅ a b c d e : List ℕ) → t₁ ≡ t ++ a → t₂ ≡ t₁ ++ b → t₃ ≡ t₂ ++ c → t₄ ≡ t₃ ++ d →
     t₅ ≡ t₄ ++ e → t₅ ≡ t ++ (a ++ b ++ c ++ d ++ e)
 added_five t t₁ t₂ t₃ t₄ t₅ a b c d e p q r s u =
@@ -35,7 +35,7 @@ added_five t t₁ t₂ t₃ t₄ t₅ a b c d e p q r s u =
     (added t a b t₁ t₂ p q) r)
     s) u
 
--- Lines that are the same for each number are the same for all.
+-- If the lines of each number are equal, so are all lines.
 flat_same : (f g : ℕ → List ℕ) (m n : ℕ) → ((i : ℕ) → i < m + n → f i ≡ g i) →
     flat_map f (count_from m n) ≡ flat_map g (count_from m n)
 flat_same f g m zero h = refl
@@ -43,7 +43,7 @@ flat_same f g m (suc n) h =
     ap (λ l. l ++ flat_map f (count_from (suc m) n)) (h m (omega arith))
     ∙ ap (λ l. g m ++ l) (flat_same f g (suc m) n (λ i lt. h i (omega (arith, lt))))
 
--- Between two numbers the same flows have the same lines.
+-- Equal flows have equal lines between two numbers.
 between_same : (f g : Flowing) (a b : ℕ) → ((R : Rule) → f R a b ≡ g R a b) → lines_between f a b ≡ lines_between g a b
 between_same f g a b h =
     ap (λ l. l ++ line_by f a b If ++ line_by f a b While ++ line_by f a b Letvar ++ line_by f a b Loop) (same Assign)
@@ -59,7 +59,7 @@ between_same f g a b h =
     same : (R : Rule) → line_by f a b R ≡ line_by g a b R
     same R = ap (λ x. cond x (flow_line a b R) []) (h R)
 
--- The flows of the rows are those of the program's steps, and so are the lines.
+-- The rows have the flows of the program's steps, and therefore the same lines.
 pub rows_lines : (P : Profile) (p : Program) (f : Flows) (n : ℕ) → n ≤ size_of p + 1 → HasFlows P p f →
     edge_lines (flows_in_rows f) n ≡ edge_lines (flows_by_step P p) n
 rows_lines P p f n le h =

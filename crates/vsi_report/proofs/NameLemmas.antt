@@ -5,7 +5,7 @@ use Rattle.std.proofs.lemmas.List.{map-append, take_more}
 use Rattle.std.proofs.lemmas.Option.{slice_get_within, get_or_from_slice_get}
 use Rattle.vsi_report.specs.Graph.{texts}
 
--- One more name.
+-- One more name is added.
 pub name_more : (xs new : List (Vec ℕ)) (all : List (List ℕ)) (i : ℕ) (v : Vec ℕ) (name : List ℕ) →
     slice_get all i ≡ Some name → v.items ≡ name → new ≡ xs ++ v ∷ [] → texts xs ≡ take i all →
     texts new ≡ take (i + 1) all

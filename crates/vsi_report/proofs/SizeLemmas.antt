@@ -1,4 +1,4 @@
--- How long the page of a text is.
+-- The length of the page of a text.
 use Rattle.std.proofs.Common.{ℕ, ◌≤◌, List, [], length, inl, inr, refl, Result}
 use Rattle.std.specs.Prelude.{IfOk}
 use Rattle.std.specs.Global.{Vec}
@@ -38,7 +38,7 @@ module _ (l : Lattice) (P : Profile) (text : List ℕ) where
       (λ page short. record { lines = []; image = inr refl; short = short })
       h
 
-  -- A page that is short enough for the table of flows of the text's program.
+  -- A page is short enough for the table of flows of the text's program.
   pub short_with : {E : Type 0} (pairs : List Pair) (lines : List ℕ) (r : Result (Vec ℕ) E) → AreFlows l P text pairs →
       IfOk r (λ page. length page.items ≤ most_bytes (length text) (length pairs) (length lines)) →
       IfOk r (λ page. IsShort l P text lines page.items)
@@ -48,7 +48,7 @@ module _ (l : Lattice) (P : Profile) (text : List ℕ) where
       (λ page short. record { pairs = pairs; flows = inl flows; short = short })
       h
 
-  -- A page that is short enough for no flows.
+  -- A page is short enough even without flows.
   pub short_without : {E : Type 0} (r : Result (Vec ℕ) E) →
       IfOk r (λ page. length page.items ≤ most_bytes (length text) 0 0) → IfOk r (λ page. IsShort l P text [] page.items)
   short_without r h =

@@ -1,9 +1,9 @@
--- Covering pairs: what a picture of a lattice has edges for.
+-- Covering pairs: the edges of a picture of a lattice.
 use Rattle.std.specs.Prelude.{◌≡◌, ◌≢◌, ℕ, ◌<◌, List, ◌⊎◌}
 use Rattle.std.specs.List.{Contains}
 use Rattle.vsi_lattice.specs.Order.{Lattice, IsClass, Below}
 
--- The class b is above a, and no other class stands between them.
+-- The class b is above a, and there is no other class between them.
 pub record Covers (L : Lattice) (a b : ℕ) : Type 0 where
   pub apart : a ≢ b
   pub below : Below L a b
@@ -22,12 +22,12 @@ pub record IsCoveringPair (L : Lattice) (a b : ℕ) : Type 0 where
   pub high : IsClass L b
   pub covers : Covers L a b
 
--- Such a pair comes before this one, in the order of the lower classes and then of the higher ones.
+-- A covering pair comes before this place, in the order of the lower class and then of the higher one.
 pub record IsRowSoFar (L : Lattice) (low high a b : ℕ) : Type 0 where
   pub pair : IsCoveringPair L a b
   pub before : (a < low) ⊎ ((a ≡ low) × (b < high))
 
--- The list has the pairs of which this is so, and no other.
+-- The list has the pairs with the property, and no others.
 pub record HasJust (P : ℕ → ℕ → Type 0) (pairs : List (ℕ × ℕ)) : Type 0 where
   pub each : (a b : ℕ) → P a b → Contains pairs (a, b)
   pub only : (a b : ℕ) → Contains pairs (a, b) → P a b

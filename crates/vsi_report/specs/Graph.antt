@@ -6,11 +6,11 @@ use Rattle.vsi_lattice.specs.declared.lattice.Lattice.{Lattice}
 use Rattle.vsi_lattice.specs.LatticeView.{names, order}
 use Rattle.vsi_report.specs.Covering.{HasJust, IsCoveringPair}
 
--- The texts that lie in memory.
+-- The texts of the code.
 abbrev pub texts : List (Vec ℕ) → List (List ℕ)
 texts vs = map (λ v. v.items) vs
 
--- The first lines of a graph of a name.
+-- The first lines of a graph with this name.
 abbrev pub head_lines : List ℕ → List ℕ
 head_lines name = (codes "digraph " ++ (name ++ codes " {\n")) ++ codes "  rankdir=BT;\n  node [shape=box, style=rounded];\n"
 
@@ -32,7 +32,7 @@ abbrev pub graph : List (List ℕ) → List (ℕ × ℕ) → List ℕ
 graph names pairs =
     ((head_lines (codes "lattice") ++ flat_map node_line names) ++ flat_map (edge_line names) pairs) ++ codes "}\n"
 
--- The text is the graph of the classes of the lattice, in their order, with an edge for each covering pair and no other.
+-- The text is the graph of the lattice: its classes in order, and an edge for each covering pair and for no other.
 pub record IsLatticeGraph (l : Lattice) (text : List ℕ) : Type 0 where
   pub pairs : List (ℕ × ℕ)
   pub covering : HasJust (IsCoveringPair (order l)) pairs

@@ -1,16 +1,16 @@
--- Where a page shows its source text.
+-- The place of the source text in a page.
 use Rattle.std.specs.Prelude.{◌≡◌, ℕ, List, ◌++◌, codes}
 use Rattle.vsi_report.specs.Reading.{Shows}
 
--- The tags between which the panel of a source text stands.
+-- The tags before the panel of a source text.
 abbrev pub panel_begin : List ℕ
 panel_begin = codes "<pre class=\"source\" tabindex=\"0\"><code>"
 
--- The tags behind it.
+-- The tags after the panel.
 abbrev pub panel_end : List ℕ
 panel_end = codes "</code></pre>"
 
--- The page is something, then a panel between its tags, of which the source text is seen, and then something.
+-- The page has a panel between its tags, and the panel shows the source text.
 pub record HasPanel (page source : List ℕ) : Type 0 where
   pub before : List ℕ
   pub panel : List ℕ

@@ -10,12 +10,12 @@ line_tag n = codes "<span class=\"line\" id=\"L" ++ (escaped (decimal n) ++ code
 abbrev pub next_tag : ℕ → List ℕ
 next_tag n = codes "</span>" ++ line_tag n
 
--- The beginning of a word of a kind, with the label of its class and that of its step.
+-- The beginning of a token of a kind, with the label of its class and that of its step.
 abbrev pub open_tag : List ℕ → List ℕ → List ℕ → List ℕ
 open_tag kind class step =
     codes "<b class=\"" ++ (escaped kind ++ (codes "\" data-class=\"" ++ (escaped class
     ++ (codes "\" data-step=\"" ++ (escaped step ++ codes "\">")))))
 
--- The end of a word.
+-- The end of a token.
 abbrev pub close_tag : List ℕ
 close_tag = codes "</b>"

@@ -1,7 +1,8 @@
-//! Where the variables of a program stand in the picture of its flows.
+//! The positions of a program's variables in the picture of its flows.
 //!
-//! The variables of a class stand in a band of their own, the bands by the levels of the classes,
-//! the lowest at the foot; so what flows upwards in the order goes upwards in the picture.
+//! The variables of a class have a band of their own. The bands are ordered by the levels of the
+//! classes, with the lowest at the bottom, so a flow that goes up in the order goes up in the
+//! picture.
 
 use crate::facts::{Facts, variable_class, variable_name};
 use crate::layout::{Layout, Spot, box_width};
@@ -12,12 +13,12 @@ use std::alloc::{AllocError, Global};
 const ROW: usize = 118;
 /// The space between two boxes.
 const GAP: usize = 34;
-/// Where the first box of a row begins.
+/// The left edge of the first box of a row.
 const LEFT: usize = 38;
-/// The width that a row is filled up to.
+/// The width at which a row is full.
 const FULL: usize = 1080;
 
-/// The variables of a class: where their rows begin and end.
+/// The variables of a class, with the top and the bottom of their rows.
 #[derive(Clone, Copy)]
 pub(crate) struct Band {
     pub(crate) class: Option<usize>,
@@ -25,7 +26,7 @@ pub(crate) struct Band {
     pub(crate) foot: usize,
 }
 
-/// Where the variables of the bands so far stand, and where the next one begins.
+/// The positions of the variables in the bands so far, and the position of the next one.
 #[derive(Drop)]
 struct Placing {
     spots: Vec<Spot>,
@@ -61,7 +62,7 @@ fn place(placing: &mut Placing, facts: &Facts, number: usize) {
     placing.wide = placing.wide.max(placing.x);
 }
 
-/// Places the variables of a class, where it has some.
+/// Places the variables of a class, if it has any.
 fn place_class(
     placing: &mut Placing,
     facts: &Facts,
@@ -103,7 +104,7 @@ fn place_level(
     Ok(())
 }
 
-/// The boxes of variables before one is placed.
+/// The boxes of variables, before any is placed.
 fn no_spots(alloc: Global, count: usize) -> Result<Vec<Spot>, AllocError> {
     let mut spots = Vec::new(alloc);
     for _ in 0..count {
@@ -116,7 +117,7 @@ fn no_spots(alloc: Global, count: usize) -> Result<Vec<Spot>, AllocError> {
     Ok(spots)
 }
 
-/// Where the first variables of a program stand, so many of them as are shown.
+/// The positions of the first `shown` variables of a program.
 pub(crate) fn bands_of(
     alloc: Global,
     order: &Order,

@@ -9,7 +9,7 @@ use vsi_infer::{Flow, FlowRows, flow_rows_by};
 use vsi_scope::Resolved;
 use vsi_types::{Profile, Rule};
 
-/// The flows of a program, by each of the rules.
+/// The flows of a program by each of the rules.
 #[derive(Drop)]
 pub(crate) struct Flows {
     assignments: FlowRows,

@@ -66,7 +66,7 @@ fn put_covering(text: &mut Vec<u8>, order: &Order) -> Result<(), AllocError>
 ///
 /// # Errors
 ///
-/// Want of memory alone.
+/// Only if memory runs out.
 pub fn lattice_dot(alloc: Global, lattice: &Lattice) -> Result<Vec<u8>, AllocError>
     ensures graph { IfOk result (λ text. IsLatticeGraph lattice.now text.items) }
 {

@@ -1,4 +1,4 @@
-//! Texts in pages.
+//! Writes texts into pages.
 
 ghost use Rattle.std.specs.Prelude.{◌≡◌, ◌++◌, OnOk, decimal};
 ghost use Rattle.vsi_report.specs.Escape.{escape, escaped};
@@ -6,7 +6,7 @@ ghost use Rattle.vsi_report.specs.Escape.{escape, escaped};
 use itoa::Buffer;
 use std::alloc::AllocError;
 
-/// Adds a byte as it is written in a page.
+/// Adds an escaped byte.
 pub(crate) fn put_byte(page: &mut Vec<u8>, byte: u8) -> Result<(), AllocError>
     ensures { OnOk result (page.new.items ≡ page.old.items ++ escape byte) }
 {
@@ -20,8 +20,8 @@ pub(crate) fn put_byte(page: &mut Vec<u8>, byte: u8) -> Result<(), AllocError>
     }
 }
 
-/// Adds a text as it is written in a page: no byte of it begins or ends a tag or a quoted value,
-/// and a reader sees the text.
+/// Adds an escaped text. None of its bytes begins or ends a tag or a quoted value, and a reader
+/// sees the text.
 pub fn put_escaped(page: &mut Vec<u8>, text: &[u8]) -> Result<(), AllocError>
     ensures { OnOk result (page.new.items ≡ page.old.items ++ escaped text.now) }
 {

@@ -1,4 +1,4 @@
-//! What is known of a program that a page or a picture shows.
+//! The facts of a program that a page or a picture shows.
 
 ghost use Rattle.std.specs.Prelude.{◌≡◌, IfOk};
 ghost use Rattle.std.specs.List.{All};
@@ -20,7 +20,7 @@ use vsi_lattice::{Class, Classes, Lattice};
 use vsi_scope::{Resolved, Var};
 use vsi_types::{Profile, Rule};
 
-/// A variable: its name, its class where there is one, and whether the text declares it.
+/// A variable: its name, its class if it has one, and whether the text declares the class.
 #[derive(Drop)]
 pub(crate) struct Variable {
     pub(crate) name: Vec<u8>,
@@ -28,8 +28,8 @@ pub(crate) struct Variable {
     pub(crate) is_declared: bool,
 }
 
-/// The variables of a program by their numbers, the ending of loops last; where their names stand;
-/// the flows of one step, unless there are too many variables; and the table of flows.
+/// The variables of a program by their numbers, with the ending of loops last; the positions of
+/// their names; the flows of one step, unless there are too many variables; and the table of flows.
 #[derive(Drop)]
 pub(crate) struct Facts {
     pub(crate) variables: Vec<Variable>,
@@ -38,7 +38,7 @@ pub(crate) struct Facts {
     pub(crate) pairs: Vec<Pair>,
 }
 
-/// Adds a variable of a name.
+/// Adds a variable with a name.
 fn put_variable(
     alloc: Global,
     variables: &mut Vec<Variable>,
@@ -67,7 +67,7 @@ fn put_globals(
     Ok(())
 }
 
-/// The class of a letvar: the one that the text declares, else the one that was inferred.
+/// The class of a letvar: the declared one, otherwise the inferred one.
 fn class_of(declared: Option<Class>, inferred: &[Class], number: usize) -> Option<usize> {
     if let Some(class) = declared {
         return Some(class.index());
@@ -92,7 +92,7 @@ fn put_letvars(
     Ok(())
 }
 
-/// Adds the variables of a program, the ending of loops last.
+/// Adds the variables of a program, with the ending of loops last.
 fn put_variables(
     alloc: Global,
     program: &Resolved<'_>,
@@ -117,7 +117,7 @@ fn variables_of(
     Ok(variables)
 }
 
-/// The classes of the letvars; none where the program is refused.
+/// The classes of the letvars; none if the program is refused.
 pub(crate) fn inferred_classes(
     alloc: Global,
     profile: Profile,
@@ -175,7 +175,7 @@ fn drawn_flows(
     Ok(Some(flows_of(alloc, profile, program)?))
 }
 
-/// What is known of a program, with the classes and the flows that are handed in.
+/// The facts of a program, with the given classes and flows.
 fn gathered(
     alloc: Global,
     profile: Profile,
@@ -196,7 +196,7 @@ fn gathered(
     })
 }
 
-/// What is known of a program.
+/// The facts of a program.
 fn facts_of_program(
     alloc: Global,
     profile: Profile,
@@ -213,11 +213,11 @@ fn facts_of_program(
     gathered(alloc, profile, lattice, program, &inferred, pairs)
 }
 
-/// What is known of the program of a text.
+/// The facts of a text's program.
 ///
 /// # Errors
 ///
-/// The refusals of the words, the tree, the scope and the size; no flow is refused here.
+/// The refusals of the tokens, the tree, the scope and the size; no flow is refused here.
 pub(crate) fn facts_of(
     alloc: Global,
     profile: Profile,
@@ -231,7 +231,7 @@ pub(crate) fn facts_of(
     Ok(facts_of_program(alloc, profile, lattice, &program)?)
 }
 
-/// The number of a variable; that of the ending of loops is the last.
+/// The number of a variable; the ending of loops has the last number.
 pub(crate) fn number_of(facts: &Facts, variable: Var) -> usize {
     let number = variable.0 as usize;
     number.min(facts.variables.len().saturating_sub(1))

@@ -30,7 +30,7 @@ use vsi_scope::{Resolved, Var};
 use vsi_syntax::put_number;
 use vsi_types::{LOOP, Profile, Rule};
 
-/// The variable of a number; the last number is that of the ending of loops.
+/// The variable with a number; the last number belongs to the ending of loops.
 fn variable_at(last: u16, number: u16) -> Var
     ensures { result ≡ variable_at_of last number }
 {
@@ -42,7 +42,7 @@ fn declarations(program: &Resolved<'_>) -> u16
     ensures count { result ≡ size_of (program_of program.now) }
     ensures small { result ≤ 1024 }
 {
-    // What `body` ensures says that the program is resolved, and so that its declarations are few.
+    // The contract of `body` says that the program is resolved, which bounds its declarations.
     let _body = program.body();
     program.globals().len() as u16 + program.letvars().len() as u16
 }
@@ -66,7 +66,7 @@ fn put_name(text: &mut Vec<u8>, program: &Resolved<'_>, variable: Var) -> Result
     }
 }
 
-/// The class of a variable: the declared one, else the one that was inferred.
+/// The class of a variable: the declared one, otherwise the inferred one.
 fn class_shown(
     lattice: &Lattice,
     program: &Resolved<'_>,
@@ -86,7 +86,7 @@ fn class_shown(
     }
 }
 
-/// Adds a class behind a name.
+/// Adds a class after a name.
 fn put_class(text: &mut Vec<u8>, order: &Order, class: Option<Class>) -> Result<(), AllocError>
     ensures { OnOk result (text.new.items ≡ text.old.items
         ++ spec.class_words (texts order.now.names.items) class) }
@@ -124,7 +124,7 @@ fn put_node(
     text.extend_from_slice(b"\"];\n")
 }
 
-/// How many nodes there are: the ending of loops has one under the strict profile alone.
+/// The number of nodes; the ending of loops has one under the strict profile only.
 fn nodes_shown(profile: Profile, last: u16) -> u16
     requires { last ≤ 1024 }
     ensures { result ≡ spec.nodes_shown profile last }
@@ -155,7 +155,7 @@ fn put_nodes(
     Ok(())
 }
 
-/// The look of an edge.
+/// The style of an edge.
 fn style(rule: Rule) -> &'static [u8]
     ensures { result.now ≡ spec.style_text rule }
 {
@@ -241,7 +241,7 @@ fn put_all_edges(text: &mut Vec<u8>, flows: &Flows, count: u16) -> Result<(), Al
     Ok(())
 }
 
-/// Adds the edges of a program; of more than 200 declarations none.
+/// Adds the edges of a program, unless it has more than 200 declarations.
 fn put_flows(
     alloc: Global,
     text: &mut Vec<u8>,
@@ -263,7 +263,7 @@ fn put_flows(
     Ok(())
 }
 
-/// The graph of a program, whose classes are handed in.
+/// The graph of a program with the given classes.
 fn flows_text(
     alloc: Global,
     profile: Profile,
@@ -286,12 +286,12 @@ fn flows_text(
 }
 
 /// The flows of a text: a node for each variable, and an edge for each rule by which one flows to
-/// another, or to itself, in one step. Of more than 200 declarations no edge is told.
+/// another, or to itself, in one step. If there are more than 200 declarations, there are no edges.
 ///
 /// # Errors
 ///
-/// The refusals of the words, the tree, the scope and the size, as `compile_in`; no flow is refused
-/// here.
+/// The refusals of the tokens, the tree, the scope and the size, as in `compile_in`; no flow is
+/// refused here.
 pub fn flows_dot(
     alloc: Global,
     profile: Profile,

@@ -10,7 +10,8 @@ use crate::walking::{RULES, rule_name};
 use std::alloc::AllocError;
 use vsi_types::{Rule, Step};
 
-/// The two ends of an arrow, and the points towards which it leaves one and comes to the other.
+/// The two ends of an arrow, and its control points: the directions in which it leaves one end and
+/// reaches the other.
 #[derive(Clone, Copy)]
 struct Arrow {
     x1: usize,
@@ -19,14 +20,14 @@ struct Arrow {
     bend2: usize,
     x2: usize,
     y2: usize,
-    /// The height of both points.
+    /// The height of both control points.
     bend: usize,
 }
 
-/// The most arrows that are drawn beside those of a walk.
+/// The most arrows that are drawn in addition to those of a walk.
 const MOST_ARROWS: usize = 2_000;
 
-/// How many arrows a variable has from the others.
+/// The number of arrows to a variable from the others.
 fn arrows_into(facts: &Facts, target: usize) -> usize {
     let mut count: usize = 0;
     for source in 0..facts.variables.len() {
@@ -39,7 +40,7 @@ fn arrows_into(facts: &Facts, target: usize) -> usize {
     count
 }
 
-/// Whether a program has so few flows of one step that a picture of them can be read.
+/// Whether a program has few enough flows of one step for a readable picture.
 pub(crate) fn has_few_arrows(facts: &Facts) -> bool {
     let mut count: usize = 0;
     for target in 0..facts.variables.len() {
@@ -48,7 +49,7 @@ pub(crate) fn has_few_arrows(facts: &Facts) -> bool {
     count <= MOST_ARROWS
 }
 
-/// How far the arrows of a rule stand to the right.
+/// How far the arrows of a rule are shifted to the right.
 fn shift(rule: Rule) -> usize {
     match rule {
         Rule::Assign => 8,
@@ -59,7 +60,7 @@ fn shift(rule: Rule) -> usize {
     }
 }
 
-/// The arrow between two places of different rows, past the boxes of a row between.
+/// The arrow between two positions in different rows; it avoids the boxes of a row between them.
 fn steep(picture: &Banded, x1: usize, y1: usize, x2: usize, y2: usize) -> Arrow {
     let ends = x1.saturating_add(x2);
     let bend = y1.saturating_add(y2) / 2;
@@ -81,7 +82,7 @@ fn steep(picture: &Banded, x1: usize, y1: usize, x2: usize, y2: usize) -> Arrow 
     }
 }
 
-/// The arrow between two places of a row, above it.
+/// The arrow between two positions in one row; it goes above the row.
 fn flat(x1: usize, x2: usize, y1: usize) -> Arrow {
     let apart = x1.max(x2).saturating_sub(x1.min(x2));
     let rise = (apart / 7).min(36).saturating_add(24);
@@ -96,7 +97,7 @@ fn flat(x1: usize, x2: usize, y1: usize) -> Arrow {
     }
 }
 
-/// The arrow from a variable to another by a rule: upwards, downwards, or along a row.
+/// The arrow from a variable to another by a rule: up, down, or along a row.
 fn arrow_of(picture: &Banded, source: usize, target: usize, rule: Rule) -> Arrow {
     let from = spot_at(&picture.layout, source);
     let to = spot_at(&picture.layout, target);
@@ -113,7 +114,7 @@ fn arrow_of(picture: &Banded, source: usize, target: usize, rule: Rule) -> Arrow
     }
 }
 
-/// Adds an arrow: what stands before its curve, the curve, and what stands behind it.
+/// Adds an arrow: the markup before its curve, the curve, and the markup after it.
 fn put_arrow(
     page: &mut Page,
     before: &'static [u8],
@@ -131,7 +132,7 @@ fn put_arrow(
     ])
 }
 
-/// What stands before the curve of an arrow of a rule.
+/// The markup before the curve of an arrow by a rule.
 fn before_curve(rule: Rule) -> &'static [u8] {
     match rule {
         Rule::Assign => b"<path class=\"flow r1\" d=\"M",
@@ -142,7 +143,7 @@ fn before_curve(rule: Rule) -> &'static [u8] {
     }
 }
 
-/// What stands behind the curve of an arrow.
+/// The markup after the curve of an arrow.
 const BEHIND_CURVE: &[u8] = b"\" marker-end=\"url(#tip)\"/>";
 
 /// Adds the arrows from a variable to another, one for each rule.
@@ -206,13 +207,13 @@ fn step_arrow(facts: &Facts, picture: &Banded, step: &Step) -> Arrow {
     arrow_of(picture, source, target, step.rule)
 }
 
-/// What stands before the curve of a step's arrow.
+/// The markup before the curve of a step's arrow.
 const BEFORE_TOLD: &[u8] = b"<path class=\"told\" d=\"M";
 
-/// What stands behind it.
+/// The markup after the curve.
 const BEHIND_TOLD: &[u8] = b"\" marker-end=\"url(#told)\"/>";
 
-/// The middle of a curve, of the sum of its ends and that of its bends.
+/// The middle of a curve, from the sum of its ends and the sum of its bends.
 fn middle_of(ends: usize, bends: usize) -> usize {
     ends.saturating_add(bends.saturating_mul(3)) / 8
 }
@@ -234,7 +235,7 @@ fn put_step_number(page: &mut Page, arrow: Arrow, number: usize) -> Result<(), A
     ])
 }
 
-/// Adds the sentence of the flows from a variable to another.
+/// Adds the sentence about the flows from a variable to another.
 fn put_flow_told(
     page: &mut Page,
     facts: &Facts,
@@ -257,7 +258,7 @@ fn put_flow_told(
     Ok(())
 }
 
-/// Adds the sentences that tell of the picture.
+/// Adds the sentences that describe the picture.
 fn put_told(page: &mut Page, facts: &Facts, has_arrows: bool) -> Result<(), AllocError> {
     if !has_arrows {
         return page.put(b"<title>The variables by their classes</title>");
@@ -279,7 +280,7 @@ class=\"tip\" d=\"M0 0L10 5L0 10z\"/></marker><marker id=\"told\" viewBox=\"0 0 
 refY=\"5\" markerWidth=\"13\" markerHeight=\"13\" markerUnits=\"userSpaceOnUse\" orient=\"auto\">\
 <path class=\"toldtip\" d=\"M0 0L10 5L0 10z\"/></marker></defs>";
 
-/// Adds the box of a variable; that of an inferred class is dashed.
+/// Adds the box of a variable; the box is dashed if the class is inferred.
 fn put_variable(
     page: &mut Page,
     facts: &Facts,
@@ -335,8 +336,9 @@ fn put_bands(page: &mut Page, order: &Order, picture: &Banded) -> Result<(), All
     Ok(())
 }
 
-/// Adds the picture of a program's flows of one step, with the steps of a bad walk. So many of the
-/// first variables are shown, where the picture has them; the other arrows only where asked for.
+/// Adds the picture of a program's flows of one step, with the steps of a bad walk. It shows the
+/// first `shown` variables, if the picture has boxes for them. Arrows other than those of the walk
+/// are added only on request.
 pub(crate) fn put_flows(
     page: &mut Page,
     order: &Order,

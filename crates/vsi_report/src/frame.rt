@@ -1,4 +1,4 @@
-//! What stands at the head of a page, round its source and at its foot.
+//! The head of a page, the frame of its source, and its foot.
 
 use crate::facts::is_strict;
 use crate::page::{Page, Part};
@@ -18,7 +18,7 @@ const REFUSED: (&[u8], &[u8]) = (
     b"<header class=\"bad\"><h1>\xe2\x9c\x97 Refused</h1>\n",
 );
 
-/// By what a text is judged.
+/// The sentence about the profile that judges the text.
 fn judged_by(profile: Profile) -> &'static [u8] {
     match profile {
         Profile::Base => {
@@ -44,7 +44,7 @@ fn put_head(page: &mut Page, is_accepted: bool, profile: Profile) -> Result<(), 
     ])
 }
 
-/// What stands before the panel of the source text.
+/// The markup before the panel of the source text.
 const BEFORE_SOURCE: &[u8] = b"<section><h2>Source</h2>\n";
 
 /// The head of a page of a program, up to its source.
@@ -65,20 +65,21 @@ fn put_front(page: &mut Page, is_accepted: bool, profile: Profile) -> Result<(),
     page.put(BEFORE_SOURCE)
 }
 
-/// What is said of a text that has no program.
+/// The text for a source that has no program.
 const NO_PROGRAM: &[u8] = b"<section><h2>Why it is refused</h2>\n<p>The text is no program over \
 the lattice, and none of its flows is judged. The number and the name of the refusal, and the line \
 and the column, if it has a place:</p>\n<pre class=\"leak\" tabindex=\"0\"><code>";
 
-/// The head of the page of a text that has no program, and why it is refused, up to its source.
+/// The head of the page of a text that has no program, up to its source, with the reason for the
+/// refusal.
 pub(crate) fn refusal(alloc: Global, profile: Profile, text: &[u8]) -> Result<Page, AllocError> {
     let mut page = Page::new(alloc);
     put_refusal(&mut page, profile, text)?;
     Ok(page)
 }
 
-/// Adds the head of the page of a text that has no program, and why it is refused, up to its
-/// source.
+/// Adds the head of the page of a text that has no program, up to its source, with the reason for
+/// the refusal.
 fn put_refusal(page: &mut Page, profile: Profile, text: &[u8]) -> Result<(), AllocError> {
     put_head(page, false, profile)?;
     page.put_parts(&[
@@ -89,12 +90,12 @@ fn put_refusal(page: &mut Page, profile: Profile, text: &[u8]) -> Result<(), All
     ])
 }
 
-/// What is said of the classes in the panel of the source text.
+/// The text about the classes in the panel of the source text.
 const HINT: &[u8] = b"\n<p class=\"hint\">After each name is its class. A star marks a class \
 that was inferred, a question mark a class that wasn't: none is inferred for a refused text.</p>\n\
 </section>\n";
 
-/// Adds what stands behind the panel of the source text.
+/// Adds the markup after the panel of the source text.
 pub(crate) fn put_behind_source(page: &mut Page, has_classes: bool) -> Result<(), AllocError> {
     if has_classes {
         page.put(HINT)

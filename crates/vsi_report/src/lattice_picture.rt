@@ -8,7 +8,7 @@ use std::alloc::{AllocError, Global};
 /// Half the height of a box.
 const HALF: usize = 17;
 
-/// Where a class stands, or nowhere.
+/// The position of a class, or an empty position.
 pub(crate) fn spot_at(layout: &Layout, place: usize) -> Spot {
     match layout.spots.get(place) {
         Some(spot) => *spot,
@@ -20,7 +20,7 @@ pub(crate) fn spot_at(layout: &Layout, place: usize) -> Spot {
     }
 }
 
-/// Adds the beginning of a picture of a size.
+/// Adds the beginning of a picture with this size.
 pub(crate) fn put_picture(page: &mut Page, wide: usize, high: usize) -> Result<(), AllocError> {
     page.put_parts(&[
         Part::Markup(b"<svg class=\"picture\" role=\"img\" xmlns=\"http://www.w3.org/2000/svg\""),
@@ -46,7 +46,7 @@ fn put_line(page: &mut Page, layout: &Layout, pair: (usize, usize)) -> Result<()
     ])
 }
 
-/// Adds a name as it stands in a box: of one with more than 24 letters the first and the last.
+/// Adds a name as shown in a box; a name of more than 24 letters keeps its first and last letters.
 pub(crate) fn put_short(page: &mut Page, name: &[u8]) -> Result<(), AllocError> {
     if name.len() > 24 {
         let last = name.len() - 11;
@@ -113,7 +113,7 @@ fn put_cover_told(page: &mut Page, order: &Order, pair: (usize, usize)) -> Resul
     ])
 }
 
-/// Adds the sentences that tell of the picture.
+/// Adds the sentences that describe the picture.
 fn put_told(page: &mut Page, order: &Order) -> Result<(), AllocError> {
     page.put_parts(&[
         Part::Markup(b"<title>The lattice of classes</title><desc>"),
@@ -143,7 +143,7 @@ fn put_boxes(page: &mut Page, order: &Order, layout: &Layout) -> Result<(), Allo
     Ok(())
 }
 
-/// Adds the picture of a lattice, whose classes stand so.
+/// Adds the picture of a lattice with this layout.
 pub(crate) fn put_lattice(
     page: &mut Page,
     order: &Order,

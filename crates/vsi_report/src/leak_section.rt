@@ -1,4 +1,4 @@
-//! The section of a page that shows a leak of a refused text, or that none was met.
+//! The section of a page that shows a leak of a refused text, or that none was found.
 
 ghost use Rattle.vsi_lattice.specs.LatticeView.{order};
 ghost use Rattle.vsi_lattice.specs.Order.{IsClass};
@@ -11,18 +11,18 @@ use vsi_lattice::{Classes, Lattice};
 use vsi_leak::{Effort, Finding, Leak, Wanted, leak_of_text, leak_text};
 use vsi_types::Profile;
 
-/// The greatest number of instructions of a run that is searched for a leak.
+/// The most instructions of a run in the search for a leak.
 const BUDGET: u64 = 10_000;
 
-/// How many pairs of stores are drawn, for all classes together.
+/// The number of pairs of stores that are drawn for all classes together.
 const TRIES: u64 = 600;
 
-/// The most and the least of them for one class.
+/// The most and the fewest of them for one class.
 const MOST_TRIES: u64 = 300;
 
 const LEAST_TRIES: u64 = 8;
 
-/// How long a leak is searched at each class of a lattice.
+/// The effort of the search for a leak at each class of a lattice.
 fn effort(lattice: &Lattice) -> Effort {
     let count = lattice.count().max(1) as u64;
     Effort {
@@ -69,7 +69,7 @@ fn put_found(
     put_shown(page, &text)
 }
 
-/// What is said of a leak.
+/// The text about a leak.
 const LEAK: &[u8] = b"<section><h2>A leak</h2>\n<p>Run regardless, from two stores that agree in \
 all that the class sees, the text ends in a difference that it sees. A star stands before each row \
 whose sides differ.</p>\n<pre class=\"leak\" tabindex=\"0\"><code>";
@@ -83,7 +83,7 @@ fn put_shown(page: &mut Page, text: &[u8]) -> Result<(), AllocError> {
     ])
 }
 
-/// What is said of pairs of runs that show no leak, behind their number.
+/// The text for pairs of runs that show no leak; it follows their number.
 const NO_LEAK: &[u8] = b" pairs of runs from stores that agree in what a class sees none ended in \
 a difference that it sees. That says nothing of other pairs: the judgement is on the text, and may \
 refuse one that tells nothing.</p></section>\n";

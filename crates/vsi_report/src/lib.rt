@@ -1,13 +1,14 @@
-//! A program and its policy as a page, and as pictures.
+//! A program and its policy as a page and as pictures.
 //!
-//! A lattice, a source text and a profile come in. `report_page` gives a page in HTML that needs
-//! nothing else: no script, no font, no picture from elsewhere. `lattice_dot` and `flows_dot` give
-//! its pictures in the language of Graphviz. Every byte of a text or a name comes into a page by
-//! `put_escaped`, and the panel of a source text shows the text (`Shows` of `specs/Reading`).
+//! The input is a lattice, a source text and a profile. `report_page` makes an HTML page that needs
+//! nothing else: no script, no font, and no picture from elsewhere. `lattice_dot` and `flows_dot`
+//! write its pictures in the language of Graphviz. Every byte of a text or a name enters a page
+//! through `put_escaped`, and the panel of a source text shows the text (`Shows` of
+//! `specs/Reading`).
 //!
 //! To be believed: `specs/Covering`, `specs/Escape`, `specs/FlowsGraph`, `specs/Graph`,
-//! `specs/Page`, `specs/Reading` and `specs/Size`; the other files of `specs/` are stepping stones
-//! of proofs.
+//! `specs/Page`, `specs/Reading` and `specs/Size`; the other files of `specs/` are only steps of
+//! proofs.
 #![tactic(auto)]
 
 mod bands;

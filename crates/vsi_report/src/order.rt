@@ -1,4 +1,4 @@
-//! The classes of a lattice, with what a picture of it shows.
+//! The classes of a lattice, and the facts that a picture of it shows.
 
 ghost use Rattle.std.specs.Prelude.{◌≡◌, ◌⊎◌, ◌+◌, IsTrue, IsFalse, IfOk, OnOk};
 ghost use Rattle.vsi_lattice.specs.LatticeView.{names, order};
@@ -9,8 +9,8 @@ ghost use Rattle.vsi_report.specs.Graph.{name_at, texts};
 use std::alloc::{AllocError, Global};
 use vsi_lattice::{Class, Classes, Lattice};
 
-/// The classes of a lattice by their numbers: the name of each, the covering pairs, the lower class
-/// first, and for each class the length of the longest chain that leads up to it.
+/// The classes of a lattice by their numbers: the name of each; the covering pairs, with the lower
+/// class first; and, for each class, the length of the longest chain that leads up to it.
 #[derive(Drop)]
 pub(crate) struct Order {
     pub(crate) names: Vec<Vec<u8>>,
@@ -18,7 +18,7 @@ pub(crate) struct Order {
     pub(crate) levels: Vec<usize>,
 }
 
-/// Whether a class stands between two others, and is neither.
+/// Whether a class is between two others and differs from both.
 fn stands_between(lattice: &Lattice, low: Class, high: Class, class: Class) -> bool
     requires low { IsClass (order lattice.now) low }
     requires high { IsClass (order lattice.now) high }
@@ -75,7 +75,7 @@ fn put_covers(
     Ok(())
 }
 
-/// The covering pairs of a lattice, by the lower class and then by the higher one.
+/// The covering pairs of a lattice, ordered by the lower class and then by the higher one.
 fn covering_pairs(alloc: Global, lattice: &Lattice) -> Result<Vec<(usize, usize)>, AllocError>
     ensures { IfOk result (λ pairs. HasJust (IsCoveringPair (order lattice.now)) pairs.items) }
 {
@@ -122,7 +122,7 @@ fn levels_of(
     Ok(levels)
 }
 
-/// What a lattice shows.
+/// The order of a lattice.
 pub(crate) fn order_of(alloc: Global, lattice: &Lattice) -> Result<Order, AllocError>
     ensures covers { IfOk result
         (λ o. HasJust (IsCoveringPair (order lattice.now)) o.covers.items) }
@@ -147,7 +147,7 @@ pub(crate) fn zeros(alloc: Global, count: usize) -> Result<Vec<usize>, AllocErro
     Ok(list)
 }
 
-/// The number at a place, or 0 past the end.
+/// The number at an index, or 0 past the end.
 pub(crate) fn at(list: &[usize], place: usize) -> usize {
     match list.get(place) {
         Some(number) => *number,
@@ -155,14 +155,14 @@ pub(crate) fn at(list: &[usize], place: usize) -> usize {
     }
 }
 
-/// Writes a number at a place, if there is one.
+/// Writes a number at an index, if there is one.
 pub(crate) fn write_at(list: &mut Vec<usize>, place: usize, number: usize) {
     if let Some(cell) = list.get_mut(place) {
         *cell = number;
     }
 }
 
-/// The name of a class, or nothing for another number.
+/// The name of a class, or an empty name for any other number.
 pub(crate) fn name_of(order: &Order, class: usize) -> &[u8]
     ensures { result.now ≡ name_at (texts order.now.names.items) class }
 {
@@ -172,7 +172,7 @@ pub(crate) fn name_of(order: &Order, class: usize) -> &[u8]
     }
 }
 
-/// The greatest number of a list.
+/// The largest number of a list.
 pub(crate) fn greatest(list: &[usize]) -> usize {
     let mut most: usize = 0;
     for number in list {

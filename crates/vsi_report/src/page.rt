@@ -1,4 +1,4 @@
-//! What a page is written with.
+//! The parts of a page and the writer that appends them.
 
 ghost use Rattle.std.specs.Prelude.{◌≡◌, ◌++◌, ℕ, List, IfOk, OnOk, decimal};
 ghost use Rattle.vsi_report.specs.Escape.{escaped};
@@ -11,20 +11,20 @@ use std::alloc::{AllocError, Global};
 /// A part of a page.
 #[derive(Clone, Copy)]
 pub(crate) enum Part<'a> {
-    /// A piece of markup that stands in the code.
+    /// A piece of markup from the code.
     Markup(&'static [u8]),
     /// A text, escaped.
     Text(&'a [u8]),
     /// A number, escaped.
     Number(usize),
-    /// A piece of markup, a number behind it, and the end of a quoted value.
+    /// A piece of markup, a number after it, and the end of a quoted value.
     Value(&'static [u8], usize),
-    /// Two numbers, each with a space behind it.
+    /// Two numbers, each with a space after it.
     Point(usize, usize),
 }
 
-/// The bytes of a page. Nothing comes to them but pieces that stand in this crate's code, texts as
-/// `put_escaped` writes them, and the panel of a source text.
+/// The bytes of a page. They consist only of pieces of this crate's code, texts that `put_escaped`
+/// writes, and the panel of a source text.
 #[derive(Drop)]
 pub(crate) struct Page {
     text: Vec<u8>,
@@ -38,7 +38,7 @@ impl Page {
         }
     }
 
-    /// Adds a piece of markup that stands in the code.
+    /// Adds a piece of markup from the code.
     pub(crate) fn put(&mut self, piece: &'static [u8]) -> Result<(), AllocError>
         ensures { OnOk result (self.new.text.items ≡ self.old.text.items ++ piece.now) }
     {
@@ -60,14 +60,14 @@ impl Page {
         put_number(&mut self.text, number)
     }
 
-    /// Adds a piece of markup, a number behind it, and the end of a quoted value.
+    /// Adds a piece of markup, a number after it, and the end of a quoted value.
     fn put_value(&mut self, piece: &'static [u8], number: usize) -> Result<(), AllocError> {
         self.put(piece)?;
         self.number(number)?;
         self.put(b"\"")
     }
 
-    /// Adds two numbers, each with a space behind it.
+    /// Adds two numbers, each with a space after it.
     fn put_point(&mut self, x: usize, y: usize) -> Result<(), AllocError> {
         self.number(x)?;
         self.put(b" ")?;
@@ -86,7 +86,7 @@ impl Page {
         }
     }
 
-    /// Adds parts, one behind the other.
+    /// Adds parts, one after another.
     pub(crate) fn put_parts(&mut self, parts: &[Part<'_>]) -> Result<(), AllocError> {
         for part in parts {
             self.put_part(*part)?;
@@ -94,7 +94,7 @@ impl Page {
         Ok(())
     }
 
-    /// The bytes of these, then the panel of a source text, and then those of another part.
+    /// The bytes of this part, then the panel of a source text, and then the bytes of another part.
     pub(crate) fn with_panel(self, panel: &Vec<u8>, after: &Page) -> Result<Vec<u8>, AllocError>
         ensures { (source : List ℕ) → Shows panel.now.items source
             → IfOk result (λ page. HasPanel page.items source) }

@@ -25,7 +25,7 @@ fn put_next(page: &mut Vec<u8>, number: usize) -> Result<(), AllocError>
     put_line(page, number)
 }
 
-/// Adds the beginning of a word.
+/// Adds the beginning of a token.
 fn put_open(page: &mut Vec<u8>, kind: &[u8], class: &[u8], step: &[u8]) -> Result<(), AllocError>
     ensures { OnOk result
         (page.new.items ≡ page.old.items ++ open_tag kind.now class.now step.now) }
@@ -39,8 +39,8 @@ fn put_open(page: &mut Vec<u8>, kind: &[u8], class: &[u8], step: &[u8]) -> Resul
     page.extend_from_slice(b"\">")
 }
 
-/// Adds a byte of a source text, and behind the last one of a line, which isn't the last line, the
-/// beginning of the next line, which has this number.
+/// Adds a byte of a source text. After the last byte of a line it also adds the beginning of the
+/// next line, which has this number, unless the line is the last one.
 fn put_source_byte(
     page: &mut Vec<u8>,
     byte: u8,
@@ -57,8 +57,8 @@ fn put_source_byte(
     Ok(())
 }
 
-/// A part of a source text as it stands in a page: the bytes before `at`, and the number of the
-/// line that it ends in.
+/// A part of a source text as written in a page: the bytes before `at`, and the number of the line
+/// in which the part ends.
 #[derive(Drop)]
 pub(crate) struct Panel<'a> {
     source: &'a [u8],
@@ -93,7 +93,7 @@ fn stepped<'a>(panel: Panel<'a>) -> Result<Panel<'a>, AllocError>
     })
 }
 
-/// A panel that comes at least up to a place of its text, or to its end.
+/// A panel that reaches at least up to a position in its text, or up to its end.
 pub(crate) fn advanced<'a>(panel: Panel<'a>, stop: usize) -> Result<Panel<'a>, AllocError>
     ensures source { IfOk result (λ p. p.source ≡ panel.entry.source) }
     ensures far { stop ≡ length panel.entry.source.now
@@ -107,7 +107,7 @@ pub(crate) fn advanced<'a>(panel: Panel<'a>, stop: usize) -> Result<Panel<'a>, A
     Ok(panel)
 }
 
-/// A panel in which a word of a kind begins, with the label of its class and that of its step.
+/// A panel in which a token of a kind begins, with the label of its class and that of its step.
 pub(crate) fn opened<'a>(
     panel: Panel<'a>,
     kind: &[u8],
@@ -131,7 +131,7 @@ pub(crate) fn opened<'a>(
     })
 }
 
-/// A panel in which a word ends.
+/// A panel in which a token ends.
 pub(crate) fn closed<'a>(panel: Panel<'a>) -> Result<Panel<'a>, AllocError>
     ensures source { IfOk result (λ p. p.source ≡ panel.entry.source) }
 {

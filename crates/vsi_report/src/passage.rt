@@ -1,19 +1,19 @@
-//! Where an arrow of a picture goes past the boxes of a row between its ends.
+//! The point where an arrow of a picture passes the boxes of a row between its ends.
 
 use crate::layout::{Layout, Spot};
 
-/// The space between an arrow and a box beside which it passes: half of that between two boxes.
+/// The space between an arrow and the box that it passes: half of the space between two boxes.
 const BESIDE: usize = 17;
 
 /// The least space between an arrow and a box that it passes.
 const CLEAR: usize = 15;
 
-/// How far two numbers are apart.
+/// The distance between two numbers.
 fn apart(a: usize, b: usize) -> usize {
     a.max(b).saturating_sub(a.min(b))
 }
 
-/// Half of a box's width, and a space beside it.
+/// Half of a box's width plus a space.
 fn reach(spot: &Spot, space: usize) -> usize {
     (spot.wide / 2).saturating_add(space)
 }
@@ -33,7 +33,7 @@ fn row_between(layout: &Layout, top: usize, foot: usize) -> Option<usize> {
     found
 }
 
-/// Whether no box of a row is near to a place in it.
+/// Whether no box of a row is near a point in it.
 fn is_free(layout: &Layout, row: usize, x: usize) -> bool {
     for spot in &layout.spots {
         if spot.wide > 0 && spot.y == row && apart(spot.x, x) < reach(spot, CLEAR) {
@@ -43,7 +43,7 @@ fn is_free(layout: &Layout, row: usize, x: usize) -> bool {
     true
 }
 
-/// The free place in a row that is nearest to one: that place, or beside a box.
+/// The free point in a row nearest to `x`: that point itself, or one next to a box.
 fn free_in(layout: &Layout, row: usize, x: usize) -> usize {
     if is_free(layout, row, x) {
         return x;
@@ -65,8 +65,8 @@ fn free_in(layout: &Layout, row: usize, x: usize) -> usize {
     found
 }
 
-/// Where an arrow between two heights passes the row in its middle, if one stands there; it would
-/// pass it at `x`.
+/// The point where an arrow between two heights passes the row in its middle, if there is a row;
+/// without boxes it would pass at `x`.
 pub(crate) fn passage(layout: &Layout, top: usize, foot: usize, x: usize) -> Option<usize> {
     let row = row_between(layout, top, foot)?;
     Some(free_in(layout, row, x))

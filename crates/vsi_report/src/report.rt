@@ -23,10 +23,10 @@ use vsi_image::{Verified, listing};
 use vsi_lattice::Lattice;
 use vsi_types::{Profile, Step};
 
-/// What stands between two rows of sections.
+/// The markup between two rows of sections.
 const NEXT_ROW: &[u8] = b"</div>\n<div class=\"beside\">\n";
 
-/// Adds what stands behind the source of an accepted text.
+/// Adds the part after the source of an accepted text.
 fn put_behind_accepted(
     alloc: Global,
     page: &mut Page,
@@ -42,7 +42,7 @@ fn put_behind_accepted(
     put_last(alloc, page, profile, order, facts, &[])
 }
 
-/// Adds what stands behind the source of a text with a refused flow.
+/// Adds the part after the source of a text with a refused flow.
 fn put_behind_refused(
     alloc: Global,
     page: &mut Page,
@@ -75,15 +75,14 @@ fn put_last(
     put_foot(page)
 }
 
-/// Adds what stands behind the source of a text that has no program.
+/// Adds the part after the source of a text that has no program.
 fn put_behind_faulty(alloc: Global, page: &mut Page, order: &Order) -> Result<(), AllocError> {
     put_behind_source(page, false)?;
     put_policy(alloc, page, order)?;
     put_foot(page)
 }
 
-/// The page that is put together of what stands before the panel of its source text, the panel, and
-/// what stands behind it.
+/// The page made of the part before the panel of its source text, the panel, and the part after it.
 fn joined(
     before: Page,
     panel: &Vec<u8>,
@@ -102,7 +101,7 @@ fn joined(
     Ok(whole)
 }
 
-/// The page of a program, with what stands behind its source.
+/// The page of a program, with the part after its source.
 fn program_page(
     alloc: Global,
     before: Page,
@@ -121,7 +120,7 @@ fn program_page(
     joined(before, &panel, behind, source, facts.pairs.len(), lines)
 }
 
-/// The page of an accepted text, with what is known of its program and the listing of its image.
+/// The page of an accepted text, with the facts of its program and the listing of its image.
 fn page_with_image(
     alloc: Global,
     profile: Profile,
@@ -160,7 +159,7 @@ fn accepted_page(
     page_with_image(alloc, profile, lattice, &facts, source, &lines)
 }
 
-/// The page of a text with a refused flow, with what is known of its program.
+/// The page of a text with a refused flow, with the facts of its program.
 fn page_with_walk(
     alloc: Global,
     profile: Profile,
@@ -207,7 +206,7 @@ fn refused_page(
     }
 }
 
-/// The page of a text that has no program, and why it is refused.
+/// The page of a text that has no program, with the reason for the refusal.
 fn page_with_refusal(
     alloc: Global,
     profile: Profile,
@@ -244,13 +243,13 @@ fn faulty_page(
 }
 
 /// The page of a text over a lattice under a profile: the verdict, the source, the lattice and the
-/// flows, and, of an accepted text, its image and what is promised of it, of a refused one why it
-/// is refused. Every text has a page.
+/// flows. The page of an accepted text also has its image and the promises about it; that of a
+/// refused text has the reason for the refusal. Every text has a page.
 ///
 /// # Errors
 ///
-/// Want of memory alone. It stands too for a page that is longer than its source, its flows and its
-/// listing allow, as `specs/Size` says; no text that was measured has such a page.
+/// Only if memory runs out. A page that is longer than its source, its flows and its listing allow
+/// (`specs/Size`) counts as out of memory too; no measured text has such a page.
 pub fn report_page(
     alloc: Global,
     profile: Profile,

@@ -1,4 +1,4 @@
-//! The sections of a page: the lattice, the flows, the image and what is promised.
+//! The sections of a page: the lattice, the flows, the image and the promises.
 
 use crate::bands::{Banded, bands_of};
 use crate::facts::{Facts, is_drawn, is_strict};
@@ -11,27 +11,27 @@ use crate::table::put_table;
 use std::alloc::{AllocError, Global};
 use vsi_types::{Profile, Step};
 
-/// Above how many pixels a picture of a lattice has a row of the page of its own.
+/// The width in pixels above which a picture of a lattice has a row of the page to itself.
 const WIDE: usize = 430;
 
-/// Above how many pixels a picture is higher than a page on paper.
+/// The height in pixels above which a picture is higher than a printed page.
 const HIGH: usize = 2_000;
 
-/// What is said of the picture of a lattice.
+/// The text about the picture of a lattice.
 const POLICY: &[u8] = b"<figcaption>Information may flow upwards, along the lines; each line joins \
 a class and one directly above it.</figcaption>";
 
-/// The beginning of a picture that is moved within its frame.
+/// The beginning of a picture that scrolls within its frame.
 const SCROLL: &[u8] = b"<div class=\"scroll\" tabindex=\"0\">";
 
-/// Adds the section of the lattice. A wide picture has no section beside it, and a high one stands
-/// below what is said of it.
+/// Adds the section of the lattice. A wide picture has no section beside it, and a high one is
+/// below its text.
 pub(crate) fn put_policy(alloc: Global, page: &mut Page, order: &Order) -> Result<(), AllocError> {
     let layout = lattice_layout(alloc, order)?;
     put_lattice_section(page, order, &layout)
 }
 
-/// Adds the section of the lattice, whose classes stand so.
+/// Adds the section of the lattice with this layout.
 fn put_lattice_section(page: &mut Page, order: &Order, layout: &Layout) -> Result<(), AllocError> {
     if layout.wide > WIDE {
         page.put(b"<section class=\"wide\"><h2>Lattice</h2>\n")?;
@@ -49,7 +49,7 @@ fn put_lattice_section(page: &mut Page, order: &Order, layout: &Layout) -> Resul
     }
 }
 
-/// Adds pieces of markup, one behind the other.
+/// Adds pieces of markup, one after another.
 fn put_pieces(page: &mut Page, pieces: &[&'static [u8]]) -> Result<(), AllocError> {
     for piece in pieces {
         page.put(piece)?;
@@ -57,7 +57,7 @@ fn put_pieces(page: &mut Page, pieces: &[&'static [u8]]) -> Result<(), AllocErro
     Ok(())
 }
 
-/// What the looks of arrows mean.
+/// The meaning of the styles of arrows.
 const LEGEND: &[u8] = b"<ul class=\"legend\">\
 <li><svg width=\"44\" height=\"12\" aria-hidden=\"true\">\
 <path class=\"flow r1\" d=\"M2 6H42\"/></svg> \
@@ -75,19 +75,19 @@ LETVAR: an initial value into its variable</li>\
 <path class=\"flow r16\" d=\"M2 6H42\"/></svg> \
 LOOP: a guard into the ending of a loop</li></ul>\n";
 
-/// What is said of the arrows in the picture of the flows.
+/// The text about the arrows in the picture of the flows.
 const ARROWS: &[u8] = b"<figcaption>Each arrow is a flow of one step; what flows upwards or stays \
 in its band is allowed where the lattice has it so. A flow of a variable into itself isn't drawn. \
 A dashed box is a variable whose class was inferred.";
 
-/// What is said of a picture of the flows without arrows.
+/// The text about a picture of the flows without arrows.
 const NO_ARROWS: &[u8] = b"<figcaption>There are more than 2,000 flows of one step, and their \
 arrows aren't drawn. A dashed box is a variable whose class was inferred.";
 
-/// What is said of the arrows of a walk.
+/// The text about the arrows of a walk.
 const THICK: &[u8] = b" The thick arrows with numbers are the chain for which it is refused.";
 
-/// Adds what is said of the picture of the flows.
+/// Adds the text about the picture of the flows.
 fn put_caption(page: &mut Page, has_arrows: bool, has_walk: bool) -> Result<(), AllocError> {
     let arrows = if has_arrows { ARROWS } else { NO_ARROWS };
     let thick = if has_walk { THICK } else { b"" };
@@ -108,8 +108,8 @@ fn put_drawn(
     put_figure(page, order, facts, &picture, shown, walk)
 }
 
-/// Adds the picture of the flows, whose variables stand so; a high one stands below what is said
-/// of it.
+/// Adds the picture of the flows with these positions of the variables; a high one is below its
+/// text.
 fn put_figure(
     page: &mut Page,
     order: &Order,
@@ -134,11 +134,12 @@ fn put_figure(
     }
 }
 
-/// What is said where there are too many variables for a picture.
+/// The text for a program with too many variables for a picture.
 const NOT_DRAWN: &[u8] = b"<p>There are more than 200 variables: the table has all flows, and no \
 picture is drawn.</p>\n";
 
-/// How many variables of a program are shown: the ending of loops under the strict profile alone.
+/// The number of variables that are shown; the ending of loops is among them under the strict
+/// profile only.
 fn count_shown(profile: Profile, facts: &Facts) -> usize {
     let all = facts.variables.len();
     if is_strict(profile) {
@@ -177,26 +178,26 @@ pub(crate) fn put_listing(page: &mut Page, lines: &[u8]) -> Result<(), AllocErro
     ])
 }
 
-/// What is promised of an accepted text.
+/// The promises about an accepted text.
 const PROMISE: &[u8] = b"<section><h2>What is promised</h2>\n<p>The image does what the text says. \
 Take any class, and two stores that agree in each global whose class is at or below it: where the \
 runs of the image from both halt, their ends agree in these globals too. So nothing that an \
 observer at the class reads at the end of a run depends on what it may not see. How many \
 instructions a run takes is not promised";
 
-/// What is promised of the ending of runs under the strict profile.
+/// The promise about the ending of runs under the strict profile.
 const ENDINGS: &[u8] =
     b". Whether a run halts is: from two stores that agree in each global of the \
 least class, either both runs halt or neither does.";
 
-/// What is promised of it under the base profile.
+/// The remark about the ending of runs under the base profile.
 const NO_ENDINGS: &[u8] = b", and under the base profile neither is whether it halts.";
 
-/// Of what it is promised.
+/// The scope of the promises.
 const PROVED: &[u8] =
     b" This is proved of the compiler, for every text that it accepts.</p></section>\n";
 
-/// Adds what is promised.
+/// Adds the promises.
 pub(crate) fn put_promise(page: &mut Page, profile: Profile) -> Result<(), AllocError> {
     let endings = match profile {
         Profile::Base => NO_ENDINGS,

@@ -1,12 +1,12 @@
-//! How long a page may be.
+//! The greatest length of a page.
 
 ghost use Rattle.std.specs.Prelude.{◌≤◌, length, OnOk};
 ghost use Rattle.vsi_report.specs.Size as spec;
 
 use std::alloc::AllocError;
 
-/// The most bytes of a page of a source text of so many bytes, with so many rows of flows and so
-/// many bytes of a listing; the greatest number where that is more.
+/// The most bytes of a page, given the bytes of its source text, the rows of its table of flows and
+/// the bytes of its listing; the largest number if that overflows.
 fn most_bytes(source: usize, flows: usize, lines: usize) -> usize
     ensures { result ≤ spec.most_bytes source flows lines }
 {
@@ -19,8 +19,8 @@ fn most_bytes(source: usize, flows: usize, lines: usize) -> usize
         .saturating_add(2_000_000)
 }
 
-/// Answers want of memory for a page that is longer than what it shows allows; no text that was
-/// measured has such a page.
+/// Fails as out of memory if a page is longer than its contents allow; no measured text has such a
+/// page.
 pub(crate) fn check_size(
     page: &Vec<u8>,
     source: usize,

@@ -1,4 +1,4 @@
-//! The source text of a page, each name with its class, and the steps of a walk.
+//! The source text of a page, with the class of each name and the steps of a walk.
 
 ghost use Rattle.std.specs.Prelude.{◌≡◌, IfOk};
 ghost use Rattle.vsi_report.specs.Reading.{Shows};
@@ -42,7 +42,7 @@ fn class_label(
     Ok(label)
 }
 
-/// Adds the number of a step and a word, behind a comma where another one stands before it.
+/// Adds the number of a step and a preposition, after a comma unless it is the first.
 fn put_word(label: &mut Vec<u8>, number: usize, word: &[u8]) -> Result<(), AllocError> {
     if !label.is_empty() {
         label.extend_from_slice(b", ")?;
@@ -51,7 +51,7 @@ fn put_word(label: &mut Vec<u8>, number: usize, word: &[u8]) -> Result<(), Alloc
     label.extend_from_slice(word)
 }
 
-/// Adds the label of a step, if it reads or writes at a place.
+/// Adds the label of a step, if it reads or writes at a position.
 fn put_step(
     label: &mut Vec<u8>,
     step: &Step,
@@ -67,7 +67,7 @@ fn put_step(
     Ok(())
 }
 
-/// The label of the steps of a walk that read or write at a place.
+/// The label of the steps of a walk that read or write at a position.
 fn step_label(alloc: Global, walk: &[Step], start: usize) -> Result<Vec<u8>, AllocError> {
     let mut label = Vec::new(alloc);
     for (place, step) in walk.iter().enumerate() {
@@ -76,8 +76,8 @@ fn step_label(alloc: Global, walk: &[Step], start: usize) -> Result<Vec<u8>, All
     Ok(label)
 }
 
-/// The variable of a name that stands at a place. The uses stand in the order of the text; `next`
-/// is the first that may be meant.
+/// The variable whose name starts at a position. The uses are in the order of the text; `next` is
+/// the first that can match.
 fn variable_at(uses: &[Use], next: usize, start: usize) -> Option<usize> {
     let found = uses.get(next)?;
     if found.start == start {
@@ -87,7 +87,8 @@ fn variable_at(uses: &[Use], next: usize, start: usize) -> Option<usize> {
     }
 }
 
-/// What is meant by the words of a text: the declaration of a global, and the uses so far.
+/// The state for reading the tokens of a text: whether a global is being declared, and the uses so
+/// far.
 #[derive(Clone, Copy)]
 struct Reader {
     next: usize,
@@ -95,7 +96,8 @@ struct Reader {
     is_declaring: bool,
 }
 
-/// A panel with a word of a kind up to a place, with the label of its class and that of its step.
+/// A panel with a token of a kind that ends at a position, with the label of its class and that of
+/// its step.
 fn with_word<'a>(
     panel: Panel<'a>,
     kind: &[u8],
@@ -137,7 +139,7 @@ fn is_keyword(kind: Kind) -> bool {
     }
 }
 
-/// Where a reader stands behind a token, and the variable that the token names, if any.
+/// The reader after a token, and the variable that the token names, if any.
 fn read_token(reader: Reader, uses: &[Use], token: &Token<'_>) -> (Reader, Option<usize>) {
     let mut after = reader;
     after.is_declaring = token.kind == Kind::Var;
@@ -202,7 +204,7 @@ fn with_tokens<'a>(
     Ok(panel)
 }
 
-/// The panel of a text that has a program, with what is known of that.
+/// The panel of a text that has a program, with the facts of the program.
 pub(crate) fn source_panel(
     alloc: Global,
     order: &Order,
@@ -220,7 +222,7 @@ pub(crate) fn source_panel(
     ended(panel)
 }
 
-/// The panel of a text of which nothing is known.
+/// The panel of a text without known facts.
 pub(crate) fn plain_panel(alloc: Global, source: &[u8]) -> Result<Vec<u8>, AllocError>
     ensures { IfOk result (λ page. Shows page.items source.now) }
 {

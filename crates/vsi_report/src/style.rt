@@ -1,4 +1,4 @@
-//! How a page looks.
+//! The style of a page.
 
 /// The first lines of a page.
 pub(crate) const HEAD: &[u8] = b"<!DOCTYPE html>

@@ -34,7 +34,7 @@ fn put_row(page: &mut Page, order: &Order, facts: &Facts, pair: Pair) -> Result<
     ])
 }
 
-/// The beginning of the row of an allowed or a refused pair, and its verdict.
+/// The beginning of the row of an allowed or refused pair, and its verdict.
 fn looks(is_allowed: bool) -> (&'static [u8], &'static [u8]) {
     if is_allowed {
         (b"<tr>", b"<td class=\"yes\">\xe2\x9c\x93 allowed</td><td>")
@@ -46,7 +46,7 @@ fn looks(is_allowed: bool) -> (&'static [u8], &'static [u8]) {
     }
 }
 
-/// What stands above the rows of the table.
+/// The markup above the rows of the table.
 const TABLE: &[u8] = b"<div class=\"scroll\"><table>\n<thead><tr><th scope=\"col\">From</th>\
 <th scope=\"col\">To</th><th scope=\"col\">Verdict</th><th scope=\"col\">Fewest steps</th></tr>\
 </thead>\n<tbody>\n";

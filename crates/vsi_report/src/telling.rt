@@ -1,4 +1,4 @@
-//! What a page tells in sentences of a refused flow.
+//! The sentences of a page that explain a refused flow.
 
 use crate::facts::{Facts, is_inferred, number_of, variable_class, variable_name};
 use crate::lattice_picture::colour;
@@ -45,7 +45,7 @@ pub(crate) fn put_class_of(
     ])
 }
 
-/// Adds a place of the source text, as a way there.
+/// Adds a position in the source text, as a link to it.
 fn put_place(page: &mut Page, source: &[u8], at: usize) -> Result<(), AllocError> {
     let (line, column) = line_column(source, at);
     page.put_parts(&[
@@ -61,17 +61,17 @@ fn put_place(page: &mut Page, source: &[u8], at: usize) -> Result<(), AllocError
 /// A part of a sentence.
 #[derive(Clone, Copy)]
 enum Word {
-    /// Words and markup that stand in the code.
+    /// Text and markup from the code.
     Plain(&'static [u8]),
     /// The name of a variable.
     Name(usize),
     /// The class of a variable.
     Class(usize),
-    /// The place of a byte of the source text.
+    /// The position of a byte of the source text.
     Place(usize),
 }
 
-/// What the sentences of a page speak of: the lattice, the variables and the source text.
+/// The subject of a page's sentences: the lattice, the variables and the source text.
 #[derive(Clone, Copy)]
 struct Subject<'a> {
     order: &'a Order,
@@ -97,7 +97,7 @@ fn put_words(page: &mut Page, subject: &Subject<'_>, words: &[Word]) -> Result<(
     Ok(())
 }
 
-/// What stands before the place where the source of a step is read.
+/// The text before the position where the source of a step is read.
 fn before_read(rule: Rule) -> &'static [u8] {
     match rule {
         Rule::Assign => b"The value of ",
@@ -108,7 +108,7 @@ fn before_read(rule: Rule) -> &'static [u8] {
     }
 }
 
-/// What stands between the place where the source is read and the target's name.
+/// The text between the position where the source is read and the name of the target.
 fn before_target(rule: Rule) -> &'static [u8] {
     match rule {
         Rule::Assign => b", is put, with what else is computed there, into ",
@@ -119,7 +119,7 @@ fn before_target(rule: Rule) -> &'static [u8] {
     }
 }
 
-/// What follows the place where the target is written, before the target's name.
+/// The text after the position where the target is written, before the name of the target.
 fn before_again(rule: Rule) -> &'static [u8] {
     match rule {
         Rule::Assign | Rule::Letvar => b". Who sees ",
@@ -129,7 +129,7 @@ fn before_again(rule: Rule) -> &'static [u8] {
     }
 }
 
-/// What follows the target's name, before the source's.
+/// The text after the name of the target, before the name of the source.
 fn before_source(rule: Rule) -> &'static [u8] {
     match rule {
         Rule::Assign | Rule::Letvar => b" sees something of ",
@@ -139,7 +139,7 @@ fn before_source(rule: Rule) -> &'static [u8] {
     }
 }
 
-/// Adds the heading of a step: from which variable to which, by which rule.
+/// Adds the heading of a step: its source, its target and its rule.
 fn put_heading(
     page: &mut Page,
     subject: &Subject<'_>,
@@ -166,7 +166,7 @@ fn put_heading(
     )
 }
 
-/// Adds where a step reads its source, and its target.
+/// Adds the position where a step reads its source, and its target.
 fn put_done(
     page: &mut Page,
     subject: &Subject<'_>,
@@ -189,7 +189,7 @@ fn put_done(
     )
 }
 
-/// Adds where a step writes its target; nothing is written where a loop ends.
+/// Adds the position where a step writes its target; at the ending of a loop nothing is written.
 fn put_written(page: &mut Page, subject: &Subject<'_>, step: &Step) -> Result<(), AllocError> {
     if step.rule == Rule::Loop {
         return Ok(());
@@ -201,7 +201,7 @@ fn put_written(page: &mut Page, subject: &Subject<'_>, step: &Step) -> Result<()
     )
 }
 
-/// Adds why a step by a rule tells.
+/// Adds why a step by a rule reveals its source.
 fn put_why(
     page: &mut Page,
     subject: &Subject<'_>,
@@ -222,7 +222,7 @@ fn put_why(
     )
 }
 
-/// Adds a step: its heading, and why it tells.
+/// Adds a step: its heading, and why it reveals its source.
 fn put_step(page: &mut Page, subject: &Subject<'_>, step: &Step) -> Result<(), AllocError> {
     let source = number_of(subject.facts, step.source);
     let target = number_of(subject.facts, step.target);
@@ -232,7 +232,7 @@ fn put_step(page: &mut Page, subject: &Subject<'_>, step: &Step) -> Result<(), A
     put_why(page, subject, source, target, step.rule)
 }
 
-/// What is said behind the classes of both ends of a walk.
+/// The text after the classes of both ends of a walk.
 const JUDGED: &[u8] = b", and the lattice does not have the first at or below the second. The text \
 is judged by what is written, and not by what a run does: a branch that is never taken counts too.\
 </p>\n";

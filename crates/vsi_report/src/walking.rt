@@ -1,4 +1,4 @@
-//! One walk over the commands of a program: where each name stands.
+//! One walk over the commands of a program that finds the position of each name.
 
 ghost use Rattle.std.specs.Prelude.{◌≡◌};
 ghost use Rattle.vsi_infer.specs.Explanation.{rule_text};
@@ -10,14 +10,14 @@ use vsi_types::Rule;
 /// The most variables of a program whose flows are drawn.
 pub(crate) const MOST_DRAWN: usize = 200;
 
-/// A place where a name stands: its first byte, and its variable.
+/// The position of a name: its first byte, and its variable.
 #[derive(Clone, Copy)]
 pub(crate) struct Use {
     pub(crate) start: usize,
     pub(crate) variable: usize,
 }
 
-/// Where a walk stands, and the names that it has met.
+/// The state of a walk, and the names found so far.
 #[derive(Drop)]
 pub(crate) struct Tour {
     pub(crate) uses: Vec<Use>,
@@ -34,7 +34,7 @@ fn variable_of(tour: &Tour, location: u16) -> usize {
     }
 }
 
-/// Meets the names of an expression.
+/// Notes the names of an expression.
 fn read(tour: &mut Tour, e: &Ex) -> Result<(), AllocError> {
     match e {
         Ex::Num(_) => Ok(()),
@@ -143,7 +143,7 @@ fn first_scope(alloc: Global, count: usize) -> Result<Vec<usize>, AllocError> {
     Ok(scope)
 }
 
-/// The names that a walk over a program meets.
+/// The names that a walk over a program finds.
 pub(crate) fn uses_of(alloc: Global, program: &Resolved<'_>) -> Result<Vec<Use>, AllocError> {
     let globals = program.globals().len();
     let mut tour = Tour {
@@ -165,7 +165,7 @@ pub(crate) const RULES: [Rule; 5] = [
     Rule::Loop,
 ];
 
-/// The word of a rule.
+/// The name of a rule.
 pub(crate) fn rule_name(rule: Rule) -> &'static [u8]
     ensures { result.now ≡ rule_text rule }
 {

@@ -17,21 +17,21 @@ use Rattle.vsi_image.specs.Effects.{left, slot_of}
 use Rattle.vsi_image.specs.Meaning.{going, acted, on_two, ended}
 use Rattle.vsi_steady.specs.Steady.{Operates, Stores, Passes}
 
--- The operands of two states are as many as these classes, and the same where the class is at or below a.
+-- Both states have an operand for each of these classes, and equal ones where the class is at or below a.
 abbrev pub SameOperands : Lattice → ℕ → List ℕ → List ℤ → List ℤ → Type 0
 SameOperands L a [] [] [] = Unit {0}
 SameOperands L a (c ∷ cs) (v ∷ vs) (w ∷ ws) =
     IsClass L c × (Below L c a → v ≡ w) × SameOperands L a cs vs ws
 SameOperands L a _ _ _ = ⊥
 
--- The slots of two states are the same where the class is at or below a.
+-- The slots of both states are equal where their class is at or below a.
 abbrev pub SameSlots : Lattice → ℕ → List ℕ → List ℤ → List ℤ → Type 0
 SameSlots L a slots m m' = (k : ℕ) → k < length slots → Below L (slice_index slots k) a
     → get_or m k (pos 0) ≡ get_or m' k (pos 0)
 
 module _ (L : Lattice) (laws : IsLattice L) (a : ℕ) (class : IsClass L a) (classes : List ℕ)
     (all : All (IsClass L) classes) where
-  -- An instruction takes two states to two at one place, with operands of these classes and slots that are alike.
+  -- An instruction takes both states to one place, with operands of these classes and with slots that agree.
   pub record BothPass (i : Instr) (pc : ℕ) (left : List ℕ) (s s' m m' : List ℤ) : Type 0 where
     pub place : ℕ
     pub halted : Bool
@@ -44,11 +44,11 @@ module _ (L : Lattice) (laws : IsLattice L) (a : ℕ) (class : IsClass L a) (cla
     pub operands : SameOperands L a left rest rest'
     pub words : SameSlots L a classes slots slots'
 
-  -- The class of a slot is one of the lattice.
+  -- The class of a slot is a class of the lattice.
   slot_class : (k : ℕ) → k < length classes → IsClass L (slice_index classes k)
   slot_class k lt = All-get_or (IsClass L) classes k 0 lt all
 
-  -- A number that is pushed is the same.
+  -- A pushed number is the same in both states.
   push_both : (n : ℤ) (pc : ℕ) (held : List ℕ) (s s' m m' : List ℤ) → SameOperands L a held s s'
       → SameSlots L a classes m m'
       → BothPass (Push n) pc (L.bottom ∷ held) s s' m m'
@@ -66,7 +66,7 @@ module _ (L : Lattice) (laws : IsLattice L) (a : ℕ) (class : IsClass L a) (cla
         words = equal;
       }
 
-  -- A word that is loaded has its slot's class.
+  -- A loaded word has the class of its slot.
   load_both : (k pc : ℕ) (held : List ℕ) (s s' m m' : List ℤ) → k < length classes → length m ≡ length classes
       → length m' ≡ length classes → SameOperands L a held s s' → SameSlots L a classes m m'
       → BothPass (Load k) pc (slice_index classes k ∷ held) s s' m m'
@@ -86,7 +86,7 @@ module _ (L : Lattice) (laws : IsLattice L) (a : ℕ) (class : IsClass L a) (cla
         words = equal;
       }
 
-  -- Slots stay the same where a word of a class at or below that of its slot is stored.
+  -- Slots stay equal if a word is stored whose class is at or below that of its slot.
   same_set : (k c : ℕ) (v w : ℤ) (m m' : List ℤ) → k < length classes → length m ≡ length classes
       → length m' ≡ length classes
       → IsClass L c → Below L c (slice_index classes k) → (Below L c a → v ≡ w) → SameSlots L a classes m m'
@@ -109,7 +109,7 @@ module _ (L : Lattice) (laws : IsLattice L) (a : ℕ) (class : IsClass L a) (cla
   store_is k pc v s m lt =
       ap (λ b. if b then Some (going (pc + 1) s (slice_set m k v)) else None) (lt-ltb k (length m) lt)
 
-  -- What is stored has a class at or below that of its slot.
+  -- A stored word has a class at or below that of its slot.
   store_both : (k pc : ℕ) (held left : List ℕ) (s s' m m' : List ℤ) → k < length classes → length m ≡ length classes
       → length m' ≡ length classes → Stores L (slice_index classes k) held left → SameOperands L a held s s'
       → SameSlots L a classes m m' → BothPass (Store k) pc left s s' m m'
@@ -130,7 +130,7 @@ module _ (L : Lattice) (laws : IsLattice L) (a : ℕ) (class : IsClass L a) (cla
         words = same_set k c v w m m' lt full full' same.0 p.0 same.1 equal;
       }
 
-  -- What an operator gives is the same where both of its operands are.
+  -- The result of an operator is the same in both states if both of its operands are.
   operate_both : (i : Instr) (f : ℤ → ℤ → ℤ) (pc : ℕ) (held left : List ℕ) (s s' m m' : List ℤ)
       → ((x : List ℤ) (y : List ℤ) → acted i pc x y ≡ on_two f pc x y) → Operates L held left
       → SameOperands L a held s s'
@@ -162,7 +162,7 @@ module _ (L : Lattice) (laws : IsLattice L) (a : ℕ) (class : IsClass L a) (cla
         words = equal;
       }
 
-  -- A JZ takes the same word in both, since it has the bottom class.
+  -- A JZ takes the same word in both states, because it has the bottom class.
   jz_both : (t pc : ℕ) (s s' m m' : List ℤ) → SameOperands L a (L.bottom ∷ []) s s' → SameSlots L a classes m m'
       → BothPass (Jz t) pc [] s s' m m'
   jz_both t pc [] s' m m' same equal = absurd same
@@ -182,7 +182,7 @@ module _ (L : Lattice) (laws : IsLattice L) (a : ℕ) (class : IsClass L a) (cla
         words = equal;
       }
 
-  -- An instruction that keeps the operands and the slots goes to the same place in both.
+  -- An instruction that keeps the operands and the slots goes to the same place in both states.
   keeps_both : (i : Instr) (pc place : ℕ) (halted : Bool) (s s' m m' : List ℤ)
       → ((o w : List ℤ) → acted i pc o w ≡ Some (ended place halted o w)) → SameOperands L a [] s s'
       → SameSlots L a classes m m' → BothPass i pc [] s s' m m'
@@ -200,7 +200,7 @@ module _ (L : Lattice) (laws : IsLattice L) (a : ℕ) (class : IsClass L a) (cla
         words = equal;
       }
 
-  -- So it is for each instruction that goes through with the classes of the slots.
+  -- Every instruction that passes with the classes of the slots takes both states alike.
   pub both_pass : (i : Instr) (pc : ℕ) (held left : List ℕ) (s s' m m' : List ℤ) → Passes L classes i held left
       → IfSome (slot_of i) (λ k. k < length classes) → length m ≡ length classes → length m' ≡ length classes
       → SameOperands L a held s s' → SameSlots L a classes m m' → BothPass i pc left s s' m m'

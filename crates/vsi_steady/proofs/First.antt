@@ -20,7 +20,7 @@ use Rattle.vsi_steady.specs.Steady.{HaveClasses, IsSteady}
 use Rattle.vsi_steady.specs.declared.error.SteadyError.{SteadyError}
 use Rattle.vsi_steady.specs.declared.error.SteadyError.TheVariants.{UnknownClass, Flow, Memory}
 
--- These are the classes of the first globals, and no class name so far is unknown.
+-- These are the classes of the first n globals, and no class name so far is unknown.
 pub record FirstClasses (known : Known) (L : Lattice) (gs : List (Vec ℕ × Vec ℕ)) (n : ℕ)
     (classes : List ℕ) : Type 0 where
   pub count : length classes ≡ n
@@ -29,7 +29,7 @@ pub record FirstClasses (known : Known) (L : Lattice) (gs : List (Vec ℕ × Vec
       → known g.1 ≡ Some (slice_index classes i)
   pub unknown : first_unknown known n (globals (drop n gs)) ≡ first_unknown known 0 (globals gs)
 
--- The classes with the next one.
+-- The classes are extended by the next one.
 pub first_more : (known : Known) (L : Lattice) (gs : List (Vec ℕ × Vec ℕ)) (n : ℕ) (classes : List ℕ) (c : ℕ)
     (d : Vec ℕ × Vec ℕ) → FirstClasses known L gs n classes → n < length gs → known (global (get_or gs n d)).1 ≡ Some c
     → IsClass L c → FirstClasses known L gs (n + 1) (classes ++ c ∷ [])
@@ -56,7 +56,7 @@ first_more known L gs n classes c d f lt is class =
       unknown = sym pass ∙ sym (ap (λ l. first_unknown known n (globals l)) cut) ∙ f.unknown;
     }
 
--- The classes of all globals, with the bottom class for each other slot.
+-- The classes of all globals are extended by the bottom class for each other slot.
 pub first_all : (known : Known) (L : Lattice) (image : Image) (gs : List (Vec ℕ × Vec ℕ)) (n bottom len : ℕ)
     (classes : List ℕ)
     → FirstClasses known L gs n classes → gs ≡ image.globals.items → n ≡ length gs
@@ -78,7 +78,7 @@ first_all known L image gs n bottom len classes f same all room class full =
           f.named i g near there ∙ ap Some (sym (get_or_append_left classes rest 0 i (omega (arith, near, f.count))));
     })
 
--- Two choices of classes of the slots give a global the same.
+-- Two assignments of classes to the slots give a global the same class.
 pub same_global : (known : Known) (L : Lattice) (image : Image) (classes slots : List ℕ)
     → HaveClasses known L image classes → HaveClasses known L image slots → (j : ℕ) → j < length image.globals.items
     → slice_index slots j ≡ slice_index classes j
@@ -89,7 +89,7 @@ same_global known L image classes slots have others j lt =
     let at : slice_get gs j ≡ Some g = slice_get-get_or gs j ([], []) within in
     same_Some (slice_index slots j) (slice_index classes j) (sym (others.globals j g at) ∙ have.globals j g at)
 
--- The bottom class is at or below all.
+-- The bottom class is at or below every class.
 bottoms_below : (L : Lattice) → IsLattice L → (n : ℕ) (ys : List ℕ) → length ys ≡ n → All (IsClass L) ys
     → AllBelow L (replicate n L.bottom) ys
 bottoms_below L laws zero [] e all = tt
@@ -103,7 +103,7 @@ bottoms_below L laws (suc n) (y ∷ ys) e all =
       bottoms_below L laws n ys (omega (arith, e)) (λ k d lt. all (suc k) d (omega (arith, lt))),
     )
 
--- So are the same classes with bottom classes behind them.
+-- The same classes followed by bottom classes are at or below.
 filled_below : (L : Lattice) → IsLattice L → (n : ℕ) (xs ys : List ℕ) → length ys ≡ length xs + n
     → All (IsClass L) xs → All (IsClass L) ys
     → ((j : ℕ) → j < length xs → slice_index ys j ≡ slice_index xs j) → AllBelow L (xs ++ replicate n L.bottom) ys
@@ -118,7 +118,7 @@ filled_below L laws n (x ∷ xs) (y ∷ ys) e all others same =
           (λ k d lt. others (suc k) d (omega (arith, lt))) (λ j lt. same (suc j) (omega (arith, lt))),
     )
 
--- The classes of the globals with bottom classes behind them are the least.
+-- The classes of the globals, followed by bottom classes, are the least.
 pub first_least : (known : Known) (L : Lattice) (image : Image) (n : ℕ) (classes : List ℕ) → IsLattice L
     → HaveClasses known L image (classes ++ replicate n L.bottom) → All (IsClass L) classes
     → length classes ≡ length image.globals.items
@@ -131,7 +131,7 @@ first_least known L image n classes laws have all count s =
     (λ j lt. same_global known L image (classes ++ rest) s.slots have s.have j (omega (arith, lt, count))
     ∙ get_or_append_left classes rest 0 j lt)
 
--- So it is of the classes as they are resized.
+-- The resized classes are also the least.
 pub first_resized : (known : Known) (L : Lattice) (image : Image) (gs : List (Vec ℕ × Vec ℕ)) (n bottom len : ℕ)
     (classes : List ℕ) → IsLattice L → FirstClasses known L gs n classes → gs ≡ image.globals.items → n ≡ length gs
     → length image.globals.items ≤ image.slots → bottom ≡ L.bottom
@@ -148,7 +148,7 @@ first_resized known L image gs n bottom len classes laws f same all room is have
     (first_least known L image (image.slots - len) classes laws (subst (λ l. HaveClasses known L image l) here have)
     f.within count)
 
--- Where each class name stands for a class, none is unknown.
+-- If each class name denotes a class, none is unknown.
 none_unknown : (known : Known) (n : ℕ) (gs : List Global)
     → ((i : ℕ) (g : Global) → slice_get gs i ≡ Some g → is_some (known g.1) ≡ true) → first_unknown known n gs ≡ None
 none_unknown known n [] each = refl
@@ -156,7 +156,7 @@ none_unknown known n (g ∷ gs) each =
     ap (λ b. if b then first_unknown known (n + 1) gs else Some n) (each 0 g refl)
     ∙ none_unknown known (n + 1) gs (λ i h at. each (suc i) h at)
 
--- A steady image is refused for want of memory alone.
+-- A steady image is refused only for lack of memory.
 pub only_memory : (known : Known) (L : Lattice) (image : Image) (e : SteadyError) → Refuses known L image e
     → IsSteady known L image → e ≡ Memory
 only_memory known L image (UnknownClass i) h s =

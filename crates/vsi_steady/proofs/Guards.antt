@@ -1,4 +1,4 @@
--- A choice of classes that types a program strictly where each choice is a loop types it as it stands.
+-- If a choice of classes types a program strictly with loops in place of choices, it also types the program itself.
 use Rattle.std.proofs.Common.{◌≡◌, ℕ, ◌+◌, Bool, true, false, ◌||◌, List, [], ◌∷◌, ◌++◌, map, slice_index, refl, sym, ap, ◌∙◌, subst, arith, append_assoc}
 use Rattle.std.proofs.lemmas.List.{map-append}
 use Rattle.vsi_lattice.specs.Order.{Lattice, IsLattice, Below}
@@ -19,16 +19,16 @@ use Rattle.vsi_opt.specs.Folding.{append}
 use Rattle.vsi_steady.specs.Watched.{watched, watched_program}
 use Rattle.vsi_steady.proofs.Watching.{watched_letvars, watched_places}
 
--- What guards read.
+-- The reads of guards.
 abbrev read_by : List Guard → List Read
 read_by gs = map (λ g. g.read) gs
 
--- What guards with a rule read is what they were made of.
+-- Guards made of reads and a rule have those reads.
 read_guarded : (rule : Rule) (rs : List Read) → read_by (guarded rule rs) ≡ rs
 read_guarded rule [] = refl
 read_guarded rule (r ∷ rs) = ap (λ l. r ∷ l) (read_guarded rule rs)
 
--- Guards that read the same read the same behind others that do.
+-- Guards with equal reads still have equal reads after others with equal reads.
 read_more : (xs ys gs gs' : List Guard) → read_by xs ≡ read_by ys → read_by gs ≡ read_by gs' →
     read_by (xs ++ gs) ≡ read_by (ys ++ gs')
 read_more xs ys gs gs' e f =
@@ -38,7 +38,7 @@ read_more xs ys gs gs' e f =
     ∙ sym (map-append (λ (g : Guard). g.read) ys gs')
 
 module _ (P : Profile) (names : ℕ → Span) (gs : List Guard) (scope : List ℕ) where
-  -- The steps of two sequences joined.
+  -- The steps of two joined sequences are the steps of both.
   append_steps : (a b : Command) (n : ℕ) →
       steps P names gs scope n (append a b)
       ≡ steps P names gs scope n a ++ steps P names gs scope (n + letvars a) b
@@ -59,11 +59,11 @@ module _ (L : Lattice) (classes : ℕ → ℕ) (names : ℕ → Span) where
   abbrev InOrder : Step → Type 0
   InOrder s = IsInOrder L classes s
 
-  -- What is read may flow to a target.
+  -- The read variable may flow to a target.
   abbrev MayFlow : ℕ → Read → Type 0
   MayFlow target r = Below L (classes r.variable) (classes target)
 
-  -- Flows of the same reads are in order alike.
+  -- If guards have equal reads, their flows are in order alike.
   flows_alike : (target : ℕ) (s : Span) (gs gs' : List Guard) → read_by gs ≡ read_by gs' →
       Each InOrder (flows target s gs') → Each InOrder (flows target s gs)
   flows_alike target s gs gs' e h =
@@ -72,13 +72,13 @@ module _ (L : Lattice) (classes : ℕ → ℕ) (names : ℕ → Span) where
       let here = subst (Each (MayFlow target)) (sym e) read in
       each_map InOrder (flow target s) gs (each_unmap (MayFlow target) (λ (g : Guard). g.read) gs here)
 
-  -- Where a guard may flow into the ending of a loop, it may do so only where there is one.
+  -- If the endings of a loop are in order, the endings of a command are in order whether it loops or not.
   endings_fewer : (b : Bool) (rs : List Read) → Each InOrder (endings Strict true rs) →
       Each InOrder (endings Strict b rs)
   endings_fewer true rs h = h
   endings_fewer false rs h = tt
 
-  -- The steps of a command are in order where those are of the command with loops, under guards that read the same.
+  -- The steps of a command are in order if those of the command with loops are, under guards with equal reads.
   unwatched : (c : Command) (gs gs' : List Guard) (scope : List ℕ) (n : ℕ) → read_by gs ≡ read_by gs' →
       Each InOrder (steps Strict names gs' scope n (watched c)) → Each InOrder (steps Strict names gs scope n c)
   unwatched Skip gs gs' scope n e h = tt
@@ -127,7 +127,7 @@ module _ (L : Lattice) (classes : ℕ → ℕ) (names : ℕ → Span) where
       (each_front InOrder own rest h)
       (unwatched c gs gs' (scope ++ n ∷ []) (n + 1) e (each_back InOrder own rest h))
 
--- The program with loops is as well formed.
+-- The program with loops is well formed if the program is.
 pub watched_formed : (L : Lattice) (p : Program) → IsWellFormed L p → IsWellFormed L (watched_program p)
 watched_formed L p w = record {
   classes = w.classes;
@@ -136,7 +136,7 @@ watched_formed L p w = record {
   limit = omega (arith, w.limit, watched_letvars p.body);
 }
 
--- What types the program with loops types the program.
+-- A choice of classes that types the program with loops types the program.
 pub unwatched_typable : (L : Lattice) (p : Program) (s : List ℕ) → IsLattice L → IsWellFormed L p →
     IsTypable L Strict (watched_program p) s → IsTypable L Strict p s
 unwatched_typable L p s laws formed typed =

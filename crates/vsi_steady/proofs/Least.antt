@@ -1,4 +1,4 @@
--- Classes of slots and operands that stay at or below those with which an image is steady.
+-- The classes of slots and operands stay at or below those with which an image is steady.
 use Rattle.std.proofs.Common.{◌≡◌, ℕ, zero, suc, ◌<◌, ◌≤◌, List, [], ◌∷◌, length, sym, subst, arith, inl, inr}
 use Rattle.std.specs.Prelude.{slice_index, slice_set, IfSome}
 use Rattle.std.specs.List.{All}
@@ -13,7 +13,7 @@ use Rattle.vsi_infer.proofs.RankLemmas.{distance_falls}
 use Rattle.vsi_steady.specs.Steady.{Operates, Stores, Passes}
 use Rattle.vsi_steady.specs.Least.{AllBelow, OnTop, Drops, Joins, Leads, Finds, FindsRaised, Rises, RisesBy}
 
--- Classes are below others slot by slot.
+-- Classes that are below others are below them at each slot.
 below_at : (L : Lattice) (xs ys : List ℕ) (k : ℕ) → AllBelow L xs ys → k < length xs
     → Below L (slice_index xs k) (slice_index ys k)
 below_at L [] ys k h lt = absurd (omega (arith, lt))
@@ -21,7 +21,7 @@ below_at L (a ∷ xs) [] k h lt = absurd h
 below_at L (a ∷ xs) (b ∷ ys) zero h lt = h.2
 below_at L (a ∷ xs) (b ∷ ys) (suc k) h lt = below_at L xs ys k h.3 (omega (arith, lt))
 
--- They stay so where one rises no higher.
+-- They stay below if one of them rises no higher.
 below_set : (L : Lattice) (xs ys : List ℕ) (k c : ℕ) → AllBelow L xs ys → k < length xs → IsClass L c
     → Below L c (slice_index ys k) → AllBelow L (slice_set xs k c) ys
 below_set L [] ys k c h lt class low = absurd (omega (arith, lt))
@@ -31,7 +31,7 @@ below_set L (a ∷ xs) (b ∷ ys) (suc k) c h lt class low =
     (h.0, h.1, h.2, below_set L xs ys k c h.3 (omega (arith, lt)) class low)
 
 module _ (L : Lattice) (laws : IsLattice L) where
-  -- An operator leaves no higher classes where it finds none.
+  -- An operator that takes no higher classes leaves no higher ones.
   joins_below : (now after held left : List ℕ) → AllBelow L now held → Joins L now after → Operates L held left
       → AllBelow L after left
   joins_below [] after held left h j o = absurd j
@@ -45,7 +45,7 @@ module _ (L : Lattice) (laws : IsLattice L) where
       let here : AllBelow L (j.0 ∷ rest) (c ∷ others) = (j.1.within, o.1, j.1.least c o.1 first second, h.3.3) in
       subst (λ l. AllBelow L after l) (sym o.4) (subst (λ l. AllBelow L l (c ∷ others)) (sym j.2) here)
 
-  -- So it is where the top operand is stored.
+  -- The same holds if the top operand is stored.
   drops_below : (slot : ℕ) (now after held left : List ℕ) → AllBelow L now held → Drops now after
       → Stores L slot held left → AllBelow L after left
   drops_below slot [] after held left h d s = absurd d
@@ -53,7 +53,7 @@ module _ (L : Lattice) (laws : IsLattice L) where
   drops_below slot (c ∷ rest) after (x ∷ others) left h d s =
       subst (λ l. AllBelow L after l) (sym s.1) (subst (λ l. AllBelow L l others) (sym d) h.3)
 
-  -- So it is where it is taken by a jump.
+  -- The same holds if a jump takes the top operand.
   jz_below : (now after held left : List ℕ) → AllBelow L now held → Drops now after → held ≡ L.bottom ∷ []
       → left ≡ [] → AllBelow L after left
   jz_below [] after held left h d one none = absurd d
@@ -63,7 +63,7 @@ module _ (L : Lattice) (laws : IsLattice L) where
 
   module _ (classes slots : List ℕ) (all : All (IsClass L) classes) (others : All (IsClass L) slots)
       (below : AllBelow L classes slots) (count : length slots ≡ length classes) where
-    -- An instruction leaves no higher classes where it finds none.
+    -- An instruction that takes no higher classes leaves no higher ones.
     pub leads_below : (i : Instr) (now after held left : List ℕ) → IfSome (slot_of i) (λ k. k < length classes)
         → AllBelow L now held → Leads L classes i now after → Passes L slots i held left → AllBelow L after left
     leads_below (Push n) now after held left lt h d p =
@@ -95,7 +95,7 @@ module _ (L : Lattice) (laws : IsLattice L) where
         subst (λ l. AllBelow L after l) (sym p.1)
         (subst (λ l. AllBelow L l []) (sym d) (subst (λ l. AllBelow L now l) p.0 h))
 
-    -- A STORE that goes through with higher classes goes through with these, unless its slot is one that rises.
+    -- A STORE that passes with higher classes passes with these, unless its slot is one that rises.
     stores_found : (n k : ℕ) (now held left : List ℕ) → k < length classes
         → ((j : ℕ) → j < n → slice_index slots j ≡ slice_index classes j)
         → AllBelow L now held → Stores L (slice_index slots k) held left
@@ -114,14 +114,14 @@ module _ (L : Lattice) (laws : IsLattice L) where
               (laws.transitive c x (slice_index slots k) h.0 h.1 class h.2 s.0)
         ]
 
-    -- A JZ that finds the bottom class with higher classes finds it with these.
+    -- A JZ that finds the bottom class among higher classes finds it among these.
     jz_found : (now held : List ℕ) → AllBelow L now held → held ≡ L.bottom ∷ [] → OnTop (λ c. c ≡ L.bottom) now
     jz_found [] held h one = absurd (subst (λ l. AllBelow L [] l) one h)
     jz_found (c ∷ rest) held h one =
         let here : AllBelow L (c ∷ rest) (L.bottom ∷ []) = subst (λ l. AllBelow L (c ∷ rest) l) one h in
         laws.antisymmetric c L.bottom here.0 laws.bottom_within here.2 (laws.bottom_least c here.0)
 
-    -- An instruction that goes through with higher classes finds what it wants with these.
+    -- An instruction that passes with higher classes finds the classes it requires among these.
     pub found_below : (n : ℕ) (i : Instr) (now held left : List ℕ) → IfSome (slot_of i) (λ k. k < length classes)
         → ((j : ℕ) → j < n → slice_index slots j ≡ slice_index classes j)
         → AllBelow L now held → FindsRaised L n classes i now → Passes L slots i held left → Finds L classes i now
@@ -152,7 +152,7 @@ module _ (L : Lattice) (laws : IsLattice L) where
         (below_set L classes slots k r.join below lt r.is_join.within
         (r.is_join.least (slice_index slots k) class (below_at L classes slots k below lt) up))
 
-    -- What an instruction raises rises no higher.
+    -- A class that an instruction raises rises no higher.
     pub rises_below : (i : Instr) (now held left raised : List ℕ) → IfSome (slot_of i) (λ k. k < length classes)
         → AllBelow L now held → Passes L slots i held left → RisesBy L classes i now raised → AllBelow L raised slots
     rises_below (Push n) now held left raised lt h p r = absurd r
@@ -167,7 +167,7 @@ module _ (L : Lattice) (laws : IsLattice L) where
     rises_below (Jmp t) now held left raised lt h p r = absurd r
     rises_below Halt now held left raised lt h p r = absurd r
 
-  -- The distance to the top falls where a class rises.
+  -- The distance to the top falls if a class rises.
   rises_nearer : (classes : List ℕ) (k c : ℕ) (raised : List ℕ) → All (IsClass L) classes → k < length classes
       → Rises L classes k c raised → distance L.leq L.count raised < distance L.leq L.count classes
   rises_nearer classes k c raised all lt r =
@@ -182,14 +182,14 @@ module _ (L : Lattice) (laws : IsLattice L) where
       (laws.reflexive j r.is_join.within)
       (λ x lx low. laws.transitive x (slice_index classes k) j lx own r.is_join.within low r.is_join.left)
 
-  -- So it is where a STORE raises one.
+  -- It falls if a STORE raises a class.
   store_nearer : (classes : List ℕ) (k : ℕ) (now raised : List ℕ) → All (IsClass L) classes → k < length classes
       → OnTop (λ c. Rises L classes k c raised) now
       → distance L.leq L.count raised < distance L.leq L.count classes
   store_nearer classes k [] raised all lt r = absurd r
   store_nearer classes k (c ∷ rest) raised all lt r = rises_nearer classes k c raised all lt r
 
-  -- So it is where an instruction does.
+  -- It falls if an instruction raises a class.
   pub instr_nearer : (classes : List ℕ) (i : Instr) (now raised : List ℕ) → All (IsClass L) classes
       → IfSome (slot_of i) (λ k. k < length classes) → RisesBy L classes i now raised
       → distance L.leq L.count raised < distance L.leq L.count classes

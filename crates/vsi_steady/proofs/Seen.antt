@@ -1,4 +1,4 @@
--- What a class sees of two runs of a steady image.
+-- The view that a class has of two runs of a steady image.
 use Rattle.std.proofs.Common.{◌≡◌, ℕ, zero, suc, List, [], ◌∷◌, ◌++◌, length, take, min, Option, Some, None, true, false, refl, sym, ap, subst, ◌∙◌, arith, if◌then◌else◌}
 use Rattle.std.specs.Prelude.{slice_get, slice_index_or, ℤ, pos}
 use Rattle.std.specs.Option.{option_map_or}
@@ -22,7 +22,7 @@ use Rattle.vsi_steady.specs.Laws.{seen, RunsAlike, SteadyViewsAlike, ViewsAlike}
 use Rattle.vsi_steady.specs.Steady.{IsSteady}
 use Rattle.vsi_steady.proofs.Together.{stand_alike, steady_runs_alike}
 
--- The line of a global whose words are equal where its class is seen.
+-- The line of a global is the same if its words are equal whenever its class is seen.
 same_line : (L : Lattice) (a : ℕ) (g : Global) (w w' : ℤ) (o : Option ℕ)
     → ((c : ℕ) → o ≡ Some c → Below L c a → w ≡ w')
     → (if option_map_or (λ c. L.leq c a) o false then line_of g.0 w else [])
@@ -34,7 +34,7 @@ same_line L a g w w' (Some c) h =
       | false ↦ λ e. refl
     ] refl
 
--- Words that are equal for each global that is seen give the same lines.
+-- If the words of each seen global are equal, the lines are the same.
 same_lines : (known : Known) (L : Lattice) (a : ℕ) (gs : List Global) (m m' : List ℤ) → length m ≡ length m'
     → ((i : ℕ) (g : Global) (c : ℕ) → slice_get gs i ≡ Some g → known g.1 ≡ Some c → Below L c a
     → slice_index_or m i (pos 0) ≡ slice_index_or m' i (pos 0))
@@ -49,7 +49,7 @@ same_lines known L a (g ∷ gs) (w ∷ ws) (w' ∷ ws') same agree =
     same_line L a g w w' (known g.1) (λ c is below. agree zero g c refl is below) in
     ap (λ l. line_seen known L a g w ++ l) rest ∙ ap (λ l. l ++ view_text_of known L a gs ws') first
 
--- What is seen of two states, both halted or both not, whose globals agree.
+-- Two states have the same view if both have halted or neither has, and their globals agree.
 seen_same : (known : Known) (L : Lattice) (a : ℕ) (image : Image) (s s' : State) (view view' : View)
     → s.halted ≡ s'.halted → length s.slots ≡ length s'.slots
     → AgreeAt known L image a (globals_of image s) (globals_of image s')
@@ -86,7 +86,7 @@ steady_views_alike known L image laws valid steady a m m' n view view' h v v' =
     (subst (λ s. ViewsState known L a image s view) (sym is) v.2)
     (subst (λ s. ViewsState known L a image s view') (sym is') v'.2)
 
--- Runs of a steady image are alike, and so is what is seen of them, where it is known to be steady by another name.
+-- Runs and views of a steady image are alike, also if another name of the image is known to be steady.
 pub both_alike : (known : Known) (L : Lattice) (image held : Image) → held ≡ image → IsLattice L → IsValid image →
     IsSteady known L held → RunsAlike known L image × ViewsAlike known L image
 both_alike known L image held same laws valid steady =

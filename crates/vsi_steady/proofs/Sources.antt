@@ -1,4 +1,4 @@
--- What the layers promise of a text together.
+-- The promises of all layers about a text, combined.
 use Rattle.std.proofs.Common.{◌≡◌, ℕ, List, [], map, length, refl, sym, ap, subst, ◌∙◌}
 use Rattle.std.specs.Prelude.{slice_get}
 use Rattle.std.specs.List.{All}
@@ -38,7 +38,7 @@ use Rattle.vsi_steady.specs.Watched.{watched_program, IsWatched}
 use Rattle.vsi_steady.specs.declared.unsteady.UnsteadyError.TheVariants as unsteady
 use Rattle.vsi_steady.proofs.Guards.{unwatched_typable, watched_formed}
 
--- A program of these parts.
+-- The program made of these parts.
 parts : List Global → List Entry → Command → Program
 parts gs ls c =
     record {
@@ -48,7 +48,7 @@ parts gs ls c =
       body = c;
     }
 
--- The program of the resolved one with loops is the program with loops.
+-- The resolved program with loops gives the program with loops.
 pub program_watched : (p r : Resolved) → IsWatched p r → program r ≡ watched_program (program p)
 unfolding parts
 program_watched p r w =
@@ -56,19 +56,19 @@ program_watched p r w =
     ∙ ap (λ ls. parts p.globals ls (sequence r.body)) w.letvars
     ∙ ap (parts p.globals p.letvars) w.body
 
--- The classes of its globals are classes.
+-- The classes of its globals are classes of the lattice.
 pub watched_globals : (L : Lattice) (p r : Resolved) → IsWatched p r → HasClassesBelow L.count p →
     All (IsClass L) (program r).globals
 watched_globals L p r w below =
     subst (λ q. All (IsClass L) q.globals) (sym (program_watched p r w)) (global_classes L p below)
 
--- The declared classes of its letvars are classes.
+-- The declared classes of its letvars are classes of the lattice.
 pub watched_declared : (L : Lattice) (p r : Resolved) → IsWatched p r → HasClassesBelow L.count p →
     AreClasses L (program r).declared
 watched_declared L p r w below =
     subst (λ q. AreClasses L q.declared) (sym (program_watched p r w)) (declared_classes L p below)
 
--- A refusal of a text that isn't one of a flow is told as it is.
+-- A refusal of a text for anything but a flow is passed on unchanged.
 pub text_refused : (known : Known) (L : Lattice) (text : List ℕ) (e : CompileError) → RefusesProgram known text e →
     RefusesSteady known L text (compiling e)
 text_refused known L text compiler.Memory h = tt
@@ -77,7 +77,7 @@ text_refused known L text (compiler.Parse e) h = h
 text_refused known L text (compiler.Scope e) h = h
 text_refused known L text (compiler.Flow walk) h = absurd h
 
--- What the compiler promises of an image under the strict profile.
+-- The promise of the compiler about an image under the strict profile.
 pub strictly_compiled : (known : Known) (L : Lattice) (text : List ℕ) (im : Image) → IsAccepted known L Strict text →
     HasGlobals text im → KeepsMeaning known text im → IsNoninterfering known L im →
     (Strict ≡ Strict → EndsAlike known L im) → IsCoded im → IsImageOf known text im → IsNoLarger known text im →
@@ -94,12 +94,12 @@ strictly_compiled known L text im accepted globals meaning noninterference endin
       size = small;
     }
 
--- Want of memory is told as such.
+-- Lack of memory is reported as such.
 pub memory_refused : (known : Known) (L : Lattice) (text : List ℕ) (e : CompileError) → e ≡ compiler.Memory →
     RefusesSteady known L text (compiling e)
 memory_refused known L text e is = subst (λ x. RefusesSteady known L text (compiling x)) (sym is) tt
 
--- A refusal of an image of a text whose flows are steady.
+-- A refusal of the image of a text whose flows are steady.
 pub image_refused : (known : Known) (L : Lattice) (text : List ℕ) (im : Image) → HasSteadyFlows known L text →
     IsCompiled known L Strict text im → (e : SteadyError) → Refuses known L im e →
     RefusesSteady known L text (judging e)
@@ -115,7 +115,7 @@ module _ (known : Known) (text : List ℕ) (p : Resolved) (stands : Stands known
   watched_tree : program r ≡ watched_program (program_of known stands.tree (map command p.body))
   watched_tree = program_watched p r w ∙ ap watched_program (program_is known stands.tree p stands.resolves)
 
-  -- A text whose program with loops is typable has steady flows.
+  -- A text has steady flows if its program with loops is typable.
   pub steady_flows : (L : Lattice) (s : List ℕ) → IsTypable L Strict (program r) s → HasSteadyFlows known L text
   steady_flows L s typed =
       record {
@@ -127,7 +127,7 @@ module _ (known : Known) (text : List ℕ) (p : Resolved) (stands : Stands known
         typable = subst (λ q. IsTypable L Strict q s) watched_tree typed;
       }
 
-  -- It is accepted under the strict profile.
+  -- Such a text is accepted under the strict profile.
   pub steady_accepted : (L : Lattice) (s : List ℕ) → IsLattice L → IsResolved p → HasClassesBelow L.count p →
       IsTypable L Strict (program r) s → IsAccepted known L Strict text
   steady_accepted L s laws kept below typed =
@@ -135,7 +135,7 @@ module _ (known : Known) (text : List ℕ) (p : Resolved) (stands : Stands known
       (unwatched_typable L (program p) s laws (typing_ready L p kept below)
       (subst (λ q. IsTypable L Strict q s) (program_watched p r w) typed))
 
-  -- A refusal of the inference is one of the text.
+  -- A refusal of the inference is a refusal of the text.
   pub flow_refused : (L : Lattice) (e : InferError) → inference.Refuses L Strict (program r) e →
       RefusesSteady known L text (flowing e)
   flow_refused L infer.Memory h = tt
@@ -160,7 +160,7 @@ module _ (known : Known) (text : List ℕ) (p : Resolved) (stands : Stands known
       (subst (λ cs. IsTypable L Strict (watched_program (program_of known h.tree cs)) h.choice) commands h.typable) in
       subst (λ q. IsTypable L Strict q h.choice) (sym watched_tree) here
 
-  -- So the inference refuses it for want of memory alone.
+  -- Therefore the inference refuses it only for lack of memory.
   pub flow_memory : (L : Lattice) → IsLattice L → IsResolved p → HasClassesBelow L.count p → (e : InferError) →
       inference.Refuses L Strict (program r) e → HasSteadyFlows known L text → flowing e ≡ unsteady.Memory
   flow_memory L laws kept below infer.Memory h s = refl
@@ -183,7 +183,7 @@ steady_fields known L a b same s =
       code = subst (λ c. GoesThrough L s.slots c []) (ap (λ (f : Fields). f.code) same) s.code;
     }
 
--- Each image of a text of which one is steady is.
+-- If one image of a text is steady, every image of the text is.
 pub image_steady : (known : Known) (L : Lattice) (text : List ℕ) (im : Image) → IsImageOf known text im →
     IsSteadilyAccepted known L text → IsSteady known L im
 image_steady known L text im code h =
@@ -192,7 +192,7 @@ image_steady known L text im code h =
     (h.compiled.image is.tree is.commands is.reads is.resolution
     ∙ sym (code is.tree is.commands is.reads is.resolution)) h.steady
 
--- Two resolved programs with loops of a text are one program for typing.
+-- Two resolved programs with loops of one text are equal for typing.
 pub one_watched : (known : Known) (text : List ℕ) (p q r s : Resolved) → Stands known text p → Stands known text q →
     IsWatched p r → IsWatched q s → program s ≡ program r
 one_watched known text p q r s stands others w v =

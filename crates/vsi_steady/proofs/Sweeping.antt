@@ -18,19 +18,19 @@ use Rattle.vsi_steady.proofs.First.{same_global}
 use Rattle.vsi_steady.proofs.Least.{leads_below, found_below, rises_below, instr_nearer}
 use Rattle.vsi_steady.proofs.Walking.{Standing, fine_at, gone_on, standing_on}
 
--- The rest of a code goes through with these classes of slots, from operands at or above those that are held.
+-- The rest of the code passes with these classes of slots, from operands at or above the current ones.
 pub record Follows (L : Lattice) (slots : List ℕ) (rest : List Instr) (now : List ℕ) : Type 0 where
   pub held : List ℕ
   pub below : AllBelow L now held
   pub code : GoesThrough L slots rest held
 
--- A code that goes through from a place on goes through its instruction there.
+-- Code that passes from a place on passes through the instruction there.
 pub record Follows1 (L : Lattice) (slots : List ℕ) (i : Instr) (rest : List Instr) (held : List ℕ) : Type 0 where
   pub after : List ℕ
   pub passes : Passes L slots i held after
   pub code : GoesThrough L slots rest after
 
--- It has an instruction at that place.
+-- The code has an instruction at that place.
 first_on : (L : Lattice) (slots : List ℕ) (code : List Instr) (pc : ℕ) (i : Instr) (held : List ℕ)
     → slice_get code pc ≡ Some i → pc < length code → GoesThrough L slots (drop pc code) held
     → Follows1 L slots i (drop (pc + 1) code) held
@@ -42,9 +42,9 @@ first_on L slots code pc i held e lt g =
     record { after = on.0; passes = on.1; code = on.2 }
 
 module _ (known : Known) (L : Lattice) (image : Image) where
-  -- What a sweep over the code has come to at a place: where no class has risen so far, the classes are the first
-  -- ones, and where nothing was missed the code goes through if its rest does. However the image is steady, the
-  -- classes are at or below those with which it is, and nothing was missed.
+  -- A sweep up to a place: if no class has risen, the classes are the first ones; if no requirement failed, the code
+  -- passes whenever its rest does; and if the image is steady, the classes are at or below those with which it is
+  -- steady, and no requirement failed.
   pub record Sweeping (first classes : List ℕ) (pc depth : ℕ) (held : List ℕ) (risen : Bool)
       (flow : Option ℕ) : Type 0 where
     pub standing : Standing L image pc depth held
@@ -59,7 +59,7 @@ module _ (known : Known) (L : Lattice) (image : Image) where
     pub same : risen ≡ false → classes ≡ first
     pub nearer : risen ≡ true → distance L.leq L.count classes < distance L.leq L.count first
 
-  -- What an instruction does to the classes in a sweep.
+  -- The effect of an instruction on the classes in a sweep.
   pub record Swept1 (i : Instr) (classes raised : List ℕ) (now after : List ℕ) (is_raised is_met : Bool) : Type 0 where
     pub have : HaveClasses known L image raised
     pub first : FindsRaised L (length image.globals.items) raised i now
@@ -79,12 +79,12 @@ module _ (known : Known) (L : Lattice) (laws : IsLattice L) (image : Image) (val
       within None h = tt
       within (Some k) h = omega (arith, h, have.count)
 
-  -- Where neither has risen, both haven't.
+  -- If a disjunction fails, both sides do.
   neither : (a b : Bool) → (a || b) ≡ false → (a ≡ false) × (b ≡ false)
   neither true b h = absurd (both_ways true h refl)
   neither false b h = (refl, h)
 
-  -- Where one of two sweeps has come nearer to the top, both together have.
+  -- If one of two sweeps gets nearer to the top, so do both together.
   closer : (first classes raised : List ℕ) (risen is_raised : Bool) → (risen || is_raised) ≡ true
       → (risen ≡ false → classes ≡ first)
       → (risen ≡ true → distance L.leq L.count classes < distance L.leq L.count first)
@@ -111,7 +111,7 @@ module _ (known : Known) (L : Lattice) (laws : IsLattice L) (image : Image) (val
         | inr flat ↦ subst (λ l. AllBelow L l s.slots) (sym (w.same flat)) below
       ]
 
-  -- What one instruction does.
+  -- One instruction continues the sweep.
   pub sweep_on : (first classes raised : List ℕ) (pc depth : ℕ) (held held' : List ℕ) (risen is_raised is_met : Bool)
       (flow flow' : Option ℕ) (i : Instr)
       → Sweeping known L image first classes pc depth held risen flow
@@ -163,7 +163,7 @@ module _ (known : Known) (L : Lattice) (laws : IsLattice L) (image : Image) (val
             (λ up. instr_nearer L laws classes i now raised w.have.classes slot (d.risen up));
       }
 
-  -- Behind a whole sweep in which nothing rose and nothing was missed, the code goes through.
+  -- After a whole sweep in which no class rose and no requirement failed, the code passes.
   pub swept_through : (first classes : List ℕ) (pc depth : ℕ) (held : List ℕ) (risen : Bool) (flow : Option ℕ)
       → Sweeping known L image first classes pc depth held risen flow → length image.code.items ≤ pc
       → risen ≡ false → flow ≡ None → GoesThrough L classes image.code.items []

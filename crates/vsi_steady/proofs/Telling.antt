@@ -1,4 +1,4 @@
--- Chains of steps, and their text piece by piece.
+-- Chains of steps, and their text in pieces.
 use Rattle.std.proofs.Common.{◌≡◌, ℕ, ◌-◌, List, [], ◌∷◌, ◌++◌, length, get_or, false, refl, ap, subst, ◌∙◌, arith}
 use Rattle.std.specs.Prelude.{◌==◌}
 use Rattle.std.specs.List.{flat_map}
@@ -10,7 +10,7 @@ use Rattle.vsi_lattice.specs.Known.{Known}
 use Rattle.vsi_steady.specs.Telling.{LeadTo, MayNotFlow, IsChain, step_line, ends_line, chain_lines, end_of}
 use Rattle.vsi_steady.specs.declared.step.Step.{Step}
 
--- What grows by four pieces.
+-- A text that grows by four pieces.
 pub four_added : (out a b c d out1 out2 out3 out4 : List ℕ) → out1 ≡ out ++ a → out2 ≡ out1 ++ b → out3 ≡ out2 ++ c →
     out4 ≡ out3 ++ d → out4 ≡ out ++ (a ++ b ++ c ++ d)
 four_added out a b c d out1 out2 out3 out4 h1 h2 h3 h4 =
@@ -23,14 +23,14 @@ last_end : (s : Step) (steps : List Step) (d : Step) → (get_or (s ∷ steps) (
 last_end s [] d = refl
 last_end s (next ∷ steps) d = last_end next steps d
 
--- Behind the first of some steps, their end is that of the last one.
+-- The end of all steps is the target of the last one.
 whole_end : (s : Step) (steps : List Step) (d : Step)
     → (get_or (s ∷ steps) (length (s ∷ steps) - 1) d).target ≡ end_of s steps
 whole_end s steps d =
     let last : length (s ∷ steps) - 1 ≡ length steps = omega arith in
     ap (λ n. (get_or (s ∷ steps) n d).target) last ∙ last_end s steps d
 
--- Steps that lead to a place, between whose ends nothing may flow, are a chain.
+-- Steps that lead to a place are a chain if nothing may flow between their ends.
 pub chain_led : (known : Known) (L : Lattice) (image : Image) (place : ℕ) (steps : List Step) (d : Step)
     → false ≡ (length steps == 0)
     → LeadTo image.code.items (length (globals image.globals.items)) place steps
@@ -41,7 +41,7 @@ chain_led known L image place [] d some leads ends = tt
 chain_led known L image place (s ∷ steps) d some leads ends =
     (leads, subst (MayNotFlow known L (globals image.globals.items) s.source) (whole_end s steps d) ends)
 
--- Lines of steps, and behind them the line of their ends, are those of a chain.
+-- The lines of steps, followed by the line of their ends, are those of a chain.
 pub chain_added : (bottom : List ℕ) (gs : List Global) (steps : List Step) (out mid out' : List ℕ) (d : Step) →
     false ≡ (length steps == 0) → mid ≡ out ++ flat_map (step_line gs) steps →
     out' ≡ mid ++ ends_line bottom gs (get_or steps 0 d).source (get_or steps (length steps - 1) d).target →

@@ -22,7 +22,7 @@ use Rattle.vsi_compiler.specs.Observation.{AgreeAt}
 use Rattle.vsi_steady.specs.Laws.{AgreeBelow, is_slot_seen, write_to, write_of, next_write, writes, StandAlike, SteadyRunsAlike}
 use Rattle.vsi_steady.proofs.Alike.{SameOperands, SameSlots, both_pass}
 
--- ---- the operands that are held at a place.
+-- ---- the operands at a place.
 
 -- An operator leaves one operand fewer.
 operates_depth : (L : Lattice) (held rest : List ℕ) → Operates L held rest → length rest ≡ length held - 2 + 1
@@ -30,12 +30,12 @@ operates_depth L [] rest p = absurd p
 operates_depth L (b ∷ []) rest p = absurd p
 operates_depth L (b ∷ a ∷ held) rest p = omega (arith, ap length p.4)
 
--- A STORE too.
+-- A STORE leaves one operand fewer.
 stores_depth : (L : Lattice) (slot : ℕ) (held rest : List ℕ) → Stores L slot held rest → length rest + 1 ≡ length held
 stores_depth L slot [] rest p = absurd p
 stores_depth L slot (c ∷ held) rest p = omega (arith, ap length p.1)
 
--- An instruction leaves as many operands as the verifier says.
+-- An instruction leaves as many operands as the verifier computes.
 passes_depth : (L : Lattice) (slots : List ℕ) (i : Instr) (held rest : List ℕ) → Passes L slots i held rest
     → length rest ≡ depth_after (length held) i
 passes_depth L slots (Push n) held rest p = omega (arith, ap length p)
@@ -50,7 +50,7 @@ passes_depth L slots (Jz t) held rest p = omega (arith, ap length p.0, ap length
 passes_depth L slots (Jmp t) held rest p = ap length p.1
 passes_depth L slots Halt held rest p = ap length p.1
 
--- What leaves no operand leaves none.
+-- An instruction that may leave no operand leaves none.
 none_left : (L : Lattice) (slots : List ℕ) (i : Instr) (held rest : List ℕ) → Passes L slots i held rest
     → leaves_none i ≡ true → rest ≡ []
 none_left L slots (Push n) held rest p h = absurd (false≢true h)
@@ -65,7 +65,7 @@ none_left L slots (Jz t) held rest p h = p.1
 none_left L slots (Jmp t) held rest p h = p.1
 none_left L slots Halt held rest p h = p.1
 
--- The code goes on at each of its places with as many operands as the verifier says.
+-- The code continues at each of its places with as many operands as the verifier computes.
 held_at : (L : Lattice) (slots : List ℕ) (is : List Instr) (held : List ℕ) (t : ℕ) → GoesThrough L slots is held
     → t < length is
     → (h : List ℕ) × GoesThrough L slots (drop t is) h × (length h ≡ fold depth_after (length held) (take t is))
@@ -75,7 +75,7 @@ held_at L slots (i ∷ is) held (suc t) goes lt =
     let on = held_at L slots is goes.0 t goes.2 (omega (arith, lt)) in
     (on.0, on.1, on.2 ∙ ap (λ n. fold depth_after n (take t is)) (passes_depth L slots i held goes.0 goes.1))
 
--- A list of no length is empty.
+-- A list of length 0 is empty.
 none_there : (l : List ℕ) → length l ≡ 0 → l ≡ []
 none_there [] e = refl
 none_there (x ∷ l) e = absurd (omega (arith, e))
@@ -88,7 +88,7 @@ some_code (i ∷ is) ends = omega arith
 
 module _ (known : Known) (L : Lattice) (image : Image) (laws : IsLattice L) (valid : IsValid image)
     (steady : IsSteady known L image) (a : ℕ) (class : IsClass L a) where
-  -- Two runs stand at this place with these operands and slots.
+  -- Two runs are at this place with these operands and slots, and agree.
   record Alike (pc : ℕ) (o o' m m' : List ℤ) : Type 0 where
     pub sound : IsSound image pc (length o) (length m)
     pub full : length m' ≡ image.slots
@@ -97,7 +97,7 @@ module _ (known : Known) (L : Lattice) (image : Image) (laws : IsLattice L) (val
     pub operands : SameOperands L a held o o'
     pub words : SameSlots L a steady.slots m m'
 
-  -- The code goes on where an instruction leads to.
+  -- The code continues at the place to which an instruction leads.
   goes_next : (i : Instr) (pc : ℕ) (held rest : List ℕ) (o m : List ℤ) (st : State)
       → slice_get image.code.items pc ≡ Some i → GoesThrough L steady.slots (drop pc image.code.items) held
       → Passes L steady.slots i held rest → GoesThrough L steady.slots (drop (pc + 1) image.code.items) rest
@@ -131,7 +131,7 @@ module _ (known : Known) (L : Lattice) (image : Image) (laws : IsLattice L) (val
             subst (λ c. option_map_or (λ c. L.leq c a) c false ≡ true) (steady.have.globals k g e) s
       ] refl h
 
-  -- A word that is stored where the class sees it is the same.
+  -- A stored word is the same in both runs if the class sees the slot.
   write_same : (k : ℕ) (held rest : List ℕ) (o o' : List ℤ) (seen : Bool) → k < length steady.slots
       → Stores L (slice_index steady.slots k) held rest → SameOperands L a held o o'
       → (seen ≡ true → Below L (slice_index steady.slots k) a) → write_to seen k o ≡ write_to seen k o'
@@ -144,7 +144,7 @@ module _ (known : Known) (L : Lattice) (image : Image) (laws : IsLattice L) (val
       ap (λ x. (k, x) ∷ [])
       (same.1 (laws.transitive c (slice_index steady.slots k) a same.0 slot class p.0 (low refl)))
 
-  -- So is each write of an instruction.
+  -- Every write of an instruction is the same in both runs.
   writes_same : (i : Instr) (held rest : List ℕ) (o o' : List ℤ) → Passes L steady.slots i held rest
       → IfSome (slot_of i) (λ k. k < length steady.slots) → SameOperands L a held o o'
       → write_of known L a image o i ≡ write_of known L a image o' i
@@ -161,7 +161,7 @@ module _ (known : Known) (L : Lattice) (image : Image) (laws : IsLattice L) (val
   writes_same (Jmp t) held rest o o' p lt same = refl
   writes_same Halt held rest o o' p lt same = refl
 
-  -- What two runs that stand alike do next.
+  -- The next states of two runs that agree.
   record Next (pc : ℕ) (o o' m m' : List ℤ) : Type 0 where
     pub place : ℕ
     pub halted : Bool
@@ -174,7 +174,7 @@ module _ (known : Known) (L : Lattice) (image : Image) (laws : IsLattice L) (val
     pub alike : Alike place rest rest' slots slots'
     pub write : next_write known L a image (ended pc false o m) ≡ next_write known L a image (ended pc false o' m')
 
-  -- Two runs that stand alike do.
+  -- Two runs that agree have such next states.
   next : (pc : ℕ) (o o' m m' : List ℤ) → Alike pc o o' m m' → Next pc o o' m m'
   next pc o o' m m' h =
       let code = image.code.items in
@@ -212,7 +212,7 @@ module _ (known : Known) (L : Lattice) (image : Image) (laws : IsLattice L) (val
             ∙ sym (ap (λ x. option_map_or (write_of known L a image o') x []) e);
       }
 
-  -- Where two runs that stand alike stand after this many instructions.
+  -- The states of two runs that agree, after n instructions.
   record Later (n pc : ℕ) (halted : Bool) (o o' m m' : List ℤ) : Type 0 where
     pub place : ℕ
     pub is_halted : Bool
@@ -225,7 +225,7 @@ module _ (known : Known) (L : Lattice) (image : Image) (laws : IsLattice L) (val
     pub alike : Alike place rest rest' slots slots'
     pub write : writes known L a image n (ended pc halted o m) ≡ writes known L a image n (ended pc halted o' m')
 
-  -- One instruction, and then others.
+  -- One instruction is followed by n others.
   one_more : (n pc : ℕ) (o o' m m' : List ℤ) (x : Next pc o o' m m')
       → Later n x.place x.halted x.rest x.rest' x.slots x.slots' → Later (suc n) pc false o o' m m'
   one_more n pc o o' m m' x y =
@@ -248,7 +248,7 @@ module _ (known : Known) (L : Lattice) (image : Image) (laws : IsLattice L) (val
             ∙ sym (ap (λ s. first' ++ option_map_or (writes known L a image n) s []) x.did');
       }
 
-  -- Two runs that stand alike do so after any number of instructions.
+  -- Two runs that agree still agree after any number of instructions.
   later : (n pc : ℕ) (halted : Bool) (o o' m m' : List ℤ) → Alike pc o o' m m' → Later n pc halted o o' m m'
   later zero pc halted o o' m m' h =
       record {
@@ -281,7 +281,7 @@ module _ (known : Known) (L : Lattice) (image : Image) (laws : IsLattice L) (val
       let x = next pc o o' m m' h in
       one_more n pc o o' m m' x (later n x.place x.halted x.rest x.rest' x.slots x.slots' x.alike)
 
-  -- The words of an image's slots at its start.
+  -- The words of an image's slots at the start.
   begun : List ℤ → List ℤ
   begun m = m ++ replicate (image.slots - length m) (pos 0)
 
@@ -293,14 +293,14 @@ module _ (known : Known) (L : Lattice) (image : Image) (laws : IsLattice L) (val
       omega (arith, full, valid.allowed.slots_above, length-map image.globals.items global) in
       length-append m _ ∙ omega (arith, few, length-replicate (image.slots - length m) (pos 0))
 
-  -- Behind the globals it is 0.
+  -- The words after those of the globals are 0.
   begun_zero : (m : List ℤ) (k : ℕ) → length m ≤ k → k < image.slots → get_or (begun m) k (pos 0) ≡ pos 0
   unfolding begun
   begun_zero m k past lt =
       get_or-append_right m (replicate (image.slots - length m) (pos 0)) (length m) k (pos 0) refl past
       ∙ get_or-replicate (image.slots - length m) (k - length m) (pos 0) (pos 0) (omega (arith, past, lt))
 
-  -- Two starts from stores that agree are alike.
+  -- The starts from two stores that agree are alike.
   begun_alike : (m m' : List ℤ) → AgreeBelow known L image a m m' → SameSlots L a steady.slots (begun m) (begun m')
   unfolding begun
   begun_alike m m' h k lt below =
@@ -319,7 +319,7 @@ module _ (known : Known) (L : Lattice) (image : Image) (laws : IsLattice L) (val
             ∙ sym (begun_zero m' k (omega (arith, far, h.full, h.full')) (omega (arith, lt, steady.have.count)))
       ]
 
-  -- Where slots are alike the globals agree.
+  -- If slots are alike, the globals agree.
   agree_last : (m m' : List ℤ) → SameSlots L a steady.slots m m'
       → AgreeAt known L image a (take (length image.globals.items) m) (take (length image.globals.items) m')
   agree_last m m' words i g c at is below =
@@ -332,7 +332,7 @@ module _ (known : Known) (L : Lattice) (image : Image) (laws : IsLattice L) (val
       ∙ words i lt (subst (λ c. Below L c a) same below)
       ∙ sym (get_or-take (length image.globals.items) m' i (pos 0) near)
 
-  -- Two runs from stores that agree stand alike.
+  -- Two runs from stores that agree are alike after any number of instructions.
   pub stand_alike : (m m' : List ℤ) (n : ℕ) → AgreeBelow known L image a m m' → StandAlike known L image a m m' n
   unfolding begun
   stand_alike m m' n h =

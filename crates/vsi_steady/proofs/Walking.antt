@@ -15,25 +15,25 @@ use Rattle.vsi_image.specs.Valid.{IsFine, IsValid}
 use Rattle.vsi_machine.proofs.Steps.{read}
 use Rattle.vsi_steady.specs.Steady.{GoesThrough, Passes}
 
--- A walk over the code stands at this place with this many operands, all with classes.
+-- A walk over the code is at this place with this many operands, and all of them have classes.
 pub record Standing (L : Lattice) (image : Image) (pc depth : ℕ) (held : List ℕ) : Type 0 where
   pub at_depth : depth ≡ depth_at image.code.items pc
   pub room : depth ≤ image.stack
   pub classes : All (IsClass L) held
 
--- The instruction of a place is fine there.
+-- The instruction at a place is valid there.
 pub fine_at : (L : Lattice) (image : Image) (pc depth : ℕ) (held : List ℕ) (i : Instr) → IsValid image
     → Standing L image pc depth held → slice_get image.code.items pc ≡ Some i → IsFine image i depth
 fine_at L image pc depth held i valid s e = subst (λ n. IsFine image i n) (sym s.at_depth) (valid.each pc i e)
 
--- The instruction that is read there of the same code is fine.
+-- The instruction read from equal code is valid there.
 pub fine_read : (L : Lattice) (image : Image) (list : List Instr) (pc depth : ℕ) (held : List ℕ) (d : Instr)
     → IsValid image → Standing L image pc depth held → list ≡ image.code.items → pc < length image.code.items
     → IsFine image (get_or list pc d) depth
 fine_read L image list pc depth held d valid s same lt =
     fine_at L image pc depth held (get_or list pc d) valid s (read image.code.items list pc d same lt)
 
--- What never goes on leaves no operand.
+-- An instruction that never continues leaves no operand.
 off_none : (i : Instr) → goes_off i ≡ true → leaves_none i ≡ true
 off_none (Jmp t) h = refl
 off_none Halt h = refl
@@ -47,7 +47,7 @@ off_none Eq h = h
 off_none Lt h = h
 off_none (Jz t) h = refl
 
--- The walk stands at the next place with what the instruction leaves.
+-- The walk is at the next place with the operands that the instruction leaves.
 pub standing_on : (L : Lattice) (image : Image) (pc depth : ℕ) (held held' : List ℕ) (i : Instr) → IsValid image
     → Standing L image pc depth held → slice_get image.code.items pc ≡ Some i → pc < length image.code.items
     → All (IsClass L) held' → Standing L image (pc + 1) (left i depth) held'
@@ -66,7 +66,7 @@ standing_on L image pc depth held held' i valid s e lt all =
     ] refl in
     record { at_depth = kept ∙ sym on; room = fine.room; classes = all }
 
--- Code that goes on behind an instruction goes on before it.
+-- If the code passes after an instruction, it passes from the instruction on.
 pub gone_on : (L : Lattice) (classes : List ℕ) (code : List Instr) (pc : ℕ) (i : Instr) (held rest : List ℕ)
     → slice_get code pc ≡ Some i → pc < length code → Passes L classes i held rest
     → GoesThrough L classes (drop (pc + 1) code) rest → GoesThrough L classes (drop pc code) held
@@ -76,11 +76,11 @@ gone_on L classes code pc i held rest e lt p on =
     drop_more code pc i lt ∙ ap (λ x. x ∷ drop (pc + 1) code) here in
     subst (λ l. GoesThrough L classes l held) (sym cut) (rest, p, on)
 
--- What isn't missed is met.
+-- A requirement that didn't fail is met.
 pub met : (b : Bool) → not b ≡ false → b ≡ true
 met true h = refl
 met false h = sym h
 
--- What was written over a whole list is what stands there.
+-- A list written over the whole of another replaces it.
 pub written : (n : ℕ) (xs ys : List ℕ) → n ≡ length xs → take n (xs ++ ys) ≡ xs
 written n xs ys e = ap (λ k. take k (xs ++ ys)) e ∙ take-append_seam xs ys

@@ -1,4 +1,4 @@
--- What a loop in place of each choice leaves as it is.
+-- The properties of a command that don't change if a loop replaces each choice.
 use Rattle.std.proofs.Common.{◌≡◌, ℕ, ◌+◌, ◌<◌, ◌≤◌, max, List, [], ◌∷◌, ◌++◌, length, get_or, drop, Vec, Global, refl, sym, ap, ◌∙◌, subst, arith}
 use Rattle.std.proofs.lemmas.List.{drop_more, drop_all}
 use Rattle.vsi_scope.specs.declared.program.Ex.{Ex}
@@ -14,7 +14,7 @@ use Rattle.vsi_opt.proofs.Kept.{append_letvars}
 use Rattle.vsi_opt.proofs.Sequences.{append_append, append_nothing, pushed}
 use Rattle.vsi_steady.specs.Watched.{watched, IsWatched}
 
--- Two sequences joined are as large as both.
+-- The size of two joined sequences is the sum of both sizes.
 append_size : (a b : Command) → size (append a b) ≡ size a + size b
 append_size Skip b = omega arith
 append_size (Assign l s e) b = refl
@@ -23,7 +23,7 @@ append_size (If e a c) b = refl
 append_size (While e c) b = refl
 append_size (Letvar e c) b = refl
 
--- They are nested no deeper than the deeper one.
+-- Two joined sequences are nested no deeper than the deeper one.
 append_nesting : (a b : Command) → nesting (append a b) ≤ max (nesting a) (nesting b)
 append_nesting Skip b = omega arith
 append_nesting (Assign l s e) b = omega arith
@@ -32,7 +32,7 @@ append_nesting (If e a c) b = omega arith
 append_nesting (While e c) b = omega arith
 append_nesting (Letvar e c) b = omega arith
 
--- They have no deeper expression than both.
+-- The expressions of two joined sequences are no deeper than those of both.
 append_depth : (a b : Command) →
     expressions_depth (append a b) ≤ max (expressions_depth a) (expressions_depth b)
 append_depth Skip b = omega arith
@@ -42,7 +42,7 @@ append_depth (If e a c) b = omega arith
 append_depth (While e c) b = omega arith
 append_depth (Letvar e c) b = omega arith
 
--- They use the locations of both.
+-- Two joined sequences use the locations of both.
 append_places : (k : ℕ) (a b : Command) → HasPlaces k a → HasPlaces k b → HasPlaces k (append a b)
 append_places k Skip b x y = y
 append_places k (Assign l s e) b x y = (x, y)
@@ -51,7 +51,7 @@ append_places k (If e a c) b x y = (x, y)
 append_places k (While e c) b x y = (x, y)
 append_places k (Letvar e c) b x y = (x, y)
 
--- There are as many letvars.
+-- The number of letvars is the same.
 pub watched_letvars : (c : Command) → letvars (watched c) ≡ letvars c
 watched_letvars Skip = refl
 watched_letvars (Assign l s e) = refl
@@ -99,7 +99,7 @@ watched_places (If e a b) k x =
 watched_places (While e c) k x = (x.0, watched_places c k x.1)
 watched_places (Letvar e c) k x = (x.0, watched_places c (k + 1) x.1)
 
--- A program with such a body keeps what a resolved program keeps.
+-- A program with such a body satisfies the conditions of a resolved program.
 pub watched_resolved : (p : Resolved) (cs : List Cmd) → IsResolved p → sequence cs ≡ watched (sequence p.body) →
     IsResolved (resolved_of p.globals p.letvars cs)
 watched_resolved p cs r is =
@@ -116,7 +116,7 @@ watched_resolved p cs r is =
       named = r.named;
     }
 
--- A program rebuilt with such a body is the watched one.
+-- A program rebuilt with such a body is the program with loops.
 pub watched_rebuilt : (p r : Resolved) (ls : List Entry) (cs : List Cmd) → r ≡ resolved_of p.globals ls cs →
     ls ≡ p.letvars → sequence cs ≡ watched (sequence p.body) → IsWatched p r
 watched_rebuilt p r ls cs is same body =
@@ -126,7 +126,7 @@ watched_rebuilt p r ls cs is same body =
       body = ap (λ x. sequence x.body) is ∙ body;
     }
 
--- A loop over both branches stands for a choice.
+-- A loop over both branches replaces a choice.
 pub watched_if : (c : Cmd) (e v : Ex) (y n b : Vec Cmd Global) → c ≡ view.If e y n → expression v ≡ expression e →
     sequence b.items ≡ append (watched (sequence y.items)) (watched (sequence n.items)) →
     command (view.While v b) ≡ watched (command c)
@@ -136,7 +136,7 @@ watched_if c e v y n b is p f =
     ∙ ap (While (expression e)) f
     ∙ sym (ap (λ x. watched (command x)) is ∙ ap watched (command_If e y n))
 
--- A loop stays one.
+-- A loop remains a loop.
 pub watched_while : (c : Cmd) (e v : Ex) (d b : Vec Cmd Global) → c ≡ view.While e d → expression v ≡ expression e →
     sequence b.items ≡ watched (sequence d.items) → command (view.While v b) ≡ watched (command c)
 watched_while c e v d b is p f =
@@ -145,7 +145,7 @@ watched_while c e v d b is p f =
     ∙ ap (While (expression e)) f
     ∙ sym (ap (λ x. watched (command x)) is ∙ ap watched (command_While e d))
 
--- A letvar stays one.
+-- A letvar remains a letvar.
 pub watched_letvar : (c : Cmd) (e v : Ex) (d b : Vec Cmd Global) → c ≡ view.Letvar e d →
     expression v ≡ expression e → sequence b.items ≡ watched (sequence d.items) →
     command (view.Letvar v b) ≡ watched (command c)
@@ -155,7 +155,7 @@ watched_letvar c e v d b is p f =
     ∙ ap (Letvar (expression e)) f
     ∙ sym (ap (λ x. watched (command x)) is ∙ ap watched (command_Letvar e d))
 
--- One command more.
+-- One more command is replaced.
 pub watched_more : (cs out out' : List Cmd) (i : ℕ) (c d : Cmd) → i < length cs → c ≡ get_or cs i c →
     out' ≡ out ++ d ∷ [] → command d ≡ watched (command c) →
     append (sequence out') (watched (sequence (drop (i + 1) cs)))
@@ -167,7 +167,7 @@ watched_more cs out out' i c d lt is push e =
     ∙ ap (λ x. append (sequence out) (Sequence (watched (command x)) (watched (sequence (drop (i + 1) cs))))) is
     ∙ ap (λ l. append (sequence out) (watched (sequence l))) (sym (drop_more cs i c lt))
 
--- At the end of a list there is nothing more.
+-- At the end of a list nothing is left to replace.
 pub watched_end : (cs out : List Cmd) (i : ℕ) → length cs ≤ i →
     append (sequence out) (watched (sequence (drop i cs))) ≡ sequence out
 watched_end cs out i le =

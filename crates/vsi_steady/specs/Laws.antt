@@ -1,4 +1,4 @@
--- What two runs of a steady image have in common.
+-- The common properties of two runs of a steady image.
 use Rattle.std.specs.Prelude.{◌≡◌, ℕ, zero, suc, ℤ, List, [], ◌∷◌, ◌++◌, length, slice_get, Option, Some, None, Bool, false, if◌then◌else◌}
 use Rattle.std.specs.Option.{option_map_or}
 use Rattle.vsi_lattice.specs.Order.{Lattice, IsLattice, IsClass}
@@ -16,16 +16,16 @@ use Rattle.vsi_store.specs.declared.views.View.TheVariants.{Text, OutOfBudget}
 use Rattle.vsi_compiler.specs.Observation.{AgreeAt}
 use Rattle.vsi_steady.specs.Steady.{IsSteady}
 
--- The class sees this slot: it is that of a global at or below it.
+-- The class sees this slot: the slot is that of a global whose class is at or below it.
 abbrev pub is_slot_seen : Known → Lattice → ℕ → Image → ℕ → Bool
 is_slot_seen known L a image k =
     option_map_or (λ g. is_seen known L a g.1) (slice_get (globals image.globals.items) k) false
 
--- A global's number and the word that is written to it.
+-- The number of a global and the word written to it.
 abbrev pub Write : Type 0
 Write = ℕ × ℤ
 
--- The write of the top operand to a slot, where the class sees it.
+-- The write of the top operand to a slot, if the class sees the slot.
 abbrev pub write_to : Bool → ℕ → List ℤ → List Write
 write_to seen k [] = []
 write_to seen k (v ∷ rest) = if seen then (k, v) ∷ [] else []
@@ -35,27 +35,27 @@ abbrev pub write_of : Known → Lattice → ℕ → Image → List ℤ → Instr
 write_of known L a image operands (Store k) = write_to (is_slot_seen known L a image k) k operands
 write_of known L a image operands _ = []
 
--- The same of the next instruction of a state, if there is one.
+-- The write of the next instruction of a state, if there is one.
 abbrev pub next_write : Known → Lattice → ℕ → Image → State → List Write
 next_write known L a image s =
     if s.halted then []
     else option_map_or (write_of known L a image s.operands) (slice_get image.code.items s.pc) []
 
--- The writes to globals that the class sees within this many instructions, in their order.
+-- The writes within this many instructions to globals that the class sees, in order.
 abbrev pub writes : Known → Lattice → ℕ → Image → ℕ → State → List Write
 writes known L a image zero s = []
 writes known L a image (suc n) s =
     next_write known L a image s ++ option_map_or (writes known L a image n) (stepped image.code.items s) []
 
--- Two stores of an image, a word for each global, that agree at and below a class.
+-- The stores of an image, with a word for each global, agree at and below a class.
 pub record AgreeBelow (known : Known) (L : Lattice) (image : Image) (a : ℕ) (m m' : List ℤ) : Type 0 where
   pub class : IsClass L a
   pub full : length m ≡ length image.globals.items
   pub full' : length m' ≡ length image.globals.items
   pub agree : AgreeAt known L image a m m'
 
--- After this many instructions two runs stand at the same place, both halted or both not, with words that agree, and
--- have made the same writes to globals that the class sees, in the same order.
+-- After this many instructions, two runs are at the same place, both have halted or neither has, their words agree, and
+-- they have made the same writes to globals that the class sees, in the same order.
 pub record StandAlike (known : Known) (L : Lattice) (image : Image) (a : ℕ) (m m' : List ℤ) (n : ℕ) : Type 0 where
   pub state : State
   pub state' : State
@@ -66,17 +66,18 @@ pub record StandAlike (known : Known) (L : Lattice) (image : Image) (a : ℕ) (m
   pub agree : AgreeAt known L image a (globals_of image state) (globals_of image state')
   pub writes : writes known L a image n (start image m) ≡ writes known L a image n (start image m')
 
--- So it is for each class, each two stores that agree at and below it, and each number of instructions.
+-- For each class, every two stores that agree at and below it, and every number of instructions, the runs are alike.
 abbrev pub RunsAlike : Known → Lattice → Image → Type 0
 RunsAlike known L image =
     (a : ℕ) (m m' : List ℤ) (n : ℕ) → AgreeBelow known L image a m m' → StandAlike known L image a m m' n
 
--- What is seen, a text or that the budget was spent.
+-- The view of a class: a text, or that the budget was spent.
 abbrev pub seen : View → Option (List ℕ)
 seen (Text text) = Some text.items
 seen OutOfBudget = None
 
--- For each class and each two stores that agree at and below it, the class sees the same of both runs with any budget.
+-- For each class, every two stores that agree at and below it, and every budget, the class has the same view of both
+-- runs.
 abbrev pub ViewsAlike : Known → Lattice → Image → Type 0
 ViewsAlike known L image =
     (a : ℕ) (m m' : List ℤ) (budget : ℕ) (view view' : View) → AgreeBelow known L image a m m' →
@@ -88,7 +89,7 @@ SteadyRunsAlike =
     (known : Known) (L : Lattice) (image : Image) → IsLattice L → IsValid image → IsSteady known L image →
     RunsAlike known L image
 
--- What a class sees of them is the same.
+-- The views of a valid steady image are alike.
 abbrev pub SteadyViewsAlike : Type 0
 SteadyViewsAlike =
     (known : Known) (L : Lattice) (image : Image) → IsLattice L → IsValid image → IsSteady known L image →

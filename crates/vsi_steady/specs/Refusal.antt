@@ -1,4 +1,4 @@
--- What a refusal says of an image.
+-- The meaning of a refusal for an image.
 use Rattle.std.specs.Prelude.{◌≡◌, Some}
 use Rattle.vsi_lattice.specs.Order.{Lattice}
 use Rattle.vsi_image.specs.declared.instr.Image.{Image}
@@ -9,7 +9,8 @@ use Rattle.vsi_steady.specs.Steady.{IsSteady}
 use Rattle.vsi_steady.specs.declared.error.SteadyError.{SteadyError}
 use Rattle.vsi_steady.specs.declared.error.SteadyError.TheVariants.{UnknownClass, Flow, Memory}
 
--- A refusal for a class name tells the first that the lattice lacks; one for a flow is of an image that isn't steady.
+-- A refusal for a class name gives the first one that the lattice lacks; a refusal for a flow means that the image
+-- isn't steady.
 abbrev pub Refuses : Known → Lattice → Image → SteadyError → Type 0
 Refuses known L image (UnknownClass i) = first_unknown known 0 (globals image.globals.items) ≡ Some i
 Refuses known L image (Flow place) = ¬ (IsSteady known L image)

@@ -1,4 +1,4 @@
--- What is promised of a text that is compiled to a steady image, and what a refusal says of it.
+-- The promises about a text that is compiled to a steady image, and the meaning of a refusal.
 use Rattle.std.specs.Prelude.{◌≡◌, ℕ, List, [], ◌⊎◌}
 use Rattle.vsi_lattice.specs.Order.{Lattice}
 use Rattle.vsi_lattice.specs.declared.lattice.Lattice as declared
@@ -32,8 +32,8 @@ use Rattle.vsi_steady.specs.Refusal.{Refuses}
 use Rattle.vsi_steady.specs.Steady.{IsSteady}
 use Rattle.vsi_steady.specs.Watched.{watched_program, IsWatched}
 
--- A tree reads the text, these commands are its resolution, and some choice of classes types the program strictly where
--- each choice is a loop.
+-- A tree reads the text, these commands are its resolution, and some choice of classes types the program strictly with
+-- a loop in place of each choice.
 pub record HasSteadyFlows (known : Known) (L : Lattice) (text : List ℕ) : Type 0 where
   pub tree : Whole
   pub commands : List Command
@@ -49,8 +49,8 @@ pub record IsSteadilyAccepted (known : Known) (L : Lattice) (text : List ℕ) : 
   pub compiled : IsCompiled known L Strict text image
   pub steady : IsSteady known L image
 
--- The text has a tree and its resolution. Where each choice is a loop, these steps are a strictly bad walk, and no such
--- walk has fewer.
+-- The text has a tree and its resolution, and with a loop in place of each choice, these steps are a strictly bad walk
+-- and no such walk has fewer.
 pub record HasShortestWatchedWalk (known : Known) (L : Lattice) (text : List ℕ) (steps : List Step) : Type 0 where
   pub tree : Whole
   pub commands : List Command
@@ -58,29 +58,29 @@ pub record HasShortestWatchedWalk (known : Known) (L : Lattice) (text : List ℕ
   pub resolution : IsResolution known tree commands
   pub shortest : IsShortest L Strict (watched_program (program_of known tree commands)) steps
 
--- The flows of the text are steady, and its image is refused.
+-- The flows of the text are steady, but its image is refused.
 pub record HasRefusedImage (known : Known) (L : Lattice) (text : List ℕ) (e : SteadyError) : Type 0 where
   pub flows : HasSteadyFlows known L text
   pub image : Image
   pub compiled : IsCompiled known L Strict text image
   pub told : Refuses known L image e
 
--- An error of the compiler.
+-- The error for a refusal by the compiler.
 abbrev pub compiling : CompileError → UnsteadyError
 compiling compiler.Memory = unsteady.Memory
 compiling e = unsteady.Compile e
 
--- An error of the inference.
+-- The error for a refusal by the inference.
 abbrev pub flowing : InferError → UnsteadyError
 flowing infer.Memory = unsteady.Memory
 flowing (infer.Refused walk) = unsteady.Compile (compiler.Flow walk)
 
--- An error of the judgement of an image.
+-- The error for a refusal of an image.
 abbrev pub judging : SteadyError → UnsteadyError
 judging steady.Memory = unsteady.Memory
 judging e = unsteady.Image e
 
--- A refusal: the first in the order text, words, tree, scopes, size, flow, image.
+-- The refusal is the first in the order text, tokens, tree, scopes, size, flow, image.
 abbrev pub RefusesSteady : Known → Lattice → List ℕ → UnsteadyError → Type 0
 RefusesSteady known L text unsteady.Memory = Unit {0}
 RefusesSteady known L text (unsteady.Compile compiler.Memory) = ⊥
@@ -94,7 +94,7 @@ RefusesSteady known L text (unsteady.Image (steady.UnknownClass i)) =
     HasRefusedImage known L text (steady.UnknownClass i)
 RefusesSteady known L text (unsteady.Image (steady.Flow place)) = HasRefusedImage known L text (steady.Flow place)
 
--- The steps are a strictly bad walk where each choice is a loop, and this is their explanation.
+-- The steps are a strictly bad walk with a loop in place of each choice, and this is their explanation.
 pub record IsWatchedExplained (l : declared.Lattice) (text : List ℕ) (steps : List Step) (out : List ℕ) : Type 0 where
   pub resolved : Resolved
   pub stands : Stands (class_named l) text resolved
@@ -103,14 +103,14 @@ pub record IsWatchedExplained (l : declared.Lattice) (text : List ℕ) (steps : 
   pub bad : IsBad (order l) Strict (program watched) steps
   pub lines : out ≡ explanation l text watched steps
 
--- The steps are no such walk of the text, and nothing is told.
+-- The steps are no such walk of the text, and there is no explanation.
 pub record IsWatchedUnexplained (l : declared.Lattice) (text : List ℕ) (steps : List Step) (out : List ℕ)
     : Type 0 where
   pub harmless : (r watched : Resolved) → Stands (class_named l) text r → IsWatched r watched →
       ¬ (IsBad (order l) Strict (program watched) steps)
   pub nothing : out ≡ []
 
--- A bad walk is explained, and no other.
+-- A bad walk is explained, and no other walk is.
 abbrev pub ExplainsWatchedWalk : declared.Lattice → List ℕ → List Step → List ℕ → Type 0
 ExplainsWatchedWalk l text steps out =
     IsWatchedExplained l text steps out ⊎ IsWatchedUnexplained l text steps out

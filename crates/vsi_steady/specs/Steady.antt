@@ -8,7 +8,7 @@ use Rattle.vsi_image.specs.declared.instr.Image.{Image}
 use Rattle.vsi_image.specs.Fields.{Global, globals}
 use Rattle.vsi_lattice.specs.Known.{Known}
 
--- An operator gives, for its two operands, one of a class at or above the classes of both.
+-- An operator replaces its two operands by one of a class at or above the classes of both.
 abbrev pub Operates : Lattice → List ℕ → List ℕ → Type 0
 Operates L [] left = ⊥
 Operates L (b ∷ []) left = ⊥
@@ -19,8 +19,8 @@ abbrev pub Stores : Lattice → ℕ → List ℕ → List ℕ → Type 0
 Stores L slot [] left = ⊥
 Stores L slot (c ∷ rest) left = Below L c slot × (left ≡ rest)
 
--- An instruction takes operands of these classes, the top's first, to operands of those, where each slot has its class.
--- At a jump no operand is held but that of JZ, which has the bottom class.
+-- An instruction takes operands of these classes, the top one first, to operands of those, given the classes of the
+-- slots; at a jump the only operand is that of JZ, which has the bottom class.
 abbrev pub Passes : Lattice → List ℕ → Instr → List ℕ → List ℕ → Type 0
 Passes L slots (Push n) held left = left ≡ L.bottom ∷ held
 Passes L slots (Load k) held left = left ≡ slice_index slots k ∷ held
@@ -34,19 +34,19 @@ Passes L slots (Jz t) held left = (held ≡ L.bottom ∷ []) × (left ≡ [])
 Passes L slots (Jmp t) held left = (held ≡ []) × (left ≡ [])
 Passes L slots Halt held left = (held ≡ []) × (left ≡ [])
 
--- Each instruction takes the operands that the one before it leaves, the first one these.
+-- Each instruction takes the operands that the previous one leaves; the first one takes these.
 abbrev pub GoesThrough : Lattice → List ℕ → List Instr → List ℕ → Type 0
 GoesThrough L slots [] held = Unit {0}
 GoesThrough L slots (i ∷ is) held = (left : List ℕ) × Passes L slots i held left × GoesThrough L slots is left
 
--- These are classes of an image's slots, each for the whole code: a global's is that of its class name.
+-- These are classes of an image's slots, each fixed for the whole code; a global has the class of its class name.
 pub record HaveClasses (known : Known) (L : Lattice) (image : Image) (slots : List ℕ) : Type 0 where
   pub count : length slots ≡ image.slots
   pub classes : All (IsClass L) slots
   pub globals : (i : ℕ) (g : Global) → slice_get (globals image.globals.items) i ≡ Some g
       → known g.1 ≡ Some (slice_index slots i)
 
--- The slots have classes with which the code can be gone through.
+-- The slots have classes with which the code passes.
 pub record IsSteady (known : Known) (L : Lattice) (image : Image) : Type 0 where
   pub slots : List ℕ
   pub have : HaveClasses known L image slots

@@ -1,4 +1,4 @@
--- What is told of a refused image: the chain of steps that brings something where it may not flow, and its text.
+-- The report about a refused image: a chain of steps that brings something where it may not flow, and its text.
 use Rattle.std.specs.Prelude.{◌≡◌, ℕ, zero, suc, ◌+◌, ◌-◌, ◌<◌, ◌≤◌, List, [], ◌∷◌, ◌++◌, length, slice_get, slice_range, false, Option, Some, None, IsSomeAnd, codes, decimal}
 use Rattle.std.specs.List.{flat_map}
 use Rattle.std.specs.Option.{option_and_then}
@@ -16,13 +16,13 @@ use Rattle.vsi_steady.specs.declared.error.SteadyError.TheVariants.{UnknownClass
 
 -- ---- the steps.
 
--- One operand less stands above one, and none where it is taken itself.
+-- One operand fewer is above an operand; none if the operand itself is taken.
 abbrev pub lowered : ℕ → Option ℕ
 lowered zero = None
 lowered (suc n) = Some n
 
--- How many operands stand above one after an instruction, or above the one that it becomes a part of, where so many did
--- before; none where it is taken.
+-- The number of operands above an operand after an instruction, or above the result that contains it, given the number
+-- before; none if it is taken.
 abbrev pub above_after : Instr → ℕ → Option ℕ
 above_after (Push n) k = Some (k + 1)
 above_after (Load s) k = Some (k + 1)
@@ -36,30 +36,30 @@ above_after (Jz t) k = lowered k
 above_after (Jmp t) k = Some k
 above_after Halt k = Some k
 
--- So it is after these instructions.
+-- The same number after a list of instructions.
 abbrev pub above_all : List Instr → ℕ → Option ℕ
 above_all [] k = Some k
 above_all (i ∷ is) k = option_and_then (above_all is) (above_after i k)
 
--- A STORE takes an operand into its slot, a JZ into no slot.
+-- A STORE takes an operand into its slot, and a JZ into no slot.
 abbrev pub Takes : Option ℕ → Instr → Type 0
 Takes target (Store k) = target ≡ Some k
 Takes target (Jz t) = target ≡ None
 Takes target _ = ⊥
 
--- A LOAD reads the source, and what it reads is part of the operand that a STORE or a JZ behind it takes.
+-- A LOAD reads the source, and the word is part of the operand that a later STORE or JZ takes.
 pub record IsStep (code : List Instr) (s : Step) : Type 0 where
   pub reads : slice_get code s.read ≡ Some (Load s.source)
   pub behind : s.read < s.written
   pub carried : above_all (slice_range code (s.read + 1) s.written) 0 ≡ Some 0
   pub taken : IsSomeAnd (slice_get code s.written) (Takes s.target)
 
--- A step ends in a slot above the globals, where the next one begins.
+-- A step ends in a slot above the globals, and the next one begins there.
 pub record IsJoined (globals : ℕ) (s next : Step) : Type 0 where
   pub slot : s.target ≡ Some next.source
   pub above : globals ≤ next.source
 
--- Steps of the code, joined one to the next, the last of which ends at the place.
+-- The steps are steps of the code, each joined to the next, and the last one ends at the place.
 abbrev pub LeadTo : List Instr → ℕ → ℕ → List Step → Type 0
 LeadTo code globals place [] = ⊥
 LeadTo code globals place (s ∷ []) = IsStep code s × (s.written ≡ place)
@@ -68,7 +68,7 @@ LeadTo code globals place (s ∷ next ∷ steps) =
 
 -- ---- the ends of a chain.
 
--- The last of these steps ends here.
+-- The target of the last of these steps.
 abbrev pub end_of : Step → List Step → Option ℕ
 end_of s [] = s.target
 end_of s (next ∷ steps) = end_of next steps
@@ -82,7 +82,7 @@ abbrev pub target_class : Known → Lattice → List Global → Option ℕ → O
 target_class known L gs None = Some L.bottom
 target_class known L gs (Some k) = global_class known gs k
 
--- What a global holds may not flow to this global, or to the jump.
+-- The class of the global isn't at or below that of the target, which is a global or the jump.
 pub record MayNotFlow (known : Known) (L : Lattice) (gs : List Global) (source : ℕ) (target : Option ℕ) : Type 0 where
   pub high : ℕ
   pub low : ℕ
@@ -90,7 +90,7 @@ pub record MayNotFlow (known : Known) (L : Lattice) (gs : List Global) (source :
   pub to : target_class known L gs target ≡ Some low
   pub not_below : L.leq high low ≡ false
 
--- No steps, or steps that lead to the place, between whose ends nothing may flow.
+-- There are no steps, or they lead to the place and nothing may flow between their ends.
 abbrev pub IsChain : Known → Lattice → Image → ℕ → List Step → Type 0
 IsChain known L image place [] = Unit {0}
 IsChain known L image place (s ∷ steps) =
@@ -100,7 +100,7 @@ IsChain known L image place (s ∷ steps) =
 
 -- ---- the text.
 
--- A global has its name, another slot its number.
+-- The name of a global, or the number of any other slot.
 abbrev pub slot_name : ℕ → Option Global → List ℕ
 slot_name k (Some g) = g.0
 slot_name k None = codes "slot " ++ decimal k
@@ -110,26 +110,26 @@ abbrev pub end_name : List Global → Option ℕ → List ℕ
 end_name gs (Some k) = slot_name k (slice_get gs k)
 end_name gs None = codes "(jump)"
 
--- A global has its class name, another slot none.
+-- The class name of a global; any other slot has none.
 abbrev pub slot_class : Option Global → List ℕ
 slot_class (Some g) = g.1
 slot_class None = []
 
--- The class name of a global, or that of the bottom class for the jump.
+-- The class name of a global, or the name of the bottom class for the jump.
 abbrev pub end_class : List ℕ → List Global → Option ℕ → List ℕ
 end_class bottom gs (Some k) = slot_class (slice_get gs k)
 end_class bottom gs None = bottom
 
--- The name of an end and that of its class.
+-- The name of an end and the name of its class.
 abbrev pub end_text : List ℕ → List Global → Option ℕ → List ℕ
 end_text bottom gs target = end_name gs target ++ codes " : " ++ end_class bottom gs target
 
--- What takes a step's operand.
+-- The instruction that takes a step's operand.
 abbrev pub taker : Option ℕ → List ℕ
 taker (Some k) = codes " by STORE at "
 taker None = codes " by JZ at "
 
--- The line of a step: where it reads what, and what takes it where.
+-- The line of a step: where it reads what, and which instruction takes it where.
 abbrev pub step_line : List Global → Step → List ℕ
 step_line gs s =
     decimal s.read ++ codes " " ++ end_name gs (Some s.source) ++ codes " flows to " ++ end_name gs s.target
@@ -140,17 +140,17 @@ abbrev pub ends_line : List ℕ → List Global → ℕ → Option ℕ → List 
 ends_line bottom gs source target =
     end_text bottom gs (Some source) ++ codes " may not flow to " ++ end_text bottom gs target ++ codes "\n"
 
--- A line for each step, and one of the ends; none where there are no steps.
+-- A line for each step, and one for the ends; none if there are no steps.
 abbrev pub chain_lines : List ℕ → List Global → List Step → List ℕ
 chain_lines bottom gs [] = []
 chain_lines bottom gs (s ∷ steps) =
     flat_map (step_line gs) (s ∷ steps) ++ ends_line bottom gs s.source (end_of s steps)
 
--- The text of a class name that the lattice lacks tells the number of its global.
+-- The text for a class name that the lattice lacks gives the number of its global.
 abbrev pub unknown_text : ℕ → List ℕ
 unknown_text n = codes "refused: 43 ClassNotInLattice " ++ decimal n ++ codes "\n"
 
--- The text of a flow tells a chain to the refused instruction.
+-- The text for a flow gives a chain to the refused instruction.
 pub record IsFlowText (l : named.Lattice) (image : Image) (place : ℕ) (text : List ℕ) : Type 0 where
   pub steps : List Step
   pub chain : IsChain (class_named l) (order l) image place steps

@@ -1,5 +1,5 @@
--- A program with a loop in place of each choice. Its flows are those of the program, and each guard flows into the
--- ending of loops.
+-- A program with a loop in place of each choice. Its flows are those of the program, and in addition each guard flows
+-- into the ending of loops.
 use Rattle.std.specs.Prelude.{◌≡◌}
 use Rattle.vsi_scope.specs.Language.{Command, Skip, Assign, Sequence, If, While, Letvar}
 use Rattle.vsi_scope.specs.Program.{Resolved}
@@ -20,7 +20,7 @@ watched (Letvar e c) = Letvar e (watched c)
 abbrev pub watched_program : Program → Program
 watched_program p = record { globals = p.globals; declared = p.declared; names = p.names; body = watched p.body }
 
--- A resolved program is another one with such a body.
+-- The second resolved program is the first one with such a body.
 pub record IsWatched (p r : Resolved) : Type 0 where
   pub globals : r.globals ≡ p.globals
   pub letvars : r.letvars ≡ p.letvars

@@ -16,7 +16,7 @@ struct Pending {
     place: usize,
 }
 
-/// The steps of the top operand, which is taken.
+/// Adds the steps to the top operand, which is taken.
 fn take_top(
     steps: &mut Vec<Step>,
     pending: &mut Vec<Pending>,
@@ -40,11 +40,12 @@ fn take_top(
     Ok(())
 }
 
-/// All steps of a code, in the order of the STOREs and JZs, and at one of these of the LOADs.
+/// All steps of the code, in the order of the STOREs and JZs and, for each of these, in the order
+/// of the LOADs.
 fn steps_of(alloc: Global, code: &[Instr]) -> Result<Vec<Step>, AllocError> {
     let mut steps = Vec::new(alloc);
     let mut pending = Vec::new(alloc);
-    // How many pending LOADs stand before each operand's own.
+    // For each operand, the number of pending LOADs before its own.
     let mut starts = Vec::new(alloc);
     for place in 0..code.len() {
         match code[place] {
@@ -67,7 +68,7 @@ fn steps_of(alloc: Global, code: &[Instr]) -> Result<Vec<Step>, AllocError> {
     Ok(steps)
 }
 
-/// The steps that lead from this one on to an instruction, by the step that each slot leads on by.
+/// The steps from `first` to an instruction; `onward` has the step by which each slot leads there.
 fn path(
     alloc: Global,
     steps: &[Step],
@@ -96,9 +97,9 @@ fn path(
     Ok(chain)
 }
 
-/// A chain of steps from a global to the STORE or JZ at a place, where what the global holds may
-/// not flow, through slots above the globals: one of the fewest steps, and of these the first in
-/// dictionary order. It is empty where there is none.
+/// A chain of steps from a global to the STORE or JZ at a place where the value of the global may
+/// not flow. The chain goes through slots above the globals. It has as few steps as possible and is
+/// the first such chain in dictionary order. It is empty if there is none.
 pub(crate) fn chain_to(
     alloc: Global,
     lattice: &Lattice,
@@ -108,7 +109,7 @@ pub(crate) fn chain_to(
     ensures { IfOk result (λ steps. IsChain (class_named lattice.now) (order lattice.now) image.now
         place steps.items) }
 {
-    // The search promises nothing itself, so what it finds is tried.
+    // The search has no contract, so its result is checked.
     let steps = found_chain(alloc, lattice, image, place)?;
     if is_chain(lattice, image, place, &steps) {
         return Ok(steps);
@@ -116,7 +117,7 @@ pub(crate) fn chain_to(
     Ok(Vec::new(alloc))
 }
 
-/// The steps of that chain, as a search from the place on finds them.
+/// The steps of that chain, found by a search backwards from the place.
 fn found_chain(
     alloc: Global,
     lattice: &Lattice,
@@ -152,8 +153,8 @@ fn found_chain(
     Ok(Vec::new(alloc))
 }
 
-/// Whether a step leads to the place in a round: to the place itself in the first one, else to a
-/// slot that was reached in the round before.
+/// Whether a step leads to the place in a round: to the place itself in the first round, otherwise
+/// to a slot that was reached in the previous round.
 fn leads_on(step: &Step, round: usize, rounds: &[usize], globals: usize, place: usize) -> bool {
     if round == 1 {
         return step.written == place;
@@ -172,7 +173,7 @@ fn leads_on(step: &Step, round: usize, rounds: &[usize], globals: usize, place: 
     }
 }
 
-/// Marks a slot as reached in a round, by a step, where it wasn't reached before.
+/// Marks a slot as reached in a round by a step, if it wasn't reached before.
 fn reach(
     rounds: &mut [usize],
     onward: &mut [Option<usize>],

@@ -1,4 +1,4 @@
-//! The least classes of slots, and what of the code they don't let through.
+//! The least classes of slots, and the first instruction that doesn't pass with them.
 
 ghost use Rattle.std.specs.Prelude.{◌≡◌, ◌≤◌, ◌<◌, None, false, true, [], length, reverse, take};
 ghost use Rattle.std.specs.List.{All};
@@ -14,8 +14,8 @@ use crate::held::{CAPACITY, Held, blank, pass, top};
 use vsi_image::{Image, Instr};
 use vsi_lattice::{Class, Lattice};
 
-/// Raises the class of the slot of a STORE above the globals by what is stored, and tells whether
-/// it has changed.
+/// Raises the class of a STORE's slot above the globals by the class of the stored word, and says
+/// whether it changed.
 fn raise_by(
     lattice: &Lattice,
     image: &Image,
@@ -47,7 +47,7 @@ fn raise_by(
     }
 }
 
-/// The first instruction that didn't find what it wanted, of those up to this one.
+/// The first instruction up to this one that didn't find the classes that it requires.
 fn noted(flow: Option<usize>, place: usize, is_met: bool) -> Option<usize>
     ensures met { is_met ≡ true → result ≡ flow }
     ensures all { result ≡ None → (is_met ≡ true) × (flow ≡ None) }
@@ -61,15 +61,16 @@ fn noted(flow: Option<usize>, place: usize, is_met: bool) -> Option<usize>
     }
 }
 
-/// What was seen of a code: whether the class of a slot has risen, and the first instruction that
-/// didn't find the classes that it wants.
+/// The result of a sweep: whether the class of a slot has risen, and the first instruction that
+/// didn't find the classes that it requires.
 #[derive(Clone, Copy)]
 struct Swept {
     has_risen: bool,
     flow: Option<usize>,
 }
 
-/// Raises the classes of the slots above the globals by what is stored in them, once over the code.
+/// Raises the classes of the slots above the globals by the classes of the words stored in them,
+/// once over the code.
 fn sweep(lattice: &Lattice, image: &Image, classes: &mut [Class]) -> Swept
     requires valid { IsValid image.now }
     requires classes { HaveClasses (class_named lattice.now) (order lattice.now) image.now
@@ -100,9 +101,9 @@ fn sweep(lattice: &Lattice, image: &Image, classes: &mut [Class]) -> Swept
     Swept { has_risen, flow }
 }
 
-/// Raises the classes of the slots above the globals until nothing changes, and tells the first
-/// instruction that doesn't find the classes that it wants then. A class comes to a slot by as many
-/// STOREs at most as there are such slots, so that there is one sweep more than these at most.
+/// Raises the classes of the slots above the globals until nothing changes, and returns the first
+/// instruction that then doesn't find the classes that it requires. A class reaches a slot through
+/// at most as many STOREs as there are such slots, so there is at most one sweep more than slots.
 pub(crate) fn settle(lattice: &Lattice, image: &Image, classes: &mut [Class]) -> Option<usize>
     requires valid { IsValid image.now }
     requires classes { HaveClasses (class_named lattice.now) (order lattice.now) image.now

@@ -55,7 +55,7 @@ pub(crate) fn joined(lattice: &Lattice, a: Class, b: Class) -> Class
     lattice.join(a, b)
 }
 
-/// Raises the class of a slot above the globals to one at or above this class, and tells whether
+/// Raises the class of a slot above the globals to one at or above this class, and says whether
 /// that changed it.
 pub(crate) fn raise(
     lattice: &Lattice,

@@ -6,15 +6,15 @@ ghost use Rattle.vsi_steady.specs.declared.error.SteadyError.TheVariants.{Memory
 use std::alloc::{AllocError, AllocFailed};
 use thiserror::Error;
 
-/// Why an image isn't steady.
+/// The reason why an image isn't steady.
 #[derive(Clone, Copy, PartialEq, Eq, Debug, Drop, Error)]
 pub enum SteadyError {
-    /// The lattice has no class of this global's class name; globals are numbered from 0, and it is
-    /// the first such one.
+    /// The lattice has no class with this global's class name; globals are numbered from 0, and
+    /// this is the first such global.
     #[error("the class of global {0} is not in the lattice")]
     UnknownClass(usize),
-    /// The instruction of this number brings something above the bottom class into a jump, or
-    /// something into a global that isn't at or below its class.
+    /// The instruction with this number brings something above the bottom class into a jump, or
+    /// brings something into a global whose class it isn't at or below.
     #[error("instruction {0} brings something into a jump or a global where it may not flow")]
     Flow(usize),
     #[error("out of memory")]

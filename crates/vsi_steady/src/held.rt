@@ -1,4 +1,4 @@
-//! What an instruction does with the classes of the operands.
+//! The effect of an instruction on the classes of the operands.
 
 ghost use Rattle.std.specs.Prelude.{◌≡◌, ◌+◌, ◌-◌, ◌<◌, ◌≤◌, ◌∷◌, reverse, take, true};
 ghost use Rattle.std.specs.List.{All};
@@ -13,13 +13,13 @@ use crate::classes::joined;
 use vsi_image::{Image, Instr};
 use vsi_lattice::{Class, Classes, Lattice};
 
-/// The greatest number of operands of a verified image.
+/// The largest number of operands of a verified image.
 pub(crate) const CAPACITY: usize = 256;
 
-/// The classes of the operands, the top one's last; classes above the depth mean nothing.
+/// The classes of the operands, with the top one last; entries above the depth have no meaning.
 pub(crate) type Held = [Class; CAPACITY];
 
-/// The bottom class in each place.
+/// The bottom class at each index.
 pub(crate) fn blank(lattice: &Lattice) -> Held
     ensures { All (IsClass (order lattice.now)) result }
 {
@@ -35,7 +35,7 @@ pub(crate) fn top(lattice: &Lattice, held: &Held, depth: usize) -> Class
     ensures top { reverse (take depth held.now) ≡ result ∷ reverse (take (depth - 1) held.now) }
     ensures class { IsClass (order lattice.now) result }
 {
-    // What `bottom` ensures says that it is a class, which the proofs ask for.
+    // The contract of `bottom` says that it is a class, and the proofs need that.
     let _bottom = lattice.bottom();
     held[depth - 1]
 }
@@ -49,12 +49,12 @@ fn put(lattice: &Lattice, held: &mut Held, depth: usize, class: Class)
     ensures top { reverse (take (depth + 1) held.new) ≡ class ∷ reverse (take depth held.old) }
     ensures held { All (IsClass (order lattice.now)) held.new }
 {
-    // What `bottom` ensures says that it is a class, which the proofs ask for.
+    // The contract of `bottom` says that it is a class, and the proofs need that.
     let _bottom = lattice.bottom();
     held[depth] = class;
 }
 
-/// Puts a class above those of two operands in their place.
+/// Replaces the classes of two operands by one above both.
 fn operate(lattice: &Lattice, held: &mut Held, depth: usize)
     requires operands { 2 ≤ depth }
     requires within { depth ≤ CAPACITY }
@@ -73,16 +73,16 @@ fn operate(lattice: &Lattice, held: &mut Held, depth: usize)
     put(lattice, held, depth - 2, class);
 }
 
-/// Where an instruction leads to: the number of operands, and whether it found the classes that it
-/// wants.
+/// The result of an instruction: the number of operands, and whether it found the classes that it
+/// requires.
 #[derive(Clone, Copy)]
 pub(crate) struct Shift {
     pub(crate) depth: usize,
     pub(crate) is_met: bool,
 }
 
-/// The operands that an instruction leaves. A STORE wants one of a class at or below that of its
-/// slot, a JZ one of the bottom class.
+/// The operands that an instruction leaves. A STORE requires one of a class at or below that of its
+/// slot, and a JZ one of the bottom class.
 pub(crate) fn pass(
     lattice: &Lattice,
     image: &Image,

@@ -1,15 +1,16 @@
-//! The laws of steady images. Each function's contract is a law, and its body does nothing.
+//! The laws of steady images. Each law is the contract of a function whose body does nothing.
 
 ghost use Rattle.vsi_steady.specs.Laws.{SteadyRunsAlike, SteadyViewsAlike};
 
-/// Two runs of a steady image from stores that agree at and below a class stand at the same place
-/// after the same number of instructions, both halted or both not, with words that agree there, and
-/// have made the same writes to the globals there, in the same order.
+/// Two runs of a steady image from stores that agree at and below a class are alike after the same
+/// number of instructions. They are at the same place, both have halted or neither has, their words
+/// agree at and below the class, and they have made the same writes to the globals there, in the
+/// same order.
 pub fn steady_runs_alike()
     ensures { SteadyRunsAlike }
 {}
 
-/// The class sees the same of both, also where the budget is spent.
+/// The class has the same view of both runs, even if the budget is spent.
 pub fn steady_views_alike()
     ensures { SteadyViewsAlike }
 {}

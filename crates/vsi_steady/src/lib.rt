@@ -1,14 +1,15 @@
 //! Images, and texts, whose jumps depend on nothing above the bottom class.
 //!
-//! A verified image comes in, with or without structure, whoever made it. `steady_in` gives each
-//! slot the least class for the whole code and checks that the code can be gone through with these:
-//! what it accepts does the same instructions in any two runs whose stores agree at the bottom
-//! class, and shows nothing from above a class to it; what it refuses for a flow can be gone
-//! through with no classes of its slots. `laws` says the first of the definition. `steady_text`
-//! tells why an image is refused: for a flow, a chain of steps of its code.
+//! The input is a verified image, with or without structure, whoever made it. `steady_in` gives
+//! each slot the least class for the whole code and checks that the code passes with these classes.
+//! Any two runs of an accepted image from stores that agree at the bottom class execute the same
+//! instructions, and a class sees nothing from above it. If an image is refused for a flow, there
+//! are no classes of its slots with which its code passes. `laws` states the properties of accepted
+//! images for the definition of steady images. `steady_text` writes why an image is refused: for a
+//! flow, a chain of steps of its code.
 //!
 //! `steady_image_of` makes such an image of a source text, or answers a shortest walk from a secret
-//! to a guard, the lines of which `steady_explanation_of` writes; `compile_steady` and
+//! to a guard; `steady_explanation_of` writes the lines of the walk. `compile_steady` and
 //! `steady_explanation` read the text first.
 //!
 //! To be believed: all files of `specs/`.

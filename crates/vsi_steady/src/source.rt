@@ -1,4 +1,4 @@
-//! A text that is compiled to a steady image.
+//! Compiles a text to a steady image.
 
 ghost use Rattle.std.specs.Prelude.{◌≡◌, IfOk, IfErr};
 ghost use Rattle.vsi_lattice.specs.LatticeView.{class_named, order};
@@ -24,14 +24,14 @@ use vsi_infer::{Walk, check_walk_once, explain, infer_in};
 use vsi_lattice::Lattice;
 use vsi_types::Profile;
 
-/// The image of a source text that is accepted under the strict profile, and in which each guard,
-/// that of a choice too, has the bottom class. The image is `image_of`'s. A text of which this holds
-/// and whose image is steady is refused for want of memory alone.
+/// The image of a source text that is accepted under the strict profile and in which each guard,
+/// also that of a choice, has the bottom class. The image is the one that `image_of` makes. A text
+/// with this property and a steady image is refused only for lack of memory.
 ///
 /// # Errors
 ///
-/// A flow first, then the image, which is refused where one of its slots serves two variables of
-/// classes that don't agree. `Memory` may take the place of any answer.
+/// A flow first, then the image, which is refused if one of its slots is used for two variables
+/// whose classes don't agree. `Memory` can replace any answer.
 pub fn steady_image_of(alloc: Global, source: &Source<'_>) -> Result<Verified, UnsteadyError>
     ensures flows { IfOk result (λ _. HasSteadyFlows
         (class_named source.now.lattice) (order source.now.lattice) source.now.text) }
@@ -62,8 +62,8 @@ pub fn steady_image_of(alloc: Global, source: &Source<'_>) -> Result<Verified, U
 ///
 /// # Errors
 ///
-/// The first refusal in the order text, tokens, tree, scope, size, flow, image. `Memory` may take
-/// the place of any answer.
+/// The first refusal in the order text, tokens, tree, scope, size, flow, image. `Memory` can
+/// replace any answer.
 pub fn compile_steady(
     alloc: Global,
     lattice: &Lattice,
@@ -86,8 +86,8 @@ pub fn compile_steady(
 }
 
 /// The explanation of a walk that `steady_image_of` answers: a line for each of its steps, and one
-/// for the classes of its ends. It is empty where the walk isn't a bad walk of the source, judged
-/// as there.
+/// for the classes of its ends. It is empty if the walk isn't a bad walk of the source, judged in
+/// the same way.
 pub fn steady_explanation_of(
     alloc: Global,
     source: &Source<'_>,
@@ -107,8 +107,8 @@ pub fn steady_explanation_of(
     }
 }
 
-/// The explanation of a walk of a text, by `steady_explanation_of`. It is empty where the text has
-/// no program.
+/// The explanation of a walk of a text, by `steady_explanation_of`. It is empty if the text has no
+/// program.
 pub fn steady_explanation(
     alloc: Global,
     lattice: &Lattice,

@@ -14,14 +14,14 @@ use std::alloc::Global;
 use vsi_image::Verified;
 use vsi_lattice::Lattice;
 
-/// Judges an image by the policy that its class names say: it is accepted where it is steady, and
-/// nowhere else. Then nothing above a class shows in the number of instructions, in the writes or
-/// at the end.
+/// Judges an image by the policy that its class names give; the image is accepted exactly if it is
+/// steady. Then nothing above a class shows in the number of instructions, in the writes or at the
+/// end.
 ///
 /// # Errors
 ///
-/// `UnknownClass` first, then `Flow` with the first instruction that wants lower classes than there
-/// are. `Memory` may stand in place of any answer.
+/// `UnknownClass` first, then `Flow` with the first instruction that requires lower classes than
+/// there are. `Memory` can replace any answer.
 pub fn steady_in(alloc: Global, lattice: &Lattice, image: &Verified) -> Result<(), SteadyError>
     ensures steady { OnOk result
         (IsSteady (class_named lattice.now) (order lattice.now) image.now) }

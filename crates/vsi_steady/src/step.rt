@@ -1,4 +1,4 @@
-//! The steps by which something flows, and the chains of steps.
+//! The steps of flows, and chains of steps.
 
 ghost use Rattle.std.specs.Prelude.{◌≡◌, ◌<◌, ◌^◌, IfSome, IsSomeAnd, Some, slice_get, true};
 ghost use Rattle.vsi_image.specs.Fields.{globals};
@@ -10,8 +10,8 @@ ghost use Rattle.vsi_steady.specs.Telling as spec;
 use vsi_image::{Image, Instr};
 use vsi_lattice::{Class, Classes, Lattice};
 
-/// What a LOAD reads flows into what a STORE or a JZ takes. The target is a slot, or none for a
-/// jump.
+/// The word that a LOAD reads flows into the operand that a STORE or a JZ takes. The target is a
+/// slot, or none for a jump.
 #[derive(Clone, Copy)]
 pub(crate) struct Step {
     pub(crate) source: u16,
@@ -20,7 +20,8 @@ pub(crate) struct Step {
     pub(crate) written: usize,
 }
 
-/// How many operands stand above one after an instruction, or `None` where it takes it.
+/// The number of operands above an operand after an instruction, or `None` if the instruction takes
+/// it.
 fn above_after(instr: Instr, above: usize) -> Option<usize>
     requires { above < 2 ^ 63 }
     ensures { result ≡ spec.above_after instr above }
@@ -33,7 +34,7 @@ fn above_after(instr: Instr, above: usize) -> Option<usize>
     }
 }
 
-/// Whether the top operand is the top one again behind these instructions, or a part of it.
+/// Whether after these instructions the top operand is the top one again, or part of it.
 fn is_carried(between: &[Instr]) -> bool
     ensures { result ≡ true → spec.above_all between.now 0 ≡ Some 0 }
 {
@@ -82,7 +83,7 @@ fn is_step(code: &[Instr], step: &Step) -> bool
         && is_carried(between)
 }
 
-/// Whether a step ends in a slot above the globals, where the next one begins.
+/// Whether a step ends in a slot above the globals where the next one begins.
 fn is_joined(globals: usize, step: &Step, next: &Step) -> bool
     ensures { result ≡ true → spec.IsJoined globals step.now next.now }
 {
@@ -110,7 +111,7 @@ fn lead_to(code: &[Instr], globals: usize, place: usize, steps: &[Step]) -> bool
     false
 }
 
-/// The class of a global, where the slot is one and the lattice has its class.
+/// The class of a global, if the slot is a global and the lattice has its class.
 fn class_of(lattice: &Lattice, image: &Image, slot: u16) -> Option<Class>
     ensures class { result ≡ spec.global_class (class_named lattice.now)
         (globals image.now.globals.items) slot }
@@ -122,7 +123,7 @@ fn class_of(lattice: &Lattice, image: &Image, slot: u16) -> Option<Class>
     }
 }
 
-/// Whether what a global holds may not flow into a target.
+/// Whether the value of a global may not flow into a target.
 pub(crate) fn is_bad(lattice: &Lattice, image: &Image, source: u16, target: Option<u16>) -> bool
     ensures { result ≡ true → spec.MayNotFlow (class_named lattice.now) (order lattice.now)
         (globals image.now.globals.items) source target }
@@ -138,8 +139,8 @@ pub(crate) fn is_bad(lattice: &Lattice, image: &Image, source: u16, target: Opti
     }
 }
 
-/// Whether the steps are a chain to a place: they lead there, and nothing may flow from their
-/// beginning to their end.
+/// Whether the steps are a chain to a place: they lead there, and nothing may flow from their start
+/// to their end.
 pub(crate) fn is_chain(lattice: &Lattice, image: &Image, place: usize, steps: &[Step]) -> bool
     ensures { result ≡ true → spec.IsChain (class_named lattice.now) (order lattice.now) image.now
         place steps.now }

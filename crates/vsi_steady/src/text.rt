@@ -1,4 +1,4 @@
-//! What is told of an image that isn't steady.
+//! The report about an image that isn't steady.
 
 ghost use Rattle.std.specs.Prelude.{◌≡◌, ◌++◌, IfOk, OnOk};
 ghost use Rattle.std.specs.List.{flat_map};
@@ -13,7 +13,7 @@ use vsi_image::Image;
 use vsi_lattice::{Classes, Lattice};
 use vsi_syntax::put_number;
 
-/// Adds the name of a global, `slot` and the number of another slot, or `(jump)`.
+/// Adds the name of a global, `slot` and the number of any other slot, or `(jump)`.
 fn put_name(out: &mut Vec<u8>, image: &Image, end: Option<u16>) -> Result<(), AllocError>
     ensures { OnOk result (out.new.items
         ≡ out.old.items ++ spec.end_name (globals image.now.globals.items) end) }
@@ -30,7 +30,7 @@ fn put_name(out: &mut Vec<u8>, image: &Image, end: Option<u16>) -> Result<(), Al
     }
 }
 
-/// Adds the class name of a global, or that of the bottom class for the jump.
+/// Adds the class name of a global, or the name of the bottom class for the jump.
 fn put_class(
     out: &mut Vec<u8>,
     bottom: &[u8],
@@ -49,7 +49,7 @@ fn put_class(
     }
 }
 
-/// Adds the name of an end of a chain, and that of its class.
+/// Adds the name of an end of a chain and the name of its class.
 fn put_end(
     out: &mut Vec<u8>,
     bottom: &[u8],
@@ -64,7 +64,7 @@ fn put_end(
     put_class(out, bottom, image, end)
 }
 
-/// Adds what takes the operand of a step.
+/// Adds the instruction that takes the operand of a step.
 fn put_taker(out: &mut Vec<u8>, target: Option<u16>) -> Result<(), AllocError>
     ensures { OnOk result (out.new.items ≡ out.old.items ++ spec.taker target) }
 {
@@ -138,7 +138,7 @@ fn put_chain(
     Ok(())
 }
 
-/// The text of a class name that the lattice lacks.
+/// The text for a class name that the lattice lacks.
 fn unknown_text(alloc: Global, n: usize) -> Result<Vec<u8>, AllocError>
     ensures { IfOk result (λ text. text.items ≡ spec.unknown_text n) }
 {
@@ -148,7 +148,7 @@ fn unknown_text(alloc: Global, n: usize) -> Result<Vec<u8>, AllocError>
     Ok(text)
 }
 
-/// The text of a flow into the instruction at a place.
+/// The text for a flow into the instruction at a place.
 fn flow_text(
     alloc: Global,
     lattice: &Lattice,
@@ -164,10 +164,11 @@ fn flow_text(
     Ok(text)
 }
 
-/// The text of a refusal of an image: its number and its name, and the number of the global; of a
-/// flow each step of a chain that ends at the refused instruction, and the classes of its two ends.
-/// The places are numbers of instructions, of the LOAD that reads and of the STORE or JZ that
-/// takes. The image and the lattice are to be those that were refused.
+/// The text of a refusal of an image: its number, its name, and the details. For a class name, this
+/// is the number of the global. For a flow, these are each step of a chain that ends at the refused
+/// instruction, and the classes of its two ends. Places are numbers of instructions: of the LOAD
+/// that reads, and of the STORE or JZ that takes. The image and the lattice must be those of the
+/// refusal.
 pub fn steady_text(
     alloc: Global,
     lattice: &Lattice,

@@ -9,15 +9,15 @@ use thiserror::Error;
 use vsi_compiler::CompileError;
 use vsi_infer::InferError;
 
-/// Why a text isn't compiled to a steady image. Want of memory is always `Memory`, and never one
-/// that an inner error names.
+/// The reason why a text isn't compiled to a steady image. Lack of memory is always `Memory`, and
+/// never the memory case of an inner error.
 #[derive(Debug, Drop, Error)]
 pub enum UnsteadyError {
-    /// The text is refused. A walk is one of the text's program with a loop in place of each
+    /// The text is refused. A walk is a walk of the text's program with a loop in place of each
     /// choice.
     #[error("the text is refused")]
     Compile(CompileError),
-    /// The flows of the text are harmless, and its image is refused.
+    /// The flows of the text are accepted, but its image is refused.
     #[error("the image of the text is refused")]
     Image(SteadyError),
     #[error("out of memory")]

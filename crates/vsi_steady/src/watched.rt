@@ -1,8 +1,8 @@
 //! A program with a loop in place of each choice.
 //!
-//! Under the strict profile the guard of a loop flows into what the body assigns, as that of a
-//! choice does, and also into the ending of loops. So in the program that is made here each guard
-//! flows there, and all other flows are those of the given one.
+//! Under the strict profile, the guard of a loop flows into the variables that the body assigns, as
+//! the guard of a choice does, and also into the ending of loops. So each guard of the program made
+//! here flows there, and all other flows are those of the given program.
 
 ghost use Rattle.std.specs.Prelude.{◌≡◌, IfOk, OnOk};
 ghost use Rattle.vsi_scope.specs.View.{expression, command, sequence};

@@ -3,7 +3,7 @@ use Rattle.vsi_image.specs.Fields.{globals}
 use Rattle.vsi_conform.specs.Points as spec
 use Rattle.vsi_conform.proofs.globals.first_difference.Given as goal
 
--- The first difference of what is left is that of all.
+-- The first difference of the remaining globals is that of all.
 abbrev pub invariant-loop-place : goal.invariant-loop-place
 invariant-loop-place l =
     spec.first_difference l.place (globals (drop l.place l.wanted)) (globals (drop l.place l.found))

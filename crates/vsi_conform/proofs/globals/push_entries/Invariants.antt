@@ -3,7 +3,7 @@ use Rattle.vsi_image.specs.Fields.{globals}
 use Rattle.vsi_conform.specs.Points as spec
 use Rattle.vsi_conform.proofs.globals.push_entries.Given as goal
 
--- The points so far and those of the globals that are left are all.
+-- The points so far and those of the remaining globals are all points.
 abbrev pub invariant-loop-number : goal.invariant-loop-number
 invariant-loop-number l =
     l.points.items ++ spec.entry_points l.number (globals (drop l.number l.wanted)) (globals l.found)

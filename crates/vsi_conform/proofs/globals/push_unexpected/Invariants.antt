@@ -3,7 +3,7 @@ use Rattle.vsi_image.specs.Fields.{globals}
 use Rattle.vsi_conform.specs.Points as spec
 use Rattle.vsi_conform.proofs.globals.push_unexpected.Given as goal
 
--- The points so far and those of the globals that are left are all.
+-- The points so far and those of the remaining globals are all points.
 abbrev pub invariant-loop-place : goal.invariant-loop-place
 invariant-loop-place l =
     l.points.items ++ spec.unexpected_points l.place (globals l.wanted) (globals (drop l.place l.found))

@@ -4,7 +4,7 @@ use Rattle.vsi_conform.specs.Json.{objects_of_points}
 use Rattle.vsi_conform.specs.Shown.{page}
 use Rattle.vsi_conform.proofs.json.push_objects.Given as goal
 
--- The objects so far, and then those of the points that are left.
+-- The objects so far and those of the remaining points are all objects.
 abbrev pub invariant-loop-point : goal.invariant-loop-point
 invariant-loop-point l =
     map view l.found.items ++ objects_of_points (page l.pages) (drop l.point-index l.points)

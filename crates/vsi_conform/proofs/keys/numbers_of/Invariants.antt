@@ -4,7 +4,7 @@ use Rattle.vsi_conform.specs.Points.{entries}
 use Rattle.vsi_conform.specs.Reading as spec
 use Rattle.vsi_conform.proofs.keys.numbers_of.Given as goal
 
--- What is found, and then what the rest gives.
+-- The entries found so far and those of the rest are all entries.
 abbrev pub invariant-loop-key : goal.invariant-loop-key
 invariant-loop-key l =
     spec.numbers_of (members_view l.initial.key-iterator)

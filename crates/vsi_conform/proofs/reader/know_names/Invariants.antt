@@ -4,7 +4,7 @@ use Rattle.vsi_conform.specs.Points.{entries}
 use Rattle.vsi_conform.specs.Reading as spec
 use Rattle.vsi_conform.proofs.reader.know_names.Given as goal
 
--- All names are those of globals just where those that are left are.
+-- All names are names of globals exactly if the remaining ones are.
 abbrev pub invariant-loop-entry : goal.invariant-loop-entry
 invariant-loop-entry l =
     spec.are_named (globals l.globals) (entries (drop l.entry-index l.found))

@@ -5,7 +5,7 @@ use Rattle.vsi_lattice.proofs.ShapeLemmas.{IsSoFar}
 use Rattle.vsi_conform.specs.Reading.{NamesGlobals, run, run_of}
 use Rattle.vsi_conform.proofs.reader.trials_of.Given as goal
 
--- What is found, and then what the rest gives; what is found names globals alone.
+-- The runs found so far and those of the rest are all runs; the runs found name only globals of the interface.
 abbrev pub invariant-loop-i : goal.invariant-loop-i
 invariant-loop-i l = record {
   so_far : IsSoFar run_of l.array (map run l.trials.items) l.i;

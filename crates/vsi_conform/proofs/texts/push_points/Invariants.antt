@@ -4,7 +4,7 @@ use Rattle.vsi_conform.specs.Lines.{line_of_point}
 use Rattle.vsi_conform.specs.Shown.{page}
 use Rattle.vsi_conform.proofs.texts.push_points.Given as goal
 
--- The lines so far, and then those of the points that are left.
+-- The lines so far are followed by those of the remaining points.
 abbrev pub invariant-loop-point : goal.invariant-loop-point
 invariant-loop-point l =
     l.text.items ++ flat_map (line_of_point (page l.pages)) (drop l.point-index l.points)

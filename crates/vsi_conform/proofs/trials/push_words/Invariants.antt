@@ -3,7 +3,7 @@ use Rattle.vsi_image.specs.Fields.{globals}
 use Rattle.vsi_conform.specs.Points as spec
 use Rattle.vsi_conform.proofs.trials.push_words.Given as goal
 
--- The points so far and those of the words that are left are all.
+-- The points so far and those of the remaining words are all points.
 abbrev pub invariant-loop-wanted : goal.invariant-loop-wanted
 invariant-loop-wanted l =
     l.points.items

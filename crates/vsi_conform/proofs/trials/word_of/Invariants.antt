@@ -3,7 +3,7 @@ use Rattle.vsi_image.specs.Fields.{globals}
 use Rattle.vsi_conform.specs.Points as spec
 use Rattle.vsi_conform.proofs.trials.word_of.Given as goal
 
--- The word among the globals that are left is the word among all.
+-- The word among the remaining globals is the word among all.
 abbrev pub invariant-loop-i : goal.invariant-loop-i
 invariant-loop-i l =
     spec.word_of (globals (drop l.i l.variables)) (drop l.i l.words) l.name

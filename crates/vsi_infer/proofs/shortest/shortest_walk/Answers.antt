@@ -10,7 +10,7 @@ use Rattle.vsi_infer.proofs.shortest.shortest_walk.Given.{Over}
 use Rattle.vsi_infer.proofs.shortest.shortest_walk.Goals.{After-fewest-length, After-row_at-row}
 use Rattle.vsi_infer.proofs.shortest.shortest_walk.Goals as goal
 
--- What is known once the fewest steps have been counted.
+-- The facts known once the fewest steps have been counted.
 counted : (g : Over) (c : After-fewest-length g) → IsCounted (g.C.Classes.lattice c.args.lattice.now) c.args.profile
     (program c.args.program.now) (g.F.Flow.flows c.args.flow.now) c.args.declared.now
     (map (λ r. r.items) c.in_ok-rows.rows.items) c.fewest-length.result
@@ -27,7 +27,7 @@ counted g c = record {
   bad = c.requires.bad;
 }
 
--- The row that was taken is that of the first step's class.
+-- The row taken is the row of the first step's class.
 row_taken : (g : Over) (c : After-row_at-row g) → c.row_at-row.result.now
     ≡ get_or (map (λ r. r.items) c.in_ok-rows.rows.items) c.in-Some.class []
 row_taken g c = c.row_at-row.ensures

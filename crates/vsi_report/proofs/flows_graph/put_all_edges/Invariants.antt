@@ -5,7 +5,7 @@ use Rattle.vsi_report.specs.ByRule.{flows_in_rows}
 use Rattle.vsi_report.specs.FlowsGraph.{lines_between}
 use Rattle.vsi_report.proofs.flows_graph.put_all_edges.Given as goal
 
--- The lines so far.
+-- The text has the lines of the sources so far.
 abbrev pub invariant-loop-source : goal.invariant-loop-source
 invariant-loop-source l =
     l.text.items ≡ l.initial.text.items

@@ -5,7 +5,7 @@ use Rattle.vsi_report.specs.ByRule.{flows_in_rows}
 use Rattle.vsi_report.specs.FlowsGraph.{lines_between}
 use Rattle.vsi_report.proofs.flows_graph.put_edges_from.Given as goal
 
--- The lines so far.
+-- The text has the lines of the targets so far.
 abbrev pub invariant-loop-target : goal.invariant-loop-target
 invariant-loop-target l =
     l.text.items ≡ l.initial.text.items

@@ -6,7 +6,7 @@ use Rattle.vsi_report.specs.Graph.{texts}
 use Rattle.vsi_report.specs.FlowsGraph.{variable_line}
 use Rattle.vsi_report.proofs.flows_graph.put_nodes.Given as goal
 
--- The lines so far.
+-- The text has the lines of the numbers so far.
 abbrev pub invariant-loop-number : goal.invariant-loop-number
 invariant-loop-number l =
     l.text.items ≡ l.initial.text.items

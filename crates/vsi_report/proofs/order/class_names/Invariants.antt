@@ -3,6 +3,6 @@ use Rattle.vsi_lattice.specs.LatticeView.{names}
 use Rattle.vsi_report.specs.Graph.{texts}
 use Rattle.vsi_report.proofs.order.class_names.Given as goal
 
--- The names so far.
+-- The list has the names of the numbers so far.
 abbrev pub invariant-loop-number : goal.invariant-loop-number
 invariant-loop-number l = texts l.names.items ≡ take l.number (names l.lattice)
