@@ -118,7 +118,7 @@ pub record LooksAt (holds : Holding) (path name : List ℕ) (l : Lattice) (class
   pub named : class_named l name ≡ Some class
   pub is : IsClass (order l) class
 
--- ---- what is told.
+-- ---- the output.
 
 -- The profile that judges.
 abbrev pub profile_of : Bool → Profile

@@ -57,7 +57,7 @@ use Rattle.vsi.specs.Input.{two_classes}
 use Rattle.vsi.specs.Tried.{AreTried, BeginsSet, IsMade, IsTriedUnder, RunsMade, policy_path}
 use Rattle.vsi.specs.Performed.{AreFiles, BeginsAt, ComparesFiles, ConformsFiles, IsAskedAt, LooksAt, OfFiles, Writes, compilation_of, judgement_of, named_path, profile_of}
 
--- ---- what a stop tells.
+-- ---- the meaning of a stop.
 
 -- The first property holds for the reason of a refused file or text and of a run out of budget, the second holds for
 -- the other stops of status 1 and for a missing class, and nothing is claimed about mistaken arguments, file faults and
@@ -97,7 +97,7 @@ abbrev pub LacksClass : Lattice → List ℕ → Stop → Type 0
 LacksClass l name (stops.NoClass told) = (told.now ≡ name) × (class_named l name ≡ None)
 LacksClass l name stop = ⊥
 
--- ---- which file is refused, or what is asked of it.
+-- ---- the refused file, or the request about it.
 
 -- The lattice of a file has no class of this name.
 abbrev pub LacksClassAt : Holding → List ℕ → List ℕ → Stop → Type 0

@@ -1,40 +1,41 @@
-//! An argument behind a subcommand, as a row of a table.
+//! The arguments of a subcommand, each a row of a table.
 
 use clap::{Arg, ArgAction};
 use std::alloc::Global;
 
-/// When an explanation is coloured.
+/// The values of `--color`: when an explanation is coloured.
 const WHEN: [&str; 3] = ["auto", "always", "never"];
 
-/// How an argument is given, with what its value is called in the help where it has one.
+/// How an argument is given. An option that takes a value has the name that the help gives this
+/// value.
 #[derive(Clone, Copy)]
 pub(crate) enum Form {
-    /// By its place, and needed.
+    /// By position, required.
     Place,
-    /// By its place, or left out.
+    /// By position, optional.
     FreePlace,
-    /// By its place and those after it, once at least.
+    /// By position, one or more.
     Places,
-    /// `--NAME`, there or not.
+    /// `--NAME`, optional.
     Flag,
-    /// `--NAME VALUE`, or left out.
+    /// `--NAME VALUE`, optional.
     Value(&'static str),
-    /// `--NAME VALUE`, and needed.
+    /// `--NAME VALUE`, required.
     NeededValue(&'static str),
-    /// `--NAME VALUE`, once or more often, or left out.
+    /// `--NAME VALUE`, any number of times.
     Values(&'static str),
-    /// `--NAME VALUE`, once or more often, and needed.
+    /// `--NAME VALUE`, one or more times.
     NeededValues(&'static str),
-    /// `--NAME NUMBER`, or left out. The number is looked at later: a sign begins no other
-    /// argument.
+    /// `--NAME NUMBER`, optional. The number is checked later, and a value that begins with a sign
+    /// isn't taken for another argument.
     Number(&'static str),
-    /// `--NAME NUMBER`, and needed.
+    /// `--NAME NUMBER`, required.
     NeededNumber(&'static str),
-    /// `--NAME WHEN`, which is one of `WHEN`.
+    /// `--NAME WHEN`, where `WHEN` is one of the values above.
     When(&'static str),
 }
 
-/// An argument: its name, how it is given, the line of its help and the whole.
+/// An argument: its name, how it is given, and its short and long help.
 #[derive(Clone, Copy)]
 pub(crate) struct Argument {
     pub(crate) name: &'static str,
@@ -44,7 +45,7 @@ pub(crate) struct Argument {
 }
 
 impl Argument {
-    /// The argument as the parser of command lines takes it.
+    /// Builds the argument for the command-line parser.
     pub(crate) fn made<'a>(&self, alloc: Global) -> Arg<'a> {
         let told = Arg::new(alloc, self.name)
             .help(self.line)
@@ -65,17 +66,17 @@ impl Argument {
     }
 }
 
-/// An option whose value is looked at later.
+/// Makes an option whose value is checked later.
 fn numeric<'a>(option: Arg<'a>, value: &'a str) -> Arg<'a> {
     option.value_name(value).allow_hyphen_values(true)
 }
 
-/// An option that may be repeated.
+/// Makes an option that may be repeated.
 fn appending<'a>(option: Arg<'a>, value: &'a str) -> Arg<'a> {
     option.value_name(value).action(ArgAction::Append)
 }
 
-/// An option whose value says when.
+/// Makes an option whose value is one of `WHEN`.
 fn chosen<'a>(option: Arg<'a>, value: &'a str) -> Arg<'a> {
     option
         .value_name(value)

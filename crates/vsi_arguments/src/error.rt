@@ -1,17 +1,17 @@
-//! Why the arguments of a command line ask for nothing.
+//! Why the arguments of a command line make no request.
 
 use thiserror::Error;
 
-/// Why words ask for nothing that the program does.
+/// Why arguments make no request that the program can carry out.
 #[derive(Debug, Drop, Error)]
 pub enum ArgumentsError {
-    /// Help or the version was asked for: the text that standard output gets.
+    /// The arguments ask for help or the version: the text for standard output.
     #[error("{0}")]
     Help(String),
-    /// The words are wrong: the text that standard error gets.
+    /// The arguments are wrong: the text for standard error.
     #[error("{0}")]
     Mistake(String),
-    /// A growth was refused.
+    /// An allocation failed.
     #[error("out of memory")]
     Memory,
 }

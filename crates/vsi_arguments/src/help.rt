@@ -1,7 +1,6 @@
-//! The longer texts of help for subcommands: what each reads and writes, its statuses, and an
-//! example.
+//! The long help of the subcommands: the input and output of each, its statuses, and an example.
 
-/// What the program is, in full.
+/// The long help of the program.
 pub(crate) const PROGRAM: &str = "\
 Compiles programs whose flows of information are typed, and runs them.
 
@@ -14,7 +13,7 @@ Without words the program reads a source text from standard input, judges it
 under the classes L and H, L below H, runs it from a store of zeros for at most
 1000000 instructions, and prints each global.";
 
-/// The statuses of the program, and its example.
+/// The statuses of the program, and an example.
 pub(crate) const PROGRAM_EXAMPLE: &str = "\
 `vsi explain language` shows the language by one program; `vsi explain` also has
 `lattice`, `store`, `interface`, `classes` and `profiles`.
@@ -31,7 +30,7 @@ Example:
   $ printf 'var x : L; x := 1 + 2' | vsi
   x = 3";
 
-/// What `check` does.
+/// The long help of `check`.
 pub(crate) const CHECK: &str = "\
 Says whether a source text is accepted.
 
@@ -61,7 +60,7 @@ Example:
   1:15 h flows to (loop) by LOOP at 1:15
   h : H may not flow to (loop) : L";
 
-/// What `conform` does.
+/// The long help of `conform`.
 pub(crate) const CONFORM: &str = "\
 Says whether a source text conforms to an interface.
 
@@ -91,7 +90,7 @@ Example:
   1:11 class key : L, expected H
   run 1 out = 4, expected 3";
 
-/// What `classes` does.
+/// The long help of `classes`.
 pub(crate) const CLASSES: &str = "\
 Prints the class of each declaration, declared or inferred.
 
@@ -110,7 +109,7 @@ Example:
   1:5 h : H
   1:19 t : H";
 
-/// What `flows` does.
+/// The long help of `flows`.
 pub(crate) const FLOWS: &str = "\
 Prints each two declared variables that a chain of flows joins.
 
@@ -139,7 +138,7 @@ Example:
   1:46 l flows to t by LETVAR at 1:41
   1:58 t flows to m by ASSIGN at 1:53";
 
-/// What `build` does.
+/// The long help of `build`.
 pub(crate) const BUILD: &str = "\
 Compiles a source text to an image.
 
@@ -158,7 +157,7 @@ Example:
   $ vsi run sum.image --budget 3
   x = 3";
 
-/// What `list` does.
+/// The long help of `list`.
 pub(crate) const LIST: &str = "\
 Prints the instructions of an image.
 
@@ -180,7 +179,7 @@ Example:
   1: STORE 0
   2: HALT";
 
-/// What `audit` does.
+/// The long help of `audit`.
 pub(crate) const AUDIT: &str = "\
 Says whether an image is accepted, whoever made it.
 
@@ -203,7 +202,7 @@ Example:
   0 h flows to l by ASSIGN at 1
   h : H may not flow to l : L";
 
-/// What `source` does.
+/// The long help of `source`.
 pub(crate) const IMAGE_SOURCE: &str = "\
 Prints the source text that an image stands for.
 
@@ -220,7 +219,7 @@ Example:
   var x : L;
   x := 3";
 
-/// What `emit-c` does.
+/// The long help of `emit-c`.
 pub(crate) const EMIT_C: &str = "\
 Prints an image as a function in C.
 
@@ -259,7 +258,7 @@ Example:
 
   #endif";
 
-/// What `report` does.
+/// The long help of `report`.
 pub(crate) const REPORT: &str = "\
 Prints a page of a source text, its lattice and its flows.
 
@@ -280,7 +279,7 @@ Example:
   $ grep '<title>Refused' page.html
   <title>Refused: a report of its flows</title>";
 
-/// What `draw` does.
+/// The long help of `draw`.
 pub(crate) const DRAW: &str = "\
 Prints a lattice, and the flows of a source text, as graphs.
 
@@ -305,7 +304,7 @@ Example:
     \"L\" -> \"H\";
   }";
 
-/// What `fmt` does.
+/// The long help of `fmt`.
 pub(crate) const FORMAT: &str = "\
 Prints the canonical text of a source text.
 
@@ -324,7 +323,7 @@ Example:
   var x : L;
   x := 1 + (2)";
 
-/// What `lattice` does.
+/// The long help of `lattice`.
 pub(crate) const LATTICE: &str = "\
 Prints a lattice file of a usual shape.
 
@@ -349,7 +348,7 @@ Example:
     [\"B\", \"H\"],
   ]";
 
-/// What `explain` does.
+/// The long help of `explain`.
 pub(crate) const EXPLAIN: &str = "\
 Explains a refusal by its number, or a subject.
 

@@ -1,4 +1,4 @@
-//! The arguments of a command line: `request_of` reads what they ask for, or gives the help for
+//! The arguments of a command line: `request_of` reads a request from them, or returns the help for
 //! them.
 #![tactic(auto)]
 

@@ -1,8 +1,8 @@
-//! The numbers among the words of a command line.
+//! The numbers among the arguments of a command line.
 
 use clap::ArgMatches;
 
-/// What is asked of a word that is to be a number.
+/// An option whose value must be a number.
 #[derive(Clone, Copy, Debug, PartialEq, Eq)]
 pub(crate) enum Limit {
     Budget,
@@ -11,7 +11,7 @@ pub(crate) enum Limit {
 }
 
 impl Limit {
-    /// What is told where the word isn't such a number.
+    /// The message for a value that isn't such a number.
     pub(crate) fn text(self) -> &'static str {
         match self {
             Limit::Budget => {
@@ -24,14 +24,14 @@ impl Limit {
     }
 }
 
-/// The words that are to be numbers.
+/// The options that take numbers.
 const NUMBERS: [(&str, Limit); 3] = [
     ("budget", Limit::Budget),
     ("tries", Limit::Tries),
     ("seed", Limit::Seed),
 ];
 
-/// The number of a word, where it is there and is a number of at most 64 bits by digits alone.
+/// The value of an option, if it is given and spells, in digits alone, a number of at most 64 bits.
 pub(crate) fn number_of(matches: &ArgMatches<'_>, id: &str) -> Option<u64> {
     let word = matches.get_str(id)?;
     if !has_digits_alone(word) {
@@ -40,7 +40,7 @@ pub(crate) fn number_of(matches: &ArgMatches<'_>, id: &str) -> Option<u64> {
     word.parse::<u64>().ok()
 }
 
-/// Whether the word is made of digits.
+/// Whether the argument consists of digits.
 fn has_digits_alone(word: &str) -> bool {
     for byte in word.as_bytes() {
         if !byte.is_ascii_digit() {
@@ -50,7 +50,7 @@ fn has_digits_alone(word: &str) -> bool {
     !word.is_empty()
 }
 
-/// What is asked of the first word that is to be a number and isn't one.
+/// The first option whose value should be a number and isn't one.
 pub(crate) fn wrong_number(matches: &ArgMatches<'_>) -> Option<Limit> {
     for (id, limit) in &NUMBERS {
         if matches.get_str(id).is_some() && number_of(matches, id).is_none() {

@@ -1,4 +1,4 @@
-//! Reads what the arguments of a command line ask for.
+//! Reads a request from the arguments of a command line.
 
 use crate::error::ArgumentsError;
 use crate::numbers::{Limit, number_of, wrong_number};
@@ -15,8 +15,7 @@ use vsi_explain::{page, subject_page};
 ///
 /// # Errors
 ///
-/// `Help` where help or the version is asked for, `Mistake` where the arguments are wrong,
-/// `Memory`.
+/// `Help` if the arguments ask for help or the version, `Mistake` if they are wrong, `Memory`.
 pub fn request_of<'a>(alloc: Global, arguments: &'a [String]) -> Result<Asked<'a>, ArgumentsError> {
     match parsed(alloc, arguments) {
         Ok(asked) => Ok(asked),
@@ -24,7 +23,7 @@ pub fn request_of<'a>(alloc: Global, arguments: &'a [String]) -> Result<Asked<'a
     }
 }
 
-/// What the parser of command lines answers, as a text.
+/// Turns an answer of the command-line parser into a text.
 fn told(alloc: Global, error: &Error) -> ArgumentsError {
     if error.kind() == ErrorKind::OutOfMemory {
         return ArgumentsError::Memory;
@@ -41,17 +40,17 @@ fn told(alloc: Global, error: &Error) -> ArgumentsError {
     }
 }
 
-/// What is wrong with arguments that the parser of command lines takes.
+/// A mistake in arguments that the command-line parser accepts.
 #[derive(Clone, Copy)]
 enum Mistake {
-    /// What should be a number isn't one.
+    /// The value of an option should be a number and isn't one.
     NoNumber(Limit),
     NoTwoStores,
     NoRefusal,
     NoSubject,
-    /// The image would take the place of a file that is read.
+    /// The image would overwrite an input file.
     ImageIsRead,
-    /// The name that is given can't begin names of C.
+    /// The name given can't begin names in C.
     NoName,
     NoSubcommand,
 }
@@ -91,7 +90,7 @@ fn parsed<'a>(alloc: Global, arguments: &'a [String]) -> Result<Asked<'a>, Error
     answered(alloc, &mut command, arguments)
 }
 
-/// What arguments ask for, or what is wrong with them.
+/// The request of the arguments, or an error for their mistake.
 fn answered<'a>(
     alloc: Global,
     command: &mut Command<'a>,
@@ -103,7 +102,7 @@ fn answered<'a>(
     }
 }
 
-/// What arguments that the program takes ask for.
+/// The request of arguments that the parser accepts, or their mistake.
 fn taken<'a>(
     alloc: Global,
     command: &mut Command<'a>,
@@ -113,7 +112,7 @@ fn taken<'a>(
     judged(alloc, &matches)
 }
 
-/// What is asked for, with numbers of digits alone.
+/// The request, if every number consists of digits alone.
 fn judged<'a>(
     alloc: Global,
     matches: &ArgMatches<'a>,
@@ -131,7 +130,7 @@ fn judged<'a>(
     }
 }
 
-/// How a refusal is to be told.
+/// How a refusal is reported.
 fn manner_in<'a>(matches: &ArgMatches<'a>) -> Manner {
     if !matches.get_flag("explain") {
         return Manner::Fixed;
@@ -143,7 +142,7 @@ fn manner_in<'a>(matches: &ArgMatches<'a>) -> Manner {
     }
 }
 
-/// What the subcommand of this name asks for.
+/// The request of the subcommand with this name.
 fn named<'a>(
     alloc: Global,
     name: &str,
@@ -162,7 +161,7 @@ fn named<'a>(
     }
 }
 
-/// What a subcommand asks for that takes no list of words.
+/// The request of a subcommand that takes no list of arguments.
 fn requested<'a>(name: &str, inner: &ArgMatches<'a>) -> Request<'a> {
     match name {
         "check" => check_request(inner),
@@ -198,7 +197,7 @@ fn build_request<'a>(matches: &ArgMatches<'a>) -> Result<Request<'a>, Mistake> {
     Ok(Request::Build(compilation, image))
 }
 
-/// A path without the `./` that it begins with.
+/// A path without a leading `./`.
 fn plain(path: &str) -> &str {
     match path.strip_prefix("./") {
         Some(rest) => rest,
@@ -353,7 +352,7 @@ fn search_in<'a>(matches: &ArgMatches<'a>) -> Search<'a> {
     }
 }
 
-/// The values of an argument that may be repeated.
+/// The values of an option that may be repeated.
 fn texts<'a>(
     alloc: Global,
     matches: &ArgMatches<'a>,
@@ -366,7 +365,7 @@ fn texts<'a>(
     Ok(values)
 }
 
-/// A required word, which a parse that succeeds has.
+/// The value of a required argument, which every successful parse has.
 fn text<'a>(matches: &ArgMatches<'a>, id: &str) -> &'a str {
     matches.get_str(id).unwrap_or("")
 }

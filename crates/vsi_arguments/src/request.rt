@@ -1,7 +1,7 @@
-//! What the arguments of a command line ask for.
+//! The requests that the arguments of a command line can make.
 
-/// What is compiled: the paths of a lattice file and of a source text, and whether the strict
-/// profile judges it.
+/// A compilation: the paths of a lattice file and of a source text, and whether the strict profile
+/// is used.
 #[derive(Clone, Copy)]
 pub struct Compilation<'a> {
     pub lattice: &'a str,
@@ -9,8 +9,8 @@ pub struct Compilation<'a> {
     pub is_strict: bool,
 }
 
-/// What is run: the path of an image, the most instructions that are done, and the path of a store
-/// file, without which the run begins from zeros.
+/// A run: the path of an image, the budget of instructions, and the path of a store file. Without a
+/// store file the run begins with zeros.
 #[derive(Clone, Copy)]
 pub struct Execution<'a> {
     pub image: &'a str,
@@ -18,9 +18,9 @@ pub struct Execution<'a> {
     pub store: Option<&'a str>,
 }
 
-/// What a run begins with besides its store file, and where the text of its store goes: globals
-/// that are set behind the file, each as `NAME=NUMBER`; whether each global must be named in the
-/// file or set; and the path of a file that gets what standard output gets without it.
+/// The rest of a run's input and output: globals set after the store file is read, each as
+/// `NAME=NUMBER`; whether each global must be in the file or set; and the path of a file that
+/// receives the store's text in place of standard output.
 #[derive(Drop)]
 pub struct Outset<'a> {
     pub settings: Vec<&'a [u8]>,
@@ -28,8 +28,8 @@ pub struct Outset<'a> {
     pub out: Option<&'a str>,
 }
 
-/// What a controller is driven by: the path of a lattice file, the class that sets and sees, the
-/// run of each cycle, and the path of a file that gets the last store.
+/// The driving of a controller: the path of a lattice file, the class that sets inputs and sees
+/// outputs, the run of each cycle, and the path of a file that receives the last store.
 #[derive(Clone, Copy)]
 pub struct Driving<'a> {
     pub lattice: &'a str,
@@ -38,8 +38,8 @@ pub struct Driving<'a> {
     pub save: Option<&'a str>,
 }
 
-/// What is compared: the paths of a lattice file, of an image and of two store files, the class
-/// that looks, and the most instructions of each run.
+/// A comparison: the paths of a lattice file, of an image and of two store files, the class of the
+/// observer, and the budget of each run.
 #[derive(Clone, Copy)]
 pub struct Comparison<'a> {
     pub lattice: &'a str,
@@ -49,9 +49,9 @@ pub struct Comparison<'a> {
     pub stores: (&'a str, &'a str),
 }
 
-/// What is searched for a leak: the paths of a lattice file and of a source text, the class that
-/// looks, or each; the most instructions of a run, the most pairs of runs, the seed; and whether
-/// the endings and the steps of runs count.
+/// A search for a leak: the paths of a lattice file and of a source text; the class of the
+/// observer, or every class; the budget of a run, the largest number of pairs of runs, and the
+/// seed; and whether endings and steps are observed.
 #[derive(Clone, Copy)]
 pub struct Search<'a> {
     pub lattice: &'a str,
@@ -64,8 +64,8 @@ pub struct Search<'a> {
     pub has_steps: bool,
 }
 
-/// What is audited: the paths of a lattice file and of an image, whether the strict profile judges
-/// it, and whether its jumps are judged instead.
+/// An audit: the paths of a lattice file and of an image, whether the strict profile is used, and
+/// whether the image's jumps are judged instead.
 #[derive(Clone, Copy)]
 pub struct Audit<'a> {
     pub lattice: &'a str,
@@ -74,8 +74,8 @@ pub struct Audit<'a> {
     pub is_steady: bool,
 }
 
-/// What is judged by an interface: the paths of the interface file and of a source text, and
-/// whether the answer is written as JSON.
+/// A judgement by an interface: the paths of the interface file and of a source text, and whether
+/// the answer is written as JSON.
 #[derive(Clone, Copy)]
 pub struct Conformance<'a> {
     pub interface: &'a str,
@@ -83,7 +83,7 @@ pub struct Conformance<'a> {
     pub is_json: bool,
 }
 
-/// What is drawn: the paths of a lattice file and, where flows are drawn too, of a source text, and
+/// A drawing: the paths of a lattice file and, if flows are drawn too, of a source text, and
 /// whether the flows are those of the strict profile.
 #[derive(Clone, Copy)]
 pub struct Drawing<'a> {
@@ -92,8 +92,8 @@ pub struct Drawing<'a> {
     pub is_strict: bool,
 }
 
-/// What is written as C: the path of an image or, with that of a lattice file, of a source text; the
-/// name that the function's name begins with, where one is given; and whether the header is written.
+/// An emission of C: the path of an image, or of a source text together with the path of a lattice
+/// file; the prefix of the function's name, if one is given; and whether the header is written.
 #[derive(Clone, Copy)]
 pub struct Emission<'a> {
     pub lattice: Option<&'a str>,
@@ -102,8 +102,8 @@ pub struct Emission<'a> {
     pub is_header: bool,
 }
 
-/// What a source text is judged for: its flows, by the profile that `Compilation` names, or also
-/// whether its image is steady; and whether the answer is written as JSON.
+/// A judgement of a source text: its compilation, whether its image must also be steady, and
+/// whether the answer is written as JSON.
 #[derive(Clone, Copy)]
 pub struct Judging<'a> {
     pub compilation: Compilation<'a>,
@@ -111,9 +111,8 @@ pub struct Judging<'a> {
     pub is_json: bool,
 }
 
-/// What is tried: the path of a source text; that of a lattice file and the class that looks, where
-/// they are given; the most instructions that are done; and globals that are set, each as
-/// `NAME=NUMBER`.
+/// An attempt: the path of a source text; the path of a lattice file and the class of the observer,
+/// if they are given; the budget; and globals to set, each as `NAME=NUMBER`.
 #[derive(Drop)]
 pub struct Attempt<'a> {
     pub source: &'a str,
@@ -126,29 +125,29 @@ pub struct Attempt<'a> {
 /// Whether an explanation is coloured.
 #[derive(Clone, Copy, Debug, PartialEq, Eq)]
 pub enum Colour {
-    /// Where standard error is a terminal, and the environment doesn't ask for none.
+    /// If standard error is a terminal and the environment doesn't forbid colour.
     Auto,
     Always,
     Never,
 }
 
-/// How a refusal is told.
+/// How a refusal is reported.
 #[derive(Clone, Copy, Debug, PartialEq, Eq)]
 pub enum Manner {
     /// By its fixed text alone.
     Fixed,
-    /// With an explanation behind the fixed text.
+    /// By its fixed text and an explanation after it.
     Explained(Colour),
 }
 
-/// What a command line asks for, and how its refusal is told.
+/// The request of a command line, and how its refusal is reported.
 #[derive(Drop)]
 pub struct Asked<'a> {
     pub request: Request<'a>,
     pub manner: Manner,
 }
 
-/// A subcommand with what it is given.
+/// A subcommand with its arguments.
 #[derive(Drop)]
 pub enum Request<'a> {
     Try(Attempt<'a>),
@@ -182,14 +181,14 @@ pub enum Request<'a> {
     Report(Compilation<'a>),
     Draw(Drawing<'a>),
     Format(&'a str),
-    /// With the shape of a lattice and the names that it is given.
+    /// With the shape of a lattice and the names given for its classes.
     Lattice(Vec<&'a [u8]>),
-    /// With the page of the refusal.
+    /// With the page of the refusal or subject.
     Explain(&'a str),
 }
 
-/// The budget and the number of pairs of a search where none is given.
+/// The default budget and the default number of pairs of a search.
 pub const SEARCH: u64 = 10_000;
 
-/// The budget of an attempt where none is given.
+/// The default budget of an attempt.
 pub const TRY_BUDGET: u64 = 1_000_000;

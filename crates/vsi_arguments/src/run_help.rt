@@ -1,6 +1,6 @@
-//! The longer texts of help for the subcommands that run a program.
+//! The long help of the subcommands that run a program.
 
-/// What `try` does.
+/// The long help of `try`.
 pub(crate) const TRY: &str = "\
 Judges a source text and runs it.
 
@@ -25,7 +25,7 @@ Example:
   $ vsi try add.vsi --set l=4 --class L
   l = 5";
 
-/// What `run` does.
+/// The long help of `run`.
 pub(crate) const RUN: &str = "\
 Runs an image and prints the store in which it halts.
 
@@ -46,7 +46,7 @@ Example:
   2: HALT |
   x = 3";
 
-/// What `view` does.
+/// The long help of `view`.
 pub(crate) const VIEW: &str = "\
 Runs an image and prints what a class may see.
 
@@ -71,7 +71,7 @@ Example:
   $ vsi view two.toml add.image --class L --budget 7 --store start.toml
   l = 2";
 
-/// What `drive` does.
+/// The long help of `drive`.
 pub(crate) const DRIVE: &str = "\
 Runs an image once for each line of standard input.
 
@@ -95,7 +95,7 @@ Example:
   l = 6
   refused: 47 AboveClass 0";
 
-/// What `compare` does.
+/// The long help of `compare`.
 pub(crate) const COMPARE: &str = "\
 Runs an image from two stores and prints what a class sees of both.
 
@@ -124,7 +124,7 @@ Example:
     l = 2
     after 7 instructions";
 
-/// What `leak` does.
+/// The long help of `leak`.
 pub(crate) const LEAK: &str = "\
 Searches a source text for a leak, and shows it.
 

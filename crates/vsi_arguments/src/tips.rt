@@ -1,8 +1,9 @@
-//! What the parser of command lines tells besides a mistake: its tips, where they help.
+//! The parts of the parser's messages besides the mistake itself: its tips, if they help.
 
 use std::alloc::{AllocError, Global};
 
-/// Each option that only some subcommands have, as a mistake quotes it, and those that have it.
+/// The options that only some subcommands have, as a mistake quotes them, and the subcommands that
+/// have each.
 const OWNERS: [(&str, &str); 22] = [
     ("'--budget'", "try, run, view, drive, compare and leak"),
     ("'--class'", "try, view, drive, compare and leak"),
@@ -37,7 +38,7 @@ const OWNERS: [(&str, &str); 22] = [
     ("'--walks'", "flows"),
 ];
 
-/// What stands in a mistake, and the tip that helps.
+/// A part of a mistake, and the tip that helps with it.
 const TIPS: [(&str, &str); 3] = [
     (
         "  --class <C>",
@@ -53,21 +54,21 @@ const TIPS: [(&str, &str); 3] = [
     ),
 ];
 
-/// What stands between the paragraphs of a text.
+/// The gap between the paragraphs of a text.
 const GAP: &str = "\n\n";
 
-/// How a tip begins.
+/// The beginning of a tip.
 const TIP: &str = "  tip: ";
 
-/// How a mistake begins in the place of a subcommand, before the word in quotes.
+/// The beginning of a mistake in the subcommand, up to the quoted argument.
 const UNRECOGNIZED: &str = "error: unrecognized subcommand '";
 
-/// How a tip begins that asks for a `--` in front of a word: no word of the program wants one.
+/// The beginning of a tip to write `--` before an argument. No argument of the program needs one.
 const DASHES: &str = "  tip: to pass ";
 
-/// A text of the parser of command lines. Where it tells of an option that other subcommands have,
-/// its tip says which, and of words that are missing or no numbers tips say what they are for; a
-/// tip to write `--` is left out.
+/// Rewrites a message of the command-line parser. If it names an option of other subcommands, its
+/// tip lists them. If arguments are missing or should be numbers, tips explain them. A tip to write
+/// `--` is left out.
 pub(crate) fn retold(alloc: Global, text: &str) -> Result<String, AllocError> {
     let mut told = String::new(alloc);
     let Some((mistake, rest)) = text.split_once(GAP) else {
@@ -89,13 +90,13 @@ pub(crate) fn retold(alloc: Global, text: &str) -> Result<String, AllocError> {
     Ok(told)
 }
 
-/// Puts a paragraph behind those before it.
+/// Adds a paragraph.
 fn push_paragraph(told: &mut String, paragraph: &str) -> Result<(), AllocError> {
     told.push_str(GAP)?;
     told.push_str(paragraph)
 }
 
-/// The first line of the tip that the paragraphs begin with, and the paragraphs behind it.
+/// The first line of the tip at the beginning of the paragraphs, and the paragraphs after it.
 fn tip_of(rest: &str) -> Option<(&str, &str)> {
     let (tips, behind) = rest.split_once(GAP)?;
     if !tips.starts_with(TIP) {
@@ -107,7 +108,7 @@ fn tip_of(rest: &str) -> Option<(&str, &str)> {
     }
 }
 
-/// Puts a tip that tells which subcommands have the option of the mistake, where some do.
+/// Adds a tip that lists the subcommands with the option of the mistake, if there are any.
 fn push_owners(told: &mut String, mistake: &str) -> Result<bool, AllocError> {
     if !mistake.starts_with("error: unexpected argument ") {
         return Ok(false);
@@ -124,7 +125,7 @@ fn push_owners(told: &mut String, mistake: &str) -> Result<bool, AllocError> {
     Ok(false)
 }
 
-/// Puts a tip that shows `try` where the path of a source text is in the place of a subcommand.
+/// Adds a tip that shows `try`, if the path of a source text is given in place of a subcommand.
 fn push_attempt(told: &mut String, mistake: &str) -> Result<(), AllocError> {
     let Some(rest) = mistake.strip_prefix(UNRECOGNIZED) else {
         return Ok(());
@@ -139,7 +140,7 @@ fn push_attempt(told: &mut String, mistake: &str) -> Result<(), AllocError> {
     told.push_str("` judges a source text and runs it")
 }
 
-/// Puts the tips for words that are missing, or aren't numbers.
+/// Adds the tips for arguments that are missing or should be numbers.
 fn push_tips(told: &mut String, mistake: &str) -> Result<(), AllocError> {
     let mut is_first = true;
     for (part, tip) in &TIPS {
@@ -151,7 +152,7 @@ fn push_tips(told: &mut String, mistake: &str) -> Result<(), AllocError> {
     Ok(())
 }
 
-/// Puts a tip behind the tips that are there; the first one is a paragraph of its own.
+/// Adds a tip. The first one begins a paragraph of its own.
 fn push_tip(told: &mut String, tip: &str, is_first: bool) -> Result<(), AllocError> {
     let gap = if is_first { GAP } else { "\n" };
     told.push_str(gap)?;

@@ -6,10 +6,10 @@ use crate::{help, run_help};
 use clap::{Arg, Command};
 use std::alloc::{AllocError, Global};
 
-/// What `--version` tells, behind the name of the program.
+/// The version that `--version` prints after the program's name.
 const VERSION: &str = "0.1.0";
 
-/// A subcommand: its name, the line of its help, the whole, an example, and its arguments.
+/// A subcommand: its name, its short and long help, an example, and its arguments.
 struct Subcommand {
     name: &'static str,
     line: &'static str,
@@ -150,7 +150,7 @@ const SUBCOMMANDS: [Subcommand; 18] = [
     },
 ];
 
-/// The subcommands that read no file, so that nothing of theirs is refused and explained.
+/// The subcommands that read no file, and so have no refusals to explain.
 const UNREFUSED: [Subcommand; 2] = [
     Subcommand {
         name: "lattice",
@@ -168,11 +168,11 @@ const UNREFUSED: [Subcommand; 2] = [
     },
 ];
 
-/// How a refusal is told.
+/// The arguments that say how a refusal is reported.
 const MANNER: [Argument; 2] = [EXPLAIN, COLOR];
 
 impl Subcommand {
-    /// The subcommand as the parser of command lines takes it.
+    /// Builds the subcommand for the command-line parser.
     fn made<'a>(&self, alloc: Global) -> Result<Command<'a>, AllocError> {
         let command = Command::new(alloc, self.name)
             .about(self.line)
@@ -182,7 +182,7 @@ impl Subcommand {
     }
 }
 
-/// A command with more arguments.
+/// Adds arguments to a command.
 fn taking<'a>(
     alloc: Global,
     command: Command<'a>,
@@ -195,7 +195,7 @@ fn taking<'a>(
     taken
 }
 
-/// A command with one more argument.
+/// Adds one argument to a command.
 fn with_argument<'a>(
     command: Result<Command<'a>, AllocError>,
     argument: Arg<'a>,

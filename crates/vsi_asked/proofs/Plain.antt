@@ -1,4 +1,4 @@
--- Words that don't look like options.
+-- Arguments that don't look like options.
 use Rattle.std.proofs.Common.{◌≡◌, ℕ, List, [], ◌∷◌, true, false, refl, ap, sym, ◌∙◌, inl, inr}
 use Rattle.std.specs.Prelude.{bytes_eq, codes, ◌||◌, String, IsTrue}
 use Rattle.std.specs.List.{list_any}
@@ -13,7 +13,7 @@ use Rattle.vsi_asked.specs.Help.{front_of, is_first, is_help, is_short}
 use Rattle.vsi_asked.specs.Laws.{ArePlainCheck, CheckIsAsked, IsPlainCheck}
 use Rattle.vsi_asked.specs.Words.{VALUED, has_flag, is_among, is_dashed, operands_in, texts}
 
--- Two words of which one begins as an option and the other doesn't are different.
+-- Two arguments differ if only one of them begins like an option.
 pub apart : (word name : List ℕ) → is_dashed word ≡ false → is_dashed name ≡ true → bytes_eq word name ≡ false
 apart word name plain dashed =
     elim (cases_Bool (bytes_eq word name)) [
@@ -22,7 +22,7 @@ apart word name plain dashed =
       | inr e ↦ e
     ]
 
--- A word that doesn't look like an option has no value behind it.
+-- An argument that doesn't look like an option takes no value.
 pub unvalued : (word : List ℕ) → is_dashed word ≡ false → is_among VALUED word ≡ false
 unvalued word plain =
     rw (
@@ -39,30 +39,30 @@ unvalued word plain =
       apart word (codes "--tries") plain refl,
     ) refl
 
--- Two words that don't look like options are operands.
+-- Two arguments that don't look like options are operands.
 pub both_operands : (first second : List ℕ) → is_dashed first ≡ false → is_dashed second ≡ false →
     operands_in false (first ∷ second ∷ []) ≡ first ∷ second ∷ []
 both_operands first second a b =
     rw (apart first (codes "--") a refl, unvalued first a, a, apart second (codes "--") b refl, unvalued second b, b) refl
 
--- No flag is among such words.
+-- No flag is among arguments that don't look like options.
 pub no_flag : (flag first second : List ℕ) → is_dashed flag ≡ true → is_dashed first ≡ false →
     is_dashed second ≡ false → has_flag flag (first ∷ second ∷ []) ≡ false
 no_flag flag first second f a b =
     rw (apart first (codes "--") a refl, apart first flag a f, apart second (codes "--") b refl, apart second flag b f) refl
 
--- Such a word isn't short for help.
+-- An argument that doesn't look like an option isn't a short option for help.
 pub unshort : (word : List ℕ) → is_dashed word ≡ false → is_short word ≡ false
 unshort [] plain = refl
 unshort (first ∷ []) plain = refl
 unshort (first ∷ second ∷ rest) plain = rw plain refl
 
--- Such a word doesn't ask for help.
+-- An argument that doesn't look like an option doesn't ask for help.
 pub unhelpful : (word : List ℕ) → is_dashed word ≡ false → is_help word ≡ false
 unhelpful word plain =
     rw (unshort word plain, apart word (codes "--help") plain refl, apart word (codes "--version") plain refl) refl
 
--- Nor do `check` and two such words.
+-- `check` and two arguments that don't look like options don't ask for help either.
 pub no_help : (words : List (List ℕ)) (first second : List ℕ) → words ≡ codes "check" ∷ first ∷ second ∷ [] →
     is_dashed first ≡ false → is_dashed second ≡ false → IsTrue (is_first words || list_any is_help (front_of false words)) → ⊥
 no_help words first second are a b asks =
@@ -76,7 +76,7 @@ no_help words first second are a b asks =
     ) at asked in
     absurd cc
 
--- Words that are `check` ask for no subcommand of another name.
+-- Arguments whose first is `check` request no subcommand of another name.
 pub unnamed : (words : List (List ℕ)) (behind rest : List (List ℕ)) (name : List ℕ) →
     words ≡ codes "check" ∷ behind → words ≡ name ∷ rest → bytes_eq name (codes "check") ≡ false → ⊥
 unnamed words behind rest name are named other =
@@ -84,7 +84,7 @@ unnamed words behind rest name are named other =
     let turned : bytes_eq (codes "check") (codes "check") ≡ false = rw same at other in
     let wrong : true ≡ false = turned in absurd cc
 
--- What is asked for by `check` and two such words.
+-- `check` and two arguments that don't look like options request a plain judgement of the two files.
 pub plain_check : (judging : Judging) (words : List (String Global)) (lattice source : List ℕ) →
     ArePlainCheck words lattice source → Spells words (Check judging) → IsPlainCheck lattice source judging
 plain_check judging words lattice source plain asks =
@@ -103,7 +103,7 @@ plain_check judging words lattice source plain asks =
       plain = sym flags.1.1.0 ∙ none (codes "--json") refl;
     }
 
--- What such words ask for is a judgement of the two files.
+-- Every request that such arguments make is a judgement of the two files.
 pub one_request : (words : List (String Global)) (lattice source : List ℕ) → ArePlainCheck words lattice source →
     (request : Request) → AsksFor words request →
     (judging : Judging) × (request ≡ Check judging) × IsPlainCheck lattice source judging

@@ -1,4 +1,4 @@
--- What a request is of the words of a command line.
+-- How the arguments of a command line spell a request.
 use Rattle.std.specs.Prelude.{◌≡◌, ℕ, Bool, false, List, [], ◌∷◌, ◌++◌, map, Option, Some, None, option_map, option_to_list, codes, IsTrue, String}
 use Rattle.std.specs.List.{list_all}
 use Rattle.std.specs.Option.{option_and_then, option_or}
@@ -16,7 +16,7 @@ use Rattle.vsi_explain.specs.Subjects.{subject_page}
 use Rattle.vsi_asked.specs.Numbers.{Gives, number_in}
 use Rattle.vsi_asked.specs.Words.{dashed_in, has_flag, is_own, operands_in, shown, texts, values_in}
 
--- The word of the subcommand.
+-- The name of the request's subcommand.
 abbrev pub name_of : Request → List ℕ
 name_of (Try attempt) = codes "try"
 name_of (Check judging) = codes "check"
@@ -39,7 +39,7 @@ name_of (Format source) = codes "fmt"
 name_of (Shaped arguments) = codes "lattice"
 name_of (Explain page) = codes "explain"
 
--- A path that may be left out.
+-- An optional path, as a list.
 abbrev pub given : Option (Bor (List ℕ)) → List (List ℕ)
 given path = option_to_list (option_map (λ p. p.now) path)
 
@@ -47,8 +47,8 @@ given path = option_to_list (option_map (λ p. p.now) path)
 abbrev pub compiled : Compilation → List (List ℕ)
 compiled compilation = compilation.lattice.now ∷ compilation.source.now ∷ []
 
--- The operands of a request, in their order: paths, and of `lattice` a shape and names. `AsksPage` has the operand of
--- `explain`.
+-- The operands of a request, in their order: paths or, for `lattice`, a shape and names. `AsksPage` covers the operand
+-- of `explain`.
 abbrev pub operands_of : Request → List (List ℕ)
 operands_of (Try attempt) = attempt.source.now ∷ []
 operands_of (Check judging) = compiled judging.compilation
@@ -98,13 +98,13 @@ flags_of (Format source) = []
 flags_of (Shaped arguments) = []
 flags_of (Explain page) = []
 
--- The options of a run's beginning and end, each with what is given for it.
+-- The options for a run's beginning and end, each with its values.
 abbrev pub starting : Execution → Outset → List (List ℕ × List (List ℕ))
 starting execution outset =
     (codes "--store", given execution.store) ∷ (codes "--out", given outset.out)
     ∷ (codes "--set", shown outset.settings.items) ∷ []
 
--- The options of a request, each with what is given for it; those of numbers are in `numbers_of`.
+-- The options of a request, each with its values; `numbers_of` has the options that take numbers.
 abbrev pub options_of : Request → List (List ℕ × List (List ℕ))
 options_of (Try attempt) =
     (codes "--lattice", given attempt.lattice) ∷ (codes "--class", given attempt.class)
@@ -122,11 +122,11 @@ options_of (Compare comparison) =
 options_of (Leak search) = (codes "--class", given search.class) ∷ []
 options_of request = []
 
--- The budget of a run, which must be given.
+-- The budget of a run, which is required.
 abbrev pub budgeted : ℕ → List (List ℕ × Option ℕ × ℕ)
 budgeted budget = (codes "--budget", None, budget) ∷ []
 
--- The options of a request that give numbers, each with the number that counts where none is given, and the request's.
+-- The options of a request that take numbers, each with its default, if it has one, and the request's number.
 abbrev pub numbers_of : Request → List (List ℕ × Option ℕ × ℕ)
 numbers_of (Try attempt) = (codes "--budget", Some TRY_BUDGET, attempt.budget) ∷ []
 numbers_of (Run execution outset has_trace has_count) = budgeted execution.budget
@@ -138,23 +138,23 @@ numbers_of (Leak search) =
     ∷ (codes "--seed", Some 0, search.seed) ∷ []
 numbers_of request = []
 
--- Each of these flags is among the words exactly where it is set.
+-- Each of these flags is among the arguments exactly if it is set.
 abbrev pub HasFlags : List (List ℕ) → List (List ℕ × Bool) → Type 0
 HasFlags words [] = Unit {0}
 HasFlags words (flag ∷ flags) = (has_flag flag.0 words ≡ flag.1) × HasFlags words flags
 
--- The words give exactly these values for each of these options.
+-- The arguments give exactly these values for each of these options.
 abbrev pub HasOptions : List (List ℕ) → List (List ℕ × List (List ℕ)) → Type 0
 HasOptions words [] = Unit {0}
 HasOptions words (option ∷ options) = (values_in option.0 false words ≡ option.1) × HasOptions words options
 
--- The words give each of these options its number.
+-- The arguments give each of these options its number.
 abbrev pub HasNumbers : List (List ℕ) → List (List ℕ × Option ℕ × ℕ) → Type 0
 HasNumbers words [] = Unit {0}
 HasNumbers words (option ∷ options) =
     Gives (values_in option.0 false words) option.1 option.2 × HasNumbers words options
 
--- The first word is the name, and those behind it have exactly these operands, flags, values of options and numbers.
+-- The first argument is the name, and the others have exactly these operands, flags, values of options and numbers.
 pub record Asks (words : List (String Global)) (name : List ℕ) (operands : List (List ℕ))
     (flags : List (List ℕ × Bool)) (options : List (List ℕ × List (List ℕ)))
     (numbers : List (List ℕ × Option ℕ × ℕ)) : Type 0 where
@@ -165,7 +165,7 @@ pub record Asks (words : List (String Global)) (name : List ℕ) (operands : Lis
   pub has_options : HasOptions rest options
   pub has_numbers : HasNumbers rest numbers
 
--- The page that an argument names: that of the subject of this name, or that of the refusal whose number it spells.
+-- The page that an argument names: the page of the subject with this name, or of the refusal whose number it spells.
 abbrev pub named_page : List ℕ → Option (List ℕ)
 named_page argument = option_or (subject_page argument) (option_and_then page_of (number_in argument))
 
@@ -175,14 +175,14 @@ pub record AsksPage (words : List (String Global)) (page : List ℕ) : Type 0 wh
   pub asks : Asks words (codes "explain") (argument ∷ []) [] [] []
   pub is_named : named_page argument ≡ Some page
 
--- The words spell the request: its subcommand, and after it its operands, its flags, its options and its numbers; of
--- `explain` the page that its operand names.
+-- The arguments spell the request: its subcommand, then its operands, flags, options and numbers or, for `explain`, an
+-- operand that names its page.
 abbrev pub Spells : List (String Global) → Request → Type 0
 Spells words (Explain page) = AsksPage words page.now
 Spells words request =
     Asks words (name_of request) (operands_of request) (flags_of request) (options_of request) (numbers_of request)
 
--- The refusals of each subcommand that reads a file can be explained: the flag, and the option, that say how.
+-- The flag and the option that say how a refusal is explained, for each subcommand that reads a file.
 abbrev pub manner_of : Request → List (List ℕ) × List (List ℕ)
 manner_of (Shaped arguments) = ([], [])
 manner_of (Explain page) = ([], [])
@@ -197,7 +197,7 @@ abbrev pub own_options : Request → List (List ℕ)
 own_options request =
     map (λ o. o.0) (options_of request) ++ map (λ n. n.0) (numbers_of request) ++ (manner_of request).1
 
--- The words ask for the request: they spell it, and each flag and option among them is one of its subcommand's own.
+-- The arguments make the request: they spell it, and each flag and option among them belongs to its subcommand.
 pub record AsksFor (words : List (String Global)) (request : Request) : Type 0 where
   pub spelled : Spells words request
   pub own : IsTrue (list_all (is_own (own_flags request) (own_options request)) (dashed_in false (texts words)))

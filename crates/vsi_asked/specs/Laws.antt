@@ -1,4 +1,4 @@
--- What plain words ask for.
+-- The request that plain arguments make.
 use Rattle.std.specs.Prelude.{◌≡◌, ℕ, false, List, [], ◌∷◌, codes, String}
 use Rattle.std.specs.declared.alloc.Global.{Global}
 use Rattle.vsi_arguments.specs.declared.request.Judging.{Judging}
@@ -8,13 +8,13 @@ use Rattle.vsi_asked.specs.Asked.{AsksFor}
 use Rattle.vsi_asked.specs.Help.{AsksHelp}
 use Rattle.vsi_asked.specs.Words.{is_dashed, texts}
 
--- The words are `check`, a lattice file and a source text, neither of which looks like an option.
+-- The arguments are `check`, a lattice file and a source text, neither of which looks like an option.
 pub record ArePlainCheck (words : List (String Global)) (lattice source : List ℕ) : Type 0 where
   pub are : texts words ≡ codes "check" ∷ lattice ∷ source ∷ []
   pub plain_lattice : is_dashed lattice ≡ false
   pub plain_source : is_dashed source ≡ false
 
--- A judgement of these files by the base profile, which is told by `accepted`.
+-- A judgement of these files by the base profile, which is answered by `accepted`.
 pub record IsPlainCheck (lattice source : List ℕ) (judging : Judging) : Type 0 where
   pub lattice_is : judging.compilation.lattice.now ≡ lattice
   pub source_is : judging.compilation.source.now ≡ source
@@ -22,7 +22,7 @@ pub record IsPlainCheck (lattice source : List ℕ) (judging : Judging) : Type 0
   pub unsteady : judging.is_steady ≡ false
   pub plain : judging.is_json ≡ false
 
--- Such words don't ask for help, and the one request that they ask for is such a judgement.
+-- Such arguments don't ask for help, and the only request that they make is such a judgement.
 abbrev pub CheckIsAsked : Type 0
 CheckIsAsked =
     (words : List (String Global)) (lattice source : List ℕ) → ArePlainCheck words lattice source →

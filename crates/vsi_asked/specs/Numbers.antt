@@ -1,18 +1,19 @@
--- The numbers among words.
+-- The numbers among arguments.
 use Rattle.std.specs.Prelude.{◌≡◌, ℕ, ◌+◌, ◌*◌, ◌-◌, List, [], ◌∷◌, Option, Some, None, if◌then◌else◌}
 use Rattle.std.specs.Char.{is_ascii_digit}
 
--- The number whose decimal digits are those of a number and these behind them.
+-- The number spelled by the digits of a number followed by these decimal digits.
 abbrev pub read_on : ℕ → List ℕ → Option ℕ
 read_on number [] = Some number
 read_on number (byte ∷ rest) = if is_ascii_digit byte then read_on (number * 10 + (byte - 48)) rest else None
 
--- The number that a word spells, by decimal digits alone.
+-- The number that an argument spells, in decimal digits alone.
 abbrev pub number_in : List ℕ → Option ℕ
 number_in [] = None
 number_in (byte ∷ rest) = read_on 0 (byte ∷ rest)
 
--- These values of an option give the number: the one value spells it, or there is none, and this is the number then.
+-- These values of an option give the number: the only value spells it, or there is no value and the number is the
+-- default.
 abbrev pub Gives : List (List ℕ) → Option ℕ → ℕ → Type 0
 Gives [] otherwise number = otherwise ≡ Some number
 Gives (value ∷ []) otherwise number = number_in value ≡ Some number

@@ -1,4 +1,4 @@
-//! Whether words ask for a request.
+//! Whether arguments make a request.
 
 ghost use Rattle.std.specs.Prelude.{◌≡◌, [], ◌∷◌, IfSome, Some, codes, false, map, true};
 ghost use Rattle.vsi_arguments.specs.declared.request.Request.TheVariants as request;
@@ -14,7 +14,7 @@ use vsi_arguments::{
 };
 use vsi_explain::{page, subject_page};
 
-/// Whether each of these flags is among words exactly where it is set.
+/// Whether each of these flags is among the arguments exactly if it is set.
 fn has_flags(words: &[String], flags: &[(&str, bool)]) -> bool
     ensures { result ≡ true
         → spec.HasFlags (texts words.now) (map (λ f. (f.0.now, f.1)) flags.now) }
@@ -29,7 +29,7 @@ fn has_flags(words: &[String], flags: &[(&str, bool)]) -> bool
     true
 }
 
-/// Whether words give an option this value, or none.
+/// Whether the arguments give an option this value, or no value.
 fn has_value(words: &[String], option: &str, value: Option<&str>) -> bool
     ensures { result ≡ true
         → values_in option.now false (texts words.now) ≡ spec.given value.entry }
@@ -40,7 +40,7 @@ fn has_value(words: &[String], option: &str, value: Option<&str>) -> bool
     }
 }
 
-/// The words behind the first, where that is the name.
+/// The arguments after the first, if the first is the name.
 fn behind_name<'a>(words: &'a [String], name: &str) -> Option<&'a [String]>
     ensures { IfSome result (λ rest. texts words.now ≡ name.now ∷ texts rest.now) }
 {
@@ -50,8 +50,8 @@ fn behind_name<'a>(words: &'a [String], name: &str) -> Option<&'a [String]>
     }
 }
 
-/// The words behind the first, where that is the name and these have exactly these operands and
-/// flags.
+/// The arguments after the first, if the first is the name and the others have exactly these
+/// operands and flags.
 fn behind<'a>(
     words: &'a [String],
     name: &str,
@@ -72,8 +72,8 @@ fn behind<'a>(
     }
 }
 
-/// Whether words ask for a subcommand with these operands and flags, which has no options that
-/// count.
+/// Whether the arguments request a subcommand with these operands and flags, and without options of
+/// its own.
 fn asks(words: &[String], name: &str, operands: &[&[u8]], flags: &[(&str, bool)]) -> bool
     ensures { result ≡ true → spec.Asks words.now name.now (shown operands.now)
         (map (λ f. (f.0.now, f.1)) flags.now) [] [] }
@@ -81,7 +81,7 @@ fn asks(words: &[String], name: &str, operands: &[&[u8]], flags: &[(&str, bool)]
     behind(words, name, operands, flags).is_some()
 }
 
-/// Whether words ask for a compilation.
+/// Whether the arguments request a subcommand that compiles these files.
 fn asks_compilation(
     words: &[String],
     name: &str,
@@ -98,7 +98,7 @@ fn asks_compilation(
     asks(words, name, operands.as_slice(), flags)
 }
 
-/// Whether words give what a run begins with, and where its text goes.
+/// Whether the arguments say how a run begins and where its text goes.
 fn has_outset(words: &[String], execution: &Execution<'_>, outset: &Outset<'_>) -> bool
     ensures { result ≡ true
         → spec.HasOptions (texts words.now) (spec.starting execution.now outset.now) }
@@ -108,7 +108,7 @@ fn has_outset(words: &[String], execution: &Execution<'_>, outset: &Outset<'_>) 
         && has_values(words, b"--set", outset.settings.as_slice())
 }
 
-/// Whether words ask to try a text.
+/// Whether the arguments request an attempt.
 fn asks_try(words: &[String], attempt: &Attempt<'_>) -> bool
     ensures { result ≡ true → spec.Spells words.now (request.Try attempt.now) }
 {
@@ -122,7 +122,7 @@ fn asks_try(words: &[String], attempt: &Attempt<'_>) -> bool
         && has_number(rest, "--budget", Some(TRY_BUDGET), attempt.budget)
 }
 
-/// Whether words ask for a run.
+/// Whether the arguments request a run.
 fn asks_run(
     words: &[String],
     execution: &Execution<'_>,
@@ -145,7 +145,7 @@ fn asks_run(
     has_outset(rest, execution, outset) && has_number(rest, "--budget", None, execution.budget)
 }
 
-/// Whether words ask for a view.
+/// Whether the arguments request a view.
 fn asks_view(
     words: &[String],
     lattice: &str,
@@ -166,7 +166,7 @@ fn asks_view(
         && has_number(rest, "--budget", None, execution.budget)
 }
 
-/// Whether words ask to drive a controller.
+/// Whether the arguments request the driving of a controller.
 fn asks_drive(words: &[String], driving: &Driving<'_>) -> bool
     ensures { result ≡ true → spec.Spells words.now (request.Drive driving.now) }
 {
@@ -183,7 +183,7 @@ fn asks_drive(words: &[String], driving: &Driving<'_>) -> bool
         && has_number(rest, "--budget", None, driving.execution.budget)
 }
 
-/// Whether words ask for a comparison.
+/// Whether the arguments request a comparison.
 fn asks_compare(words: &[String], comparison: &Comparison<'_>) -> bool
     ensures { result ≡ true → spec.Spells words.now (request.Compare comparison.now) }
 {
@@ -198,7 +198,7 @@ fn asks_compare(words: &[String], comparison: &Comparison<'_>) -> bool
         && has_number(rest, "--budget", None, comparison.budget)
 }
 
-/// Whether words ask for a search.
+/// Whether the arguments request a search for a leak.
 fn asks_leak(words: &[String], search: &Search<'_>) -> bool
     ensures { result ≡ true → spec.Spells words.now (request.Leak search.now) }
 {
@@ -216,7 +216,7 @@ fn asks_leak(words: &[String], search: &Search<'_>) -> bool
         && has_number(rest, "--seed", Some(0), search.seed)
 }
 
-/// Whether words ask to draw.
+/// Whether the arguments request a drawing.
 fn asks_draw(words: &[String], drawing: &Drawing<'_>) -> bool
     ensures { result ≡ true → spec.Spells words.now (request.Draw drawing.now) }
 {
@@ -235,7 +235,7 @@ fn asks_draw(words: &[String], drawing: &Drawing<'_>) -> bool
     }
 }
 
-/// Whether words ask for a judgement of a source text.
+/// Whether the arguments request a judgement of a source text.
 fn asks_check(words: &[String], judging: &Judging<'_>) -> bool
     ensures { result ≡ true → spec.Spells words.now (request.Check judging.now) }
 {
@@ -247,7 +247,7 @@ fn asks_check(words: &[String], judging: &Judging<'_>) -> bool
     asks_compilation(words, "check", &judging.compilation, flags.as_slice())
 }
 
-/// Whether words ask for a judgement by an interface.
+/// Whether the arguments request a judgement by an interface.
 fn asks_conform(words: &[String], conformance: &Conformance<'_>) -> bool
     ensures { result ≡ true → spec.Spells words.now (request.Conform conformance.now) }
 {
@@ -259,7 +259,7 @@ fn asks_conform(words: &[String], conformance: &Conformance<'_>) -> bool
     asks(words, "conform", operands.as_slice(), flags.as_slice())
 }
 
-/// Whether words ask for flows.
+/// Whether the arguments request a text's flows.
 fn asks_flows(words: &[String], compilation: &Compilation<'_>, has_walks: bool) -> bool
     ensures { result ≡ true → spec.Spells words.now (request.Flows compilation.now has_walks) }
 {
@@ -267,7 +267,7 @@ fn asks_flows(words: &[String], compilation: &Compilation<'_>, has_walks: bool) 
     asks_compilation(words, "flows", compilation, flags.as_slice())
 }
 
-/// Whether words ask for an image.
+/// Whether the arguments request an image.
 fn asks_build(words: &[String], compilation: &Compilation<'_>, image: &str) -> bool
     ensures { result ≡ true → spec.Spells words.now (request.Build compilation.now image.entry) }
 {
@@ -280,7 +280,7 @@ fn asks_build(words: &[String], compilation: &Compilation<'_>, image: &str) -> b
     asks(words, "build", operands.as_slice(), flags.as_slice())
 }
 
-/// Whether words ask for an audit.
+/// Whether the arguments request an audit.
 fn asks_audit(words: &[String], audit: &Audit<'_>) -> bool
     ensures { result ≡ true → spec.Spells words.now (request.Audit audit.now) }
 {
@@ -289,7 +289,7 @@ fn asks_audit(words: &[String], audit: &Audit<'_>) -> bool
     asks(words, "audit", operands.as_slice(), flags.as_slice())
 }
 
-/// Whether words ask for an image as C.
+/// Whether the arguments request an image as C.
 fn asks_emission(words: &[String], emission: &Emission<'_>) -> bool
     ensures { result ≡ true → spec.Spells words.now (request.EmitC emission.now) }
 {
@@ -301,7 +301,7 @@ fn asks_emission(words: &[String], emission: &Emission<'_>) -> bool
     has_value(rest, "--lattice", emission.lattice) && has_value(rest, "--name", emission.name)
 }
 
-/// Whether words ask for what a compilation judges by its profile alone.
+/// Whether the arguments request a subcommand whose only flag of its own is `--strict`.
 fn asks_judged(words: &[String], name: &str, compilation: &Compilation<'_>) -> bool
     ensures { result ≡ true → spec.Asks words.now name.now (spec.compiled compilation.now)
         ((codes "--strict", compilation.now.is_strict) ∷ []) [] [] }
@@ -310,7 +310,7 @@ fn asks_judged(words: &[String], name: &str, compilation: &Compilation<'_>) -> b
     asks_compilation(words, name, compilation, flags.as_slice())
 }
 
-/// Whether words ask for what is done with one file.
+/// Whether the arguments request a subcommand that reads one file.
 fn asks_file(words: &[String], name: &str, path: &str) -> bool
     ensures { result ≡ true → spec.Asks words.now name.now (path.now ∷ []) [] [] [] }
 {
@@ -327,7 +327,7 @@ fn named_page(argument: &[u8]) -> Option<&'static str>
     }
 }
 
-/// Whether words ask for the page of a subject or a refusal.
+/// Whether the arguments request the page of a subject or a refusal.
 fn asks_page(words: &[String], text: &str) -> bool
     ensures { result ≡ true → spec.Spells words.now (request.Explain text.entry) }
 {
@@ -343,7 +343,7 @@ fn asks_page(words: &[String], text: &str) -> bool
     }
 }
 
-/// Whether words spell a request.
+/// Whether the arguments spell a request.
 fn spells(words: &[String], request: &Request<'_>) -> bool
     ensures { result ≡ true → spec.Spells words.now request.now }
 {
@@ -384,8 +384,8 @@ fn spells(words: &[String], request: &Request<'_>) -> bool
     }
 }
 
-/// Whether words ask for a request. It reads the words again, and uses nothing that `request_of` has
-/// made of them.
+/// Whether the arguments make a request. The function reads the arguments again, and uses nothing
+/// that `request_of` made of them.
 pub fn asks_for(words: &[String], request: &Request<'_>) -> bool
     ensures asked { result ≡ true → spec.AsksFor words.now request.now }
 {

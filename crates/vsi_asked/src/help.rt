@@ -1,11 +1,11 @@
-//! Whether words ask for help.
+//! Whether arguments ask for help.
 
 ghost use Rattle.std.specs.Prelude.{◌≡◌, ◌↔◌, IsTrue};
 ghost use Rattle.vsi_asked.specs.Help as spec;
 
 use crate::reading::{is_end, is_valued};
 
-/// Whether a word asks for help or for the version.
+/// Whether an argument asks for help or for the version.
 fn is_help(word: &[u8]) -> bool
     ensures { result ≡ spec.is_help word.now }
 {
@@ -15,7 +15,8 @@ fn is_help(word: &[u8]) -> bool
     }
 }
 
-/// Whether words ask for help or for the version: the first word, or one in front of the first `--`.
+/// Whether the arguments ask for help or for the version, in the first or in one before the first
+/// `--`.
 pub fn asks_help(words: &[String]) -> bool
     ensures help { IsTrue result ↔ spec.AsksHelp words.now }
 {

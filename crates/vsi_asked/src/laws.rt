@@ -1,8 +1,8 @@
-//! The laws of words. Each function's contract is a law, and its body does nothing.
+//! The laws of arguments. Each function's contract is a law, and its body does nothing.
 
 ghost use Rattle.vsi_asked.specs.Laws.{CheckIsAsked};
 
-/// The words `check`, a lattice file and a source text ask for nothing but a judgement of these
+/// The arguments `check`, a lattice file and a source text make no request but a judgement of these
 /// files by the base profile.
 pub fn check_is_asked()
     ensures { CheckIsAsked }

@@ -1,9 +1,9 @@
-//! What the words of a command line ask for.
+//! The request that the arguments of a command line make.
 //!
-//! `request_of` of `vsi_arguments` proposes a request; `asks_for` says whether the words ask for
-//! it, down to the numbers of its options and to the page of the refusal that `explain` names, and
-//! with no flag or option that its subcommand lacks. Help is given where `asks_help` says that the
-//! words ask for it.
+//! `request_of` of `vsi_arguments` proposes a request. `asks_for` decides whether the arguments
+//! make it, down to the numbers of its options and the page that `explain` names, and without any
+//! flag or option that its subcommand lacks. The program prints help only if `asks_help` finds that
+//! the arguments ask for it.
 //!
 //! To be believed: all files of `specs/`.
 #![tactic(auto)]

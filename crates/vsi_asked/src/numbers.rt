@@ -1,4 +1,4 @@
-//! Reads the numbers among the words behind a subcommand.
+//! Reads the numbers among the arguments after a subcommand.
 
 ghost use Rattle.std.specs.Prelude.{◌≡◌, [], ◌∷◌, ◌+◌, ◌*◌, ◌-◌, IfSome, Some, false, true};
 ghost use Rattle.std.specs.Char.{is_ascii_digit};
@@ -7,7 +7,7 @@ ghost use Rattle.vsi_asked.specs.Words.{operands_in, texts, values_in};
 
 use crate::reading::{first_value, has_operands, has_values};
 
-/// A number with one more digit, where the byte is one and 64 bits hold the number.
+/// A number with one more digit, if the byte is a digit and the result fits in 64 bits.
 fn with_digit(number: u64, byte: u8) -> Option<u64>
     ensures digit { IfSome result (λ longer. is_ascii_digit byte ≡ true) }
     ensures number { IfSome result (λ longer. longer ≡ number * 10 + (byte - 48)) }
@@ -18,7 +18,7 @@ fn with_digit(number: u64, byte: u8) -> Option<u64>
     number.checked_mul(10)?.checked_add(u64::from(byte - b'0'))
 }
 
-/// The number that a word spells by decimal digits alone, where 64 bits hold it.
+/// The number that an argument spells in decimal digits alone, if it fits in 64 bits.
 pub(crate) fn number_in(word: &[u8]) -> Option<u64>
     ensures { IfSome result (λ number. spec.number_in word.now ≡ Some number) }
 {
@@ -34,8 +34,8 @@ pub(crate) fn number_in(word: &[u8]) -> Option<u64>
     Some(number)
 }
 
-/// Whether words give an option this number: by its one value, or by none, where the number is the
-/// one that counts then.
+/// Whether the arguments give an option this number: by its only value, or by none if the number is
+/// the default.
 pub(crate) fn has_number(
     words: &[String],
     option: &str,
@@ -54,7 +54,7 @@ pub(crate) fn has_number(
     }
 }
 
-/// The operand among words, where there is just one.
+/// The operand among arguments, if there is exactly one.
 pub(crate) fn only_operand(words: &[String]) -> Option<&[u8]>
     ensures { IfSome result (λ word. operands_in false (texts words.now) ≡ word.now ∷ []) }
 {

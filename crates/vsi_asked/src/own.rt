@@ -1,4 +1,4 @@
-//! Whether each flag and option among words is one of its subcommand's own.
+//! Whether each flag and option among arguments belongs to the subcommand.
 
 ghost use Rattle.std.specs.Prelude.{◌≡◌, false};
 ghost use Rattle.std.specs.List.{list_all};
@@ -8,10 +8,10 @@ ghost use Rattle.vsi_asked.specs.Words as spec;
 use crate::reading::{is_dashed, is_end, is_valued, joined};
 use vsi_arguments::Request;
 
-/// The options of a subcommand that has none but for how a refusal is explained.
+/// The options of a subcommand that has only the option for explaining a refusal.
 const NO_OPTIONS: [&[u8]; 1] = [b"--color"];
 
-/// The flags of a subcommand that has none but for whether a refusal is explained.
+/// The flags of a subcommand that has only the flag for explaining a refusal.
 const NO_FLAGS: [&[u8]; 1] = [b"--explain"];
 
 /// The options of `try`.
@@ -69,7 +69,7 @@ const LEAK: [&[u8]; 3] = [b"--endings", b"--steps", b"--explain"];
 /// The options of `leak`.
 const LEAK_OPTIONS: [&[u8]; 5] = [b"--class", b"--budget", b"--tries", b"--seed", b"--color"];
 
-/// Whether a word is one of these names.
+/// Whether an argument is one of these names.
 fn is_among(names: &[&[u8]], word: &[u8]) -> bool
     ensures { result ≡ spec.is_among (spec.shown names.now) word.now }
 {
@@ -83,7 +83,7 @@ fn is_among(names: &[&[u8]], word: &[u8]) -> bool
     false
 }
 
-/// Whether a word is one of these options, alone or with `=` and its value.
+/// Whether an argument is one of these options, alone or with `=` and its value.
 fn is_option(options: &[&[u8]], word: &[u8]) -> bool
     ensures { result ≡ spec.is_option (spec.shown options.now) word.now }
 {
@@ -97,7 +97,7 @@ fn is_option(options: &[&[u8]], word: &[u8]) -> bool
     false
 }
 
-/// Whether each flag and option among words is one of these.
+/// Whether each flag and option among the arguments is one of these.
 fn are_own(words: &[String], flags: &[&[u8]], options: &[&[u8]]) -> bool
     ensures { result ≡ list_all (spec.is_own (spec.shown flags.now) (spec.shown options.now))
         (spec.dashed_in false (spec.texts words.now)) }
@@ -120,7 +120,7 @@ fn are_own(words: &[String], flags: &[&[u8]], options: &[&[u8]]) -> bool
     true
 }
 
-/// Whether each flag and option among words is one that the request's subcommand has.
+/// Whether each flag and option among the arguments belongs to the request's subcommand.
 pub(crate) fn has_own_alone(words: &[String], request: &Request<'_>) -> bool
     ensures { result ≡ list_all
         (spec.is_own (asked.own_flags request.now) (asked.own_options request.now))

@@ -1,10 +1,10 @@
-//! Reads the words behind a subcommand.
+//! Reads the arguments after a subcommand.
 
 ghost use Rattle.std.specs.Prelude.{◌≡◌, ◌∷◌, ◌+◌, ◌<◌, ◌≤◌, drop, length, true, false};
 ghost use Rattle.std.specs.Prelude.{option_map};
 ghost use Rattle.vsi_asked.specs.Words as spec;
 
-/// The options behind which a value stands.
+/// The options that take a value.
 const VALUED: [&[u8]; 11] = [
     b"--budget",
     b"--class",
@@ -19,14 +19,14 @@ const VALUED: [&[u8]; 11] = [
     b"--tries",
 ];
 
-/// Whether a word is the one behind which there are operands alone.
+/// Whether an argument is `--`, after which every argument is an operand.
 pub(crate) fn is_end(word: &[u8]) -> bool
     ensures { result ≡ spec.is_end word.now }
 {
     word == b"--".as_slice()
 }
 
-/// Whether a value stands behind a word.
+/// Whether an argument is an option that takes the next one as its value.
 pub(crate) fn is_valued(word: &[u8]) -> bool
     ensures { result ≡ spec.is_among spec.VALUED word.now }
 {
@@ -40,7 +40,7 @@ pub(crate) fn is_valued(word: &[u8]) -> bool
     false
 }
 
-/// Whether a word begins with a hyphen, and something stands behind that.
+/// Whether an argument begins with a hyphen and is longer than that.
 pub(crate) fn is_dashed(word: &[u8]) -> bool
     ensures { result ≡ spec.is_dashed word.now }
 {
@@ -50,7 +50,7 @@ pub(crate) fn is_dashed(word: &[u8]) -> bool
     }
 }
 
-/// Whether a flag is one of the words in front of the first `--`.
+/// Whether a flag is one of the arguments before the first `--`.
 pub(crate) fn has_flag(words: &[String], flag: &[u8]) -> bool
     ensures { result ≡ spec.has_flag flag.now (spec.texts words.now) }
 {
@@ -67,7 +67,7 @@ pub(crate) fn has_flag(words: &[String], flag: &[u8]) -> bool
     false
 }
 
-/// Whether the text at a place is the word.
+/// Whether the text at a position is the argument.
 fn is_at(texts: &[&[u8]], place: usize, word: &[u8]) -> bool
     ensures within { result ≡ true → place < length texts.now }
     ensures text { result ≡ true → drop place (spec.shown texts.now)
@@ -79,7 +79,7 @@ fn is_at(texts: &[&[u8]], place: usize, word: &[u8]) -> bool
     texts[place] == word
 }
 
-/// Whether these are the operands among words.
+/// Whether these are the operands among the arguments.
 pub(crate) fn has_operands(words: &[String], operands: &[&[u8]]) -> bool
     ensures { result ≡ true
         → spec.operands_in false (spec.texts words.now) ≡ spec.shown operands.now }
@@ -105,7 +105,7 @@ pub(crate) fn has_operands(words: &[String], operands: &[&[u8]]) -> bool
     done == operands.len()
 }
 
-/// Whether words are the texts from a place on.
+/// Whether the arguments are the texts from a position on.
 fn are_from(words: &[String], texts: &[&[u8]], place: usize) -> bool
     requires { place ≤ length texts.now }
     ensures { result ≡ true → spec.texts words.now ≡ drop place (spec.shown texts.now) }
@@ -122,7 +122,7 @@ fn are_from(words: &[String], texts: &[&[u8]], place: usize) -> bool
     done == texts.len()
 }
 
-/// What stands behind the option and `=` in a word.
+/// The part of an argument after the option and `=`.
 pub(crate) fn joined<'a>(option: &[u8], word: &'a [u8]) -> Option<&'a [u8]>
     ensures { option_map (λ value. value.now) result ≡ spec.joined option.now word.now }
 {
@@ -144,8 +144,8 @@ pub(crate) fn joined<'a>(option: &[u8], word: &'a [u8]) -> Option<&'a [u8]>
     }
 }
 
-/// The first value that words give for an option: a proposal, of which `has_values` says whether it
-/// is their only one.
+/// The first value that the arguments give for an option. It is a proposal: `has_values` decides
+/// whether it is the only value.
 pub(crate) fn first_value<'a>(words: &'a [String], option: &[u8]) -> Option<&'a [u8]> {
     let mut rest = words;
     while let [word, behind @ ..] = rest {
@@ -166,7 +166,7 @@ pub(crate) fn first_value<'a>(words: &'a [String], option: &[u8]) -> Option<&'a 
     None
 }
 
-/// Whether these are the values that words give for an option.
+/// Whether these are the values that the arguments give for an option.
 pub(crate) fn has_values(words: &[String], option: &[u8], values: &[&[u8]]) -> bool
     ensures { result ≡ true
         → spec.values_in option.now false (spec.texts words.now) ≡ spec.shown values.now }

@@ -1,4 +1,4 @@
--- What commands lead to.
+-- The effects of commands.
 use Rattle.std.proofs.Common.{◌≡◌, ◌≢◌, ℕ, ◌+◌, ◌<◌, ◌≤◌, ◌⊎◌, inl, inr, min, max, ℤ, pos, List, [], ◌∷◌, length, Some, None, if◌then◌else◌, sym, ap, ◌∙◌, subst, arith, length-set, get_or-set_same, get_or-set_other}
 use Rattle.std.specs.Prelude.{slice_get, slice_set}
 use Rattle.std.proofs.lemmas.Bool.{cases_lt, lt-ltb}
@@ -14,7 +14,7 @@ use Rattle.vsi_bound.specs.Stretch.{Leads, Evaluates, Stores}
 use Rattle.vsi_bound.proofs.Slots.{set_same, set_other}
 use Rattle.vsi_bound.proofs.Running.{next_run, one_run, leads_jump}
 
--- Where a fact is known of a word that is written, the facts hold with it.
+-- If a fact holds of a word that is written, the facts hold with it.
 stored_holds : (m now : List ℤ) (facts left : List Known) (slot : ℕ) (value : Known) (v : ℤ) → Hold m facts now
     → Means m value v → Stores slot value facts left → Hold m left (slice_set now slot v)
 stored_holds m now facts left slot value v h means st = record {
@@ -65,7 +65,7 @@ store_leads code facts left start place slot n value cost ev is st count p q m n
       hold = stored_holds m now facts left slot value g.operand h g.means st;
     }
 
--- A fact of those after a stretch, or nothing, is known after it too.
+-- A stretch leads to any list of facts, each of which it leads to or says nothing.
 leads_less : (code : List Instr) (facts left less : List Known) (from to : ℕ) (cost whole : Cost)
     → Leads code facts from to cost left → length less ≡ length left
     → ((k : ℕ) (f : Known) → slice_get less k ≡ Some f → (f ≡ Any) ⊎ (slice_get left k ≡ Some f))
@@ -87,12 +87,12 @@ leads_less code facts left less from to cost whole a long each p q m now h =
       };
     }
 
--- A part of a joined fact.
+-- The left part of a joined fact.
 joined_left : {A B C : Type 0} → A ⊎ (B × C) → A ⊎ B
 joined_left (inl a) = inl a
 joined_left (inr p) = inr p.0
 
--- The other part.
+-- The right part of a joined fact.
 joined_right : {A B C : Type 0} → A ⊎ (B × C) → A ⊎ C
 joined_right (inl a) = inl a
 joined_right (inr p) = inr p.1
@@ -115,7 +115,7 @@ second_leads code facts one two left from end more second whole a j long r t =
     leads_less code facts two left from end second whole a
     (j.count ∙ sym long) (λ k f s. joined_right (j.each k f s)) (omega (arith, r)) (omega (arith, t))
 
--- The second branch, where its facts have other names.
+-- The second branch, with its facts under other names.
 pub second_leads_as : (code : List Instr) (facts given one two new left : List Known) (from end : ℕ)
     (more second whole : Cost) → Leads code given from end second new → Joined one two left
     → whole.least ≡ min more.least second.least → whole.most ≡ max more.most second.most → given ≡ facts → new ≡ two

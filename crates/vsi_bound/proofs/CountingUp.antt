@@ -21,12 +21,12 @@ not_below a b le =
     let t : int_lt a b ≡ false = grind (arith, ints) in
     ap (λ x. if x then pos 1 else pos 0) t
 
--- A word from 0 on that is no greater than one that fits fits.
+-- A nonnegative word that is no greater than one that fits fits.
 fits_high : (n : ℕ) (b : ℤ) → SFits w64 b → pos n ≤ℤ b → SFits w64 (pos n)
 fits_high n (pos m) g q = record { sfits = omega (arith, ints, g.sfits, q) }
 fits_high n (negsuc m) g q = absurd (omega (arith, ints, q))
 
--- A word below 0 that is no less than one that fits fits.
+-- A negative word that is no less than one that fits fits.
 fits_low : (a : ℤ) (n : ℕ) → SFits w64 a → a ≤ℤ negsuc n → SFits w64 (negsuc n)
 fits_low (pos k) n f p = absurd (omega (arith, ints, p))
 fits_low (negsuc k) n f p = record { sfits = omega (arith, ints, f.sfits, p) }
@@ -41,7 +41,7 @@ abbrev pub BelowBefore : ℕ → ℕ → ℤ → ℤ → Type 0
 BelowBefore zero size now limit = Unit {0}
 BelowBefore (suc turns) size now limit = (now +ℤ pos (turns * size)) <ℤ limit
 
--- It was below it before this turn and the next ones.
+-- The variable was below it before this turn and the next ones.
 below_next : (turns size : ℕ) (now next limit : ℤ) → next ≡ now +ℤ pos size
     → (now +ℤ pos (turns * size)) <ℤ limit → BelowBefore turns size next limit
 below_next zero size now next limit e h = tt
@@ -71,7 +71,7 @@ abbrev pub AboveBefore : ℕ → ℕ → ℤ → ℤ → Type 0
 AboveBefore zero size now limit = Unit {0}
 AboveBefore (suc turns) size now limit = (limit +ℤ pos (turns * size)) <ℤ now
 
--- It was above it before this turn and the next ones.
+-- The variable was above it before this turn and the next ones.
 above_next : (turns size : ℕ) (now next limit : ℤ) → next +ℤ pos size ≡ now
     → (limit +ℤ pos (turns * size)) <ℤ now → AboveBefore turns size next limit
 above_next zero size now next limit e h = tt
@@ -104,7 +104,7 @@ most_fits = record { sfits = lit< tt }
 least_fits : SFits w64 (negsuc 9223372036854775807)
 least_fits = record { sfits = lit< tt }
 
--- What lies between the least word and one that fits fits.
+-- A word between the least word and one that fits fits.
 pub fits_below : (x start : ℤ) → SFits w64 start → negsuc 9223372036854775807 ≤ℤ x → x ≤ℤ start → SFits w64 x
 fits_below x start f low high = between (negsuc 9223372036854775807) x start least_fits f low high
 
@@ -141,7 +141,7 @@ down_turns turns size way gap start step limit last e enough fewest fits g s l l
     counts_down turns size start last limit step fits s (ap (λ w. last +ℤ pos w) (sym e) ∙ l)
     (between _ last start least_fits fits low high) under (above_before turns size way gap start limit e fewest g)
 
--- What is so of turns up to a limit is so of a guard that compares so.
+-- The result for turns up to a limit holds for a guard that compares upwards.
 pub counted_up : (r : Option Turns) (up : Bool) (limit limit' step step' start start' : ℤ)
     → IfSome r (λ t. Counts (λ n. less_of n limit') step' t.turns start' t.last) → up ≡ true → limit' ≡ limit
     → step' ≡ step → start' ≡ start → IfSome r (λ t. Counts (guard_value up limit) step t.turns start t.last)
@@ -151,7 +151,7 @@ counted_up r up limit limit' step step' start start' h e p q w =
     (subst (λ (x : ℤ). IfSome r (λ t. Counts (λ n. less_of n limit') x t.turns start t.last)) q
     (subst (λ (x : ℤ). IfSome r (λ t. Counts (λ n. less_of n limit') step' t.turns x t.last)) w h)))
 
--- The same of turns down to a limit.
+-- The result for turns down to a limit holds for a guard that compares downwards.
 pub counted_down : (r : Option Turns) (up : Bool) (limit limit' step step' start start' : ℤ)
     → IfSome r (λ t. Counts (λ n. less_of limit' n) step' t.turns start' t.last) → up ≡ false → limit' ≡ limit
     → step' ≡ step → start' ≡ start → IfSome r (λ t. Counts (guard_value up limit) step t.turns start t.last)

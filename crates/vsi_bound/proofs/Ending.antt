@@ -54,7 +54,7 @@ start_long image words valid e =
       length-replicate (image.slots - length words) (pos 0),
     )
 
--- What ends within a cost always halts within it.
+-- An image that ends within a cost always halts within it.
 pub always_halts : (image : Image) (cost : Cost) → IsValid image → Ends image.code.items image.slots cost
     → AlwaysHalts image cost.least cost.most
 always_halts image cost valid ends words e =
@@ -76,13 +76,13 @@ always_halts image cost valid ends words e =
       few = f.few;
     }
 
--- The same of an image by another name.
+-- The same for an image under another name.
 pub always_halts_as : (image held : Image) (cost : Cost) → held ≡ image → IsValid image
     → Ends held.code.items held.slots cost → AlwaysHalts image cost.least cost.most
 always_halts_as image held cost e valid ends =
     always_halts image cost valid (subst (λ (i : Image). Ends i.code.items i.slots cost) e ends)
 
--- The same of a stretch by other names.
+-- The same for a stretch under other names.
 pub ends_as : (code held : List Instr) (slots halt : ℕ) (facts given left : List Known) (cost whole : Cost)
     → AreSame slots facts → Leads held given 0 halt cost left → slice_get held halt ≡ Some Halt
     → whole.least ≡ cost.least + 1 → whole.most ≡ cost.most + 1 → held ≡ code → given ≡ facts
@@ -91,7 +91,7 @@ ends_as code held slots halt facts given left cost whole same leads is p q e g =
     subst (λ c. Ends c slots whole) e
     (ends_at held slots halt facts left cost whole same (subst (λ f. Leads held f 0 halt cost left) g leads) is p q)
 
--- With a budget no smaller than the bound every run halts.
+-- If the budget is no smaller than the bound, every run halts.
 pub enough_budget : EnoughBudget
 enough_budget image least most budget words always le e =
     let h = always words e in

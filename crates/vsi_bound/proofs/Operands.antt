@@ -1,4 +1,4 @@
--- What is known of the operands of an expression.
+-- Facts about the operands of an expression.
 use Rattle.std.proofs.Common.{◌≡◌, ℕ, ◌+◌, ◌<◌, ℤ, pos, List, [], ◌∷◌, ◌++◌, length, reverse, Some, Result, Ok, Err, OnOk, refl, sym, ap, ◌∙◌, subst, arith}
 use Rattle.std.specs.Prelude.{slice_get}
 use Rattle.std.specs.Option.{option_map}
@@ -16,11 +16,11 @@ use Rattle.vsi_bound.specs.Stretch.{Evaluates, Gives}
 use Rattle.vsi_bound.specs.Values.{IsOperator, Operated, Operates, Acts}
 use Rattle.vsi_bound.proofs.Running.{next_run, one_run}
 
--- The last one comes first in the other order.
+-- The last item comes first in reverse order.
 last_first : {X : Type 0} (xs : List X) (x : X) → reverse (xs ++ x ∷ []) ≡ x ∷ reverse xs
 last_first xs x = reverse-append xs (x ∷ [])
 
--- Two operands taken, and what the operator gives put there.
+-- An operator takes two operands, and its result takes their position.
 pub operated : (op : Op) (l r k : Known) (held middle bottom left : List Known) → held ≡ middle ++ r ∷ []
     → middle ≡ bottom ++ l ∷ [] → left ≡ bottom ++ k ∷ []
     → ((m : List ℤ) (a b : ℤ) → Means m l a → Means m r b → Means m k (apply op a b)) → Operates op held left
@@ -82,7 +82,7 @@ acts_load k f facts held left e known lt m now s pc h mean =
           (h.each k f known, mean);
     }
 
--- From these slots the code comes to a place with operands of which these facts hold.
+-- From these slots the code reaches a position with operands for which these facts hold.
 pub record Computed (code : List Instr) (m now : List ℤ) (from to : ℕ) (held : List Known) : Type 0 where
   pub steps : ℕ
   pub count : from + steps ≡ to
@@ -90,11 +90,11 @@ pub record Computed (code : List Instr) (m now : List ℤ) (from to : ℕ) (held
   pub reached : after code steps (going from [] now) ≡ Some (going to operands now)
   pub mean : AllMean m (reverse held) operands
 
--- So it does from all slots of which these facts hold.
+-- The code reaches the position from all slots for which these facts hold.
 abbrev pub Computes : List Instr → List Known → ℕ → ℕ → List Known → Type 0
 Computes code facts from to held = (m now : List ℤ) → Hold m facts now → Computed code m now from to held
 
--- At the start there are none.
+-- At the start there are no operands.
 pub computes_start : (code : List Instr) (facts : List Known) (from : ℕ) (held : List Known) → held ≡ []
     → Computes code facts from from held
 computes_start code facts from held e m now h = record {
@@ -105,7 +105,7 @@ computes_start code facts from held e m now h = record {
   mean = subst (λ (fs : List Known). AllMean m (reverse fs) []) (sym e) tt;
 }
 
--- One instruction more.
+-- One more instruction.
 pub computes_more : (code : List Instr) (facts : List Known) (from to : ℕ) (held left : List Known) (i : Instr)
     → Computes code facts from to held → Acts i facts held left → slice_get code to ≡ Some i
     → Computes code facts from (to + 1) left

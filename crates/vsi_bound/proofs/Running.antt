@@ -11,7 +11,7 @@ use Rattle.vsi_bound.specs.declared.cost.Cost.{Cost}
 use Rattle.vsi_bound.specs.declared.known.Known.{Known}
 use Rattle.vsi_bound.specs.Stretch.{Comes, Leads, Gives, Evaluates}
 
--- A word that isn't 0 isn't equal to 0 as the machine tests it.
+-- The machine's test finds a word other than 0 unequal to 0.
 not_zero : (z : ℤ) → z ≢ pos 0 → int_eq z (pos 0) ≡ false
 not_zero z h = by_test (int_eq z (pos 0)) refl
   where
@@ -19,7 +19,7 @@ not_zero z h = by_test (int_eq z (pos 0)) refl
     by_test true e = absurd (h ((Decides-int_eq z (pos 0)).0 e))
     by_test false e = refl
 
--- A run goes on from where another came.
+-- A run continues from the end of another.
 pub next_run : (code : List Instr) (a b : ℕ) (s t u : State) → after code a s ≡ Some t → after code b t ≡ Some u
     → after code (a + b) s ≡ Some u
 next_run code a b s t u e f = go_on code a b s t e ∙ f
@@ -60,7 +60,7 @@ leads_both code facts middle left from over to first second whole a b p q m now 
       hold = d.hold;
     }
 
--- No step leads to where it begins.
+-- No steps lead from a position to itself.
 pub leads_nowhere : (code : List Instr) (facts : List Known) (from to : ℕ) (cost : Cost) → from ≡ to → cost.least ≡ 0
     → cost.most ≡ 0 → Leads code facts from to cost facts
 leads_nowhere code facts from to cost e p q m now h = record {
@@ -90,7 +90,7 @@ leads_jump code facts left from jump to cost whole a j p q m now h =
 
 module _ (code : List Instr) (m now : List ℤ) (start place target : ℕ) (value : Known)
     (g : Gives code m now start place value) (jz : slice_get code place ≡ Some (Jz target)) where
-  -- A test as its comparison with 0 comes out.
+  -- The result of a test is that of its comparison with 0.
   tested : (b : Bool) → int_eq g.operand (pos 0) ≡ b
       → after code (g.steps + 1) (going start [] now) ≡ Some (going (if b then target else place + 1) [] now)
   tested b e =

@@ -23,7 +23,7 @@ valued : (up : Bool) (slot : ℕ) (limit : ℤ) (guard : Known) (m : List ℤ) (
 valued true slot limit guard m v e h = subst (λ (g : Known). Means m g v) e h
 valued false slot limit guard m v e h = subst (λ (g : Known). Means m g v) e h
 
--- What all turns of a loop do to these slots.
+-- The effect of a loop's turns on these slots.
 record Turned (code : List Instr) (entry turned : List Known) (start target tested : ℕ) (body : Cost) (slot : ℕ)
     (now : List ℤ) (turns : ℕ) (last : ℤ) : Type 0 where
   steps : ℕ
@@ -46,7 +46,7 @@ module _ (code : List Instr) (facts entry turned : List Known) (start place targ
     (keeps : Keeps entry turned)
     (guarded : guard ≡ guard_of up slot limit)
     (moves : slice_get turned slot ≡ Some (Moved slot step)) where
-  -- A fact of the start of a turn holds of the words that it compares with.
+  -- A fact at the start of a turn holds for the words with which it compares.
   enters_hold : (now : List ℤ) (k : ℕ) (f : Known) → Enters facts k f
       → ((n : ℤ) → f ≡ Number n → word now k ≡ n) → Means now f (word now k)
   enters_hold now k (Number n) e h = h n refl
@@ -56,7 +56,7 @@ module _ (code : List Instr) (facts entry turned : List Known) (start place targ
   enters_hold now k (Above j n) e h = absurd e
   enters_hold now k Any e h = absurd e
 
-  -- A fact that a turn leaves as it was says that the word is the same.
+  -- A fact that a turn leaves unchanged says that the word is the same.
   kept : (now last : List ℤ) (k : ℕ) (f : Known) → Enters facts k f → Means now f (word now k)
       → Means now f (word last k) → word last k ≡ word now k
   kept now last k (Number n) e h g = g ∙ sym h
@@ -66,7 +66,7 @@ module _ (code : List Instr) (facts entry turned : List Known) (start place targ
   kept now last k (Above j n) e h g = absurd e
   kept now last k Any e h g = absurd e
 
-  -- The facts of the start of a turn hold after it.
+  -- The facts at the start of a turn hold after it.
   again : (now last : List ℤ) → Hold now entry now → Hold now turned last → length entry ≡ length turned
       → Hold last entry last
   again now last h g e = record {
@@ -75,7 +75,7 @@ module _ (code : List Instr) (facts entry turned : List Known) (start place targ
         (λ n is. g.each k (Number n) (keeps k n (s ∙ ap Some is)));
   }
 
-  -- So many turns.
+  -- A number of turns.
   turning : length entry ≡ length turned → (turns : ℕ) (now : List ℤ) (last : ℤ) → Hold now entry now
       → Counts (guard_value up limit) step turns (word now slot) last
       → Turned code entry turned start target tested body slot now turns last
@@ -117,7 +117,7 @@ module _ (code : List Instr) (facts entry turned : List Known) (start place targ
             ∙ kept now b.last k f (enters k f p) (h.each k f p) (b.hold.each k f q);
       }
 
--- The facts before a loop give those of the start of its first turn.
+-- The facts before a loop imply those at the start of its first turn.
 entry_holds : (facts entry : List Known) (m now : List ℤ) → IsEntry facts entry → Hold m facts now → Hold now entry now
 entry_holds facts entry m now e h = record {
   count = e.count ∙ h.count;
@@ -132,7 +132,7 @@ entry_holds facts entry m now e h = record {
     by k (Above j n) s e = absurd e
     by k Any s e = absurd e
 
--- The facts after a loop hold, where its variable has the last word and what no turn changes is as it was.
+-- The facts after a loop hold if its variable has the last word and no turn changes the rest.
 remain_holds : (facts entry turned left : List Known) (slot : ℕ) (last : ℤ) (m now end : List ℤ)
     → length entry ≡ length facts → Hold m facts now → length end ≡ length now → word end slot ≡ last
     → ((k : ℕ) (f : Known) → slice_get entry k ≡ Some f → slice_get turned k ≡ Some f → word end k ≡ word now k)
@@ -173,7 +173,7 @@ loop_leads code facts entry turned left start place target jump tested guard bod
       hold = remain_holds facts entry turned left f.slot f.last m now t.end e.count h t.long t.word_is t.same f.remain;
     }
 
--- The same of facts by other names.
+-- The same for facts under other names.
 pub loop_leads_as : (code : List Instr) (facts e₀ e₁ e₂ entry u turned left : List Known)
     (start place target jump end tested : ℕ) (guard : Known) (body cost : Cost) → IsEntry facts e₀
     → Evaluates code e₁ start place guard → Leads code e₂ (place + 1) jump body u

@@ -1,4 +1,4 @@
--- Lists that are written from their start to their end.
+-- Lists that are updated from start to end.
 use Rattle.std.proofs.Common.{◌≡◌, ◌≢◌, ℕ, zero, suc, ◌+◌, ◌<◌, ◌≤◌, ◌⊎◌, inl, inr, ℤ, List, [], ◌∷◌, length, get_or, Some, Bool, true, refl, sym, ap, ◌∙◌, subst, arith, length-set, length-append, ◌++◌}
 use Rattle.std.specs.Prelude.{slice_get, slice_set}
 use Rattle.std.proofs.lemmas.Option.{slice_get-get_or, slice_get_within, get_or_from_slice_get}
@@ -9,13 +9,13 @@ use Rattle.vsi_bound.specs.Facts.{AreSame}
 use Rattle.vsi_bound.specs.Loops.{Enters, IsEntry, Keeps, Remains}
 use Rattle.vsi_bound.proofs.Slots.{set_same, set_other}
 
--- The first facts of a list are so, and the others as they were.
+-- The first facts of a list are updated, and the others are unchanged.
 pub record Updated (R : ℕ → Known → Type 0) (initial xs : List Known) (i : ℕ) : Type 0 where
   pub count : length xs ≡ length initial
   pub before : (k : ℕ) (f : Known) → k < i → slice_get xs k ≡ Some f → R k f
   pub after : (k : ℕ) → i ≤ k → slice_get xs k ≡ slice_get initial k
 
--- At first none is.
+-- At first no fact is updated.
 pub updated_none : (R : ℕ → Known → Type 0) (initial : List Known) → Updated R initial initial 0
 updated_none R initial = record {
   count = refl;
@@ -23,12 +23,12 @@ updated_none R initial = record {
   after = λ k le. refl;
 }
 
--- The next one is as it was.
+-- The next fact is unchanged.
 pub updated_next : (R : ℕ → Known → Type 0) (initial xs : List Known) (i : ℕ) (d : Known) → Updated R initial xs i
     → i < length xs → slice_get initial i ≡ Some (get_or xs i d)
 updated_next R initial xs i d u lt = sym (u.after i (omega arith)) ∙ slice_get-get_or xs i d lt
 
--- The next one is written.
+-- The next fact is updated.
 pub updated_more : (R : ℕ → Known → Type 0) (initial xs : List Known) (i : ℕ) (y : Known) → Updated R initial xs i
     → i < length xs → R i y → Updated R initial (slice_set xs i y) (i + 1)
 updated_more R initial xs i y u lt r = record {
@@ -49,7 +49,7 @@ updated_more R initial xs i y u lt r = record {
         let e : y ≡ f = some_is y f (sym (set_same xs i y lt) ∙ ap (slice_get (slice_set xs i y)) (sym same) ∙ s) in
         subst (λ n. R n f) (sym same) (subst (R i) e r)
 
--- At last each one is.
+-- In the end every fact is updated.
 pub updated_all : (R : ℕ → Known → Type 0) (initial xs : List Known) (i : ℕ) → Updated R initial xs i → length xs ≤ i
     → (k : ℕ) (f : Known) → slice_get xs k ≡ Some f → R k f
 updated_all R initial xs i u le k f s = u.before k f (omega (arith, slice_get_within xs k f s, le)) s
@@ -83,7 +83,7 @@ abbrev pub KeepsBefore : ℕ → List Known → List Known → Type 0
 KeepsBefore i entry turned =
     (k : ℕ) (n : ℤ) → k < i → slice_get entry k ≡ Some (Number n) → slice_get turned k ≡ Some (Number n)
 
--- One more is.
+-- One more fact is kept.
 pub keeps_more : (entry turned : List Known) (i : ℕ) (d : Known) → KeepsBefore i entry turned → i < length entry
     → length turned ≡ length entry
     → ((n : ℤ) → get_or entry i d ≡ Number n → get_or turned i d ≡ Number n) → KeepsBefore (i + 1) entry turned
@@ -96,7 +96,7 @@ keeps_more entry turned i d h lt same is k n l s = elim (cases_lt k i) [
       (ap (slice_get entry) (sym e) ∙ s))))
 ]
 
--- At last all are.
+-- In the end all facts are kept.
 pub keeps_all : (entry turned : List Known) (i : ℕ) → KeepsBefore i entry turned → length entry ≤ i
     → Keeps entry turned
 keeps_all entry turned i h le k n s = h k n (omega (arith, slice_get_within entry k (Number n) s, le)) s
@@ -116,11 +116,11 @@ remains_as facts entry turned slot k last given before d result is_same (inr (in
       slice_get-get_or entry k d lt ∙ ap Some (s p.0) ∙ sym (slice_get-get_or turned k d lt'),
     ))
 
--- A slot where two branches meet.
+-- A slot at which two branches meet.
 abbrev pub Meets : List Known → List Known → ℕ → Known → Type 0
 Meets first second k f = (f ≡ Any) ⊎ ((slice_get first k ≡ Some f) × (slice_get second k ≡ Some f))
 
--- It has what both leave.
+-- The slot has the fact that both branches leave.
 pub meets_as : (first second : List Known) (k : ℕ) (a d result : Known)
     → (result ≡ Any) ⊎ ((result ≡ a) × (result ≡ get_or second k d)) → slice_get first k ≡ Some a → k < length second
     → Meets first second k result
@@ -128,7 +128,7 @@ meets_as first second k a d result (inl any) at lt = inl any
 meets_as first second k a d result (inr p) at lt =
     inr (at ∙ ap Some (sym p.0), slice_get-get_or second k d lt ∙ ap Some (sym p.1))
 
--- What is so of each fact, and of one more.
+-- A property of each fact, and of one more.
 push_each : (R : ℕ → Known → Type 0) (xs : List Known) (y : Known)
     → ((k : ℕ) (f : Known) → slice_get xs k ≡ Some f → R k f) → R (length xs) y
     → (k : ℕ) (f : Known) → slice_get (xs ++ y ∷ []) k ≡ Some f → R k f
@@ -137,7 +137,7 @@ push_each R [] y h r (suc k) f s = absurd cc
 push_each R (x ∷ xs) y h r zero f s = h zero f s
 push_each R (x ∷ xs) y h r (suc k) f s = push_each (λ j. R (suc j)) xs y (λ k f s. h (suc k) f s) r k f s
 
--- One slot more.
+-- One more slot.
 pub fresh_more : (slots : ℕ) (facts left : List Known) → AreSame slots facts → left ≡ facts ++ Same slots ∷ []
     → AreSame (slots + 1) left
 fresh_more slots facts left a e = record {

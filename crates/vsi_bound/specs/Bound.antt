@@ -7,19 +7,19 @@ use Rattle.vsi_machine.specs.Counting.{HaltsIn}
 use Rattle.vsi_bound.specs.declared.bound.Bound.{Bound}
 use Rattle.vsi_bound.specs.declared.bound.Bound.TheVariants.{Halts, Endless, Unstructured, TooLarge}
 
--- From these words the image halts after a number of instructions that is within these two.
+-- From these words the image halts after a number of instructions within these two numbers.
 pub record HaltsBetween (image : Image) (words : List ℤ) (least most : ℕ) : Type 0 where
   pub count : ℕ
   pub exact : HaltsIn image words count
   pub enough : least ≤ count
   pub few : count ≤ most
 
--- It does so from every store with a word for each global.
+-- It does so from every store with one word for each global.
 abbrev pub AlwaysHalts : Image → ℕ → ℕ → Type 0
 AlwaysHalts image least most =
     (words : List ℤ) → length words ≡ length image.globals.items → HaltsBetween image words least most
 
--- The instruction at this place tests the guard of a loop: a jump before its target leads back to it or before it.
+-- The instruction at this position tests the guard of a loop: a jump before its target leads back to it or before it.
 pub record IsLoop (code : List Instr) (test : ℕ) : Type 0 where
   pub target : ℕ
   pub jump : ℕ
@@ -29,7 +29,7 @@ pub record IsLoop (code : List Instr) (test : ℕ) : Type 0 where
   pub next : jump + 1 ≡ target
   pub back : start ≤ test
 
--- An answer with two numbers says that the image always halts within them, and one with a loop names one.
+-- An answer with two numbers means that the image always halts within them, and one with a loop names a loop.
 abbrev pub Answers : Image → Bound → Type 0
 Answers image (Halts least most) = AlwaysHalts image least most
 Answers image (Endless test reason) = IsLoop image.code.items test

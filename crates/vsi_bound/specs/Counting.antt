@@ -2,7 +2,7 @@
 use Rattle.std.specs.Prelude.{◌≡◌, ◌≢◌, ℕ, zero, suc, ℤ, pos}
 use Rattle.vsi_syntax.specs.Operators.{sum_of}
 
--- A loop whose guard is this function of its variable, and which adds the step at each turn, ends after so many turns
+-- A loop whose guard is this function of its variable, and which adds the step at each turn, ends after this many turns
 -- with the last word in the variable.
 abbrev pub Counts : (ℤ → ℤ) → ℤ → ℕ → ℤ → ℤ → Type 0
 Counts guard step zero now last = (guard now ≡ pos 0) × (now ≡ last)

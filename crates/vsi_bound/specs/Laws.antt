@@ -5,13 +5,13 @@ use Rattle.vsi_machine.specs.Counting.{Halts, HaltsIn}
 use Rattle.vsi_machine.specs.Runs.{run_of}
 use Rattle.vsi_bound.specs.Bound.{AlwaysHalts}
 
--- With a budget no smaller than the bound every run halts.
+-- If the budget is no smaller than the bound, every run halts.
 abbrev pub EnoughBudget : Type 0
 EnoughBudget =
     (image : Image) (least most budget : ℕ) (words : List ℤ) → AlwaysHalts image least most → most ≤ budget
     → length words ≡ length image.globals.items → Halts (run_of image words budget)
 
--- Where both numbers are the same, every run has just so many instructions.
+-- If both numbers are equal, every run takes exactly that many instructions.
 abbrev pub ExactCount : Type 0
 ExactCount =
     (image : Image) (n : ℕ) (words : List ℤ) → AlwaysHalts image n n

@@ -15,7 +15,7 @@ guard_of up slot limit = if up then Below slot limit else Above slot limit
 abbrev pub guard_value : Bool → ℤ → ℤ → ℤ
 guard_value up limit now = if up then less_of now limit else less_of limit now
 
--- The guard compares the slot with a limit; the slot begins with a number, each turn moves it by a step, and so many
+-- The guard compares the slot with a limit; the slot begins with a number, each turn moves it by a step, and this many
 -- turns lead past the limit.
 pub record IsCounter (facts : List Known) (guard : Known) (turned : List Known) (slot turns : ℕ) (last : ℤ)
     : Type 0 where
@@ -28,7 +28,7 @@ pub record IsCounter (facts : List Known) (guard : Known) (turned : List Known) 
   pub moves : slice_get turned slot ≡ Some (Moved slot step)
   pub counts : Counts (guard_value up limit) step turns start last
 
--- A loop with such a counter, whose turns keep each number that is known at their start: its cost, if a test takes so
+-- A loop with such a counter, whose turns keep each number that is known at their start: its cost, if a test takes this
 -- many instructions, and the facts after it.
 pub record Finished (facts entry : List Known) (guard : Known) (turned : List Known) (tested : ℕ) (body cost : Cost)
     (left : List Known) : Type 0 where

@@ -14,21 +14,21 @@ use std::alloc::{AllocError, Global};
 use vsi_image::{Image, Instr, Verified};
 use vsi_syntax::MAX_DEPTH;
 
-/// How many instructions an image can run.
+/// The number of instructions that an image can run.
 #[derive(Clone, Copy, PartialEq, Eq, Debug)]
 pub enum Bound {
-    /// From every store it halts, after no fewer instructions than `least` and no more than `most`.
-    /// Where both are equal, each of its runs has just so many.
+    /// From every store it halts, after at least `least` and at most `most` instructions. If both
+    /// are equal, each of its runs takes exactly that many.
     Halts { least: u64, most: u64 },
-    /// The loop whose test is the instruction of this number has no bound.
+    /// The loop whose test is the instruction with this number has no bound.
     Endless { test: usize, reason: Reason },
-    /// The instruction of this number doesn't belong to commands as a compiler lays them out.
+    /// The instruction with this number doesn't belong to commands as a compiler lays them out.
     Unstructured(usize),
-    /// Each loop has a bound, and the number of instructions is above the greatest `u64`.
+    /// Each loop has a bound, but the number of instructions is above the greatest `u64`.
     TooLarge,
 }
 
-/// The facts of a start: each slot has its own word.
+/// The facts at the start: each slot has its own word.
 fn fresh(alloc: Global, slots: u16) -> Result<Vec<Known>, AllocError>
     ensures { IfOk result (λ facts. AreSame slots facts.items) }
 {
@@ -39,7 +39,7 @@ fn fresh(alloc: Global, slots: u16) -> Result<Vec<Known>, AllocError>
     Ok(facts)
 }
 
-/// Checks that there is a HALT at this place.
+/// Checks that there is a HALT at this position.
 fn check_halt(code: &[Instr], place: usize) -> Result<(), Stop>
     ensures { OnOk result (slice_get code.now place ≡ Some instr.Halt) }
 {
@@ -65,7 +65,7 @@ fn cost_of(alloc: Global, image: &Image) -> Result<Cost, Stop>
     Ok(whole)
 }
 
-/// Whether the instruction at this place tests the guard of a loop.
+/// Whether the instruction at this position tests the guard of a loop.
 fn is_loop(code: &[Instr], test: usize) -> bool
     ensures { result ≡ true → IsLoop code.now test }
 {
@@ -81,12 +81,12 @@ fn is_loop(code: &[Instr], test: usize) -> bool
     }
 }
 
-/// How many instructions an image can run. Time is linear in the code, times the depth to which
-/// loops nest, and each loop and each conditional goes over the slots.
+/// The number of instructions that an image can run. The time is linear in the code, times the
+/// depth of nested loops, and each loop and each conditional goes over the slots.
 ///
 /// # Errors
 ///
-/// There was no memory for what is known of the slots.
+/// `AllocError` if there was too little memory for the facts about the slots.
 pub fn bound_of(alloc: Global, image: &Verified) -> Result<Bound, AllocError>
     ensures { IfOk result (Answers image.now) }
 {
@@ -96,7 +96,7 @@ pub fn bound_of(alloc: Global, image: &Verified) -> Result<Bound, AllocError>
             most: cost.most,
         }),
         Err(Stop::Endless(test, reason)) => {
-            // It is one; the test proves it.
+            // It is a loop; the test proves it.
             if is_loop(&image.image().code, test) {
                 Ok(Bound::Endless { test, reason })
             } else {

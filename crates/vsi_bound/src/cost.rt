@@ -1,4 +1,4 @@
-//! How many instructions a stretch of code takes.
+//! The number of instructions that a stretch of code takes.
 
 ghost use Rattle.std.specs.Prelude.{◌≡◌, ◌+◌, ◌*◌, IfOk, min, max};
 
@@ -11,7 +11,7 @@ pub(crate) struct Cost {
     pub most: u64,
 }
 
-/// The cost of just so many instructions.
+/// The cost of exactly this many instructions.
 pub(crate) fn exactly(n: u64) -> Cost
     ensures least { result.least ≡ n }
     ensures most { result.most ≡ n }
@@ -19,7 +19,7 @@ pub(crate) fn exactly(n: u64) -> Cost
     Cost { least: n, most: n }
 }
 
-/// The cost of two stretches, one after the other.
+/// The cost of two stretches in turn.
 pub(crate) fn sum(first: Cost, second: Cost) -> Result<Cost, Stop>
     ensures least { IfOk result (λ cost. cost.least ≡ first.least + second.least) }
     ensures most { IfOk result (λ cost. cost.most ≡ first.most + second.most) }
@@ -44,7 +44,7 @@ pub(crate) fn either(first: Cost, second: Cost) -> Cost
     }
 }
 
-/// The cost of so many turns.
+/// The cost of this many turns.
 pub(crate) fn times(turns: u64, turn: Cost) -> Result<Cost, Stop>
     ensures least { IfOk result (λ cost. cost.least ≡ turns * turn.least) }
     ensures most { IfOk result (λ cost. cost.most ≡ turns * turn.most) }

@@ -1,4 +1,4 @@
-//! How often a loop that counts turns.
+//! The number of turns of a loop that counts.
 
 ghost use Rattle.std.specs.Prelude.{◌≡◌, ◌+◌, ◌*◌, ◌^◌, ◌<◌, ◌≤◌, IfSome};
 ghost use Rattle.vsi_syntax.specs.Operators.{less_of};
@@ -11,7 +11,7 @@ pub(crate) struct Turns {
     pub last: i64,
 }
 
-/// The fewest turns whose steps of this size cover the gap, and the way that they cover.
+/// The fewest turns whose steps of this size cover the gap, and the distance that they cover.
 fn cover(gap: u64, size: u64) -> Option<(u64, u64)>
     requires some { 0 < gap }
     requires moves { 0 < size }
@@ -23,7 +23,7 @@ fn cover(gap: u64, size: u64) -> Option<(u64, u64)>
 {
     let turns = ((gap - 1) / size).checked_add(1)?;
     let way = turns.checked_mul(size)?;
-    // So it is by arithmetic; the test proves it.
+    // This follows from arithmetic; the test proves it.
     if way < gap || way - gap >= size {
         return None;
     }

@@ -13,9 +13,9 @@ pub enum Reason {
     /// Its variable doesn't begin with a known number.
     Start,
     /// Its body doesn't add the same number to the variable on every path, or the number doesn't
-    /// lead to the limit.
+    /// lead towards the limit.
     Step,
-    /// The variable could wrap around on its way.
+    /// The variable could wrap around before it reaches the limit.
     Wraps,
 }
 
@@ -23,9 +23,9 @@ pub enum Reason {
 #[derive(Drop)]
 pub(crate) enum Stop {
     Memory,
-    /// The instruction of this number doesn't belong to commands.
+    /// The instruction with this number doesn't belong to commands.
     Unread(usize),
-    /// The loop whose test is the instruction of this number.
+    /// The loop whose test is the instruction with this number.
     Endless(usize, Reason),
     /// The number of instructions is above the greatest `u64`.
     TooLarge,

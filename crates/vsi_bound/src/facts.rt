@@ -9,7 +9,7 @@ use crate::known::Known;
 use std::alloc::{AllocError, Global};
 use vsi_image::Instr;
 
-/// A number, or that the word of the slot is the one to compare with.
+/// A number, or that the slot's word is the one for comparison.
 fn number_or_same(known: Known, slot: u16) -> Known
     ensures { (facts : List Known) → slice_get facts slot ≡ Some known → Enters facts slot result }
 {
@@ -19,7 +19,7 @@ fn number_or_same(known: Known, slot: u16) -> Known
     }
 }
 
-/// Leaves the numbers; the fact about each other slot is that it has its own word.
+/// Keeps the numbers; the fact about each other slot is that it has its own word.
 fn compare_with(entry: &mut [Known])
     requires { length entry.old ≤ 65535 }
     ensures { IsEntry entry.old entry.new }
@@ -95,7 +95,7 @@ fn are_same(first: Known, second: Known) -> bool
 }
 
 /// The fact about a slot after a loop: the last word for the loop's variable, the fact from before
-/// the loop for a slot that no turn changes, and nothing for others.
+/// the loop for a slot that no turn changes, and nothing for any other.
 fn left(before: Known, is_same: bool, k: usize, slot: u16, last: i64) -> Known
     ensures { (result ≡ Any) ⊎ (((k ≡ slot) × (result ≡ Number last))
         ⊎ ((is_same ≡ true) × (result ≡ before))) }

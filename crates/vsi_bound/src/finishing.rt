@@ -1,4 +1,4 @@
-//! The cost of a loop, from that of one turn.
+//! The cost of a loop, from the cost of one turn.
 
 ghost use Rattle.std.specs.Prelude.{◌≡◌, ◌+◌, ◌-◌, ◌*◌, ◌^◌, ◌<◌, ◌≤◌, IfOk, OnOk, length};
 ghost use Rattle.vsi_bound.specs.Loops.{Keeps};
@@ -14,8 +14,8 @@ use crate::values::evaluate;
 use std::alloc::Global;
 use vsi_image::Instr;
 
-/// A test that begins a conditional or a loop: where its guard begins, its own place, its target,
-/// the place of the jump before the target, and where that leads to.
+/// A test that begins a conditional or a loop: the start of its guard, its own position, its
+/// target, the position of the jump before the target, and that jump's target.
 #[derive(Clone, Copy)]
 pub(crate) struct Test {
     pub start: usize,
@@ -64,7 +64,7 @@ fn check_kept(entry: &[Known], turned: &[Known], place: usize) -> Result<(), Sto
     }
 }
 
-/// The cost of so many turns, each of which tests the guard, does its body and jumps back, and of
+/// The cost of this many turns, each of which tests the guard, runs its body and jumps back, and of
 /// the last test.
 fn whole(turns: u64, tested: u64, body: Cost) -> Result<Cost, Stop>
     requires { tested < 2 ^ 63 }
@@ -78,7 +78,7 @@ fn whole(turns: u64, tested: u64, body: Cost) -> Result<Cost, Stop>
     sum(all, exactly(tested))
 }
 
-/// The cost of a loop; leaves the facts that hold after it.
+/// The cost of a loop. Updates the facts to those after it.
 pub(crate) fn finish(
     facts: &mut [Known],
     test: Test,

@@ -13,7 +13,7 @@ fn met(first: Known, second: Known) -> Known
     if first == second { first } else { Known::Any }
 }
 
-/// Leaves the facts that hold after both branches.
+/// Updates the facts to those that hold after both branches.
 pub(crate) fn join(facts: &mut [Known], other: &[Known])
     requires { length other.now ≡ length facts.old }
     ensures { Joined facts.old other.now facts.new }

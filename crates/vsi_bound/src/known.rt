@@ -7,20 +7,20 @@ ghost use Rattle.vsi_bound.specs.Known.{Means};
 
 use vsi_syntax::Op;
 
-/// A fact about a word, in terms of the slots at an earlier place.
+/// A fact about a word, in terms of the slots at an earlier position.
 #[derive(Clone, Copy, PartialEq, Eq)]
 pub(crate) enum Known {
     /// It is this number.
     Number(i64),
     /// It is the word that this slot had.
     Same(u16),
-    /// It is that word and this number, added up.
+    /// It is the sum of that word and this number.
     Moved(u16, i64),
-    /// It is 1 where the word that this slot had is below this number, else 0.
+    /// It is 1 if the word that this slot had is below this number, and 0 otherwise.
     Below(u16, i64),
-    /// It is 1 where that word is above this number, else 0.
+    /// It is 1 if that word is above this number, and 0 otherwise.
     Above(u16, i64),
-    /// Nothing.
+    /// Nothing is known.
     Any,
 }
 
@@ -65,7 +65,7 @@ fn less(left: Known, right: Known) -> Known
     }
 }
 
-/// The fact about the word that an operator gives.
+/// The fact about the result of an operator.
 pub(crate) fn applied(op: Op, left: Known, right: Known) -> Known
     ensures { (m : List ℤ) (a b : ℤ) → Means m left a → Means m right b
         → Means m result (apply op a b) }

@@ -1,15 +1,14 @@
-//! How many instructions an image can run: a bound that holds from every store, or the loop that
-//! has none.
+//! The number of instructions that an image can run: a bound that holds from every store, or a loop
+//! without a bound.
 //!
-//! `bound_of` reads the commands and loops back from a verified image's code and adds up the
-//! instructions of every way through it: code without loops takes its shortest and its longest
-//! path, and a loop that counts in equal steps from a known number to a known limit takes its
-//! turns, each as long as its body. Its clause says that the image halts from every store, after no
-//! fewer and no more instructions than answered, or that the answer names a loop. `laws` says what
-//! follows for budgets.
+//! `bound_of` reads commands and loops back from a verified image's code, and adds up the
+//! instructions of every path through it. Code without loops takes its shortest and its longest
+//! path. A loop that counts in equal steps from a known number to a known limit takes its turns,
+//! each as long as its body. The clause says that the image halts from every store, after no fewer
+//! and no more instructions than returned, or that the result names a loop. `laws` states the
+//! consequences for budgets.
 //!
-//! To be believed: `specs/Bound` and `specs/Laws`; the other files of `specs/` are stepping stones
-//! of proofs.
+//! To be believed: `specs/Bound` and `specs/Laws`. The other files of `specs/` only support proofs.
 #![tactic(auto)]
 
 mod bound;

@@ -44,7 +44,7 @@ fn step_at(turned: &[Known], slot: u16) -> Option<i64>
     }
 }
 
-/// The reason for which a loop doesn't count from the start to the limit.
+/// The reason why a loop doesn't count from the start to the limit.
 fn reason_of(start: i64, step: i64, limit: i64, up: bool) -> Reason {
     let leads = if up { step > 0 } else { step < 0 };
     let begun = if up { start < limit } else { start > limit };
@@ -66,7 +66,7 @@ fn counted(start: i64, step: i64, limit: i64, up: bool) -> Option<Turns>
     }
 }
 
-/// The same, or the reason for which there are none.
+/// The same, or the reason why there are none.
 fn turns_of(start: i64, step: i64, limit: i64, up: bool) -> Result<Turns, Reason>
     ensures { IfOk result (λ t. Counts (guard_value up limit) step t.turns start t.last) }
 {
@@ -87,8 +87,8 @@ fn guard_of(guard: Known) -> Option<(u16, i64, bool)>
     }
 }
 
-/// The variable by which a loop counts, from the facts before the loop, about its guard, and after
-/// each turn.
+/// The variable by which a loop counts, from the facts before the loop, the fact about its guard,
+/// and the facts after each turn.
 pub(crate) fn counter_of(facts: &[Known], guard: Known, turned: &[Known]) -> Result<Counter, Reason>
     ensures { IfOk result (λ c. IsCounter facts.now guard turned.now c.slot c.turns c.last) }
 {

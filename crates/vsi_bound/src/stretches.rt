@@ -14,7 +14,7 @@ use crate::values::evaluate;
 use std::alloc::Global;
 use vsi_image::Instr;
 
-/// Whether the instruction at this place is this one.
+/// Whether the instruction at this position is this one.
 pub(crate) fn is_at(code: &[Instr], place: usize, instr: Instr) -> bool
     ensures { result ≡ true → slice_get code.now place ≡ Some instr }
 {
@@ -24,7 +24,7 @@ pub(crate) fn is_at(code: &[Instr], place: usize, instr: Instr) -> bool
     code[place] == instr
 }
 
-/// The target of the test at a place.
+/// The target of the test at a position.
 pub(crate) fn target_at(code: &[Instr], place: usize) -> Option<usize>
     ensures { IfSome result (λ target. slice_get code.now place ≡ Some (instr.Jz target)) }
 {
@@ -37,7 +37,7 @@ pub(crate) fn target_at(code: &[Instr], place: usize) -> Option<usize>
     }
 }
 
-/// The target of the jump at a place.
+/// The target of the jump at a position.
 pub(crate) fn jump_at(code: &[Instr], place: usize) -> Option<usize>
     ensures { IfSome result (λ end. slice_get code.now place ≡ Some (instr.Jmp end)) }
 {
@@ -50,7 +50,7 @@ pub(crate) fn jump_at(code: &[Instr], place: usize) -> Option<usize>
     }
 }
 
-/// The test at a place, whose guard begins at the start, and which leads to the target.
+/// The test at a position, whose guard begins at the start and which leads to the target.
 fn test_at(code: &[Instr], start: usize, place: usize, target: u32) -> Result<Test, Stop>
     requires { start ≤ place }
     ensures test { IfOk result (λ t. IsTest code.now t) }
@@ -84,7 +84,7 @@ fn store(facts: &mut [Known], slot: u16, value: Known, place: usize) -> Result<(
     Ok(())
 }
 
-/// The commands from one place to another.
+/// The commands from one position to another.
 #[cycle(stretches)]
 pub(crate) fn stretch(
     alloc: Global,
@@ -114,7 +114,7 @@ pub(crate) fn stretch(
     }
 }
 
-/// The command at a place, the place after it, and its cost.
+/// The command at a position, the position after it, and its cost.
 #[cycle(stretches)]
 fn command(
     alloc: Global,

@@ -23,7 +23,7 @@ fn bound(alloc: Global, code: &[Instr]) -> Option<Bound> {
     }
 }
 
-/// Whether each run has from `least` to `most` instructions.
+/// Whether each run takes from `least` to `most` instructions.
 fn halts(alloc: Global, code: &[Instr], least: u64, most: u64) -> bool {
     bound(alloc, code) == Some(Bound::Halts { least, most })
 }
@@ -56,7 +56,7 @@ fn paths(rt: HostRuntime) {
     let alloc = rt.alloc();
     assert!(rt; halts(alloc, &[Halt], 1, 1));
     assert!(rt; halts(alloc, &[Push(1), Store(0), Halt], 3, 3));
-    // An `if` without a second branch: 2 instructions where the word is 0, else 5.
+    // An `if` without a second branch: 2 instructions if the word is 0, and 5 otherwise.
     let one = [Load(0), Jz(5), Push(1), Store(1), Jmp(5), Halt];
     assert!(rt; halts(alloc, &one, 3, 6));
     // Both branches have 2 instructions, and the first one jumps.
@@ -166,7 +166,7 @@ fn loops_without_bound(rt: HostRuntime) {
     let far = [Load(0), Push(MOST), Lt];
     let by_two = [Load(0), Push(2), Add];
     assert!(rt; is_endless(alloc, &counting(MOST - 3, far, by_two), 5, Reason::Wraps));
-    // Nine instructions a turn are more than the greatest number of instructions.
+    // Nine instructions per turn are more than the greatest number of instructions.
     assert!(rt; bound(alloc, &counting(0, far, add)) == Some(Bound::TooLarge));
 }
 
@@ -206,7 +206,7 @@ fn nested_loops(rt: HostRuntime) {
     assert!(rt; halts(alloc, &nested(Push(0), 4), 160, 160));
     // The nested loop begins with the outer variable.
     assert!(rt; is_endless(alloc, &nested(Load(0), 4), 11, Reason::Start));
-    // A `letvar`'s limit that no turn sets, and one that each turn sets.
+    // A `letvar` as the limit that no turn sets, and one that each turn sets.
     let limit = [
         Push(10),
         Store(1),

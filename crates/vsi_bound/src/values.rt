@@ -26,7 +26,7 @@ fn operator_of(instr: Instr) -> Option<Op>
     }
 }
 
-/// Applies an operator to the two facts on top; the top one is that of the right operand.
+/// Applies an operator to the two facts on top; the top one is about the right operand.
 fn operate(operands: &mut Vec<Known>, op: Op, place: usize) -> Result<(), Stop>
     ensures { OnOk result (Operates op operands.old.items operands.new.items) }
 {
@@ -40,7 +40,7 @@ fn operate(operands: &mut Vec<Known>, op: Op, place: usize) -> Result<(), Stop>
     Ok(())
 }
 
-/// A number on top.
+/// Puts a number on top.
 fn put_number(operands: &mut Vec<Known>, n: i64) -> Result<(), Stop>
     ensures { OnOk result
         ((facts : List Known) → Acts (spec.Push n) facts operands.old.items operands.new.items) }
@@ -49,7 +49,7 @@ fn put_number(operands: &mut Vec<Known>, n: i64) -> Result<(), Stop>
     Ok(())
 }
 
-/// A slot's word on top.
+/// Puts a slot's word on top.
 fn put_word(operands: &mut Vec<Known>, facts: &[Known], slot: u16, place: usize) -> Result<(), Stop>
     ensures { OnOk result
         (Acts (spec.Load slot) facts.now operands.old.items operands.new.items) }
@@ -61,7 +61,7 @@ fn put_word(operands: &mut Vec<Known>, facts: &[Known], slot: u16, place: usize)
     Ok(())
 }
 
-/// An operator's word on top.
+/// Puts an operator's word on top.
 fn put_operator(operands: &mut Vec<Known>, instr: Instr, place: usize) -> Result<(), Stop>
     ensures { OnOk result
         ((facts : List Known) → Acts instr facts operands.old.items operands.new.items) }
@@ -72,7 +72,7 @@ fn put_operator(operands: &mut Vec<Known>, instr: Instr, place: usize) -> Result
     }
 }
 
-/// One instruction of an expression.
+/// Handles one instruction of an expression.
 fn put(operands: &mut Vec<Known>, facts: &[Known], instr: Instr, place: usize) -> Result<(), Stop>
     ensures { OnOk result (Acts instr facts.now operands.old.items operands.new.items) }
 {
@@ -91,7 +91,7 @@ fn is_end(instr: Instr) -> bool {
     )
 }
 
-/// The one fact that is there.
+/// The only fact of a list.
 fn only(operands: &[Known], place: usize) -> Result<Known, Stop>
     ensures { IfOk result (λ known. operands.now ≡ known ∷ []) }
 {

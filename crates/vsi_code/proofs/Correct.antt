@@ -1,4 +1,4 @@
--- The image does what the body does.
+-- The image behaves like the body.
 use Rattle.std.proofs.Common.{◌≡◌, ℕ, zero, suc, ◌+◌, ◌-◌, ◌≤◌, List, [], ◌∷◌, ◌++◌, length, take, replicate, Option, Some, None, true, false, refl, sym, ap, ◌∙◌, subst, arith, pos, if◌then◌else◌, option_and_then}
 use Rattle.std.specs.Prelude.{slice_get}
 use Rattle.std.proofs.lemmas.Option.{none-some, same_Some}
@@ -23,13 +23,13 @@ after_halted code (suc n) s h =
     let going = option_and_then (λ i. acted i s.pc s.operands s.slots) (slice_get code s.pc) in
     ap (λ b. option_and_then (after code n) (if b then Some s else going)) h ∙ after_halted code n s h
 
--- What goes on to a state from each state that another goes on to it from does so from an optional one.
+-- If one function goes on to a state wherever another does, it does so from an optional state too.
 then_stays : (f f' : State → Option State) (t : State) (o : Option State) →
     ((u : State) → f u ≡ Some t → f' u ≡ Some t) → option_and_then f o ≡ Some t → option_and_then f' o ≡ Some t
 then_stays f f' t None h e = absurd (none-some _ e)
 then_stays f f' t (Some u) h e = h u e
 
--- A run that is over stays over for so many instructions more.
+-- A run that is over stays over for more instructions.
 after_stays : (code : List Instr) (a d : ℕ) (s t : State) →
     t.halted ≡ true → after code a s ≡ Some t → after code (a + d) s ≡ Some t
 after_stays code zero d s t h e =
@@ -55,19 +55,19 @@ module _
     (places : HasPlaces g c)
     (is : image.code.items ≡ whole_code g c)
     (slots : image.slots ≡ g + nesting c) where
-  -- The whole code stands at the beginning.
+  -- The whole code is at the beginning.
   has_whole : HasAt image.code.items 0 (whole_code g c)
   has_whole = subst (λ l. HasAt image.code.items 0 l) is (has_all image.code.items)
 
-  -- The body's code stands at the beginning.
+  -- The body's code is at the beginning.
   has_body : HasAt image.code.items 0 (code_at 0 g c)
   has_body = has_front image.code.items 0 (code_at 0 g c) (Halt ∷ []) has_whole
 
-  -- A HALT stands behind the body's code.
+  -- A HALT follows the body's code.
   has_halt : slice_get image.code.items (0 + size c) ≡ Some Halt
   has_halt = (has_back image.code.items 0 (code_at 0 g c) (Halt ∷ []) (size c) (command_long c 0 g) has_whole).0
 
-  -- How many slots are behind the words of a store.
+  -- The number of slots after the words of a store.
   behind : Words → ℕ
   behind m = length (replicate (image.slots - length m) (pos 0))
 
@@ -81,7 +81,7 @@ module _
       omega (arith, l, slots, length-replicate (image.slots - length m) (pos 0)) in
       command_runs image.code.items c n 0 g places has_body m zeros l room
 
-  -- A run that comes to the end halts.
+  -- A run that reaches the end halts.
   halts_at : (m m' : Words) (r : ℕ) → length m' ≡ g →
       StretchEnds image.code.items (start image m) (0 + size c) r m' → (b : ℕ) × Halts image g m b m'
   halts_at m m' r l e =
@@ -91,7 +91,7 @@ module _
       let last = ap (option_and_then (λ s. Some s)) halt in
       (x.0, record { state = t; reached = x.2 ∙ last; halted = refl; words = take_at m' e.rest g l })
 
-  -- A run that has halted has halted with each larger budget, in the same store.
+  -- A run that has halted has halted with every larger budget, in the same store.
   stays_halted : (m m' : Words) (a b : ℕ) → a ≤ b → Halts image g m a m' → Halts image g m b m'
   stays_halted m m' a b le h = record {
     state = h.state;
@@ -116,7 +116,7 @@ module _
       let both : true ≡ false = sym x.halted ∙ ap (λ s. s.halted) same ∙ o.running in
       cc
 
-  -- A run that halts ends in the store that the body ends in after as many turns.
+  -- A run that halts ends in the store in which the body ends after equally many turns.
   only : (m m' : Words) (b : ℕ) (o : Option Words) → length m ≡ g → Halts image g m b m' → runs b c m ≡ o →
       Runs image.code.items b (start image m) (0 + size c) (behind m) o → Evaluates c m m'
   only m m' b None l h e r = absurd (never_both m m' b b (omega arith) h r)
@@ -124,7 +124,7 @@ module _
       let k = halts_at m m1 _ (length_kept c b m m1 e ∙ l) r in
       (b, e ∙ ap Some (same_end m m1 m' k.0 b k.1 h))
 
-  -- An evaluation's store is reached by some budget and all larger ones.
+  -- Some budget and every larger one reach the store of an evaluation.
   reaches : (m m' : Words) → length m ≡ g → Evaluates c m m' →
       (b : ℕ) × ((budget : ℕ) → b ≤ budget → Halts image g m budget m')
   reaches m m' l e =
@@ -133,7 +133,7 @@ module _
       let k = halts_at m m' _ (length_kept c e.0 m m' e.1 ∙ l) r in
       (k.0, λ b le. stays_halted m m' k.0 b le k.1)
 
-  -- The image behaves as the body.
+  -- The image behaves like the body.
   pub behaves : Behaves g c image
   behaves = record {
     sound = λ m m' b l h. only m m' b (runs b c m) l h refl (run_of b m l);

@@ -19,11 +19,11 @@ use Rattle.vsi_code.specs.Layout.{op_code, expression_code, code_at, whole_code}
 use Rattle.vsi_code.proofs.Placed.{HasAt, has_front, has_back, has_all, expression_long, command_long, whole_long}
 
 module _ (image : Image) where
-  -- The depth of operands at a place.
+  -- The depth of operands at a position.
   abbrev depth : ℕ → ℕ
   depth pc = depth_at image.code.items pc
 
-  -- The instructions from a place on stand in the code.
+  -- The code has these instructions from a position on.
   abbrev Stands : ℕ → List Instr → Type 0
   Stands pc is = HasAt image.code.items pc is
 
@@ -32,18 +32,18 @@ module _ (image : Image) where
   AllFine pc [] = Unit {0}
   AllFine pc (i ∷ is) = IsFine image i (depth pc) × AllFine (pc + 1) is
 
-  -- Two stretches that are fine are fine as one.
+  -- Two stretches that are fine are fine together.
   all_append : (a b : List Instr) (pc : ℕ) → AllFine pc a → AllFine (pc + length a) b → AllFine pc (a ++ b)
   all_append [] b pc f g = let e : pc + 0 ≡ pc = omega arith in subst (λ n. AllFine n b) e g
   all_append (i ∷ a) b pc f g =
       let e : pc + length (i ∷ a) ≡ pc + 1 + length a = omega arith in
       (f.0, all_append a b (pc + 1) f.1 (subst (λ n. AllFine n b) e g))
 
-  -- The same where the first one's length is known.
+  -- Two stretches, the first of known length, are fine together.
   all_join : (a b : List Instr) (pc n : ℕ) → length a ≡ n → AllFine pc a → AllFine (pc + n) b → AllFine pc (a ++ b)
   all_join a b pc n e f g = all_append a b pc f (subst (λ n. AllFine (pc + n) b) (sym e) g)
 
-  -- An instruction of a stretch that is fine is fine at its place.
+  -- An instruction of a fine stretch is fine at its position.
   all_each : (is : List Instr) (pc k : ℕ) (i : Instr) →
       AllFine pc is → slice_get is k ≡ Some i → IsFine image i (depth (pc + k))
   all_each [] pc k i f e = absurd (none-some _ e)
@@ -55,14 +55,14 @@ module _ (image : Image) where
       let z : pc + 1 + k ≡ pc + suc k = omega arith in
       subst (λ n. IsFine image i (depth n)) z (all_each is (pc + 1) k i f.1 e)
 
-  -- The depth behind an instruction.
+  -- The depth after an instruction.
   depth_next : (pc : ℕ) (i : Instr) →
       slice_get image.code.items pc ≡ Some i → depth (pc + 1) ≡ depth_after (depth pc) i
   depth_next pc i e =
       fold_more depth_after 0 image.code.items pc i (slice_get_within image.code.items pc i e)
       ∙ ap (depth_after (depth pc)) (get_or_from_slice_get image.code.items pc i i e)
 
-  -- An instruction that names no slot and no target is fine where it finds its operands and room.
+  -- An instruction without a slot and a target is fine if it has its operands and room.
   plain : (i : Instr) (pc d : ℕ) → depth pc ≡ d → slot_of i ≡ None → target_of i ≡ None → leaves_none i ≡ false →
       takes i ≤ d → left i d ≤ image.stack → IsFine image i (depth pc)
   plain i pc d e s t l o r = record {
@@ -73,7 +73,7 @@ module _ (image : Image) where
     empty = λ h. absurd (cc);
   }
 
-  -- An operator is fine behind its two operands.
+  -- An operator is fine after its two operands.
   op_fine : (o : Op) (pc d : ℕ) → depth pc ≡ d + 2 → d + 1 ≤ image.stack → IsFine image (op_code o) (depth pc)
   op_fine Add pc d e r = plain (op_code Add) pc (d + 2) e refl refl refl (omega arith) (omega (arith, r))
   op_fine Sub pc d e r = plain (op_code Sub) pc (d + 2) e refl refl refl (omega arith) (omega (arith, r))
@@ -81,7 +81,7 @@ module _ (image : Image) where
   op_fine Eq pc d e r = plain (op_code Eq) pc (d + 2) e refl refl refl (omega arith) (omega (arith, r))
   op_fine Lt pc d e r = plain (op_code Lt) pc (d + 2) e refl refl refl (omega arith) (omega (arith, r))
 
-  -- An operator leaves one operand of two.
+  -- An operator leaves one operand in place of two.
   op_depth : (o : Op) (d : ℕ) → depth_after (d + 2) (op_code o) ≡ d + 1
   op_depth Add d = omega arith
   op_depth Sub d = omega arith
@@ -89,12 +89,12 @@ module _ (image : Image) where
   op_depth Eq d = omega arith
   op_depth Lt d = omega arith
 
-  -- A store is fine behind one operand.
+  -- A store is fine after one operand.
   store_fine : (l pc : ℕ) → depth pc ≡ 1 → l < image.slots → IsFine image (Store l) (depth pc)
   store_fine l pc e s =
       record { slot = s; target = tt; operands = omega (arith, e); room = omega (arith, e); empty = λ h. absurd (cc) }
 
-  -- A test is fine behind one operand where its target has none.
+  -- A test is fine after one operand if the depth at its target is 0.
   jz_fine : (t pc : ℕ) → depth pc ≡ 1 → t < length image.code.items → depth t ≡ 0 → IsFine image (Jz t) (depth pc)
   jz_fine t pc e w d = record {
     slot = tt;
@@ -104,7 +104,7 @@ module _ (image : Image) where
     empty = λ h. omega (arith, e);
   }
 
-  -- A jump is fine behind no operand where its target has none.
+  -- A jump is fine at depth 0 if the depth at its target is 0.
   jmp_fine : (t pc : ℕ) → depth pc ≡ 0 → t < length image.code.items → depth t ≡ 0 → IsFine image (Jmp t) (depth pc)
   jmp_fine t pc e w d = record {
     slot = tt;
@@ -114,7 +114,7 @@ module _ (image : Image) where
     empty = λ h. omega (arith, e);
   }
 
-  -- A HALT is fine behind no operand.
+  -- A HALT is fine at depth 0.
   halt_fine : (pc : ℕ) → depth pc ≡ 0 → IsFine image Halt (depth pc)
   halt_fine pc e =
       record {
@@ -125,15 +125,15 @@ module _ (image : Image) where
         empty = λ h. omega (arith, e);
       }
 
-  -- Some place has this depth.
+  -- Some position has this depth.
   abbrev Peak : ℕ → Type 0
   Peak n = (pc : ℕ) × (depth pc ≡ n)
 
-  -- A place has each depth that equals its own.
+  -- A position has every depth that equals its own.
   peak_as : (a b : ℕ) → a ≡ b → Peak a → Peak b
   peak_as a b e p = (p.0, p.1 ∙ e)
 
-  -- Of two depths that places have, some place has the greater one.
+  -- If two depths occur, so does the greater one.
   higher : (a b : ℕ) → Peak a → Peak b → Peak (max a b)
   higher a b p q = by_order (cases_lt a b)
     where
@@ -141,8 +141,8 @@ module _ (image : Image) where
       by_order (inl lt) = let e : b ≡ max a b = omega (arith, lt) in peak_as b (max a b) e q
       by_order (inr le) = let e : a ≡ max a b = omega (arith, le) in peak_as a (max a b) e p
 
-  -- An expression's code is fine where the stack has room for its height; it leaves one operand more, and is as deep
-  -- as the expression is high.
+  -- An expression's code is fine if the stack has room for its height; it leaves one more operand, and its greatest
+  -- depth is the expression's height.
   expression_fine : (e : Expression) (pc d k : ℕ) → HasLocations k e → k ≤ image.slots →
       d + expression_height e ≤ image.stack →
       Stands pc (expression_code e) → depth pc ≡ d →
@@ -187,22 +187,22 @@ module _ (image : Image) where
         peak_as (max (d + A) (d + 1 + B)) (d + max A (B + 1)) most peak,
       )
 
-  -- Behind a jump the depth is 0.
+  -- The depth after a jump is 0.
   behind_jmp : (pc t : ℕ) → slice_get image.code.items pc ≡ Some (Jmp t) → depth (pc + 1) ≡ 0
   behind_jmp pc t e = depth_next pc (Jmp t) e
 
-  -- Behind what takes the one operand the depth is 0.
+  -- The depth after an instruction that takes the only operand is 0.
   behind_one : (pc : ℕ) (i : Instr) → slice_get image.code.items pc ≡ Some i →
       goes_off i ≡ false → left i 1 ≡ 0 → depth pc ≡ 1 → depth (pc + 1) ≡ 0
   behind_one pc i e o l d =
       depth_next pc i e ∙ ap (λ b. if b then 0 else left i (depth pc)) o ∙ ap (left i) d ∙ l
 
-  -- A guard's or a value's greatest depth is its height.
+  -- The greatest depth of a guard or a value is its height.
   peak_of : (e : Expression) → Peak (0 + expression_height e) → Peak (expression_height e)
   peak_of e p = let z : 0 + expression_height e ≡ expression_height e = omega arith in peak_as _ _ z p
 
-  -- A command's code is fine where the slots and the stack have room for it; it leaves no operand, and is as deep as
-  -- the command is high.
+  -- A command's code is fine if the slots and the stack have room for it; it leaves no operand, and its greatest depth
+  -- is the command's height.
   command_fine : (c : Command) (pc k : ℕ) → HasPlaces k c → k + nesting c ≤ image.slots → height c ≤ image.stack →
       Stands pc (code_at pc k c) → depth pc ≡ 0 → pc + size c < length image.code.items →
       AllFine pc (code_at pc k c) × (depth (pc + size c) ≡ 0) × Peak (height c)
@@ -300,7 +300,7 @@ module _ (image : Image) where
       let peak = higher (expression_height x) (height c) (peak_of x fx.2) fc.2 in
       (all_join (expression_code x) back pc (expression_size x) (expression_long x) fx.0 rest, ap depth at ∙ fc.1, peak)
 
-  -- The code is fine, leaves no operand before the HALT, and is as deep as the body is high.
+  -- The code is fine, leaves no operand before the HALT, and its greatest depth is the body's height.
   body_fine : (g : ℕ) (c : Command) → HasPlaces g c → image.code.items ≡ whole_code g c →
       image.slots ≡ g + nesting c → image.stack ≡ height c →
       AllFine 0 (code_at 0 g c) × (depth (0 + size c) ≡ 0) × Peak (height c)
@@ -310,7 +310,7 @@ module _ (image : Image) where
       let body = has_front image.code.items 0 (code_at 0 g c) (Halt ∷ []) stands in
       command_fine c 0 g p (omega (arith, slots)) (omega (arith, stack)) body refl (omega (arith, count))
 
-  -- An image of a body's whole code, its slots and its stack is valid where its fields are allowed.
+  -- An image with a body's whole code, slots and stack is valid if its fields are allowed.
   pub valid : (g : ℕ) (c : Command) → IsAllowed (fields image) → HasPlaces g c → image.code.items ≡ whole_code g c →
       image.slots ≡ g + nesting c → image.stack ≡ height c → IsValid image
   valid g c allowed p is slots stack =
@@ -332,7 +332,7 @@ module _ (image : Image) where
         ends = subst (λ o. IsSomeAnd o (λ i. IsTrue (goes_off i))) end refl;
       }
 
-  -- What an instruction leaves is the depth behind it, or no operand is left.
+  -- If an instruction leaves at most n operands, the depth after it is at most n.
   after_within : (d n : ℕ) (i : Instr) → left i d ≤ n → depth_after d i ≤ n
   after_within d n i le = by_test (goes_off i)
     where
@@ -340,7 +340,7 @@ module _ (image : Image) where
       by_test true = omega arith
       by_test false = le
 
-  -- No place of a valid image is deeper than its stack.
+  -- No position of a valid image is deeper than its stack.
   depth_within : IsValid image → (pc : ℕ) → depth pc ≤ image.stack
   depth_within v zero = omega arith
   depth_within v (suc pc) = by_place (slice_get_cases image.code.items pc).1 (depth_within v pc)

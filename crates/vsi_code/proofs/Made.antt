@@ -1,4 +1,4 @@
--- The image that is made: what it holds, and what follows from that.
+-- The generated image: its parts, and the facts that follow from them.
 use Rattle.std.proofs.Common.{◌≡◌, ℕ, ◌+◌, min, List, [], length, ap, ◌∙◌, sym, subst, arith}
 use Rattle.std.proofs.lemmas.List.{length-map}
 use Rattle.vsi_image.specs.declared.instr.Image.{Image}
@@ -32,14 +32,14 @@ whole_fits r b n is hb hn =
     } in
     subst (λ b. Fits 0 n (sequence b)) (sym hb) fits
 
--- An image holds a program's globals and code, and the slots and the stack that these need.
+-- An image has a program's globals and code, and the slots and the stack that these need.
 pub record IsMade (r : Resolved) (i : Image) : Type 0 where
   pub globals : image.globals i.globals.items ≡ all_named r.globals
   pub code : i.code.items ≡ whole_code (length r.globals) (sequence r.body)
   pub slots : i.slots ≡ slots_of r
   pub stack : i.stack ≡ height (sequence r.body)
 
--- An image of a resolved program's parts, as they were counted and measured, holds the program.
+-- An image of a resolved program's parts, as counted and measured, holds the program.
 pub made : (r : Resolved) (i : Image) (gs : List Global) (b : List Cmd) (count nested : ℕ) → IsResolved r →
     gs ≡ r.globals → b ≡ r.body → image.globals i.globals.items ≡ all_named gs → count ≡ length i.globals.items →
     nested ≡ min (nesting (sequence b)) 65535 → i.slots ≡ count + nested →
@@ -57,11 +57,11 @@ made r i gs b count nested is hg hb names hc hn slots stack code =
       stack = omega (arith, stack, high, height-within_depth c, is.shallow);
     }
 
--- The fields of these parts.
+-- The fields with these parts.
 abbrev parts : List image.Global → ℕ → ℕ → List Instr → Fields
 parts globals slots stack code = record { globals = globals; slots = slots; stack = stack; code = code }
 
--- An image that holds a program has the fields that are a function of it.
+-- An image that holds a program has the fields that the program determines.
 pub made_fields : (r : Resolved) (i : Image) → IsMade r i → fields i ≡ image_of (all_named r.globals) (sequence r.body)
 made_fields r i m =
     let gs = all_named r.globals in
@@ -93,7 +93,7 @@ module _ (r : Resolved) (i : Image) (is : IsResolved r) (m : IsMade r i) where
   pub made_valid : IsValid i
   made_valid = valid i (length r.globals) (sequence r.body) allowed is.places m.code m.slots m.stack
 
-  -- The image behaves as the body.
+  -- The image behaves like the body.
   pub made_behaves : Behaves (length r.globals) (sequence r.body) i
   made_behaves = behaves (length r.globals) (sequence r.body) i is.places m.code m.slots
 

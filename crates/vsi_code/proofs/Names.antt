@@ -11,7 +11,7 @@ use Rattle.vsi_image.specs.Fields as image
 use Rattle.vsi_image.specs.Fields.{is_taken, AreGlobals}
 use Rattle.vsi_code.specs.Names.{named_global, all_named}
 
--- A name that none of these globals has, and not the next one, isn't taken by any of them.
+-- A name that none of these globals has, nor the next one, isn't taken by any of them.
 not_taken : (before : List image.Global) (g : image.Global) (name : List ℕ) →
     is_taken before name ≡ false → bytes_eq g.0 name ≡ false → is_taken (before ++ g ∷ []) name ≡ false
 not_taken [] g name free apart = ap (λ b. b || false) apart
@@ -23,7 +23,7 @@ not_taken (x ∷ before) g name free apart =
     neither false b free rest = rest free
     neither true b free rest = free
 
--- The names that are free behind some globals and unlike the next one are free behind both.
+-- Names that are free after some globals and differ from the next one are free after it too.
 still_free : (before : List image.Global) (g : Global) (gs : List Global) →
     AllByRecursion (λ x. is_taken before x.name.now ≡ false) gs →
     AllByRecursion (λ y. bytes_eq g.name.now y ≡ false) (map (λ x. x.name.now) gs) →
@@ -32,7 +32,7 @@ still_free before g [] free apart = tt
 still_free before g (x ∷ gs) free apart =
     (not_taken before (named_global g) x.name.now free.0 apart.0, still_free before g gs free.1 apart.1)
 
--- Distinct names that are free behind some globals are those of globals behind them.
+-- Distinct names that are free after some globals are names of later globals.
 globals_behind : (before : List image.Global) (gs : List Global) →
     AllByRecursion IsNamed gs → AllByRecursion (λ x. is_taken before x.name.now ≡ false) gs →
     IsDistinct bytes_eq (map (λ x. x.name.now) gs) → AreGlobals before (all_named gs)
@@ -44,12 +44,12 @@ globals_behind before (g ∷ gs) names free distinct =
       globals_behind (before ++ named_global g ∷ []) gs names.1 rest distinct.1,
     )
 
--- Each name is free behind no global.
+-- Every name is free if there is no global.
 all_free : (gs : List Global) → AllByRecursion (λ x. is_taken [] x.name.now ≡ false) gs
 all_free [] = tt
 all_free (g ∷ gs) = (refl, all_free gs)
 
--- Globals with distinct names and class names, all of them names, are allowed.
+-- Globals with distinct, well-formed names and with class names are allowed.
 pub are_globals : (gs : List Global) → All IsNamed gs → IsDistinct bytes_eq (map (λ x. x.name.now) gs) →
     AreGlobals [] (all_named gs)
 are_globals gs names distinct =

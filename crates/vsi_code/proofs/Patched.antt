@@ -1,4 +1,4 @@
--- Code whose jumps were aimed once the parts that they pass stood.
+-- Code with jumps that are aimed after the parts they skip are emitted.
 use Rattle.std.proofs.Common.{◌≡◌, ℕ, ◌+◌, List, [], ◌∷◌, ◌++◌, length, ap, ◌∙◌, arith, append_assoc, length-append, length-set}
 use Rattle.std.specs.Prelude.{slice_set}
 use Rattle.std.proofs.Math.Seq.{set-append_seam}
@@ -8,38 +8,38 @@ use Rattle.vsi_scope.specs.Language.{Expression, Command, If, While, Letvar, exp
 use Rattle.vsi_code.specs.Layout.{expression_code, choice_code, loop_code, code_at}
 use Rattle.vsi_code.proofs.Placed.{expression_long, command_long}
 
--- ---- the lengths of what was emitted.
+-- ---- lengths of emitted code.
 
--- Code behind a guard and one instruction.
+-- The length of code after a guard and one instruction are added.
 pub guard_long : (old c1 : List Instr) (e : Expression) (i : Instr) →
     c1 ≡ old ++ (expression_code e ++ i ∷ []) → length c1 ≡ length old + expression_size e + 1
 guard_long old c1 e i h =
     let back = length-append (expression_code e) (i ∷ []) in
     ap length h ∙ omega (arith, expression_long e, length-append old (expression_code e ++ i ∷ []), back)
 
--- Code behind a command's.
+-- The length of code after a command is added.
 pub part_long : (old c1 : List Instr) (c : Command) (pc k : ℕ) →
     c1 ≡ old ++ code_at pc k c → length c1 ≡ length old + size c
 part_long old c1 c pc k h = ap length h ∙ omega (arith, command_long c pc k, length-append old (code_at pc k c))
 
--- Code behind one instruction.
+-- The length of code after one instruction is added.
 pub one_long : (old c1 : List Instr) (i : Instr) → c1 ≡ old ++ i ∷ [] → length c1 ≡ length old + 1
 one_long old c1 i h = ap length h ∙ omega (arith, length-append old (i ∷ []))
 
--- Code behind a guard, a command's and one instruction.
+-- The length of code after a guard, a command and one instruction are added.
 pub jump_long : (old c1 c2 c3 : List Instr) (e : Expression) (i j : Instr) (c : Command) (pc k : ℕ) →
     c1 ≡ old ++ (expression_code e ++ i ∷ []) → c2 ≡ c1 ++ code_at pc k c → c3 ≡ c2 ++ j ∷ [] →
     length c3 ≡ length old + expression_size e + 1 + size c + 1
 jump_long old c1 c2 c3 e i j c pc k h1 h2 h3 =
     omega (arith, guard_long old c1 e i h1, part_long c1 c2 c pc k h2, one_long c2 c3 j h3)
 
--- Code in which one instruction was written again.
+-- The length of code after one instruction is replaced.
 pub set_long : (old c1 : List Instr) (n : ℕ) (i : Instr) → c1 ≡ slice_set old n i → length c1 ≡ length old
 set_long old c1 n i h = ap length h ∙ length-set old n i
 
--- ---- what was emitted and written again.
+-- ---- code that is emitted and patched.
 
--- Two parts, of which the instruction before the first one and that between them were written again.
+-- Two parts, with the instruction before the first one and the one between them replaced.
 two_patched : (old g a b c1 c2 c3 c4 c5 c6 : List Instr) (x y i j : Instr) (t u : ℕ) →
     c1 ≡ old ++ (g ++ x ∷ []) → t ≡ length old + length g → c2 ≡ c1 ++ a → u ≡ length c2 → c3 ≡ c2 ++ y ∷ [] →
     c4 ≡ slice_set c3 t i → c5 ≡ c4 ++ b → c6 ≡ slice_set c5 u j →
@@ -62,7 +62,7 @@ two_patched old g a b c1 c2 c3 c4 c5 c6 x y i j t u h1 ht h2 hu h3 h4 h5 h6 =
     h6 ∙ ap (λ n. slice_set c5 n j) at_u ∙ ap (λ l. slice_set l (length front) j) f5
     ∙ set-append_seam front y b j ∙ flat6
 
--- One part, of which the instruction before it was written again.
+-- One part, with the instruction before it replaced.
 one_patched : (old g a c1 c2 c3 c4 : List Instr) (x i j : Instr) (t : ℕ) →
     c1 ≡ old ++ (g ++ x ∷ []) → t ≡ length old + length g → c2 ≡ c1 ++ a → c3 ≡ c2 ++ j ∷ [] →
     c4 ≡ slice_set c3 t i →
@@ -74,7 +74,7 @@ one_patched old g a c1 c2 c3 c4 x i j t h1 ht h2 h3 h4 =
     h4 ∙ ap (λ n. slice_set c3 n i) at_t ∙ ap (λ l. slice_set l (length (old ++ g)) i) f3
     ∙ set-append_seam (old ++ g) x (a ++ j ∷ []) i ∙ append_assoc old g (i ∷ (a ++ j ∷ []))
 
--- A choice's code, whose test is aimed at the second branch and whose jump at the end.
+-- A choice's code, with its test aimed at the second branch and its jump at the end.
 pub choice_patched : (old : List Instr) (k : ℕ) (e : Expression) (a b : Command) (c1 c2 c3 c4 c5 c6 : List Instr)
     (t u : ℕ) →
     c1 ≡ old ++ (expression_code e ++ Jz 0 ∷ []) → t ≡ length old + expression_size e →
@@ -100,7 +100,7 @@ choice_patched old k e a b c1 c2 c3 c4 c5 c6 t u h1 ht h2 hu h3 h4 h5 h6 =
     ∙ ap (λ n. old ++ choice_code G second A n (code_at (length c4) k b)) n5
     ∙ ap (λ n. old ++ choice_code G second A (second + size b) (code_at n k b)) n4
 
--- A loop's code, whose test is aimed at the end.
+-- A loop's code, with its test aimed at the end.
 pub loop_patched : (old : List Instr) (k : ℕ) (e : Expression) (c : Command) (c1 c2 c3 c4 : List Instr) (s t : ℕ) →
     s ≡ length old → c1 ≡ old ++ (expression_code e ++ Jz 0 ∷ []) → t ≡ length old + expression_size e →
     c2 ≡ c1 ++ code_at (length c1) k c → c3 ≡ c2 ++ Jmp s ∷ [] → c4 ≡ slice_set c3 t (Jz (length c3)) →

@@ -1,4 +1,4 @@
--- Instructions that stand in the code, and the lengths of parts of it.
+-- Instructions at positions in the code, and the lengths of its parts.
 use Rattle.std.proofs.Common.{◌≡◌, ℕ, ◌+◌, ◌<◌, List, [], ◌∷◌, ◌++◌, length, Some, refl, ap, ◌∙◌, subst, arith, append_assoc, length-append}
 use Rattle.std.specs.Prelude.{slice_get}
 use Rattle.std.proofs.Math.Seq.{get_or-append_seam}
@@ -8,29 +8,29 @@ use Rattle.vsi_image.specs.declared.instr.Instr.TheVariants.{Store, Jz, Jmp, Hal
 use Rattle.vsi_scope.specs.Language.{Expression, Number, Location, Operator, Command, Skip, Assign, Sequence, If, While, Letvar, expression_size, size}
 use Rattle.vsi_code.specs.Layout.{op_code, expression_code, choice_code, loop_code, code_at, whole_code}
 
--- These instructions stand in the code from a place on.
+-- The code has these instructions from a position on.
 abbrev pub HasAt : List Instr → ℕ → List Instr → Type 0
 HasAt code pc [] = Unit {0}
 HasAt code pc (i ∷ is) = (slice_get code pc ≡ Some i) × HasAt code (pc + 1) is
 
--- The front of what stands at a place stands there.
+-- If the code has two parts at a position, it has the first one there.
 pub has_front : (code : List Instr) (pc : ℕ) (a b : List Instr) → HasAt code pc (a ++ b) → HasAt code pc a
 has_front code pc [] b h = tt
 has_front code pc (i ∷ a) b h = (h.0, has_front code (pc + 1) a b h.1)
 
--- The rest of it stands behind the front.
+-- The code has the second part after the first one.
 has_rest : (code : List Instr) (pc : ℕ) (a b : List Instr) → HasAt code pc (a ++ b) → HasAt code (pc + length a) b
 has_rest code pc [] b h = let e : pc ≡ pc + 0 = omega arith in subst (λ n. HasAt code n b) e h
 has_rest code pc (i ∷ a) b h =
     let e : pc + 1 + length a ≡ pc + length (i ∷ a) = omega arith in
     subst (λ n. HasAt code n b) e (has_rest code (pc + 1) a b h.1)
 
--- The same where the front's length is known.
+-- The same for a first part of known length.
 pub has_back : (code : List Instr) (pc : ℕ) (a b : List Instr) (n : ℕ) →
     length a ≡ n → HasAt code pc (a ++ b) → HasAt code (pc + n) b
 has_back code pc a b n e h = subst (λ n. HasAt code (pc + n) b) e (has_rest code pc a b h)
 
--- What follows some instructions stands behind them.
+-- The instructions after a prefix are at the position of its length.
 has_all_from : (is pre : List Instr) → HasAt (pre ++ is) (length pre) is
 has_all_from [] pre = tt
 has_all_from (i ∷ is) pre =
@@ -42,11 +42,11 @@ has_all_from (i ∷ is) pre =
     let there = subst (λ l. HasAt l (length (pre ++ i ∷ [])) is) same rest in
     (here, subst (λ m. HasAt (pre ++ i ∷ is) m is) n there)
 
--- The code stands at its own beginning.
+-- The code is at its own beginning.
 pub has_all : (code : List Instr) → HasAt code 0 code
 has_all code = has_all_from code []
 
--- An expression's code has as many instructions as its size says.
+-- The number of instructions of an expression's code is the expression's size.
 pub expression_long : (e : Expression) → length (expression_code e) ≡ expression_size e
 expression_long (Number n) = refl
 expression_long (Location l s) = refl
@@ -55,16 +55,16 @@ expression_long (Operator o a b) =
     let back = length-append (expression_code b) (op_code o ∷ []) in
     omega (arith, expression_long a, expression_long b, whole, back)
 
--- The length of a choice from its parts'.
+-- The length of a choice from the lengths of its parts.
 choice_long : (g y n : List Instr) (p q : ℕ) → length (choice_code g p y q n) ≡ length g + length y + length n + 2
 choice_long g y n p q =
     omega (arith, length-append g (Jz p ∷ (y ++ (Jmp q ∷ n))), length-append y (Jmp q ∷ n))
 
--- The length of a loop from its parts'.
+-- The length of a loop from the lengths of its parts.
 loop_long : (g b : List Instr) (p q : ℕ) → length (loop_code g p b q) ≡ length g + length b + 2
 loop_long g b p q = omega (arith, length-append g (Jz p ∷ (b ++ Jmp q ∷ [])), length-append b (Jmp q ∷ []))
 
--- A command's code has as many instructions as its size says.
+-- The number of instructions of a command's code is the command's size.
 pub command_long : (c : Command) (pc k : ℕ) → length (code_at pc k c) ≡ size c
 command_long Skip pc k = refl
 command_long (Assign l s e) pc k = omega (arith, expression_long e, length-append (expression_code e) (Store l ∷ []))

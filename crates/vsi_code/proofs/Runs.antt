@@ -20,7 +20,7 @@ use Rattle.vsi_code.specs.Layout.{op_code, expression_code, code_at}
 use Rattle.vsi_code.proofs.Placed.{HasAt, has_front, has_back, expression_long, command_long}
 use Rattle.vsi_code.proofs.Stretches.{Leads, Comes, Runs, step, leads_on, comes_on, as_comes, here, before, before_more, fewer, and_runs, jump_behind, moved_to, answered}
 
--- A word that isn't 0 isn't equal to 0 as the machine tests it.
+-- The machine's test finds a word other than 0 unequal to 0.
 not_zero : (z : ℤ) → z ≢ pos 0 → int_eq z (pos 0) ≡ false
 not_zero z h = by_test (int_eq z (pos 0)) refl
   where
@@ -28,7 +28,7 @@ not_zero z h = by_test (int_eq z (pos 0)) refl
     by_test true e = absurd (h ((Decides-int_eq z (pos 0)).0 e))
     by_test false e = refl
 
--- An operator's instruction leaves what the operator gives.
+-- An operator's instruction leaves the operator's result.
 op_acts : (o : Op) (pc : ℕ) (a b : ℤ) (s m : List ℤ) →
     acted (op_code o) pc (b ∷ a ∷ s) m ≡ Some (going (pc + 1) (apply o a b ∷ s) m)
 op_acts Add pc a b s m = refl
@@ -67,14 +67,14 @@ module _ (code : List Instr) where
       subst (λ n. Leads code (going pc s M) (going n (value (Operator o a b) m ∷ s) M)) e
       (leads_on code _ _ _ first (leads_on code _ _ _ second last))
 
-  -- A test jumps where the word is 0.
+  -- A test jumps if the word is 0.
   jz_zero : (pc t : ℕ) (v : ℤ) (M : List ℤ) →
       v ≡ pos 0 → slice_get code pc ≡ Some (Jz t) → Leads code (going pc (v ∷ []) M) (going t [] M)
   jz_zero pc t v M z e =
       let acts = ap (λ z. Some (going (if int_eq z (pos 0) then t else pc + 1) [] M)) z in
       step code pc (v ∷ []) M (Jz t) _ e acts
 
-  -- A test goes on where the word isn't 0.
+  -- A test goes on if the word isn't 0.
   jz_other : (pc t : ℕ) (v : ℤ) (M : List ℤ) →
       v ≢ pos 0 → slice_get code pc ≡ Some (Jz t) → Leads code (going pc (v ∷ []) M) (going (pc + 1) [] M)
   jz_other pc t v M z e =
@@ -92,7 +92,7 @@ module _ (code : List Instr) where
   -- ---- commands.
 
   module _ (e : Expression) (pc t : ℕ) (m rest : List ℤ) where
-    -- A guard that is false leads to the test's target.
+    -- A false guard leads to the test's target.
     guard_zero : HasLocations (length m) e → HasAt code pc (expression_code e) →
         slice_get code (pc + expression_size e) ≡ Some (Jz t) → value e m ≡ pos 0 →
         Comes code (going pc [] (m ++ rest)) (going t [] (m ++ rest))
@@ -100,7 +100,7 @@ module _ (code : List Instr) where
         let test = jz_zero (pc + expression_size e) t (value e m) (m ++ rest) z j in
         as_comes code _ _ (leads_on code _ _ _ (expression_leads e pc [] m rest p h) test)
 
-    -- A guard that is true leads behind the test.
+    -- A true guard leads to the instruction after the test.
     guard_other : HasLocations (length m) e → HasAt code pc (expression_code e) →
         slice_get code (pc + expression_size e) ≡ Some (Jz t) → value e m ≢ pos 0 →
         Comes code (going pc [] (m ++ rest)) (going (pc + expression_size e + 1) [] (m ++ rest))
@@ -108,7 +108,7 @@ module _ (code : List Instr) where
         let test = jz_other (pc + expression_size e) t (value e m) (m ++ rest) z j in
         as_comes code _ _ (leads_on code _ _ _ (expression_leads e pc [] m rest p h) test)
 
-  -- What stands from pc to pc' follows f, from any store of k words with room for so many more.
+  -- The code from pc to pc' follows f, from any store of k words with room for as many slots as given.
   abbrev Follows : (n pc pc' k room : ℕ) → (Words → Option Words) → Type 0
   Follows n pc pc' k room f =
       (m rest : List ℤ) → length m ≡ k → room ≤ length rest →
@@ -149,7 +149,7 @@ module _ (code : List Instr) where
         subst (λ r. Runs code (suc i) (going back [] (m1 ++ rest1)) end r (turns i (value e) body m1)) l1
         (before_more code i _ _ end (length rest1) (turns i (value e) body m1) jump again)))))
 
-  -- At the end of a letvar its word is behind the store.
+  -- At the end of a letvar its word is no longer part of the store.
   dropped_runs : (n : ℕ) (s : State) (pc k r : ℕ) (o : Option Words) →
       ((m1 : Words) → o ≡ Some m1 → length m1 ≡ k + 1) →
       Runs code n s pc r o → Runs code n s pc (suc r) (drop_past k o)

@@ -1,4 +1,4 @@
--- The image does what the body does.
+-- The image behaves like the body.
 use Rattle.std.specs.Prelude.{◌≡◌, ℕ, ◌≤◌, length, take, Some, true}
 use Rattle.vsi_image.specs.declared.instr.Image.{Image}
 use Rattle.vsi_image.specs.Meaning.{State, after, start}
@@ -12,8 +12,8 @@ pub record Halts (image : Image) (globals : ℕ) (m : Store) (budget : ℕ) (m' 
   pub halted : state.halted ≡ true
   pub words : take globals state.slots ≡ m'
 
--- From each store with one word per global, a run that halts ends in a store that the body evaluates to, and each
--- evaluation of the body is reached by some budget and all larger ones.
+-- From each store with one word per global, a run that halts ends in a store to which the body evaluates, and each
+-- evaluation of the body is reached with some budget and every larger one.
 pub record Behaves (globals : ℕ) (c : Command) (image : Image) : Type 0 where
   pub sound : (m m' : Store) (budget : ℕ) → length m ≡ globals →
       Halts image globals m budget m' → Evaluates c m m'

@@ -1,5 +1,5 @@
-//! From commands to instructions. A jump ahead is put down aimed at 0, and is aimed again once the
-//! code that it passes stands, so that each instruction is written once and no part is measured.
+//! From commands to instructions. A forward jump is first emitted with target 0, and aimed after
+//! the code that it skips is emitted. So each instruction is emitted once, and no part is measured.
 
 ghost use Rattle.std.specs.Prelude.{◌≡◌, ◌+◌, ◌<◌, ◌≤◌, [], ◌∷◌, ◌++◌, length, slice_set, IfOk, OnOk};
 ghost use Rattle.vsi_code.specs.Layout.{Fits, op_code, expression_code, guard_code, with_code, whole_code};
@@ -14,7 +14,7 @@ use vsi_image::Instr;
 use vsi_scope::{Cmd, Ex};
 use vsi_syntax::Op;
 
-/// One more instruction.
+/// Emits one more instruction.
 fn put(code: &mut Vec<Instr>, instr: Instr) -> Result<(), AllocError>
     ensures { OnOk result (code.new.items ≡ code.old.items ++ instr ∷ []) }
 {
@@ -35,7 +35,7 @@ fn instr_of(op: Op) -> Instr
     }
 }
 
-/// An expression, whose word the code leaves on top of the operands.
+/// Emits an expression, whose code leaves its word on top of the operands.
 fn emit_expression(code: &mut Vec<Instr>, e: &Ex) -> Result<(), AllocError>
     ensures { OnOk result (code.new.items ≡ code.old.items ++ expression_code (expression e.now)) }
 {
@@ -50,7 +50,7 @@ fn emit_expression(code: &mut Vec<Instr>, e: &Ex) -> Result<(), AllocError>
     }
 }
 
-/// A guard and its test, which is not aimed yet; answers the place of the test.
+/// Emits a guard and its test, which is not aimed yet. Returns the position of the test.
 fn emit_guard(code: &mut Vec<Instr>, guard: &Ex) -> Result<usize, AllocError>
     ensures code { OnOk result
         (code.new.items ≡ code.old.items ++ guard_code (expression guard.now) 0) }
@@ -63,7 +63,7 @@ fn emit_guard(code: &mut Vec<Instr>, guard: &Ex) -> Result<usize, AllocError>
     Ok(place)
 }
 
-/// Aims the test at this place behind the code.
+/// Aims the test at this position at the end of the code.
 fn aim_test(code: &mut Vec<Instr>, place: usize)
     requires within { place < length code.old.items }
     requires small { length code.old.items ≤ max_instructions }
@@ -72,7 +72,7 @@ fn aim_test(code: &mut Vec<Instr>, place: usize)
     code[place] = Instr::Jz(code.len() as u32);
 }
 
-/// Aims the jump at this place behind the code.
+/// Aims the jump at this position at the end of the code.
 fn aim_jump(code: &mut Vec<Instr>, place: usize)
     requires within { place < length code.old.items }
     requires small { length code.old.items ≤ max_instructions }
@@ -81,7 +81,7 @@ fn aim_jump(code: &mut Vec<Instr>, place: usize)
     code[place] = Instr::Jmp(code.len() as u32);
 }
 
-/// Commands in turn, where so many words are in scope.
+/// Emits commands in turn, with this many words in scope.
 #[cycle(emission)]
 fn emit_all(code: &mut Vec<Instr>, scope: u16, body: &[Cmd]) -> Result<(), AllocError>
     requires { Fits (length code.old.items) scope (sequence body.now) }
@@ -93,7 +93,7 @@ fn emit_all(code: &mut Vec<Instr>, scope: u16, body: &[Cmd]) -> Result<(), Alloc
     Ok(())
 }
 
-/// One command, where so many words are in scope.
+/// Emits one command, with this many words in scope.
 #[cycle(emission)]
 fn emit_one(code: &mut Vec<Instr>, scope: u16, c: &Cmd) -> Result<(), AllocError>
     requires { Fits (length code.old.items) scope (command c.now) }
@@ -129,7 +129,7 @@ fn emit_one(code: &mut Vec<Instr>, scope: u16, c: &Cmd) -> Result<(), AllocError
     Ok(())
 }
 
-/// The whole code of a body whose program has so many globals.
+/// The whole code of a body in a program with this many globals.
 pub(crate) fn whole_code(
     alloc: Global,
     globals: u16,

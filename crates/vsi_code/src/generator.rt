@@ -28,8 +28,8 @@ fn copied(alloc: Heap, globals: &[Global]) -> Result<Vec<(Vec<u8>, Vec<u8>)>, Al
     Ok(copies)
 }
 
-/// The image of a program, which is valid by proof and is not verified again. It takes time and
-/// memory linear in the size of the program's code; only memory can be missing.
+/// The image of a program. It is valid by proof and is not verified again. It takes time and memory
+/// linear in the size of the program's code, and the only error is lack of memory.
 pub fn generate(alloc: Heap, program: &Resolved) -> Result<Verified, AllocError>
     ensures behaves { IfOk result
         (λ image. Behaves (length program.now.globals) (sequence program.now.body) image) }

@@ -1,8 +1,8 @@
 //! Code generation: the verified image of a resolved program.
 //!
-//! A `Resolved` comes in, a `Verified` goes out; the clause `behaves` of `generate` says that the
-//! image's runs end in exactly the stores that the program's body evaluates to, and `globals`,
-//! `slots`, `stack` and `code` say which image that is.
+//! `generate` turns a `Resolved` into a `Verified`. Its clause `behaves` says that the image's runs
+//! end in exactly the stores to which the program's body evaluates. Its clauses `globals`, `slots`,
+//! `stack` and `code` say which image it is.
 //!
 //! To be believed: all files of `specs/`.
 #![tactic(auto)]

@@ -1,4 +1,4 @@
-//! How many operands and letvars are there at a time.
+//! The greatest number of operands and letvars at a time.
 
 ghost use Rattle.std.specs.Prelude.{◌≡◌, min};
 ghost use Rattle.vsi_code.specs.Needs.{expression_height, height};
@@ -7,7 +7,7 @@ ghost use Rattle.vsi_scope.specs.View.{expression, command, sequence};
 
 use vsi_scope::{Cmd, Ex};
 
-/// The most operands that an expression has at a time, at most 65,535.
+/// The greatest number of operands that an expression has at a time, at most 65,535.
 fn expression_height(e: &Ex) -> u16
     ensures { result ≡ min (expression_height (expression e.now)) 65535 }
 {
@@ -20,7 +20,7 @@ fn expression_height(e: &Ex) -> u16
     }
 }
 
-/// The most operands that commands have at a time, at most 65,535.
+/// The greatest number of operands that commands have at a time, at most 65,535.
 #[cycle(heights)]
 pub(crate) fn height(body: &[Cmd]) -> u16
     ensures { result ≡ min (height (sequence body.now)) 65535 }

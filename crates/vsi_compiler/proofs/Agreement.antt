@@ -13,7 +13,7 @@ use Rattle.vsi_code.specs.Names.{named_global, all_named}
 use Rattle.vsi_lattice.specs.Known.{Known}
 use Rattle.vsi_compiler.specs.Observation.{AgreeAt}
 
--- Each global's class is what its class name stands for.
+-- Each global's class is the class that its class name denotes.
 abbrev pub HaveClasses : Known → List Global → Type 0
 HaveClasses known gs = (i : ℕ) (g : Global) → slice_get gs i ≡ Some g → known g.class_name.now ≡ Some g.class
 
@@ -21,28 +21,28 @@ HaveClasses known gs = (i : ℕ) (g : Global) → slice_get gs i ≡ Some g → 
 abbrev pub classes : List Global → List ℕ
 classes gs = map (λ g. g.class) gs
 
--- The class at the place of a global.
+-- The class at the position of a global.
 class_at : (gs : List Global) (i : ℕ) (g : Global) → slice_get gs i ≡ Some g → slice_index (classes gs) i ≡ g.class
 class_at gs i g h =
     get_or_from_slice_get (classes gs) i g.class 0
     (slice_get-map (λ (x : Global). x.class) gs i ∙ ap (option_map (λ (x : Global). x.class)) h)
 
--- The names at the place of a global.
+-- The names at the position of a global.
 named_at : (gs : List Global) (i : ℕ) (g : Global) → slice_get gs i ≡ Some g → slice_get (all_named gs) i
     ≡ Some (named_global g)
 named_at gs i g h = slice_get-map named_global gs i ∙ ap (option_map named_global) h
 
--- What is there is one.
+-- Two values of one option are equal.
 some_is : {X : Type 0} {x y : X} → Some x ≡ Some y → x ≡ y
 some_is {x = x} h = ap (λ o. unwrap_or o x) h
 
--- None is not there.
+-- None is no value.
 none_is : {X : Type 0} {x : X} → None ≡ Some x → ⊥
 none_is h = cc
 
 module _ (known : Known) (L : Lattice) (gs : List Global) (im : Image) (has : HaveClasses known gs)
     (names : image.globals im.globals.items ≡ all_named gs) (a : ℕ) (m m' : Store) where
-  -- Where the names' classes agree, the globals' classes do.
+  -- If the classes of the names agree, so do the classes of the globals.
   pub agree_typed : AgreeAt known L im a m m' → Agree L (classes gs) a m m'
   agree_typed h l lt below = elim ((slice_get_cases gs l).1) [
     | inl p ↦
@@ -53,7 +53,7 @@ module _ (known : Known) (L : Lattice) (gs : List Global) (im : Image) (has : Ha
     | inr p ↦ absurd (omega (arith, lt, p.0, length-map gs (λ (x : Global). x.class)))
   ]
 
-  -- Where the globals' classes agree, the names' classes do.
+  -- If the classes of the globals agree, so do the classes of the names.
   pub agree_named : Agree L (classes gs) a m m' → AgreeAt known L im a m m'
   agree_named h i g c at is below = elim ((slice_get_cases gs i).1) [
     | inl p ↦

@@ -1,4 +1,4 @@
--- A valid image has bytes, which are those of no other image.
+-- A valid image has bytes, and no other image has the same bytes.
 use Rattle.std.proofs.Common.{◌≡◌, ℕ, ◌-◌, ◌<◌, ◌≤◌, All, length, refl, sym, ap, subst, ◌∙◌, arith, slice_get, IfSome}
 use Rattle.std.specs.Prelude.{IsSomeAnd, IsTrue}
 use Rattle.std.proofs.lemmas.List.Elements.{recursion_from_All}
@@ -62,6 +62,6 @@ coded im valid opcodes =
           (same, same_valid im other (sym same) valid);
     }
 
--- What is encoded and verified again is valid.
+-- An image that is encoded and verified again is valid.
 pub coded_valid : (im : Image) → IsCoded im → IsValid im
 coded_valid im coded = (coded.again im coded.spelled).1

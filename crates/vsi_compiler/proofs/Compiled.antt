@@ -1,4 +1,4 @@
--- What the layers promise of a text together.
+-- The promises that the layers make together about a text.
 use Rattle.std.proofs.Common.{◌≡◌, ℕ, ◌+◌, ◌<◌, ◌≤◌, List, map, length, refl, sym, ap, subst, ◌∙◌, Option, Some, None, IfSome, arith}
 use Rattle.std.specs.List.{All}
 use Rattle.vsi_syntax.specs.Tree.{Whole}
@@ -38,7 +38,7 @@ use Rattle.vsi_infer.specs.declared.error.InferError.TheVariants as infer
 use Rattle.vsi_infer.specs.Inference as inference
 use Rattle.vsi_compiler.proofs.Programs.{program_is, names_are, count_is, body_is, global_classes, declared_classes}
 
--- A class that a name stands for is one of the lattice.
+-- Every class that a name denotes is a class of the lattice.
 pub known_below : (l : Lattice) → AreBelow (order l).count (class_named l)
 known_below l x = below (class_named l x) refl
   where
@@ -51,7 +51,7 @@ pub globals_of : (l : Lattice) (r : Resolved) → ((n : ℕ) → AreBelow n (cla
     → All (IsClass (order l)) (program r).globals
 globals_of l r known = global_classes (order l) r (known (order l).count (known_below l))
 
--- And so do its other declarations, where they have any.
+-- The classes of its other declarations, where they have any, are classes of the lattice too.
 pub declared_of : (l : Lattice) (r : Resolved) → ((n : ℕ) → AreBelow n (class_named l) → HasClassesBelow n r)
     → AreClasses (order l) (program r).declared
 declared_of l r known = declared_classes (order l) r (known (order l).count (known_below l))
@@ -61,7 +61,7 @@ pub lawful : (l : Lattice) → IsLattice (order l)
 lawful l = lawful_is_lattice (order l) l.order.lawful
 
 module _ (known : Known) (text : List ℕ) (r : Resolved) (stands : Stands known text r) where
-  -- There is one tree and one resolution of it.
+  -- A text has one tree, and the tree one resolution.
   one_resolution : (tree : Whole) (commands : List Command) → Reads text tree → IsResolution known tree commands →
       (stands.tree ≡ tree) × (commands ≡ map command r.body)
   one_resolution tree commands reads resolution =
@@ -72,7 +72,7 @@ module _ (known : Known) (text : List ℕ) (r : Resolved) (stands : Stands known
             ∙ sym (does_all_one _ _ (map command r.body) stands.resolves.resolution.body),
       )
 
-  -- What types the resolved program types that of the tree.
+  -- A choice that types the resolved program types the tree's program.
   pub typed_tree : (L : Order) (P : Profile) (s : List ℕ) → IsTypable L P (program r) s →
       IsTypable L P (program_of known stands.tree (map command r.body)) s
   typed_tree L P s = subst (λ p. IsTypable L P p s) (program_is known stands.tree r stands.resolves)
@@ -130,7 +130,7 @@ module _ (known : Known) (text : List ℕ) (r : Resolved) (stands : Stands known
       body_is known stands.tree r stands.resolves
       ∙ ap in_sequence (sym (one_resolution tree commands reads resolution).1)
 
-  -- What does the resolved body does the text's.
+  -- An image that behaves like the resolved body behaves like the text's body.
   pub meaning_kept : (im : Image) → Behaves (length r.globals) (sequence r.body) im → KeepsMeaning known text im
   meaning_kept im behaves tree commands reads resolution =
       subst (λ n. Behaves n (in_sequence commands) im) (count_kept tree reads)
@@ -150,7 +150,8 @@ module _ (known : Known) (text : List ℕ) (r : Resolved) (stands : Stands known
       (body ∙ ap (λ n. optimised n (sequence r.body)) count
       ∙ ap (optimised (length tree.globals)) (body_kept tree commands reads resolution))
 
-  -- An image with one instruction more than the size of a body that is no larger has no more than the text needs.
+  -- If a body is no larger than the text's, an image with one instruction more than its size has no more than the text
+  -- needs.
   pub size_kept : (o : Resolved) (im : Image) → length im.code.items ≡ size (sequence o.body) + 1 →
       size (sequence o.body) ≤ size (sequence r.body) → IsNoLarger known text im
   size_kept o im count smaller tree commands reads resolution =
@@ -167,14 +168,14 @@ module _ (known : Known) (text : List ℕ) (r : Resolved) (stands : Stands known
   flow_refused L P infer.Memory h = tt
   flow_refused L P (infer.Refused walk) h = walk_refused L P walk.steps.items h
 
-  -- An accepted text is refused by the inference for want of memory alone.
+  -- For an accepted text, the inference can only report that memory ran out.
   pub flow_memory : (L : Order) (P : Profile) → IsLattice L → IsWellFormed L (program r) → (e : InferError) →
       inference.Refuses L P (program r) e → IsAccepted known L P text → flowing e ≡ Memory
   flow_memory L P laws ready infer.Memory h a = refl
   flow_memory L P laws ready (infer.Refused walk) h a =
       absurd (not_accepted L P (λ s. bad_walks_refute L P (program r) walk.steps.items s laws ready h.0) a)
 
--- Two resolved programs of a text are one program for typing.
+-- Two resolved programs of a text are the same program for typing.
 pub one_program : (known : Known) (text : List ℕ) (r other : Resolved) → Stands known text r → Stands known text other →
     program other ≡ program r
 one_program known text r other stands others =

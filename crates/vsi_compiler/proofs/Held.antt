@@ -1,4 +1,4 @@
--- What a source keeps, at its parts under whatever names they go.
+-- The invariants of a source, for its parts under any names.
 use Rattle.std.proofs.Common.{All, ◌≡◌, ℕ, List, map, refl, sym, subst}
 use Rattle.vsi_lattice.specs.Order.{IsClass}
 use Rattle.vsi_lattice.specs.Known.{Known}
@@ -26,7 +26,7 @@ use Rattle.vsi_compiler.specs.Readable.{HasProgram}
 use Rattle.vsi_compiler.specs.SourceView.{Source, source_of, IsSource}
 use Rattle.vsi_compiler.proofs.Programs.{typing_ready, global_classes, declared_classes}
 
--- A source of equal parts keeps the same.
+-- A source with equal parts has the same invariants.
 pub of_parts : (s : Source) → IsSource s → (l : Lattice) (text : List ℕ) (r : Resolved) → l ≡ s.lattice → text ≡ s.text →
     r ≡ s.resolved → IsSource (source_of l text r)
 of_parts s is l text r here there body =
@@ -34,17 +34,17 @@ of_parts s is l text r here there body =
     (subst (λ x. IsSource (source_of s.lattice x r)) (sym there)
     (subst (λ x. IsSource (source_of s.lattice s.text x)) (sym body) is))
 
--- The classes of its globals are of the lattice.
+-- The classes of its globals are classes of the lattice.
 pub globals_at : (s : Source) → IsSource s → (l : Lattice) (r : Resolved) → l ≡ s.lattice → r ≡ s.resolved →
     All (IsClass (order l)) (program r).globals
 globals_at s is l r here body = global_classes (order l) r (of_parts s is l s.text r here refl body).classes
 
--- And so are the declared ones of its letvars.
+-- The declared classes of its letvars are classes of the lattice too.
 pub declared_at : (s : Source) → IsSource s → (l : Lattice) (r : Resolved) → l ≡ s.lattice → r ≡ s.resolved →
     AreClasses (order l) (program r).declared
 declared_at s is l r here body = declared_classes (order l) r (of_parts s is l s.text r here refl body).classes
 
--- What typing asks of a source's program.
+-- The requirements of typing hold for a source's program.
 pub ready : (s : Source) → IsSource s → IsWellFormed (order s.lattice) (program s.resolved)
 ready s is = typing_ready (order s.lattice) s.resolved is.kept is.classes
 
@@ -58,13 +58,13 @@ has_program s is =
       resolution = is.stands.resolves.resolution;
     }
 
--- A refusal of the inference is one of a flow, or want of memory.
+-- A refusal of the inference reports a flow or that memory ran out.
 pub flow_alone : (L : orders.Lattice) (P : Profile) (p : Program) (e : InferError) → inference.Refuses L P p e →
     RefusesFlow L P p (flowing e)
 flow_alone L P p infer.Memory h = tt
 flow_alone L P p (infer.Refused walk) h = h
 
--- The image of a text that is accepted, as `image_of` answers it, is one that was compiled.
+-- The image that `image_of` returns for an accepted text is compiled from it.
 pub compiled_at : (known : Known) (L : orders.Lattice) (P : Profile) (text : List ℕ) (im : Image) →
     IsAccepted known L P text → HasGlobals text im → KeepsMeaning known text im →
     ((Q : Profile) → IsAccepted known L Q text → IsNoninterfering known L im) →

@@ -1,4 +1,4 @@
--- The program that typing speaks of is that of the tree.
+-- The program that is typed is the tree's program.
 use Rattle.std.proofs.Common.{◌≡◌, ℕ, suc, ◌+◌, ◌-◌, ◌≤◌, List, [], ◌∷◌, map, length, refl, sym, ap, subst, ◌∙◌, Option, Some, None, unwrap_or, slice_get, slice_index_or, IfSome}
 use Rattle.std.specs.Option.{option_map}
 use Rattle.std.specs.List.{All, AllZip}
@@ -26,21 +26,21 @@ use Rattle.vsi_compiler.specs.Acceptance.{program_of}
 use Rattle.vsi_compiler.specs.Headline.{declared_global}
 use Rattle.vsi_compiler.proofs.Agreement.{HaveClasses}
 
--- A function of what another list shows is a function of the list.
+-- A function of another list's images is a function of the list.
 seen : {X Y Z : Type 0} (f : Y → Z) (g : X → Y) (xs : List X) → map f (map g xs) ≡ map (λ x. f (g x)) xs
 seen f g [] = refl
 seen f g (x ∷ xs) = ap (λ l. f (g x) ∷ l) (seen f g xs)
 
--- What two lists show alike, every function of that shows alike.
+-- If two lists have equal images, they have equal images under every later function.
 alike : {X Y Z W : Type 0} (f : Z → W) (g : X → Z) (h : Y → Z) (xs : List X) (ys : List Y) → map g xs ≡ map h ys →
     map (λ x. f (g x)) xs ≡ map (λ y. f (h y)) ys
 alike f g h xs ys e = sym (seen f g xs) ∙ ap (map f) e ∙ seen f h ys
 
--- A program of these parts.
+-- The program with these parts.
 made : List ℕ → List (Option ℕ) → (ℕ → Span) → Command → Program
 made globals declared names body = record { globals = globals; declared = declared; names = names; body = body }
 
--- The place of a declaration's name among spans.
+-- The position of a declaration's name among spans.
 at_place : List Span → ℕ → ℕ → Span
 at_place spans globals v = slice_index_or spans (v - globals) (record { start = 0; stop = 0 })
 
@@ -58,7 +58,7 @@ module _ (known : Known) (tree : Whole) (r : Resolved) (resolves : Resolves know
       sym (seen (λ (v : Variable). v.class) variable r.letvars) ∙ ap (map (λ (v : Variable). v.class))
       resolves.letvars
 
-  -- Where the letvars' names stand.
+  -- The spans of the letvars' names.
   spans_are : map (λ (e : Entry). e.span) r.letvars ≡ map (λ (v : Variable). v.span) (all_variables known tree.body)
   spans_are =
       sym (seen (λ (v : Variable). v.span) variable r.letvars) ∙ ap (map (λ (v : Variable). v.span)) resolves.letvars
@@ -95,7 +95,7 @@ module _ (known : Known) (tree : Whole) (r : Resolved) (resolves : Resolves know
   names_are = alike (λ (s : Shown). (s.name, s.class_name)) shown (global_of known) r.globals tree.globals
       resolves.globals
 
-  -- Each global's class is what its class name stands for.
+  -- Each global's class is the class that its class name denotes.
   pub have_classes : HaveClasses known r.globals
   have_classes i g h =
       let here : slice_get (map shown r.globals) i ≡ Some (shown g) =
@@ -110,7 +110,7 @@ module _ (known : Known) (tree : Whole) (r : Resolved) (resolves : Resolves know
           let same : global_of known d ≡ shown g = ap (λ o. unwrap_or o (shown g)) e in
           ap known (ap (λ (s : Shown). s.class_name) (sym same)) ∙ ap (λ (s : Shown). s.class) same
 
--- What typing asks of a resolved program.
+-- The requirements of typing hold for a resolved program.
 pub typing_ready : (L : Lattice) (r : Resolved) → scope.IsResolved r → HasClassesBelow L.count r →
     types.IsWellFormed L (program r)
 typing_ready L r kept below =
@@ -130,7 +130,7 @@ declared_classes L r below = All-map (λ d. IfSome d (IsClass L)) (λ (e : Entry
 pub global_classes : (L : Lattice) (r : Resolved) → HasClassesBelow L.count r → All (IsClass L) (program r).globals
 global_classes L r below = All-map (IsClass L) (λ (g : Global). g.class) r.globals below.globals
 
--- Lists that are related element by element are as long.
+-- Lists that are related element by element have equal lengths.
 pub zip_length : {A B : Type 0} (R : A → B → Type 0) (xs : List A) (ys : List B) → AllZip R xs ys →
     length xs ≡ length ys
 zip_length R [] [] h = refl

@@ -1,4 +1,4 @@
--- What a compiled text's run answers.
+-- The answer of a compiled text's run.
 use Rattle.std.proofs.Common.{◌≡◌, ◌≢◌, ℕ, ℤ, List, length, ap, Result, Ok, Err, inl, inr}
 use Rattle.std.proofs.lemmas.Bool.{cases_eq}
 use Rattle.vsi_lattice.specs.Order.{Lattice}
@@ -20,7 +20,7 @@ use Rattle.vsi_compiler.specs.declared.error.CompileError.TheVariants as compile
 base_is_not_strict : ◌≡◌ {A = Profile} Base Strict → ⊥
 base_is_not_strict h = cc
 
--- What the compiler promises of an image, in one.
+-- The compiler's promises about an image, in one record.
 pub compiled_of : (known : Known) (L : Lattice) (text : List ℕ) (im : Image) → IsAccepted known L Base text →
     HasGlobals text im → KeepsMeaning known text im → IsNoninterfering known L im → IsCoded im →
     IsImageOf known text im → IsNoLarger known text im → IsCompiled known L Base text im
@@ -36,21 +36,21 @@ compiled_of known L text im accepted globals meaning noninterference coded image
       size = small;
     }
 
--- A wrong store isn't want of memory.
+-- A wrong store isn't a lack of memory.
 wrong_is_not_memory : (n : ℕ) → ◌≡◌ {A = StartError} (start.WrongStore n) start.Memory → ⊥
 wrong_is_not_memory n h = cc
 
--- The number of words that is told.
+-- The number of words that an error reports.
 abbrev words_told : StartError → ℕ
 words_told start.Memory = 0
 words_told (start.WrongStore n) = n
 
--- The error of an answer, or another one.
+-- The error of an answer, or a default error.
 abbrev error_of : {X : Type 0} → StartError → Result X StartError → StartError
 error_of d (Ok x) = d
 error_of d (Err e) = e
 
--- A machine that was not started is a refusal of the run.
+-- A machine that couldn't be started is a refusal of the run.
 pub start_refused : {X : Type 0} (known : Known) (L : Lattice) (text : List ℕ) (store : List ℤ) (im : Image) →
     IsCompiled known L Base text im → (e : StartError) →
     (length store ≢ length im.globals.items → ◌≡◌ {A = Result X StartError} (Err e)
@@ -74,7 +74,7 @@ start_refused {X} known L text store im compiled (start.WrongStore n) wrong memo
 ok_is_no_error : {X : Type 0} (x : X) (e : StartError) → ◌≡◌ {A = Result X StartError} (Ok x) (Err e) → ⊥
 ok_is_no_error x e h = cc
 
--- A machine is started from a store of the image alone.
+-- A machine is started only from a store of the image.
 pub started_fits : {X : Type 0} (store : List ℤ) (im : Image) (x : X) →
     (length store ≢ length im.globals.items → ◌≡◌ {A = Result X StartError} (Ok x)
     (Err (start.WrongStore (length store)))) → IsStoreOf im store
@@ -83,7 +83,7 @@ started_fits store im x wrong = elim (cases_eq (length store) (length im.globals
   | inr differs ↦ absurd (ok_is_no_error x (start.WrongStore (length store)) (wrong differs))
 ]
 
--- What is refused for another reason than want of memory isn't accepted.
+-- A text refused for another reason than lack of memory isn't accepted.
 pub is_refused : (known : Known) (L : Lattice) (P : Profile) (text : List ℕ) (e : CompileError) →
     e ≢ compiler.Memory → Refuses known L P text e → (IsAccepted known L P text → e ≡ compiler.Memory) →
     IsRefused known L P text e

@@ -1,4 +1,4 @@
--- What typing promises of a program is promised of an image that does what the program does.
+-- The promises of typing about a program hold for an image that behaves like the program.
 use Rattle.std.proofs.Common.{◌≡◌, ℕ, List, length, sym, ap, subst, ◌∙◌, arith}
 use Rattle.std.proofs.lemmas.List.{length-map}
 use Rattle.vsi_image.specs.declared.instr.Image.{Image}
@@ -21,7 +21,7 @@ use Rattle.vsi_lattice.specs.Known.{Known}
 use Rattle.vsi_compiler.specs.Observation.{IsNoninterfering, EndsAlike}
 use Rattle.vsi_compiler.proofs.Agreement.{HaveClasses, classes, agree_typed, agree_named}
 
--- Code of the optimised body does what the source body does.
+-- Code of the optimised body behaves like the source body.
 pub behaves_alike : (k : ℕ) (optimised source : Command) (im : Image) → RunsAlike k optimised source →
     Behaves k optimised im → Behaves k source im
 behaves_alike k optimised source im alike b =
@@ -40,17 +40,17 @@ module _ (known : Known) (L : Lattice) (laws : IsLattice L) (P : Profile) (r : R
       sym (length-map im.globals.items image.global) ∙ ap length names
       ∙ length-map r.globals (λ (g : Global). (g.name.now, g.class_name.now))
 
-  -- A store of the image has a word per global of the program.
+  -- A store of the image has one word per global of the program.
   words : (m : Store) → length m ≡ length im.globals.items → length m ≡ length (classes r.globals)
   words m len = len ∙ count ∙ sym (length-map r.globals (λ (g : Global). g.class))
 
-  -- Where a run ends, the program evaluates to that store.
+  -- If a run ends in a store, the program evaluates to that store.
   evaluated : (m m' : Store) (budget : ℕ) → length m ≡ length im.globals.items →
       Halts im (length im.globals.items) m budget m' → Evaluates (sequence r.body) m m'
   evaluated m m' budget len h =
       behaves.sound m m' budget (len ∙ count) (subst (λ k. Halts im k m budget m') count h)
 
-  -- The image lets nothing flow where it may not.
+  -- The image lets no information flow where the lattice forbids it.
   pub noninterfering : IsNoninterfering known L im
   noninterfering a within m₁ m₂ m₁' m₂' b₁ b₂ len₁ len₂ agree h₁ h₂ =
       agree_named known L r.globals im has names a m₁' m₂'
@@ -58,7 +58,7 @@ module _ (known : Known) (L : Lattice) (laws : IsLattice L) (P : Profile) (r : R
       (agree_typed known L r.globals im has names a m₁ m₂ agree)
       (evaluated m₁ m₁' b₁ len₁ h₁) (evaluated m₂ m₂' b₂ len₂ h₂))
 
--- A program of the strict profile ends alike on stores that agree on the bottom class.
+-- Under the strict profile, runs from stores that agree on the bottom class both end or both don't.
 pub ends_alike : (known : Known) (L : Lattice) → IsLattice L → (r : Resolved) (s : List ℕ) (im : Image) →
     IsWellFormed L (program r) → IsTypable L Strict (program r) s → HaveClasses known r.globals →
     image.globals im.globals.items ≡ all_named r.globals → Behaves (length r.globals) (sequence r.body) im →
@@ -73,7 +73,7 @@ ends_alike known L laws r s im resolved typed has names behaves m₁ m₂ m₁' 
     let b = behaves.complete m₂ other.0 (len₂ ∙ k) other.1 in
     (b.0, other.0, subst (λ n. Halts im n m₂ b.0 other.0) (sym k) (b.1 b.0 (omega arith)))
 
--- Code of the optimised program does what the source program does.
+-- Code of the optimised program behaves like the source program.
 pub behaves_source : (optimised source : Resolved) (im : Image) → optimised.globals ≡ source.globals →
     RunsAlike (length optimised.globals) (sequence optimised.body) (sequence source.body) →
     Behaves (length optimised.globals) (sequence optimised.body) im → Behaves (length source.globals)

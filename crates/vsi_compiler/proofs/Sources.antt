@@ -1,4 +1,4 @@
--- What the tokens of a text say of the trees that read it.
+-- Facts about the trees that read a text, from the text's tokens.
 use Rattle.std.proofs.Common.{◌≡◌, ℕ, ◌≤◌, List, [], ◌∷◌, map, length, refl, sym, ap, ◌∙◌, Some, None, Option, unwrap_or}
 use Rattle.vsi_syntax.specs.declared.token.Token.{Token}
 use Rattle.vsi_syntax.specs.declared.lexer.LexError.{LexError}
@@ -16,7 +16,7 @@ use Rattle.vsi_compiler.specs.Errors.{lexical, syntactic}
 use Rattle.vsi_compiler.specs.Source.{Reads}
 use Rattle.vsi_compiler.specs.Refusal.{HasNoTree, RefusesTree}
 
--- The words of tokens are those of their pieces.
+-- The texts of tokens are the texts of their pieces.
 words_at : (ts : List Token) → lexemes ts ≡ map word_at (pieces ts)
 words_at [] = refl
 words_at (t ∷ ts) = ap (λ (ws : List Lexeme). lexeme t ∷ ws) (words_at ts)
@@ -33,7 +33,7 @@ pub reads_tokens : (text : List ℕ) (ts : List Token) (tree : Whole) → IsCut 
 reads_tokens text ts tree cut r =
     r.written ∙ ap (map word_at) (one_cut text r.tokens (pieces ts) r.cut cut) ∙ sym (words_at ts)
 
--- A refusal of the words is one of the text.
+-- A refusal of the lexer is a refusal of the text.
 pub words_refused : (text : List ℕ) (e : LexError) → ExplainsText text e → RefusesTree text (lexical e)
 words_refused text lexer.Memory h = tt
 words_refused text lexer.TooLong h = (λ q. cc, h)
@@ -41,7 +41,7 @@ words_refused text (lexer.BadByte at) h = (λ q. cc, h)
 words_refused text (lexer.BadWord span) h = (λ q. cc, h)
 words_refused text (lexer.BadNumber span) h = (λ q. cc, h)
 
--- Want of memory is the compiler's own.
+-- If the lexer lacks memory, the compiler's error is `Memory`.
 pub lexical_memory : (e : LexError) → e ≡ lexer.Memory → lexical e ≡ Memory
 lexical_memory e h = ap lexical h
 
@@ -60,7 +60,7 @@ has_no_tree text ts short cut only =
       treeless = λ tree r. some_tree tree (only tree r.program (reads_tokens text ts tree cut r));
     }
 
--- Tokens that no tree writes are those of a text that no tree reads.
+-- If no tree writes the tokens, no tree reads the text.
 pub tree_refused : (text : List ℕ) (ts : List Token) (e : ParseError) → length text ≤ 1048576 →
     IsCut text (pieces ts) →
     ((tree : Whole) → IsProgram tree.body → write_program tree ≡ lexemes ts → Fails e (Some tree)) →
@@ -69,12 +69,12 @@ tree_refused text ts parser.Memory short cut only = tt
 tree_refused text ts (parser.Unexpected span) short cut only = (λ q. cc, has_no_tree text ts short cut only)
 tree_refused text ts (parser.TooDeep span) short cut only = (λ q. cc, has_no_tree text ts short cut only)
 
--- Where a tree is there, nothing but want of memory is answered.
+-- If there is a tree, the only possible error is lack of memory.
 pub syntactic_memory : (e : ParseError) (tree : Whole) → Fails e (Some tree) → syntactic e ≡ Memory
 syntactic_memory parser.Memory tree h = refl
 syntactic_memory (parser.Unexpected span) tree h = absurd (some_tree tree h)
 syntactic_memory (parser.TooDeep span) tree h = absurd (some_tree tree h)
 
--- What is found is the tree.
+-- The tree that is found is the tree of the text.
 pub found_is : (tree found : Whole) → Some tree ≡ Some found → found ≡ tree
 found_is tree found h = sym (ap (λ (o : Option Whole). unwrap_or o tree) h)

@@ -1,4 +1,4 @@
--- What is promised of the image of a text that is accepted, though its flows weren't judged.
+-- The promises about the image of an accepted text, even if its flows weren't judged.
 use Rattle.std.proofs.Common.{ℕ, List, map, sym, subst, ◌∙◌}
 use Rattle.vsi_syntax.specs.Tree.{Whole}
 use Rattle.vsi_lattice.specs.Order.{Lattice}
@@ -13,7 +13,7 @@ use Rattle.vsi_compiler.specs.Stands.{Stands}
 use Rattle.vsi_compiler.specs.Acceptance.{IsAccepted, program_of}
 use Rattle.vsi_compiler.proofs.Programs.{program_is}
 
--- A choice that types an accepted text types the resolved program that it stands for.
+-- A choice that types an accepted text types its resolved program.
 pub typed_resolved : (known : Known) (text : List ℕ) (r : Resolved) (stands : Stands known text r) (L : Lattice)
     (P : Profile) (a : IsAccepted known L P text) → IsTypable L P (program r) a.choice
 typed_resolved known text r stands L P a =

@@ -11,11 +11,11 @@ use Rattle.vsi_types.specs.declared.rules.Profile.{Profile}
 use Rattle.vsi_types.specs.Security.{Program, IsTypable}
 use Rattle.vsi_compiler.specs.Source.{Reads}
 
--- Where the name of a declaration stands, the first letvar's number being that of the globals.
+-- The span of a declaration's name, with the letvars numbered after the globals.
 abbrev pub declaration_span : List Variable → ℕ → ℕ → Span
 declaration_span vs globals v = slice_index_or (map (λ x. x.span) vs) (v - globals) (record { start = 0; stop = 0 })
 
--- The program that the typing rules speak of: the declared classes, where names stand, and the body.
+-- The program that the typing rules judge: the declared classes, the spans of names, and the body.
 abbrev pub program_of : Known → Whole → List Command → Program
 program_of known tree commands =
     record {

@@ -12,7 +12,7 @@ use Rattle.vsi_infer.specs.Inference.{IsLeast}
 use Rattle.vsi_compiler.specs.Source.{Reads}
 use Rattle.vsi_compiler.specs.Acceptance.{program_of}
 
--- `LINE:COLUMN NAME : CLASS` and a line feed, for a name that stands there.
+-- `LINE:COLUMN NAME : CLASS` and a line feed, for a name with this span.
 abbrev pub class_line : List ℕ → Span → List ℕ → List ℕ → List ℕ
 class_line text span name class =
     place_text text span.start ++ codes " " ++ name ++ codes " : " ++ class ++ 10 ∷ []

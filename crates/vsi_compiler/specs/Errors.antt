@@ -1,4 +1,4 @@
--- Errors of the layers as errors of the compiler, whose want of memory is its own.
+-- Errors of the layers as errors of the compiler, which has one error for lack of memory.
 use Rattle.vsi_syntax.specs.declared.lexer.LexError.{LexError}
 use Rattle.vsi_syntax.specs.declared.lexer.LexError.TheVariants as lexer
 use Rattle.vsi_syntax.specs.declared.parser.ParseError.{ParseError}
@@ -10,17 +10,17 @@ use Rattle.vsi_infer.specs.declared.error.InferError.TheVariants as infer
 use Rattle.vsi_compiler.specs.declared.error.CompileError.{CompileError}
 use Rattle.vsi_compiler.specs.declared.error.CompileError.TheVariants.{Lex, Parse, Scope, Flow, Memory}
 
--- An error of the words.
+-- An error of the lexer.
 abbrev pub lexical : LexError → CompileError
 lexical lexer.Memory = Memory
 lexical e = Lex e
 
--- An error of the tree.
+-- An error of the parser.
 abbrev pub syntactic : ParseError → CompileError
 syntactic parser.Memory = Memory
 syntactic e = Parse e
 
--- An error of the scopes.
+-- An error of the scope checks.
 abbrev pub scoping : ScopeError → CompileError
 scoping scope.Memory = Memory
 scoping e = Scope e

@@ -1,4 +1,4 @@
--- What is told of a walk.
+-- The explanation of a walk.
 use Rattle.std.specs.Prelude.{◌≡◌, ℕ, List, [], ◌⊎◌}
 use Rattle.vsi_lattice.specs.declared.lattice.Lattice.{Lattice}
 use Rattle.vsi_lattice.specs.LatticeView.{class_named, order}
@@ -17,11 +17,11 @@ pub record IsExplained (l : Lattice) (text : List ℕ) (steps : List Step) (out 
   pub bad : IsBad (order l) Strict (program resolved) steps
   pub lines : out ≡ explanation l text resolved steps
 
--- The steps are no bad walk of the text, and nothing is told.
+-- The steps are not a bad walk of the text, and the explanation is empty.
 pub record IsUnexplained (l : Lattice) (text : List ℕ) (steps : List Step) (out : List ℕ) : Type 0 where
   pub harmless : (r : Resolved) → Stands (class_named l) text r → ¬ (IsBad (order l) Strict (program r) steps)
   pub nothing : out ≡ []
 
--- A bad walk is explained, and no other.
+-- A bad walk is explained, and any other walk is not.
 abbrev pub ExplainsWalk : Lattice → List ℕ → List Step → List ℕ → Type 0
 ExplainsWalk l text steps out = IsExplained l text steps out ⊎ IsUnexplained l text steps out

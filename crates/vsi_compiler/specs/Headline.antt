@@ -1,4 +1,4 @@
--- What is promised of a compiled image, of the text that it was compiled from, and of a refusal.
+-- The promises about a compiled image, the text from which it was compiled, and a refusal.
 use Rattle.std.specs.Prelude.{◌≡◌, ℕ, ◌+◌, ◌≤◌, List, length, map}
 use Rattle.vsi_lattice.specs.Order.{Lattice}
 use Rattle.vsi_syntax.specs.Tree.{Whole, Declared}
@@ -27,13 +27,13 @@ abbrev pub HasGlobals : List ℕ → Image → Type 0
 HasGlobals text im = (tree : Whole) → Reads text tree → image.globals im.globals.items
     ≡ map declared_global tree.globals
 
--- The image does what the body of the text does, from each store with one word per global.
+-- The image behaves like the body of the text, from every store with one word per global.
 abbrev pub KeepsMeaning : Known → List ℕ → Image → Type 0
 KeepsMeaning known text im =
     (tree : Whole) (commands : List Command) → Reads text tree → resolving.IsResolution known tree commands →
     Behaves (length tree.globals) (in_sequence commands) im
 
--- The image is the one of the text's body, optimised, over the globals that the text declares.
+-- The image is the image of the text's optimised body, over the globals that the text declares.
 abbrev pub IsImageOf : Known → List ℕ → Image → Type 0
 IsImageOf known text im =
     (tree : Whole) (commands : List Command) → Reads text tree → resolving.IsResolution known tree commands →
@@ -46,8 +46,8 @@ IsNoLarger known text im =
     (tree : Whole) (commands : List Command) → Reads text tree → resolving.IsResolution known tree commands →
     length im.code.items ≤ size (in_sequence commands) + 1
 
--- The image has bytes, and each image that they spell is the same and valid: so it is encoded, decoded to itself and
--- verified again.
+-- The image has bytes, and every image that they spell is this image and valid: it can be encoded, decoded to itself
+-- and verified again.
 pub record IsCoded (im : Image) : Type 0 where
   pub spelled : image.Spells (image.bytes_of 2 (image.fields im)) (image.fields im)
   pub again : (other : Image) → image.Spells (image.bytes_of 2 (image.fields im)) (image.fields other) →

@@ -1,4 +1,4 @@
--- What the profiles say of one text, and what image it has.
+-- The laws that relate the profiles, and that a text has one image.
 use Rattle.std.specs.Prelude.{◌≡◌, ℕ, List}
 use Rattle.vsi_lattice.specs.Order.{Lattice}
 use Rattle.vsi_image.specs.declared.instr.Image.{Image}
@@ -9,12 +9,12 @@ use Rattle.vsi_lattice.specs.Known.{Known}
 use Rattle.vsi_compiler.specs.Acceptance.{IsAccepted}
 use Rattle.vsi_compiler.specs.Headline.{IsCompiled}
 
--- What the strict profile accepts, the base profile accepts.
+-- The base profile accepts every text that the strict profile accepts.
 abbrev pub StrictImpliesBase : Type 0
 StrictImpliesBase =
     (known : Known) (L : Lattice) (text : List ℕ) → IsAccepted known L Strict text → IsAccepted known L Base text
 
--- Two images that are compiled from one text, under whichever profiles, are the same.
+-- Two images compiled from one text, under any profiles, are equal.
 abbrev pub OneImage : Type 0
 OneImage =
     (known : Known) (L : Lattice) (P Q : Profile) (text : List ℕ) (a b : Image) →

@@ -1,4 +1,4 @@
--- Which texts have a program, whatever flows in it.
+-- Which texts have a program, whatever its flows are.
 use Rattle.std.specs.Prelude.{ℕ, List}
 use Rattle.vsi_syntax.specs.Tree.{Whole}
 use Rattle.vsi_lattice.specs.Known.{Known}

@@ -1,4 +1,4 @@
--- What a refusal says of the text.
+-- The facts that a refusal states about the text.
 use Rattle.std.specs.Prelude.{◌≢◌, ℕ, ◌≤◌, List, length}
 use Rattle.vsi_syntax.specs.Limits.{max_text_length}
 use Rattle.vsi_lattice.specs.Order.{Lattice}
@@ -26,7 +26,7 @@ pub record HasNoTree (text : List ℕ) : Type 0 where
   pub cut : cut.IsCut text tokens
   pub treeless : (tree : Whole) → ¬ (Reads text tree)
 
--- A refusal of the words or of the tree, where want of memory is never one that the layer below names.
+-- A refusal of the lexer or the parser; lack of memory is always the compiler's `Memory`.
 abbrev pub RefusesTree : List ℕ → CompileError → Type 0
 RefusesTree text Memory = Unit {0}
 RefusesTree text (Lex e) = (e ≢ lexer.Memory) × cut.ExplainsText text e
@@ -34,7 +34,7 @@ RefusesTree text (Parse e) = (e ≢ parser.Memory) × HasNoTree text
 RefusesTree text (Scope e) = ⊥
 RefusesTree text (Flow walk) = ⊥
 
--- A refusal of the words, of the tree or of the scopes.
+-- A refusal of the lexer, the parser or the scope checks.
 abbrev pub RefusesProgram : Known → List ℕ → CompileError → Type 0
 RefusesProgram known text Memory = Unit {0}
 RefusesProgram known text (Lex e) = RefusesTree text (Lex e)
@@ -43,7 +43,7 @@ RefusesProgram known text (Scope e) = (e ≢ scope.Memory)
     × ((tree : Whole) × Reads text tree × ExplainsScope known tree e)
 RefusesProgram known text (Flow walk) = ⊥
 
--- The text has a tree and its resolution, of which these steps are a bad walk, and no bad walk has fewer.
+-- The text has a tree and a resolution of it, these steps are a bad walk of it, and no bad walk has fewer steps.
 pub record HasShortestBadWalk (known : Known) (L : Lattice) (P : Profile) (text : List ℕ)
     (steps : List Step) : Type 0 where
   pub tree : Whole
@@ -52,7 +52,7 @@ pub record HasShortestBadWalk (known : Known) (L : Lattice) (P : Profile) (text 
   pub resolution : IsResolution known tree commands
   pub shortest : IsShortest L P (program_of known tree commands) steps
 
--- A refusal of a program that was read: want of memory, or a bad walk such that no bad walk has fewer steps.
+-- A refusal of a readable program: lack of memory, or a bad walk such that no bad walk has fewer steps.
 abbrev pub RefusesFlow : Lattice → Profile → Program → CompileError → Type 0
 RefusesFlow L P p Memory = Unit {0}
 RefusesFlow L P p (Lex e) = ⊥
@@ -60,7 +60,7 @@ RefusesFlow L P p (Parse e) = ⊥
 RefusesFlow L P p (Scope e) = ⊥
 RefusesFlow L P p (Flow walk) = IsShortest L P p walk.steps.items
 
--- A refusal of the compiler: the first in the order text, words, tree, scopes, size, flow.
+-- A refusal of the compiler: the first in the order text, tokens, tree, scopes, size, flow.
 abbrev pub Refuses : Known → Lattice → Profile → List ℕ → CompileError → Type 0
 Refuses known L P text Memory = Unit {0}
 Refuses known L P text (Lex e) = RefusesProgram known text (Lex e)
@@ -68,7 +68,7 @@ Refuses known L P text (Parse e) = RefusesProgram known text (Parse e)
 Refuses known L P text (Scope e) = RefusesProgram known text (Scope e)
 Refuses known L P text (Flow walk) = HasShortestBadWalk known L P text walk.steps.items
 
--- A refusal of the compiler that a caller passes on: it isn't want of memory, and the text isn't accepted.
+-- A refusal of the compiler for another reason than lack of memory, of a text that isn't accepted.
 pub record IsRefused (known : Known) (L : Lattice) (P : Profile) (text : List ℕ) (e : CompileError) : Type 0 where
   pub other : e ≢ Memory
   pub told : Refuses known L P text e

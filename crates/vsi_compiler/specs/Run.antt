@@ -1,4 +1,4 @@
--- What a text that is compiled and run answers.
+-- The answers when a text is compiled and run.
 use Rattle.std.specs.Prelude.{◌≡◌, ◌≢◌, ℕ, ℤ, List, length, Some}
 use Rattle.vsi_lattice.specs.Order.{Lattice}
 use Rattle.vsi_lattice.specs.Known.{Known}
@@ -22,12 +22,12 @@ abbrev pub compiling : CompileError → RunError
 compiling compiler.Memory = Memory
 compiling e = Compile e
 
--- A machine that was not started.
+-- A machine that couldn't be started.
 abbrev pub starting : StartError → RunError
 starting start.Memory = Memory
 starting e = Start e
 
--- The text is compiled, the store has one word per global, and the image's run from it with this budget ends so.
+-- The text is compiled, the store has one word per global, and the image's run from it with this budget has this end.
 pub record Ran (known : Known) (L : Lattice) (text : List ℕ) (store : List ℤ) (budget : ℕ) (outcome : Outcome)
     (words : List ℤ) : Type 0 where
   pub image : Image
@@ -38,14 +38,14 @@ pub record Ran (known : Known) (L : Lattice) (text : List ℕ) (store : List ℤ
   pub ends : outcome ≡ outcome_of last
   pub globals : words ≡ globals_of image last
 
--- The text is compiled, and the store hasn't one word per global.
+-- The text is compiled, and the store doesn't have one word per global.
 pub record HasWrongStore (known : Known) (L : Lattice) (text : List ℕ) (store : List ℤ) (words : ℕ) : Type 0 where
   pub image : Image
   pub compiled : IsCompiled known L Base text image
   pub wrong : length store ≢ length image.globals.items
   pub told : words ≡ length store
 
--- A refusal of a run: the text isn't accepted, or the store hasn't one word per global.
+-- A refusal of a run: the text isn't accepted, or the store doesn't have one word per global.
 abbrev pub RefusesRun : Known → Lattice → List ℕ → List ℤ → RunError → Type 0
 RefusesRun known L text store Memory = Unit {0}
 RefusesRun known L text store (Compile e) = IsRefused known L Base text e

@@ -1,5 +1,4 @@
--- What a source text is: its tokens, the tree that writes them, and the commands over locations that the tree stands
--- for.
+-- Source texts: the tokens of a text, the tree that writes them, and the tree's commands over locations.
 use Rattle.std.specs.Prelude.{◌≡◌, ℕ, ◌≤◌, List, length, map}
 use Rattle.vsi_syntax.specs.Limits.{max_text_length}
 use Rattle.vsi_syntax.specs.Cut.{Piece, IsCut}

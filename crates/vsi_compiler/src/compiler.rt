@@ -22,8 +22,8 @@ use vsi_types::Profile;
 ///
 /// # Errors
 ///
-/// The first refusal in the order text, tokens, tree, scope, size, flow. `Memory` may take the place
-/// of any answer.
+/// The first refusal in the order text, tokens, tree, scope, size, flow. `Memory` is possible in
+/// place of any answer.
 pub fn compile_in(
     alloc: Global,
     profile: Profile,

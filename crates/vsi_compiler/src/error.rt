@@ -9,8 +9,8 @@ use vsi_infer::{InferError, Walk};
 use vsi_scope::ScopeError;
 use vsi_syntax::{LexError, ParseError};
 
-/// Why a text is refused. Want of memory is always `Memory`, and never one that an inner error
-/// names.
+/// Why a text is refused. A lack of memory is always `Memory`, never the `Memory` of an inner
+/// error.
 #[derive(Debug, Drop, Error)]
 pub enum CompileError {
     #[error("the text has no tokens")]

@@ -15,8 +15,8 @@ use vsi_code::generate;
 use vsi_image::Verified;
 use vsi_opt::optimise;
 
-/// The one image of a source text, whether its flows are in order or not. Where they are under a
-/// profile, the image lets nothing flow that the lattice forbids.
+/// The only image of a source text, whether its flows are allowed or not. If they are allowed under
+/// a profile, the image lets no information flow where the lattice forbids it.
 pub fn image_of(alloc: Global, source: &Source<'_>) -> Result<Verified, AllocError>
     ensures globals { IfOk result (HasGlobals source.now.text) }
     ensures meaning { IfOk result
@@ -35,7 +35,7 @@ pub fn image_of(alloc: Global, source: &Source<'_>) -> Result<Verified, AllocErr
     let resolved = source.resolved();
     let optimised = optimise(alloc, resolved)?;
     let verified = generate(alloc, &optimised)?;
-    // Done for its contract alone: each operand fits its width, so the image has bytes.
+    // Called for its contract alone: each operand fits its width, so the image has bytes.
     have_opcodes(&verified.image().code);
     Ok(verified)
 }

@@ -1,4 +1,4 @@
-//! Whether the flows of a source text are in order.
+//! Whether the flows of a source text are allowed.
 
 ghost use Rattle.std.specs.Prelude.{◌≡◌, IfOk, IfErr};
 ghost use Rattle.vsi_infer.specs.Inference.{IsLeast};

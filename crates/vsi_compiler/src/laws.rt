@@ -3,12 +3,12 @@
 
 ghost use Rattle.vsi_compiler.specs.Laws.{OneImage, StrictImpliesBase};
 
-/// What the strict profile accepts, the base profile accepts.
+/// The base profile accepts every text that the strict profile accepts.
 pub fn strict_implies_base()
     ensures { StrictImpliesBase }
 {}
 
-/// A text has one image, under the strict profile as under the base profile.
+/// A text has the same image under the strict profile and under the base profile.
 pub fn one_image()
     ensures { OneImage }
 {}

@@ -1,4 +1,4 @@
-//! From a source text to a verified image, and what is promised of it.
+//! From a source text to a verified image, with the promises about it.
 //!
 //! To be believed: all files of `specs/`.
 #![tactic(auto)]

@@ -1,4 +1,4 @@
-//! What the types of instructions say of their operands. Nothing is computed here.
+//! Facts about operands that follow from the types of instructions. Nothing is computed here.
 
 ghost use Rattle.std.specs.Prelude.{All};
 ghost use Rattle.vsi_image.specs.Fields.{HasOpcode};

@@ -1,4 +1,4 @@
-//! The program that a text stands for.
+//! The program of a text.
 
 ghost use Rattle.std.specs.Prelude.{◌≡◌, ℕ, List, IfOk, IfErr, MatchResult};
 ghost use Rattle.vsi_syntax.specs.Tree.{Whole};
@@ -36,7 +36,7 @@ pub(crate) fn read_program<'a>(alloc: Global, text: &'a [u8]) -> Result<Program<
 ///
 /// # Errors
 ///
-/// The first refusal in the order text, tokens, tree, scope, size, and never one of a flow.
+/// The first refusal in the order text, tokens, tree, scope, size, never one of a flow.
 pub fn read_source<'a>(
     alloc: Global,
     lattice: &'a Lattice,
@@ -51,7 +51,7 @@ pub fn read_source<'a>(
 {
     let tree = read_program(alloc, text)?;
     let resolved = resolve(alloc, &tree, lattice)?;
-    // What `body` ensures says that the program is resolved, which the proofs ask for.
+    // `body` ensures that the program is resolved, which the proofs need.
     let _body = resolved.body();
     Ok(Source::new(lattice, text, tree, resolved))
 }
@@ -72,7 +72,7 @@ pub fn resolved_program<'a>(
 {
     let program = read_program(alloc, text)?;
     let resolved = resolve(alloc, &program, lattice)?;
-    // What `body` ensures says that the program is resolved, which the proofs ask for.
+    // `body` ensures that the program is resolved, which the proofs need.
     let _body = resolved.body();
     Ok(resolved)
 }

@@ -11,8 +11,8 @@ use vsi_infer::{Walk, check_walk_once, explain};
 use vsi_lattice::Lattice;
 use vsi_types::Profile;
 
-/// The explanation of a walk: a line for each of its steps, and one for the classes of its ends. It
-/// is empty where the walk isn't a bad walk of the source, judged by the strict profile.
+/// The explanation of a walk: a line for each step, and one for the classes of its ends. It is
+/// empty if the walk isn't a bad walk of the source under the strict profile.
 pub fn walk_explanation(
     alloc: Global,
     source: &Source<'_>,
@@ -31,7 +31,7 @@ pub fn walk_explanation(
     }
 }
 
-/// The explanation of a walk of a text, by `walk_explanation`. It is empty where the text has no
+/// The explanation of a walk of a text, by `walk_explanation`. It is empty if the text has no
 /// program.
 pub fn explanation_text(
     alloc: Global,

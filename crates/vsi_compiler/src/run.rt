@@ -12,17 +12,17 @@ use thiserror::Error;
 use vsi_lattice::Lattice;
 use vsi_machine::{Machine, Outcome, StartError};
 
-/// Why a text wasn't run. Want of memory is always `Memory`, and never one that an inner error
-/// names.
+/// Why a text wasn't run. A lack of memory is always `Memory`, never the `Memory` of an inner
+/// error.
 #[derive(Debug, Drop, Error)]
 pub enum RunError {
     /// The text is refused.
     #[error("the text is refused")]
     Compile(CompileError),
-    /// The store hasn't one word per global.
+    /// The store doesn't have one word per global.
     #[error("the machine could not be started")]
     Start(StartError),
-    /// A growth was refused.
+    /// An allocation failed.
     #[error("out of memory")]
     Memory,
 }
@@ -69,12 +69,12 @@ impl From<StartError> for RunError {
     }
 }
 
-/// Compiles a text, and runs its image from a store of one word per global, for at most `budget`
-/// instructions: how the run ended, and the words of the globals then.
+/// Compiles a text, and runs its image from a store with one word per global, for at most `budget`
+/// instructions. Returns how the run ended, and the last words of the globals.
 ///
 /// # Errors
 ///
-/// The refusals of `compile`, and then `WrongStore` where the store hasn't one word per global.
+/// The refusals of `compile`, and `WrongStore` if the store doesn't have one word per global.
 pub fn run_source(
     alloc: Global,
     lattice: &Lattice,

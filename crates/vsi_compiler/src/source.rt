@@ -5,10 +5,10 @@ use vsi_lattice::Lattice;
 use vsi_scope::Resolved;
 use vsi_syntax::{Declaration, Program};
 
-/// A source text, read under a lattice: what every layer above the reader borrows.
+/// A source text, read under a lattice. Every layer above the reader borrows it.
 ///
-/// Its program is the one that the text stands for, and each class in it is one of the lattice. Its
-/// flows may be in order or not: `judge` says which.
+/// Its program is the program of the text, and each class in it is a class of the lattice. Its
+/// flows may be allowed or not: `judge` decides that.
 #[derive(Drop)]
 pub struct Source<'a> {
     lattice: &'a Lattice,

@@ -29,7 +29,7 @@ use vsi_types::Profile;
 ///
 /// # Errors
 ///
-/// The refusals of the tokens and the tree; names and classes aren't looked at.
+/// The refusals of the tokens and the tree. Names and classes aren't checked.
 pub fn format_text(alloc: Global, text: &[u8]) -> Result<Vec<u8>, CompileError>
     ensures canonical { IfOk result (λ out. IsCanonicalText text.now out.items) }
     ensures refused { IfErr result (RefusesTree text.now) }
@@ -39,7 +39,7 @@ pub fn format_text(alloc: Global, text: &[u8]) -> Result<Vec<u8>, CompileError>
     Ok(print(alloc, &program)?)
 }
 
-/// The line of a declaration more.
+/// Adds the line of a declaration.
 fn push_line(
     out: &mut Vec<u8>,
     text: &[u8],
@@ -58,7 +58,7 @@ fn push_line(
     out.extend_from_slice(b"\n")
 }
 
-/// The lines of the globals more.
+/// Adds the lines of the globals.
 fn push_globals(out: &mut Vec<u8>, text: &[u8], globals: &[Declaration]) -> Result<(), AllocError>
     ensures { OnOk result
         (out.new.items ≡ out.old.items ++ global_lines text.now (map declared globals.now)) }
@@ -75,7 +75,7 @@ fn push_globals(out: &mut Vec<u8>, text: &[u8], globals: &[Declaration]) -> Resu
     Ok(())
 }
 
-/// The lines of the letvars more, with the classes that were chosen.
+/// Adds the lines of the letvars, with the classes chosen for them.
 fn push_letvars(
     out: &mut Vec<u8>,
     text: &[u8],
@@ -94,12 +94,12 @@ fn push_letvars(
     Ok(())
 }
 
-/// A line `LINE:COLUMN NAME : CLASS` for each declaration, globals first and then `letvar`s in the
+/// A line `LINE:COLUMN NAME : CLASS` for each declaration: the globals, then the `letvar`s in the
 /// order of the text, with the least classes that are typable under a profile.
 ///
 /// # Errors
 ///
-/// Those of `judge`.
+/// The errors of `judge`.
 pub fn classes_text_of(
     alloc: Global,
     profile: Profile,

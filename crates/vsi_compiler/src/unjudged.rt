@@ -17,12 +17,12 @@ use std::alloc::Global;
 use vsi_image::Verified;
 use vsi_lattice::Lattice;
 
-/// The image of a text, whether its flows are in order or not: where `compile` accepts the text,
-/// the one that it answers.
+/// The image of a text, whether its flows are allowed or not. If `compile` accepts the text, it
+/// returns the same image.
 ///
 /// # Errors
 ///
-/// The first refusal in the order text, tokens, tree, scope, size, and never one of a flow.
+/// The first refusal in the order text, tokens, tree, scope, size, never one of a flow.
 pub fn unjudged_image(
     alloc: Global,
     lattice: &Lattice,

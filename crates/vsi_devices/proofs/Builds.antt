@@ -1,4 +1,4 @@
--- What is written whole.
+-- Texts that are written whole.
 use Rattle.std.proofs.Common.{◌≡◌, ◌≢◌, ℕ, List, Option, Some, sym, ap, subst, ◌∙◌, Result, Ok, Err}
 use Rattle.std.specs.Prelude.{OnOk}
 use Rattle.std.specs.Option.{option_map}
@@ -12,14 +12,14 @@ use Rattle.vsi_image.specs.Limits.{first_limit}
 use Rattle.vsi_image.proofs.Limited.{no_limits}
 use Rattle.vsi_devices.specs.Running.{WrittenSome}
 
--- A text of a kind that was written, where the call didn't fail.
+-- A call that didn't fail has written a text of this kind.
 pub written_some : {X E : Type 0} (r : Result X E) (kind : List ℕ → Type 0) (a b : Option (List ℕ))
     (text bytes : List ℕ) →
     kind bytes → text ≡ bytes → OnOk r (Appends a b text) → OnOk r (WrittenSome kind a b)
 written_some (Ok x) kind a b text bytes is same h = (bytes, is, subst (Appends a b) same h)
 written_some (Err e) kind a b text bytes is same h = tt
 
--- An image that is within its limits isn't refused for one.
+-- An image within its limits isn't refused for a limit.
 pub never_past : (f : Fields) (limit : Limit) → IsAllowed f →
     (◌≢◌ {A = EncodeError} (Unencodable limit) Memory →
     option_map Unencodable (first_limit f) ≡ Some (Unencodable limit)) → ⊥

@@ -1,4 +1,4 @@
--- What a run's parts write together.
+-- The combined output of a run's parts.
 use Rattle.std.proofs.Common.{◌≡◌, ℕ, List, ◌++◌, Bool, true, false, length, take, drop, min, refl, sym, ap, subst, ◌∙◌, append_assoc, Option, Some, None, arith, take-append-drop, Result, Ok, Err, ◌⊎◌, inr}
 use Rattle.std.specs.Prelude.{ℤ, IfOk, if◌then◌else◌}
 use Rattle.std.specs.Io.KnownBytes.{Appends, Keeps}
@@ -17,7 +17,7 @@ use Rattle.vsi_machine.proofs.Progress.{never_stuck}
 use Rattle.vsi_devices.specs.declared.error.EngineError.{EngineError}
 use Rattle.vsi_devices.specs.Running.{RunsAndWrites, RunsApart, Runs, Started, Traces, WrittenApart, WrittenPartly, WrittenSome, WrittenSteps, WrittenWhole, ending_of, text_at, trace_of}
 
--- Where the outcome says that a run has halted, its text is that of its store.
+-- If the outcome says that a run has halted, its text is the text of its store.
 pub halted_text : (image : Image) (t : State) → outcome_of t ≡ Halted →
     Some (store_text_of (globals image.globals.items) (globals_of image t)) ≡ text_at image t
 halted_text image t h =
@@ -28,7 +28,7 @@ halted_text image t h =
       | false ↦ λ e. absurd (cc)
     ] h
 
--- Where it says that a run is out of budget, there is none.
+-- If it says that a run is out of budget, there is no text.
 pub spent_text : (image : Image) (t : State) → outcome_of t ≡ OutOfBudget → None ≡ text_at image t
 spent_text image t h =
     let told = Some (store_text_of (globals image.globals.items) (globals_of image t)) in
@@ -38,7 +38,7 @@ spent_text image t h =
       | false ↦ λ e. refl
     ] h
 
--- A prefix of a text is one of every text that begins with it.
+-- A prefix of a text is a prefix of every longer text.
 pub longer_text : (a b : Option (List ℕ)) (text rest : List ℕ) → ((n : ℕ) × Appends a b (take n text)) →
     (m : ℕ) × Appends a b (take m (text ++ rest))
 longer_text a b text rest p =
@@ -74,7 +74,7 @@ module _ (traced : Bool) (image : Image) (words : List ℤ) (budget : ℕ) where
       subst (λ u. after image.code.items budget u ≡ Some t) from
       (subst (λ i. after i.code.items budget s ≡ Some t) same reached)
 
-  -- A run whose output is whole.
+  -- A run with whole output.
   pub all_written : (a b c : Option (List ℕ)) (held shown : Image) (s t : State) (outcome : Outcome) → held ≡ image →
       shown ≡ image → s ≡ start image words → after held.code.items budget s ≡ Some t → outcome ≡ outcome_of t →
       Appends a b (begun held s) → Appends b c (ending_of shown t) →
@@ -91,7 +91,7 @@ module _ (traced : Bool) (image : Image) (words : List ℤ) (budget : ℕ) where
         (subst (λ i. Appends b c (ending_of i t)) same' ending),
   )
 
-  -- A run whose trace is whole, and whose text is given apart from it.
+  -- A run with a whole trace, and with its text returned separately.
   pub all_apart : (a b : Option (List ℕ)) (held : Image) (s t : State) (text : Option (List ℕ)) → held ≡ image →
       s ≡ start image words → after held.code.items budget s ≡ Some t → text ≡ text_at image t →
       Appends a b (begun held s) → WrittenApart (RunsApart traced image words budget) a b text
@@ -106,7 +106,7 @@ module _ (traced : Bool) (image : Image) (words : List ℤ) (budget : ℕ) where
     subst (Appends a b) (begun_is held s same from) trace,
   )
 
-  -- A run whose last lines are cut.
+  -- A run whose last lines are cut off.
   pub ending_cut : (a b c : Option (List ℕ)) (held shown : Image) (s t : State) → held ≡ image →
       shown ≡ image → s ≡ start image words → after held.code.items budget s ≡ Some t →
       Appends a b (begun held s) → ((n : ℕ) × Appends b c (take n (ending_of shown t))) →
@@ -124,7 +124,7 @@ module _ (traced : Bool) (image : Image) (words : List ℤ) (budget : ℕ) where
         (subst (λ i. (n : ℕ) × Appends b c (take n (ending_of i t))) same' ending),
   )
 
-  -- A run whose trace is cut.
+  -- A run whose trace is cut off.
   pub trace_cut : (a b : Option (List ℕ)) (held : Image) (s : State) → held ≡ image → s ≡ start image words →
       IsValid image → length words ≡ length image.globals.items →
       ((n : ℕ) × Appends a b (take n (begun held s))) → WrittenPartly (RunsAndWrites traced image words budget) a b
@@ -143,7 +143,7 @@ module _ (traced : Bool) (image : Image) (words : List ℤ) (budget : ℕ) where
 
 module _ (traced : Bool) (remaining : Option (List ℕ)) (store : List ℕ) (budget : ℕ) (image : Image)
     (words told : List ℤ) (same : told ≡ words) (started : Started remaining store image words) where
-  -- The run that is asked for.
+  -- The requested run.
   asked : (outcome : Outcome) (output : List ℕ) → RunsAndWrites traced image told budget outcome output →
       Runs traced remaining store budget outcome output
   asked outcome output ends =
@@ -154,19 +154,19 @@ module _ (traced : Bool) (remaining : Option (List ℕ)) (store : List ℕ) (bud
         ends = subst (λ ws. RunsAndWrites traced image ws budget outcome output) same ends;
       }
 
-  -- A whole output is that of the run that is asked for.
+  -- A whole output is the output of the requested run.
   pub asked_whole : (a b : Option (List ℕ)) (r : Result Outcome EngineError) →
       IfOk r (WrittenWhole (RunsAndWrites traced image told budget) a b) →
       IfOk r (WrittenWhole (Runs traced remaining store budget) a b)
   asked_whole a b (Ok outcome) p = (p.0, asked outcome p.0 p.1, p.2)
   asked_whole a b (Err e) p = tt
 
-  -- A cut output is that of the run that is asked for.
+  -- A cut output is a prefix of the requested run's output.
   pub asked_partly : (a b : Option (List ℕ)) → WrittenPartly (RunsAndWrites traced image told budget) a b →
       WrittenPartly (Runs traced remaining store budget) a b
   asked_partly a b p = (p.0, p.1, asked p.0 p.1 p.2, p.3)
 
-  -- A trace is that of the run that is asked for.
+  -- A trace is the trace of the requested run.
   pub asked_trace : (a b : Option (List ℕ)) →
       WrittenSteps (λ k. trace_of traced image.code.items k (start image told)) budget a b →
       Keeps a b ⊎ WrittenSome (Traces traced remaining store budget) a b

@@ -1,4 +1,4 @@
--- Refusals of the layers are refusals of what was read.
+-- Refusals of the layers are refusals of the bytes that were read.
 use Rattle.std.proofs.Common.{◌≡◌, ◌≢◌, ℕ, List, Option, Ok}
 use Rattle.vsi_lattice.specs.Order.{Lattice}
 use Rattle.vsi_lattice.specs.Known.{Known}
@@ -47,7 +47,7 @@ store_refused remaining bytes file image (store.UnknownGlobal key) given read va
     (bytes, given, (differs, (image, read, valid, h)))
 store_refused remaining bytes file image store.Memory given read valid h = tt
 
--- A refusal of the text by the compiler is one of the text that was read.
+-- The compiler's refusal of a text is a refusal of the text that was read.
 pub text_refused : (known : Known) (L : Lattice) (P : Profile) (text : List ℕ) (e : CompileError) →
     Refuses known L P text e → (IsAccepted known L P text → e ≡ compiler.Memory) →
     RefusesText known L P text (compiling e)

@@ -1,4 +1,4 @@
--- Stores that agree are seen alike.
+-- Stores that agree look the same to the class.
 use Rattle.std.proofs.Common.{◌≡◌, ℕ, zero, suc, List, [], ◌∷◌, ◌++◌, length, Option, Some, None, true, false, refl, sym, ap, ◌∙◌, arith}
 use Rattle.std.specs.Prelude.{ℤ, pos, slice_get, slice_index_or, if◌then◌else◌}
 use Rattle.std.specs.Option.{option_map_or}
@@ -13,7 +13,7 @@ use Rattle.vsi_compiler.proofs.Coded.{coded_valid}
 use Rattle.vsi_devices.specs.Laws.{SameView}
 use Rattle.vsi_store.proofs.Slots.{words_last}
 
--- The lines of a global whose words are equal where its class is seen.
+-- The lines of a global are equal if its words are equal whenever the class sees it.
 same_line_at : (L : Lattice) (a : ℕ) (g : Global) (w w' : ℤ) (o : Option ℕ) →
     ((c : ℕ) → o ≡ Some c → Below L c a → w ≡ w') →
     (if option_map_or (λ c. L.leq c a) o false then line_of g.0 w else [])
@@ -25,7 +25,7 @@ same_line_at L a g w w' (Some c) h =
       | false ↦ λ e. refl
     ] refl
 
--- Words that are equal for each global that is seen give one text.
+-- Words that are equal for each global that the class sees give one text.
 same_text : (known : Known) (L : Lattice) (a : ℕ) (gs : List Global) (m m' : List ℤ) → length m ≡ length m' →
     ((i : ℕ) (g : Global) (c : ℕ) → slice_get gs i ≡ Some g → known g.1 ≡ Some c → Below L c a →
     slice_index_or m i (pos 0) ≡ slice_index_or m' i (pos 0)) →
@@ -40,7 +40,7 @@ same_text known L a (g ∷ gs) (w ∷ ws) (w' ∷ ws') same agree =
     same_line_at L a g w w' (known g.1) (λ c is below. agree zero g c refl is below) in
     ap (λ l. line_seen known L a g w ++ l) rest ∙ ap (λ l. l ++ view_text_of known L a gs ws') line
 
--- The law that stores that agree are seen alike.
+-- The law that stores that agree look the same to the class.
 pub same_view : SameView
 same_view known L P text image a compiled class m₁ m₂ b₁ b₂ t₁ t₂ full₁ full₂ agree v₁ v₂ =
     let ends₁ : Ends image m₁ b₁ (globals_of image v₁.0) =

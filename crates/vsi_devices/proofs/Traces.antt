@@ -1,4 +1,4 @@
--- How a trace grows, and where it stops growing.
+-- How a trace grows, and when it stops growing.
 use Rattle.std.proofs.Common.{◌≡◌, ℕ, zero, suc, ◌+◌, ◌-◌, ◌≤◌, ◌<◌, List, [], ◌∷◌, ◌++◌, true, refl, sym, ap, subst, ◌∙◌, Option, Some, None, append-nil, append_assoc, length, take, drop, arith, option_and_then, unwrap_or, take-append-drop}
 use Rattle.std.specs.Option.{option_map}
 use Rattle.std.specs.Io.KnownBytes.{Appends}
@@ -10,14 +10,14 @@ use Rattle.vsi_machine.specs.Trace.{trace_line}
 use Rattle.vsi_machine.proofs.Budgets.{budgets_add, halting_lasts}
 use Rattle.vsi_devices.specs.Running.{ended, line_at, trace_text}
 
--- One step more.
+-- One more step.
 pub after_more : (code : List Instr) (i : ℕ) (s t u : State) → after code i s ≡ Some t → stepped code t ≡ Some u →
     after code (i + 1) s ≡ Some u
 after_more code i s t u reached step =
     budgets_add code i 1 s ∙ ap (λ o. option_and_then (after code 1) o) reached
     ∙ ap (λ o. option_and_then (after code 0) o) step
 
--- What has halted stays so.
+-- A halted machine stays halted.
 pub after_halt : (code : List Instr) (i n : ℕ) (s t : State) → i ≤ n → after code i s ≡ Some t → t.halted ≡ true →
     after code n s ≡ Some t
 after_halt code i n s t le reached halted =
@@ -34,7 +34,7 @@ trace_more code i s t reached =
 no_line : (code : List Instr) (t : State) → t.halted ≡ true → line_at code (Some t) ≡ []
 no_line code t halted = rw halted refl
 
--- Behind a halt the trace doesn't grow.
+-- After a halt the trace doesn't grow.
 pub trace_halt : (code : List Instr) (i k : ℕ) (s t : State) → after code i s ≡ Some t → t.halted ≡ true →
     trace_text code (i + k) s ≡ trace_text code i s
 trace_halt code i zero s t reached halted =
@@ -47,7 +47,7 @@ trace_halt code i (suc k) s t reached halted =
     ∙ append-nil (trace_text code (i + k) s)
     ∙ trace_halt code i k s t reached halted
 
--- What a longer trace has behind a shorter one.
+-- The part of a longer trace after a shorter one.
 pub trace_rest : (code : List Instr) (i k : ℕ) (s : State) →
     (rest : List ℕ) × (trace_text code (i + k) s ≡ trace_text code i s ++ rest)
 trace_rest code i zero s = (
@@ -63,13 +63,13 @@ trace_rest code i (suc k) s =
           ∙ ap (λ l. l ++ line) p.1 ∙ append_assoc (trace_text code i s) p.0 line,
     )
 
--- The line that a machine gives is that of its state.
+-- The line that a machine returns is the line of its state.
 pub line_is : (o : Option (List ℕ)) (x : List ℕ) → Some x ≡ option_map (λ (text : List ℕ). text ++ 10 ∷ []) o →
     x ≡ ended o
 line_is None x h = absurd cc
 line_is (Some line) x h = ap (λ (p : Option (List ℕ)). unwrap_or p x) h
 
--- A write that is cut within the line of a step leaves a prefix of the trace.
+-- A write that is cut off within the line of a step leaves a prefix of the trace.
 pub cut_within : (a b c : Option (List ℕ)) (code : List Instr) (i budget n : ℕ) (s t : State) (text : List ℕ) →
     i < budget → after code i s ≡ Some t → text ≡ line_at code (Some t) →
     Appends a b (trace_text code i s) → Appends b c (take n text) →
@@ -88,7 +88,7 @@ cut_within a b c code i budget n s t text lt reached is before now =
     ap (take (length done)) split ∙ take-append_seam done _ in
     (length done, subst (Appends a c) (sym cut) (Appends-trans a b c _ _ before now))
 
--- The same, where the line is told by its machine.
+-- The same if the machine returns the line.
 pub cut_line : (a b c : Option (List ℕ)) (code : List Instr) (i budget n : ℕ) (s t : State) (text : List ℕ) →
     i < budget → after code i s ≡ Some t → Some text ≡ option_map (λ (x : List ℕ). x ++ 10 ∷ []) (trace_line code t) →
     Appends a b (trace_text code i s) → Appends b c (take n text) →
@@ -96,7 +96,7 @@ pub cut_line : (a b c : Option (List ℕ)) (code : List Instr) (i budget n : ℕ
 cut_line a b c code i budget n s t text lt reached is before now =
     cut_within a b c code i budget n s t text lt reached (line_is (trace_line code t) text is) before now
 
--- A whole line more.
+-- One more whole line.
 pub line_more : (a b c : Option (List ℕ)) (code : List Instr) (i : ℕ) (s t : State) (text : List ℕ) →
     after code i s ≡ Some t → Some text ≡ option_map (λ (x : List ℕ). x ++ 10 ∷ []) (trace_line code t) →
     Appends a b (trace_text code i s) → Appends b c text → Appends a c (trace_text code (i + 1) s)
@@ -106,7 +106,7 @@ line_more a b c code i s t text reached is before now =
     ∙ sym (trace_more code i s t reached))
     (Appends-trans a b c _ _ before now)
 
--- Nothing more where the machine has halted.
+-- Nothing more is written after the machine has halted.
 pub halt_written : (a b : Option (List ℕ)) (code : List Instr) (i budget : ℕ) (s t : State) → i < budget →
     after code i s ≡ Some t → t.halted ≡ true → Appends a b (trace_text code i s) →
     Appends a b (trace_text code budget s)

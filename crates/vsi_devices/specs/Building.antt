@@ -1,4 +1,4 @@
--- What a build writes.
+-- The output of a build.
 use Rattle.std.specs.Prelude.{◌≡◌, ℕ, List, take, Option}
 use Rattle.std.specs.Io.KnownBytes.{Appends}
 use Rattle.vsi_lattice.specs.Order.{Lattice}
@@ -9,13 +9,13 @@ use Rattle.vsi_image.specs.Fields.{bytes_of, fields}
 use Rattle.vsi_compiler.specs.Headline.{IsCompiled}
 use Rattle.vsi_devices.specs.Engine.{IsReadFrom}
 
--- These are the bytes, in version 2, of an image of which all that the compiler promises holds for the text.
+-- These are the bytes, in version 2, of an image for which the compiler's promises about the text hold.
 pub record IsBuilt (known : Known) (L : Lattice) (P : Profile) (text bytes : List ℕ) : Type 0 where
   pub image : Image
   pub compiled : IsCompiled known L P text image
   pub spelled : bytes ≡ bytes_of 2 (fields image)
 
--- The bytes of an image that is compiled from the text that a reader gives.
+-- The bytes of an image compiled from the text that a reader supplies.
 abbrev pub Builds : Known → Lattice → Profile → Option (List ℕ) → List ℕ → Type 0
 Builds known L P remaining bytes = (text : List ℕ) × IsReadFrom remaining text × IsBuilt known L P text bytes
 

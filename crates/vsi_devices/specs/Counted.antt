@@ -1,4 +1,4 @@
--- What a clause reads of a `Counted`, and what a call of it does to the count.
+-- The parts of a `Counted` that clauses use, and the effect of a call on the count.
 use Rattle.std.specs.Prelude.{◌≡◌, ℕ, ◌+◌, ◌-◌, ◌^◌, ◌<◌, min, MatchResult, Result}
 use Rattle.vsi_devices.specs.declared.counted.Counted.{Counted}
 
@@ -14,11 +14,11 @@ faults_of c = c.faults
 abbrev pub one_more : ℕ → ℕ
 one_more n = min (n + 1) (2 ^ 64 - 1)
 
--- The call's `Err` is counted, and nothing else.
+-- Only an `Err` of the call is counted.
 abbrev pub CountsReads : {X E : Type 0} → Result X E → ℕ → ℕ → Type 0
 CountsReads r old new = MatchResult r (λ _. new ≡ old) (λ _. new ≡ one_more old)
 
--- The same, where taking no byte of some is a fault too.
+-- The same for writes, for which accepting no byte of some is a fault too.
 abbrev pub CountsWrites : {E : Type 0} → Result ℕ E → ℕ → ℕ → ℕ → Type 0
 CountsWrites r len old new = MatchResult r
     (λ n. ((n ≡ 0 × (0 < len)) → new ≡ one_more old) × ((n ≡ 0 → len ≡ 0) → new ≡ old))

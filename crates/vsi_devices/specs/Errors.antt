@@ -1,4 +1,4 @@
--- Errors of the layers as errors of a call over devices, whose want of memory is its own.
+-- Errors of the layers as errors of a call over devices, which has one error for lack of memory.
 use Rattle.vsi_compiler.specs.declared.error.CompileError.{CompileError}
 use Rattle.vsi_compiler.specs.declared.error.CompileError.TheVariants as compiler
 use Rattle.vsi_image.specs.declared.decoder.DecodeError.{DecodeError}

@@ -1,4 +1,4 @@
--- What two stores that agree show alike.
+-- The law that stores that agree have the same view.
 use Rattle.std.specs.Prelude.{◌≡◌, ℕ, ℤ, List}
 use Rattle.std.specs.Global.{Vec}
 use Rattle.vsi_lattice.specs.Order.{Lattice, IsClass}
@@ -10,7 +10,7 @@ use Rattle.vsi_compiler.specs.Headline.{IsCompiled}
 use Rattle.vsi_lattice.specs.Known.{Known}
 use Rattle.vsi_compiler.specs.Observation.{AgreeAt, IsStoreOf}
 
--- Two stores that agree at and below a class give it the same view of a compiled image, whenever both runs halt.
+-- A class has the same view of a compiled image from two stores that agree at and below it, whenever both runs halt.
 abbrev pub SameView : Type 0
 SameView =
     (known : Known) (L : Lattice) (P : Profile) (text : List ℕ) (image : Image) (a : ℕ) →

@@ -1,4 +1,4 @@
--- What a refusal of an image, of a store file or of a text says of the bytes that were read.
+-- The facts about the bytes read that a refusal of an image, a store file or a text states.
 use Rattle.std.specs.Prelude.{◌≡◌, ◌≢◌, ℕ, List, Option, Some, Ok, Err}
 use Rattle.vsi_lattice.specs.Order.{Lattice}
 use Rattle.vsi_lattice.specs.Known.{Known}
@@ -49,7 +49,7 @@ RefusesText known L P text (Verify e) = ⊥
 RefusesText known L P text (Store e) = ⊥
 RefusesText known L P text Memory = Unit {0}
 
--- A fault of a device, want of memory, or a refusal of the bytes that were read.
+-- A fault of a device, lack of memory, or a refusal of the bytes that were read.
 abbrev pub RefusesRead : (List ℕ → EngineError → Type 0) → Option (List ℕ) → EngineError → Type 0
 RefusesRead refuses remaining ReadFault = Unit {0}
 RefusesRead refuses remaining WriteFault = Unit {0}

@@ -1,4 +1,4 @@
--- What a run of an image writes.
+-- The output of an image's run.
 use Rattle.std.specs.Prelude.{◌≡◌, ℕ, ◌≤◌, zero, suc, List, [], ◌∷◌, ◌++◌, ℤ, Bool, take, Option, Some, None, Ok, if◌then◌else◌}
 use Rattle.std.specs.Io.KnownBytes.{Appends}
 use Rattle.vsi_image.specs.declared.instr.Instr.{Instr}
@@ -14,12 +14,12 @@ use Rattle.vsi_store.specs.File.{Tells}
 use Rattle.vsi_store.specs.Text.{store_text_of}
 use Rattle.vsi_devices.specs.Engine.{IsReadFrom}
 
--- A line with its line feed, where there is one.
+-- A line with its line feed, if there is a line.
 abbrev pub ended : Option (List ℕ) → List ℕ
 ended None = []
 ended (Some line) = line ++ 10 ∷ []
 
--- The trace line of a state, where there is a state that has not halted.
+-- The trace line of a state, if there is a state and it has not halted.
 abbrev pub line_at : List Instr → Option State → List ℕ
 line_at code None = []
 line_at code (Some s) = ended (trace_line code s)
@@ -29,11 +29,11 @@ abbrev pub trace_text : List Instr → ℕ → State → List ℕ
 trace_text code zero s = []
 trace_text code (suc k) s = trace_text code k s ++ line_at code (after code k s)
 
--- The trace lines of the first k steps from a state, where they are asked for.
+-- The trace lines of the first k steps from a state, if they are requested.
 abbrev pub trace_of : Bool → List Instr → ℕ → State → List ℕ
 trace_of traced code k s = if traced then trace_text code k s else []
 
--- The text of the store where a run has halted.
+-- The text of the store if a run has halted.
 abbrev pub ending_of : Image → State → List ℕ
 ending_of image last = if last.halted then store_text_of (globals image.globals.items) (globals_of image last) else []
 
@@ -46,7 +46,7 @@ pub record RunsAndWrites (traced : Bool) (image : Image) (words : List ℤ) (bud
   pub written :
       output ≡ trace_of traced image.code.items budget (start image words) ++ ending_of image last
 
--- The text of the store in which a run has halted, where it has.
+-- The text of the store in which a run has halted, if it has.
 abbrev pub text_at : Image → State → Option (List ℕ)
 text_at image last =
     if last.halted then Some (store_text_of (globals image.globals.items) (globals_of image last)) else None
@@ -64,19 +64,19 @@ abbrev pub WrittenApart : (Option (List ℕ) → List ℕ → Type 0) → Option
     Option (List ℕ) → Type 0
 WrittenApart run old new text = (output : List ℕ) × run text output × Appends old new output
 
--- The image and the store that two texts ask to run.
+-- The image and the store that two texts give for a run.
 pub record Asks (bytes store : List ℕ) (image : Image) (words : List ℤ) : Type 0 where
   pub decoded : image_of bytes ≡ Ok (fields image)
   pub valid : IsValid image
   pub told : Tells store (globals image.globals.items) words
 
--- The image and the store that the bytes of a reader and a text ask to run.
+-- The image and the store that a reader's bytes and a text give for a run.
 pub record Started (remaining : Option (List ℕ)) (store : List ℕ) (image : Image) (words : List ℤ) : Type 0 where
   pub bytes : List ℕ
   pub given : IsReadFrom remaining bytes
   pub asks : Asks bytes store image words
 
--- The run that the bytes of a reader and a text ask for ends with this outcome and this whole output.
+-- The run given by a reader's bytes and a text ends with this outcome and this whole output.
 pub record Runs (traced : Bool) (remaining : Option (List ℕ)) (store : List ℕ) (budget : ℕ) (outcome : Outcome)
     (output : List ℕ) : Type 0 where
   pub image : Image
@@ -84,7 +84,7 @@ pub record Runs (traced : Bool) (remaining : Option (List ℕ)) (store : List �
   pub started : Started remaining store image words
   pub ends : RunsAndWrites traced image words budget outcome output
 
--- This text is the trace of the first steps, for some number of them within the budget, of the run that is asked for.
+-- This text is the trace of the first steps of the requested run, for some number of them within the budget.
 pub record Traces (traced : Bool) (remaining : Option (List ℕ)) (store : List ℕ) (budget : ℕ)
     (text : List ℕ) : Type 0 where
   pub image : Image

@@ -1,4 +1,4 @@
-//! Compiles a text that a reader gives, and writes the bytes of its image.
+//! Compiles a text that a reader supplies, and writes the bytes of its image.
 
 ghost use Rattle.std.specs.Prelude.{◌≡◌, ◌≢◌, ◌≤◌, ◌<◌, ◌+◌, ◌↔◌, ℕ, take, IfOk, IfErr, OnOk, IsErrOf};
 ghost use Rattle.std.specs.Io.KnownBytes.{Keeps};
@@ -20,8 +20,8 @@ use vsi_image::{EncodeError, encode};
 use vsi_lattice::Lattice;
 use vsi_types::Profile;
 
-/// Compiles the text that a reader gives under a profile, and writes the bytes of its image. Until
-/// these are whole nothing is written.
+/// Compiles the text that a reader supplies under a profile, and writes the bytes of its image. It
+/// writes nothing before these are complete.
 ///
 /// # Errors
 ///
@@ -64,7 +64,7 @@ pub fn build_in<R: Read, W: Write>(
     write_out(&image, writer)
 }
 
-/// Compiles the text that a reader gives, and writes the bytes of its image: `build_in` for the
+/// Compiles the text that a reader supplies, and writes the bytes of its image: `build_in` for the
 /// base profile.
 pub fn build<R: Read, W: Write>(
     alloc: Global,
@@ -101,7 +101,7 @@ pub fn build<R: Read, W: Write>(
     build_in(alloc, Profile::Base, lattice, reader, writer)
 }
 
-/// The bytes of the image of the text that a reader gives.
+/// The bytes of the image of the text that a reader supplies.
 fn read_compiled<R: Read>(
     alloc: Global,
     profile: Profile,

@@ -8,8 +8,8 @@ ghost use Rattle.vsi_devices.specs.Counted.{device_of, faults_of, CountsReads, C
 use std::io;
 use std::io::{ErrorKind, Read, Write};
 
-/// A reader or a writer, with the number of its calls that failed. At its greatest value the number
-/// stays.
+/// A reader or a writer, with the number of its calls that failed. The number stops at its greatest
+/// value.
 #[derive(Drop)]
 pub struct Counted<D> {
     device: D,
@@ -18,7 +18,7 @@ pub struct Counted<D> {
 }
 
 impl<D> Counted<D> {
-    /// Around a device, of which no call has failed yet.
+    /// Wraps a device, with a count of 0.
     pub fn new(device: D) -> Counted<D>
         ensures device { device_of result ≡ device }
         ensures faults { faults_of result ≡ 0 }
@@ -30,21 +30,21 @@ impl<D> Counted<D> {
         }
     }
 
-    /// The device, and no count.
+    /// The device without the count.
     pub fn into_inner(self) -> D
         ensures { result ≡ device_of self }
     {
         self.device
     }
 
-    /// How many calls answered an error, or took no byte of some.
+    /// The number of calls that returned an error, or accepted no byte of some.
     pub fn faults(&self) -> u64
         ensures { result ≡ faults_of self.now }
     {
         self.faults
     }
 
-    /// Whether a write answered that nobody reads what is written, as a pipe does that is closed.
+    /// Whether a write reported that nobody reads the output, as a closed pipe does.
     pub fn is_closed(&self) -> bool {
         self.is_closed
     }

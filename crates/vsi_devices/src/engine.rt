@@ -1,4 +1,4 @@
-//! Whole texts from a reader and to a writer.
+//! Reads whole texts from a reader, and writes whole texts to a writer.
 
 ghost use Rattle.std.specs.Prelude.{◌≡◌, ◌+◌, ◌<◌, ◌≤◌, ◌↔◌, ℕ, List, length, take, IfOk, IfErr, OnOk, IsErrOf, vec_len};
 ghost use Rattle.std.specs.Io.KnownBytes.{Appends, Consumes, Keeps};
@@ -13,15 +13,15 @@ use std::io::{Read, Write};
 /// One byte more than the longest source text.
 pub const READ_LIMIT: usize = 1_048_577;
 
-/// How many bytes a read is given room for.
+/// The size of the buffer for a read.
 const CHUNK: usize = 4096;
 
 /// The bytes of a reader to its end, or its first `READ_LIMIT` bytes.
 ///
 /// # Errors
 ///
-/// `ReadFault` at the first call of the reader that fails, which is not tried again; `Memory`. What
-/// was read until then is lost.
+/// `ReadFault` at the first failed call of the reader, which is not retried; `Memory`. The bytes
+/// read so far are lost.
 pub fn read_all<R: Read>(alloc: Global, reader: &mut Counted<R>) -> Result<Vec<u8>, EngineError>
     requires { faults_of reader.old < u64.MAX }
     ensures fault { IsErrOf result EngineError.ReadFault
@@ -53,12 +53,12 @@ pub fn read_all<R: Read>(alloc: Global, reader: &mut Counted<R>) -> Result<Vec<u
     Ok(bytes)
 }
 
-/// Writes the whole text, in as many calls as the writer asks for, and doesn't flush.
+/// Writes the whole text, in as many calls as the writer needs, and doesn't flush.
 ///
 /// # Errors
 ///
-/// `WriteFault` at the first call of the writer that fails or takes no byte, which is not tried
-/// again; a prefix of the text has been written then.
+/// `WriteFault` at the first call of the writer that fails or accepts no byte, which is not
+/// retried. A prefix of the text has then been written.
 pub fn write_out<W: Write>(text: &[u8], writer: &mut Counted<W>) -> Result<(), EngineError>
     requires { faults_of writer.old < u64.MAX }
     ensures fault { IsErrOf result EngineError.WriteFault

@@ -9,20 +9,20 @@ use vsi_compiler::CompileError;
 use vsi_image::{DecodeError, VerifyError};
 use vsi_store::StoreError;
 
-/// Why a call over devices ended early. Want of memory is always `Memory`, and never one that an
-/// inner error names.
+/// Why a call over devices ended early. A lack of memory is always `Memory`, never the `Memory` of
+/// an inner error.
 #[derive(Debug, Drop, Error)]
 pub enum EngineError {
     /// A read of the device failed.
     #[error("a read failed")]
     ReadFault,
-    /// A write to the device failed, or took no byte of some.
+    /// A write to the device failed, or accepted no byte of some.
     #[error("a write failed")]
     WriteFault,
     /// The text is refused.
     #[error("the text is refused")]
     Compile(CompileError),
-    /// The bytes are no image.
+    /// The bytes aren't an image.
     #[error("the bytes are no image")]
     Decode(DecodeError),
     /// The image isn't valid.
@@ -31,7 +31,7 @@ pub enum EngineError {
     /// The store file is refused.
     #[error("the store file is refused")]
     Store(StoreError),
-    /// A growth was refused.
+    /// An allocation failed.
     #[error("out of memory")]
     Memory,
 }

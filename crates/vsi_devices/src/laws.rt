@@ -2,8 +2,8 @@
 
 ghost use Rattle.vsi_devices.specs.Laws.{SameView};
 
-/// Two stores that agree at and below a class give it the same view of a compiled image, whenever
-/// both runs halt.
+/// A class has the same view of a compiled image from two stores that agree at and below it,
+/// whenever both runs halt.
 pub fn same_view()
     ensures { SameView }
 {}

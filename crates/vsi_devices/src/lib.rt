@@ -1,11 +1,11 @@
-//! Devices whose faults are counted, and the calls that work over them.
+//! Devices with counted faults, and the calls that use them.
 //!
 //! `read_all` and `write_out` move whole texts. `build` reads a source text and writes the bytes of
-//! its image; `run_image` reads an image and writes what its run shows, and `run_words` runs one
-//! that is verified and gives the text of its store. `image_bytes`, `image_bytes_of` and
-//! `verified_image` are what they are made of without a device. Their clauses say which device failed, what has been written
-//! then, and that what is written otherwise is what was promised: `specs/Building` and
-//! `specs/Running` say of which bytes, `specs/Refusing` what a refusal means.
+//! its image. `run_image` reads an image and writes the output of its run, and `run_words` runs a
+//! verified image and returns the text of its store. `image_bytes`, `image_bytes_of` and
+//! `verified_image` do their work without a device. The clauses say which device failed and what
+//! had been written by then, and that any other output is the promised one: `specs/Building` and
+//! `specs/Running` define the output, `specs/Refusing` the meaning of a refusal.
 //!
 //! To be believed: all files of `specs/`.
 #![tactic(auto)]

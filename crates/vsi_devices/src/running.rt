@@ -1,4 +1,4 @@
-//! Runs an image whose bytes a reader gives, and writes what the run shows.
+//! Runs an image whose bytes a reader supplies, and writes the output of the run.
 
 ghost use Rattle.std.specs.Prelude.{◌≡◌, ◌≢◌, ◌≤◌, ◌<◌, ◌+◌, ◌↔◌, ◌⊎◌, ℕ, length, take, Ok, Some, IfOk, IfErr, OnOk, IsErrOf};
 ghost use Rattle.std.specs.Option.{option_map};
@@ -23,15 +23,15 @@ use vsi_image::{Image, Verified, decode, verify};
 use vsi_machine::{Machine, Outcome};
 use vsi_store::{read_store, store_text};
 
-/// Runs the image whose bytes a reader gives, from the store that a store file tells, for at most
-/// `budget` instructions. With `trace` each step's line is written before the step; where the run
+/// Runs the image whose bytes a reader supplies, from the store of a store file, for at most
+/// `budget` instructions. With `trace`, each step's line is written before the step. If the run
 /// halts, the store's lines are written last.
 ///
 /// # Errors
 ///
 /// `ReadFault`, `Decode`, `Verify` and `Store`, in this order and before anything is written;
 /// `WriteFault` with a prefix of the output written; `Memory` at any time before the store's lines,
-/// with the trace of some first steps written, of at most `budget`.
+/// with the trace of some first steps written, at most `budget` of them.
 pub fn run_image<R: Read, W: Write>(
     alloc: Global,
     reader: &mut Counted<R>,
@@ -71,7 +71,7 @@ pub fn run_image<R: Read, W: Write>(
     run_verified(alloc, &verified, &words, budget, trace, writer)
 }
 
-/// The image that a reader gives and the store that a store file tells for it.
+/// The image that a reader supplies, and the store of a store file for it.
 fn started<R: Read>(
     alloc: Global,
     reader: &mut Counted<R>,
@@ -97,7 +97,7 @@ fn started<R: Read>(
     Ok((verified, words))
 }
 
-/// The valid image that these bytes are: `decode` and `verify`.
+/// The valid image with these bytes, by `decode` and `verify`.
 ///
 /// # Errors
 ///
@@ -114,8 +114,8 @@ pub fn verified_image(alloc: Global, bytes: &[u8]) -> Result<Verified, EngineErr
     }
 }
 
-/// Runs an image from a store of one word per global, for at most `budget` instructions, and gives
-/// the text of the store in which it halts, or `None` where it is out of budget. With `trace` each
+/// Runs an image from a store of one word per global, for at most `budget` instructions. Returns
+/// the text of the store in which it halts, or `None` if it is out of budget. With `trace`, each
 /// step's line is written before the step.
 ///
 /// # Errors
@@ -195,7 +195,7 @@ fn run_verified<W: Write>(
     Ok(outcome)
 }
 
-/// Does at most `budget` steps, and writes the line of each before it where a trace is asked for.
+/// Does at most `budget` steps and, if a trace is requested, writes the line of each before it.
 fn run_shown<W: Write>(
     alloc: Global,
     machine: &mut Machine,
@@ -230,7 +230,7 @@ fn run_shown<W: Write>(
     }
 }
 
-/// Writes the store's lines where the machine has halted.
+/// Writes the store's lines if the machine has halted.
 fn write_store<W: Write>(
     alloc: Global,
     image: &Image,

@@ -17,7 +17,7 @@ use std::alloc::{AllocError, Global};
 use std::io::Write;
 use vsi_machine::{Machine, Outcome};
 
-/// The line of the next step with its line feed, where the machine has not halted.
+/// The line of the next step with its line feed, if the machine has not halted.
 fn next_line(alloc: Global, machine: &Machine) -> Result<Option<Vec<u8>>, AllocError>
     ensures halted { IfOk result (λ line. IsNone line ↔ IsTrue machine.now.state.halted) }
     ensures line { IfOk result (λ line. option_map (λ text. text.items) line

@@ -1,4 +1,4 @@
--- Members and objects without a number that isn't whole, whose text is known.
+-- Members and objects without fractional numbers, whose text is known.
 use Rattle.std.proofs.Common.{◌≡◌, ℕ, Bool, true, false, List, [], ◌∷◌, ◌++◌, ◌||◌, codes, Ordering, Less, Equal, Greater, Option, Some, None, refl, nat_cmp, ap, ◌∙◌, inl, inr}
 use Rattle.std.specs.Str.Lossy.{utf8_lossy}
 use Rattle.std.specs.Cmp.Lexicographic.{slice_cmp}
@@ -15,28 +15,28 @@ use Rattle.vsi_diagnostics.specs.Members.{with_text, with_natural}
 use Rattle.vsi_diagnostics.specs.Source.{line_of, column_of}
 use Rattle.vsi_diagnostics.specs.Json as json
 
--- One of three members that have none has none.
+-- If three lists of members have no fractional number, neither has the one that an ordering selects.
 match_plain : (o : Ordering) (a b c : Members) → members_have_float a ≡ false → members_have_float b ≡ false →
     members_have_float c ≡ false → members_have_float (match_ordering o a b c) ≡ false
 match_plain Less a b c f g h = f
 match_plain Equal a b c f g h = g
 match_plain Greater a b c f g h = h
 
--- Neither of two that are false is true.
+-- The disjunction of two false values is false.
 pub both : (a b : Bool) → a ≡ false → b ≡ false → (a || b) ≡ false
 both a b e f = rw (e, f) refl
 
--- The first of two that are both false.
+-- If a disjunction is false, the first value is false.
 left : (a b : Bool) → (a || b) ≡ false → a ≡ false
 left false b e = refl
 left true b e = e
 
--- The second.
+-- If a disjunction is false, the second value is false.
 right : (a b : Bool) → (a || b) ≡ false → b ≡ false
 right false b e = e
 right true b e = absurd cc
 
--- A member that has none, put among members that have none.
+-- A member without a fractional number can be put among members without one.
 pub put_plain : (k : List ℕ) (d : Data) (ms : Members) → has_float d ≡ false → members_have_float ms ≡ false →
     members_have_float (put k d ms) ≡ false
 put_plain k d no_members e f = both (has_float d) false e refl
@@ -48,17 +48,17 @@ put_plain k d (member l old ms) e f =
     (both (has_float d) (members_have_float ms) e rest)
     (both (has_float old) (members_have_float (put k d ms)) first (put_plain k d ms e rest))
 
--- A text more.
+-- One more text adds no fractional number.
 pub text_plain : (key bytes : List ℕ) (ms : Members) → members_have_float ms ≡ false →
     members_have_float (with_text key bytes ms) ≡ false
 text_plain key bytes ms e = put_plain key (string (utf8_lossy bytes)) ms refl e
 
--- A number more.
+-- One more whole number adds no fractional number.
 pub natural_plain : (key : List ℕ) (n : ℕ) (ms : Members) → members_have_float ms ≡ false →
     members_have_float (with_natural key n ms) ≡ false
 natural_plain key n ms e = put_plain key (number (unsigned n)) ms refl e
 
--- Some objects after others.
+-- Objects after others add no fractional number.
 pub append_plain : (ds es : List Data) → items_have_float (items_of ds) ≡ false →
     items_have_float (items_of es) ≡ false → items_have_float (items_of (ds ++ es)) ≡ false
 append_plain [] es e f = f
@@ -94,7 +94,7 @@ walk_plain l source steps ds (inl names) =
     ap (λ (es : List Data). items_have_float (items_of es)) names.are ∙ steps_plain source names.resolved steps
 walk_plain l source steps ds (inr names) = ap (λ (es : List Data). items_have_float (items_of es)) names.nothing
 
--- The steps of a flow more.
+-- The steps of a flow add no fractional number.
 flow_plain : (l : Lattice) (source : List ℕ) (steps : Option (List Step)) (objects : Option (List Data)) (ms : Members) →
     json.NamesFlow l source steps objects → members_have_float ms ≡ false →
     members_have_float (json.with_steps objects ms) ≡ false
@@ -104,7 +104,7 @@ flow_plain l source (Some steps) None ms names e = absurd names
 flow_plain l source (Some steps) (Some ds) ms names e =
     put_plain (codes "steps") (array (items_of ds)) ms (walk_plain l source steps ds names) e
 
--- A place more.
+-- A position adds no fractional number.
 place_plain : (f : diagnostic.Field) (ms : Members) → members_have_float ms ≡ false →
     members_have_float (json.with_place f ms) ≡ false
 place_plain diagnostic.nothing ms e = e

@@ -1,8 +1,8 @@
--- A refusal, whatever refused, and its line.
+-- Refusals, from whichever layer, and their lines.
 use Rattle.std.specs.Prelude.{ℕ, List, [], ◌∷◌, ◌++◌, codes, decimal, Option, Some, None}
 use Rattle.vsi_types.specs.declared.rules.Step.{Step}
 
--- What a refusal names.
+-- The field of a refusal.
 pub data Field : Type 0 where
   nothing : Field
   number : ℕ → Field
@@ -11,7 +11,7 @@ pub data Field : Type 0 where
   word : List ℕ → Field
   numbered : List ℕ → ℕ → Field
 
--- The number of a refusal, its name, what it names, and for a flow of a text the steps of its walk.
+-- A refusal: its number, its name, its field and, for a flow of a text, the steps of its walk.
 pub record Diagnostic : Type 0 where
   pub code : ℕ
   pub name : List ℕ

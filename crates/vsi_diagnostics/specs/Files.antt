@@ -16,7 +16,7 @@ use Rattle.vsi_diagnostics.specs.Diagnostic.{Field, nothing, number, word, numbe
 use Rattle.vsi_diagnostics.specs.Lattice.{lattice_diagnostic}
 use Rattle.vsi_diagnostics.specs.Source.{refused}
 
--- Of bytes that are no image.
+-- The refusal of bytes that aren't an image.
 abbrev pub decode_diagnostic : DecodeError → Option Diagnostic
 decode_diagnostic decoder.Memory = None
 decode_diagnostic decoder.BadMagic = refused 27 (codes "BadMagic") nothing
@@ -26,7 +26,7 @@ decode_diagnostic (decoder.BadOpcode at) = refused 30 (codes "BadOpcode") (numbe
 decode_diagnostic (decoder.Truncated at) = refused 31 (codes "Truncated") (number at)
 decode_diagnostic (decoder.Trailing at) = refused 32 (codes "Trailing") (number at)
 
--- What of an image has no bytes.
+-- The part of an image that has no bytes.
 abbrev pub limit_field : Limit → Field
 limit_field limits.Globals = word (codes "Globals")
 limit_field limits.Slots = word (codes "Slots")
@@ -35,7 +35,7 @@ limit_field limits.Count = word (codes "Count")
 limit_field (limits.Name i) = numbered (codes "Name") i
 limit_field (limits.Class i) = numbered (codes "Class") i
 
--- Of an image that isn't valid.
+-- The refusal of an image that isn't valid.
 abbrev pub verify_diagnostic : VerifyError → Diagnostic
 verify_diagnostic (verifier.Unencodable limit) = refusal 26 (codes "Unencodable") (limit_field limit)
 verify_diagnostic (verifier.BadSlot pc) = refusal 33 (codes "BadSlot") (number pc)
@@ -45,20 +45,20 @@ verify_diagnostic (verifier.Overflow pc) = refusal 36 (codes "Overflow") (number
 verify_diagnostic (verifier.NotEmpty pc) = refusal 37 (codes "NotEmpty") (number pc)
 verify_diagnostic verifier.RunsOff = refusal 38 (codes "RunsOff") nothing
 
--- Of a store file.
+-- The refusal of a store file.
 abbrev pub store_diagnostic : StoreError → Option Diagnostic
 store_diagnostic store.Memory = None
 store_diagnostic store.NotToml = refused 40 (codes "NotToml") nothing
 store_diagnostic (store.NotANumber key) = refused 41 (codes "NotANumber") (word key.items)
 store_diagnostic (store.UnknownGlobal key) = refused 42 (codes "UnknownGlobal") (word key.items)
 
--- Of a view.
+-- The refusal of a view.
 abbrev pub view_diagnostic : ViewError → Option Diagnostic
 view_diagnostic views.Memory = None
 view_diagnostic (views.WrongStore n) = refused 39 (codes "WrongStore") (number n)
 view_diagnostic (views.ClassNotInLattice i) = refused 43 (codes "ClassNotInLattice") (number i)
 
--- Of a file other than a source text; none where memory was wanting.
+-- The refusal of a file other than a source text, or none if memory ran out.
 abbrev pub fault_diagnostic : Fault → Option Diagnostic
 fault_diagnostic (fault.Lattice e) = lattice_diagnostic e
 fault_diagnostic (fault.Decode e) = decode_diagnostic e

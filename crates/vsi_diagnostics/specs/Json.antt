@@ -15,7 +15,7 @@ use Rattle.vsi_diagnostics.specs.Source.{line_of, column_of}
 
 -- ---- the steps of a flow.
 
--- The object of a step: where its source is read, its rule, and the names of both ends.
+-- The object of a step: the position where its source is read, its rule, and the names of both ends.
 abbrev pub step_members : List ℕ → Resolved → Step → Members
 step_members source r s =
     with_text (codes "to") (name_of r s.target) (with_text (codes "from") (name_of r s.source)
@@ -41,7 +41,7 @@ pub record NamesNothing (l : Lattice) (source : List ℕ) (objects : List Data) 
 abbrev pub NamesWalk : Lattice → List ℕ → List Step → List Data → Type 0
 NamesWalk l source steps objects = NamesSteps l source steps objects ⊎ NamesNothing l source objects
 
--- The objects of the steps of a flow; none of another refusal.
+-- The objects of the steps of a flow, or none for any other refusal.
 abbrev pub NamesFlow : Lattice → List ℕ → Option (List Step) → Option (List Data) → Type 0
 NamesFlow l source None None = Unit {0}
 NamesFlow l source None (Some objects) = ⊥
@@ -50,7 +50,7 @@ NamesFlow l source (Some steps) (Some objects) = NamesWalk l source steps object
 
 -- ---- the whole.
 
--- `line` and `column`, where a refusal has a place.
+-- `line` and `column`, if a refusal has a position.
 abbrev pub with_place : Field → Members → Members
 with_place nothing ms = ms
 with_place (number n) ms = ms
@@ -59,7 +59,7 @@ with_place (place line column) ms = with_natural (codes "column") column (with_n
 with_place (word w) ms = ms
 with_place (numbered w n) ms = ms
 
--- `steps`, where a refusal is that of a flow.
+-- `steps`, if a refusal is that of a flow.
 abbrev pub with_steps : Option (List Data) → Members → Members
 with_steps None ms = ms
 with_steps (Some objects) ms = put (codes "steps") (array (items_of objects)) ms
@@ -85,7 +85,7 @@ pub record IsRefusalJson (l : Lattice) (source : List ℕ) (d : Diagnostic) (lin
   pub names : NamesFlow l source d.steps steps
   pub line : out ≡ refusal_line d steps lines
 
--- How the line of a refusal begins.
+-- The beginning of a refusal's line.
 abbrev pub refused_begin : List ℕ
 refused_begin = codes "{\"accepted\":false,"
 

@@ -5,7 +5,7 @@ use Rattle.vsi_lattice.specs.declared.fault.LatticeError.TheVariants as lattice
 use Rattle.vsi_diagnostics.specs.Diagnostic.{nothing, number, pair, Diagnostic}
 use Rattle.vsi_diagnostics.specs.Source.{refused}
 
--- Of a fault of a lattice file.
+-- The refusal for a fault of a lattice file.
 abbrev pub lattice_diagnostic : LatticeError → Option Diagnostic
 lattice_diagnostic lattice.Memory = None
 lattice_diagnostic lattice.NotToml = refused 1 (codes "NotToml") nothing

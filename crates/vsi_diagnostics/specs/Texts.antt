@@ -7,12 +7,12 @@ use Rattle.vsi_compiler.specs.declared.error.CompileError.TheVariants as compile
 use Rattle.vsi_diagnostics.specs.Diagnostic.{Diagnostic, line_text}
 use Rattle.vsi_diagnostics.specs.Source.{refusal_diagnostic}
 
--- The line of a refusal, and the text that is printed where memory was wanting.
+-- The line of a refusal, or the text that is printed if memory ran out.
 abbrev pub text_of : Option Diagnostic → List ℕ
 text_of (Some d) = line_text d
 text_of None = codes "out of memory\n"
 
--- What follows the line of a refused source text: for a flow the explanation of its walk.
+-- The text after the line of a refused source text: for a flow, the explanation of its walk.
 abbrev pub Follows : Lattice → List ℕ → CompileError → List ℕ → Type 0
 Follows l source (compiler.Flow walk) more = ExplainsWalk l source walk.steps.items more
 Follows l source e more = more ≡ []

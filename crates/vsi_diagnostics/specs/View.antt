@@ -1,4 +1,4 @@
--- Refusals of the code, without where their bytes lie in memory.
+-- Refusals of the code as values of the definitions, independent of the memory of their bytes.
 use Rattle.std.specs.Prelude.{option_map}
 use Rattle.vsi_diagnostics.specs.declared.diagnostic.Field.{Field}
 use Rattle.vsi_diagnostics.specs.declared.diagnostic.Field.TheVariants as f

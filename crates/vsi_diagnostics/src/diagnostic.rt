@@ -8,32 +8,32 @@ use std::alloc::{AllocError, Global};
 use vsi_syntax::put_number;
 use vsi_types::Step;
 
-/// What a refusal names.
+/// The field of a refusal.
 #[derive(Clone, Copy, Debug)]
 pub enum Field<'a> {
-    /// It names nothing.
+    /// The refusal has no field.
     Nothing,
-    /// A number, as that of a global, of an instruction or of a byte.
+    /// A number, such as that of a global, of an instruction or of a byte.
     Number(usize),
-    /// Two numbers, as those of classes.
+    /// Two numbers, such as those of classes.
     Pair(usize, usize),
     /// A line and a column of the source text, both from 1.
     Place(usize, usize),
-    /// Bytes, as the key of a store file.
+    /// Bytes, such as the key of a store file.
     Word(&'a [u8]),
     /// Bytes and a number.
     Numbered(&'a [u8], usize),
 }
 
-/// A refusal, whatever refused: its number, its name, what it names, and for a flow of a source
-/// text the steps of its walk.
+/// A refusal, from whichever layer: its number, its name, its field and, for a flow of a source
+/// text, the steps of its walk.
 #[derive(Clone, Copy, Debug)]
 pub struct Diagnostic<'a> {
     /// The number of the refusal.
     pub code: usize,
     /// The name of the refusal.
     pub name: &'a [u8],
-    /// What the refusal names.
+    /// The field of the refusal.
     pub field: Field<'a>,
     /// The steps of the walk of a refused flow.
     pub steps: Option<&'a [Step]>,
@@ -90,7 +90,7 @@ fn push_field(text: &mut Vec<u8>, field: Field) -> Result<(), AllocError>
     }
 }
 
-/// The line of a refusal: `refused: `, its number, its name and what it names.
+/// The line of a refusal: `refused: `, its number, its name and its field.
 pub fn line_text(alloc: Global, diagnostic: &Diagnostic) -> Result<Vec<u8>, AllocError>
     ensures line { IfOk result
         (λ text. text.items ≡ spec.line_text (diagnostic_of diagnostic.now)) }

@@ -11,14 +11,14 @@ use crate::lattice::lattice_diagnostic;
 use vsi_image::{DecodeError, Limit, VerifyError};
 use vsi_store::{StoreError, ViewError};
 
-/// The refusal that names a number.
+/// The refusal with a number as its field.
 fn numbered(code: usize, name: &'static [u8], n: usize) -> Diagnostic<'static>
     ensures { diagnostic_of result ≡ refusal code name.now (number n) }
 {
     Diagnostic::new(code, name, Field::Number(n))
 }
 
-/// The refusal of bytes that are no image; none where memory was wanting.
+/// The refusal of bytes that aren't an image, or none if memory ran out.
 fn decode_diagnostic(error: DecodeError) -> Option<Diagnostic<'static>>
     ensures { option_map diagnostic_of result ≡ spec.decode_diagnostic error }
 {
@@ -33,7 +33,7 @@ fn decode_diagnostic(error: DecodeError) -> Option<Diagnostic<'static>>
     }
 }
 
-/// What of an image has no bytes.
+/// The part of an image that has no bytes.
 fn limit_field(limit: Limit) -> Field<'static>
     ensures { field_of result ≡ spec.limit_field limit }
 {
@@ -62,7 +62,7 @@ fn verify_diagnostic(error: VerifyError) -> Diagnostic<'static>
     }
 }
 
-/// The refusal of a store file; none where memory was wanting.
+/// The refusal of a store file, or none if memory ran out.
 fn store_diagnostic(error: &StoreError) -> Option<Diagnostic>
     ensures { option_map diagnostic_of result ≡ spec.store_diagnostic error.now }
 {
@@ -76,7 +76,7 @@ fn store_diagnostic(error: &StoreError) -> Option<Diagnostic>
     }
 }
 
-/// The refusal of a view; none where memory was wanting.
+/// The refusal of a view, or none if memory ran out.
 fn view_diagnostic(error: &ViewError) -> Option<Diagnostic<'static>>
     ensures { option_map diagnostic_of result ≡ spec.view_diagnostic error.now }
 {
@@ -87,7 +87,7 @@ fn view_diagnostic(error: &ViewError) -> Option<Diagnostic<'static>>
     }
 }
 
-/// The refusal of a lattice file, an image, a store file or a view; none where memory was wanting.
+/// The refusal of a lattice file, an image, a store file or a view, or none if memory ran out.
 pub fn fault_diagnostic(fault: &Fault) -> Option<Diagnostic>
     ensures refusal { option_map diagnostic_of result ≡ spec.fault_diagnostic fault.now }
 {

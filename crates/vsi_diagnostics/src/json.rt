@@ -32,7 +32,8 @@ fn rule_name(rule: Rule) -> &'static [u8]
     }
 }
 
-/// The name of a variable, globals first; the ending of loops has one of its own.
+/// The name of a variable; globals have the first numbers, and the ending of loops has its own
+/// name.
 fn variable_name<'a>(program: &'a Resolved<'_>, variable: Var) -> &'a [u8]
     ensures { result.now ≡ name_of program.now variable }
 {
@@ -50,7 +51,8 @@ fn variable_name<'a>(program: &'a Resolved<'_>, variable: Var) -> &'a [u8]
     }
 }
 
-/// The object of a step: where its source is read, its rule, and the names of both ends.
+/// The object of a step: the position where its source is read, its rule, and the names of both
+/// ends.
 fn step_object(
     alloc: Global,
     source: &[u8],
@@ -87,14 +89,15 @@ fn push_steps(
     Ok(())
 }
 
-/// Whether the error is want of memory.
+/// Whether the error is lack of memory.
 fn wants_memory(error: &CompileError) -> bool
     ensures { result ≡ false → error.now ≢ Memory }
 {
     matches!(error, CompileError::Memory)
 }
 
-/// The objects of the steps of a walk, by the names of the text's program; none where it has none.
+/// The objects of the steps of a walk, by the names of the text's program, or none if it has no
+/// program.
 fn walk_objects(
     alloc: Global,
     lattice: &Lattice,
@@ -118,7 +121,7 @@ fn walk_objects(
     Ok(found)
 }
 
-/// The objects of the steps of a flow; none of another refusal.
+/// The objects of the steps of a flow, or none for any other refusal.
 fn flow_objects(
     alloc: Global,
     lattice: &Lattice,
@@ -137,7 +140,7 @@ fn flow_objects(
     }
 }
 
-/// Puts the line and the column of a refusal that has a place.
+/// Puts the line and the column of a refusal that has a position.
 fn put_place(alloc: Global, map: &mut Map<String, Value>, field: Field) -> Result<(), AllocError>
     ensures { OnOk result (members_view map.new.entries
         ≡ spec.with_place (field_of field.entry) (members_view map.old.entries)) }
@@ -206,8 +209,8 @@ fn object_line(alloc: Global, map: Map<String, Value>) -> Result<Vec<u8>, AllocE
 }
 
 /// A refusal of a source text as a line of JSON: an object with `accepted`, `number`, `name`,
-/// `text`, which has these lines without the last line feed, `line` and `column` where the refusal
-/// has a place, and `steps` of a flow.
+/// `text` (these lines without the last line feed), `line` and `column` if the refusal has a
+/// position, and `steps` for a flow.
 pub fn refusal_json(
     alloc: Global,
     lattice: &Lattice,

@@ -8,21 +8,21 @@ ghost use Rattle.vsi_diagnostics.specs.Lattice as spec;
 use crate::diagnostic::{Diagnostic, Field};
 use vsi_lattice::{Class, LatticeError};
 
-/// The refusal that names two classes.
+/// The refusal with two classes as its field.
 fn of_classes(code: usize, name: &'static [u8], a: Class, b: Class) -> Diagnostic<'static>
     ensures { diagnostic_of result ≡ refusal code name.now (pair a b) }
 {
     Diagnostic::new(code, name, Field::Pair(a.index(), b.index()))
 }
 
-/// The refusal that names nothing.
+/// The refusal without a field.
 fn bare(code: usize, name: &'static [u8]) -> Diagnostic<'static>
     ensures { diagnostic_of result ≡ refusal code name.now nothing }
 {
     Diagnostic::new(code, name, Field::Nothing)
 }
 
-/// The refusal of a lattice file; none where memory was wanting.
+/// The refusal of a lattice file, or none if memory ran out.
 pub(crate) fn lattice_diagnostic(error: LatticeError) -> Option<Diagnostic<'static>>
     ensures { option_map diagnostic_of result ≡ spec.lattice_diagnostic error }
 {

@@ -1,10 +1,10 @@
-//! A refusal as one value, whatever refused, and the texts that are made of it.
+//! A refusal as one value, from whichever layer, and the texts that are made from it.
 //!
-//! `refusal_diagnostic` makes the value of a refused source text and `fault_diagnostic` that of any
-//! other file, as `specs/Source`, `specs/Lattice` and `specs/Files` say for each error.
-//! `refusal_text` and `fault_text` write its fixed text, as `specs/Texts` says: the line
+//! `refusal_diagnostic` makes the value of a refused source text, and `fault_diagnostic` that of
+//! any other file; `specs/Source`, `specs/Lattice` and `specs/Files` define it for each error.
+//! `refusal_text` and `fault_text` write its fixed text, as `specs/Texts` defines it: the line
 //! `refused: NUMBER NAME FIELDS` of `specs/Diagnostic`, and for a flow the explanation of its walk.
-//! `refusal_json` writes the value as a line of JSON, as `specs/Json` says.
+//! `refusal_json` writes the value as a line of JSON, as `specs/Json` defines it.
 //!
 //! To be believed: all files of `specs/`.
 #![tactic(auto)]

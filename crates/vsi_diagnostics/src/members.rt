@@ -7,7 +7,7 @@ ghost use Rattle.vsi_diagnostics.specs.Members as spec;
 use serde_json::{Map, Value, put};
 use std::alloc::{AllocError, Global};
 
-/// Puts a text at a key, as a JSON string; what is no UTF-8 is replaced.
+/// Puts a text at a key, as a JSON string with bytes that aren't UTF-8 replaced.
 pub fn put_text(
     alloc: Global,
     map: &mut Map<String, Value>,
@@ -21,7 +21,7 @@ pub fn put_text(
     put(map, alloc, key, Value::String(text))
 }
 
-/// Puts a number at a key, as of a line or of a run.
+/// Puts a number at a key, such as the number of a line or of a run.
 pub fn put_natural(
     alloc: Global,
     map: &mut Map<String, Value>,

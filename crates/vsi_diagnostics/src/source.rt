@@ -10,7 +10,7 @@ use vsi_compiler::CompileError;
 use vsi_scope::ScopeError;
 use vsi_syntax::{LexError, ParseError, line_column};
 
-/// The line and the column of a place of the text.
+/// The line and the column of a position in the text.
 fn place_in(text: &[u8], at: usize) -> Field<'static>
     ensures { field_of result ≡ spec.place_in text.now at }
 {
@@ -18,14 +18,14 @@ fn place_in(text: &[u8], at: usize) -> Field<'static>
     Field::Place(line, column)
 }
 
-/// The refusal at a place of the text.
+/// The refusal at a position in the text.
 fn refusal_at(code: usize, name: &'static [u8], text: &[u8], at: usize) -> Diagnostic<'static>
     ensures { diagnostic_of result ≡ refusal code name.now (spec.place_in text.now at) }
 {
     Diagnostic::new(code, name, place_in(text, at))
 }
 
-/// The refusal for a fault of the tokens; none where memory was wanting.
+/// The refusal for a fault of the tokens, or none if memory ran out.
 fn lexical_diagnostic(text: &[u8], error: LexError) -> Option<Diagnostic<'static>>
     ensures { option_map diagnostic_of result ≡ spec.lexical_diagnostic text.now error }
 {
@@ -38,7 +38,7 @@ fn lexical_diagnostic(text: &[u8], error: LexError) -> Option<Diagnostic<'static
     }
 }
 
-/// The refusal for a fault of the tree; none where memory was wanting.
+/// The refusal for a fault of the tree, or none if memory ran out.
 fn syntactic_diagnostic(text: &[u8], error: &ParseError) -> Option<Diagnostic<'static>>
     ensures { option_map diagnostic_of result ≡ spec.syntactic_diagnostic text.now error.now }
 {
@@ -49,7 +49,7 @@ fn syntactic_diagnostic(text: &[u8], error: &ParseError) -> Option<Diagnostic<'s
     }
 }
 
-/// The refusal for a fault of the scopes; none where memory was wanting.
+/// The refusal for a fault of the scopes, or none if memory ran out.
 fn scoping_diagnostic(text: &[u8], error: ScopeError) -> Option<Diagnostic<'static>>
     ensures { option_map diagnostic_of result ≡ spec.scoping_diagnostic text.now error }
 {
@@ -68,8 +68,8 @@ fn scoping_diagnostic(text: &[u8], error: ScopeError) -> Option<Diagnostic<'stat
     }
 }
 
-/// The refusal of a source text; none where memory was wanting. Places are taken from the source
-/// that is handed in, which is to be the one that was refused.
+/// The refusal of a source text, or none if memory ran out. Positions are computed from the source
+/// passed in, which should be the refused one.
 pub fn refusal_diagnostic<'a>(source: &[u8], error: &'a CompileError) -> Option<Diagnostic<'a>>
     ensures refusal { option_map diagnostic_of result
         ≡ spec.refusal_diagnostic source.now error.now }

@@ -13,10 +13,10 @@ use std::alloc::{AllocError, Global};
 use vsi_compiler::{CompileError, explanation_text};
 use vsi_lattice::Lattice;
 
-/// What is printed where memory was wanting.
+/// The text that is printed if memory ran out.
 const OUT_OF_MEMORY: &[u8] = b"out of memory\n";
 
-/// The line of a refusal; without one memory was wanting.
+/// The line of a refusal. No refusal means that memory ran out.
 fn text_of(alloc: Global, diagnostic: Option<Diagnostic>) -> Result<Vec<u8>, AllocError>
     ensures { IfOk result
         (λ text. text.items ≡ spec.text_of (option_map diagnostic_of diagnostic.entry)) }
@@ -27,7 +27,7 @@ fn text_of(alloc: Global, diagnostic: Option<Diagnostic>) -> Result<Vec<u8>, All
     }
 }
 
-/// What follows the line of a refused source text.
+/// The text after the line of a refused source text.
 fn following(
     alloc: Global,
     lattice: &Lattice,
@@ -45,10 +45,10 @@ fn following(
     }
 }
 
-/// The text of the refusal of a source text: the number and the name of the refusal, and the line
-/// and the column, both from 1, where it has a place; for a refused flow the explanation of its
-/// walk follows. Places are taken from the source that is handed in, which is to be the one that
-/// was refused; a walk that isn't bad there isn't explained.
+/// The text of the refusal of a source text: the number and the name of the refusal, the line and
+/// the column, both from 1, if it has a position, and for a refused flow the explanation of its
+/// walk. Positions are computed from the source passed in, which should be the refused one. A walk
+/// that isn't bad in that source isn't explained.
 pub fn refusal_text(
     alloc: Global,
     lattice: &Lattice,
@@ -65,7 +65,7 @@ pub fn refusal_text(
 }
 
 /// The text of the refusal of a lattice file, an image, a store file or a view: the number and the
-/// name of the refusal, and what it names, in decimal or, for a key of a store file, as it is.
+/// name of the refusal, and its field, in decimal or, for a key of a store file, unchanged.
 pub fn fault_text(alloc: Global, fault: &Fault) -> Result<Vec<u8>, AllocError>
     ensures text { IfOk result (λ text. text.items ≡ spec.text_of (fault_diagnostic fault.now)) }
 {

@@ -24,7 +24,7 @@ use Rattle.vsi_store.proofs.Slots.{words_last}
 
 -- ---- one line.
 
--- What is seen of a global whose words are equal where its class is seen.
+-- Two words of one global that are equal if the class sees the global look the same to the class.
 same_global : (L : Lattice) (a : ℕ) (g : Global) (w w' : ℤ) (o : Option ℕ) →
     ((c : ℕ) → o ≡ Some c → Below L c a → w ≡ w') →
     (if option_map_or (λ c. L.leq c a) o false then g.0 ++ codes " = " ++ signed_decimal w ++ codes " " else [])
@@ -37,7 +37,7 @@ same_global L a g w w' (Some c) h =
       | false ↦ λ e. refl
     ] refl
 
--- Words that are equal for each global that is seen are seen alike.
+-- Words that are equal in each global that the class sees look the same to it.
 same_globals : (c : Control) (gs : List Global) (m m' : List ℤ) → length m ≡ length m' →
     ((i : ℕ) (g : Global) (k : ℕ) → slice_get gs i ≡ Some g → c.known g.1 ≡ Some k → Below c.order k c.class →
     slice_index_or m i (pos 0) ≡ slice_index_or m' i (pos 0)) → globals_seen c gs m ≡ globals_seen c gs m'
@@ -51,7 +51,7 @@ same_globals c (g ∷ gs) (w ∷ ws) (w' ∷ ws') same agree =
     same_global c.order c.class g w w' (c.known g.1) (λ k is below. agree zero g k refl is below) in
     ap (λ l. global_seen c g w ++ l) rest ∙ ap (λ l. l ++ globals_seen c gs ws') first
 
--- Stores that agree give one line.
+-- Stores that agree give the same line.
 pub same_line : (c : Control) (m m' : List ℤ) → AgreeFor c m m' → line_seen c m ≡ line_seen c m'
 same_line c m m' alike =
     ap (λ seen. take (length seen - 1) seen ++ codes "\n")
@@ -59,7 +59,7 @@ same_line c m m' alike =
 
 -- ---- one cycle.
 
--- Stores that agree still do where a global of both has been set to one word.
+-- Stores that agree still agree after one global is set to one word in both.
 agree_set : (c : Control) (m m' : List ℤ) (i : ℕ) (w : ℤ) → AgreeFor c m m' →
     AgreeFor c (slice_set m i w) (slice_set m' i w)
 agree_set c m m' i w alike =
@@ -79,27 +79,27 @@ agree_set c m m' i w alike =
           ];
     }
 
--- So do they where the same settings have been made.
+-- They still agree after the same settings.
 pub agree_applied : (c : Control) (ss : List Setting) (m m' : List ℤ) → AgreeFor c m m' →
     AgreeFor c (applied ss m) (applied ss m')
 agree_applied c [] m m' alike = alike
 agree_applied c (s ∷ ss) m m' alike = agree_applied c ss _ _ (agree_set c m m' s.0 s.1 alike)
 
--- Two cycles that write the same and lead to stores that agree.
+-- Two cycles that write the same line and lead to stores that agree.
 pub record CycleAlike (c : Control) (x y : Cycle) : Type 0 where
   pub line : x.line ≡ y.line
   pub stores : AgreeFor c x.store y.store
 
 -- ---- all cycles.
 
--- Of lines that fit two first ones that set the same give cycles that are alike, and those behind them fit.
+-- If two first lines set the same and the lines fit, their cycles are alike and the later lines fit.
 abbrev pub EachAlike : Control → (List ℤ → List (List ℕ) → Type 0) → Type 0
 EachAlike c Fit =
     (m m' : List ℤ) (l l' : List ℕ) (ls ls' : List (List ℕ)) → AgreeFor c m m' → settings_of c l ≡ settings_of c l' →
     Fit m (l ∷ ls) → Fit m' (l' ∷ ls') →
     CycleAlike c (cycle c m l) (cycle c m' l') × Fit (cycle c m l).store ls × Fit (cycle c m' l').store ls'
 
--- The first of a list, or another one.
+-- The first of a list, or a default.
 first_of : Result (List Setting) LineFault → List (Result (List Setting) LineFault) →
     Result (List Setting) LineFault
 first_of d [] = d
@@ -131,7 +131,7 @@ drives_alike c Fit each (l ∷ ls) (l' ∷ ls') m m' alike same h h' =
       stores = rest.stores;
     }
 
--- ---- cycles of which none is out of budget.
+-- ---- cycles within their budget.
 
 -- A cycle that isn't out of budget has a state that has halted.
 has_halted : (c : Control) (m : List ℤ) (s : State) → (run_to c m (Some s)).ending ≢ OutOfBudget → s.halted ≡ true
@@ -141,7 +141,7 @@ has_halted c m s h =
       | false ↦ λ e. absurd (e refl)
     ] h
 
--- Its words are the store.
+-- The words of a halted state are the store of its cycle.
 pub halts_with : (c : Control) (m : List ℤ) (s : State) → s.halted ≡ true →
     run_to c m (Some s) ≡ halted c (globals_of c.image s)
 halts_with c m s h = ap (λ v. if v then halted c (globals_of c.image s) else spent m) h
@@ -171,7 +171,7 @@ module _ (c : Control) (class : IsClass c.order c.class) (valid : IsValid c.imag
       let is' = halts_with c m' s' on' in
       rw (is, is') (record { line = same_line c _ _ last; stores = last })
 
-  -- Two cycles of the same settings, or of one fault, are alike.
+  -- Two cycles with the same settings, or with one fault, are alike.
   cycle_alike : (r : Result (List Setting) LineFault) (m m' : List ℤ) → AgreeFor c m m' →
       (cycle_of c m r).ending ≢ OutOfBudget → (cycle_of c m' r).ending ≢ OutOfBudget →
       CycleAlike c (cycle_of c m r) (cycle_of c m' r)
@@ -179,7 +179,7 @@ module _ (c : Control) (class : IsClass c.order c.class) (valid : IsValid c.imag
   cycle_alike (Ok ss) m m' alike h h' =
       run_alike m m' (applied ss m) (applied ss m') _ _ refl refl (agree_applied c ss m m' alike) h h'
 
-  -- So are the first cycles of lines of which none is out of budget.
+  -- The first cycles of lines that all halt within budget are alike.
   pub each_halts : EachAlike c (AllHalt c)
   each_halts m m' l l' ls ls' alike sets h h' = (
     subst (λ r. (cycle_of c m' r).ending ≢ OutOfBudget → CycleAlike c (cycle c m l) (cycle_of c m' r)) sets

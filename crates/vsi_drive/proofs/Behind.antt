@@ -1,4 +1,4 @@
--- The store behind the first lines.
+-- The store after the first lines.
 use Rattle.std.proofs.Common.{◌≡◌, ℕ, ◌+◌, ◌<◌, ◌≤◌, List, [], ◌∷◌, ◌++◌, length, take, drop, get_or, append_assoc, refl, sym, ap, ◌∙◌, arith}
 use Rattle.std.specs.Prelude.{ℤ}
 use Rattle.std.specs.Borrow.{Bor}
@@ -13,7 +13,7 @@ cycle_more : (c : Control) (m : List ℤ) (ls : List (List ℕ)) (l : List ℕ) 
 cycle_more c m [] l = refl
 cycle_more c m (x ∷ ls) l = cycle_more c (cycle c m x).store ls l
 
--- The store behind the cycle of the next line is that behind one line more.
+-- The store after the cycle of the next line is the store after one more line.
 pub behind_more : (c : Control) (m words next : List ℤ) (lines : List (Bor (List ℕ))) (i : ℕ) (d : Bor (List ℕ)) →
     i < length lines → words ≡ store_behind c m (texts (take i lines)) →
     next ≡ (cycle c words (get_or lines i d).now).store → next ≡ store_behind c m (texts (take (i + 1) lines))
@@ -22,7 +22,7 @@ behind_more c m words next lines i d within here step =
     ∙ sym (ap (store_behind c m) (map_more (λ r. r.now) lines i d within)
     ∙ cycle_more c m (texts (take i lines)) (get_or lines i d).now)
 
--- So it stands behind whole cycles.
+-- It is the store after whole cycles.
 pub stands_behind : (c : Control) (m words : List ℤ) (lines : List (Bor (List ℕ))) (i : ℕ) →
     i ≤ length lines → words ≡ store_behind c m (texts (take i lines)) → StandsBehind c m (texts lines) words
 stands_behind c m words lines i within here =
@@ -32,7 +32,8 @@ stands_behind c m words lines i within here =
       is = here ∙ ap (store_behind c m) (sym (take-map (λ r. r.now) i lines));
     }
 
--- What the lines from the next one on lead to is what those behind it lead to from the store of its cycle.
+-- The store after the lines from the next one on is the store after the later ones, started from the store of its
+-- cycle.
 pub store_goes_on : (c : Control) (words next last : List ℤ) (lines : List (Bor (List ℕ))) (i : ℕ)
     (d : Bor (List ℕ)) → i < length lines → next ≡ (cycle c words (get_or lines i d).now).store →
     store_behind c words (texts (drop i lines)) ≡ last → store_behind c next (texts (drop (i + 1) lines)) ≡ last
@@ -40,7 +41,7 @@ store_goes_on c words next last lines i d within step is =
     ap (λ w. store_behind c w (texts (drop (i + 1) lines))) step
     ∙ sym (ap (λ ls. store_behind c words (texts ls)) (drop_more lines i d within)) ∙ is
 
--- What they write is its line and what those behind it write.
+-- Their output is the next line's output followed by that of the later lines.
 pub text_goes_on : (c : Control) (words next : List ℤ) (text line all : List ℕ) (lines : List (Bor (List ℕ))) (i : ℕ)
     (d : Bor (List ℕ)) → i < length lines → next ≡ (cycle c words (get_or lines i d).now).store →
     line ≡ (cycle c words (get_or lines i d).now).line → text ++ text_of c words (texts (drop i lines)) ≡ all →

@@ -1,4 +1,4 @@
--- What texts set, one setting each.
+-- The settings of texts, one setting each.
 use Rattle.std.proofs.Common.{◌≡◌, ◌≢◌, ℕ, ◌+◌, ◌<◌, Bool, List, [], ◌∷◌, length, drop, Some, Ok, Err, true, refl, sym, ap, ◌∙◌, arith}
 use Rattle.std.specs.Prelude.{ℤ, Result, slice_get, slice_set}
 use Rattle.std.proofs.lemmas.Option.{same_Some}
@@ -21,7 +21,7 @@ three_fields s n (a ∷ b ∷ c ∷ []) x y z count hx hy hz =
     ∙ ap (setting s n x y) (same_Some c z hz)
 three_fields s n (a ∷ b ∷ c ∷ d ∷ fs) x y z count hx hy hz = absurd (omega (arith, count))
 
--- Fewer fields or more are none.
+-- A list of fewer or more fields is no setting.
 pub other_fields : (s : Settable) (n : ℕ) (fs : List (List ℕ)) → length fs ≢ 3 → one_setting s n fs ≡ Err (BadSetting n)
 other_fields s n [] count = refl
 other_fields s n (a ∷ []) count = refl
@@ -29,19 +29,19 @@ other_fields s n (a ∷ b ∷ []) count = refl
 other_fields s n (a ∷ b ∷ c ∷ []) count = absurd (count refl)
 other_fields s n (a ∷ b ∷ c ∷ d ∷ fs) count = refl
 
--- The next text is a setting in front of the others.
+-- The next text is a setting before the others.
 pub next_text : (s : Settable) (n : ℕ) (ts : List (List ℕ)) (t : List ℕ) → n < length ts → slice_get ts n ≡ Some t →
     settings_each s n (drop n ts) ≡ in_front (one_setting s n (fields_of t)) (settings_each s (n + 1) (drop (n + 1) ts))
 next_text s n ts t within is = ap (settings_each s n) (drop_field ts n t within is)
 
--- A setting that is made goes in front of those behind it.
+-- A setting that is made goes before the later ones.
 pub made_behind : (i : ℕ) (w : ℤ) (r : Result (List Setting) LineFault) (words : List ℤ) (named : List Bool) →
     set_behind (in_front (Ok (i, w)) r) (start words named)
     ≡ set_behind r (start (slice_set words i w) (slice_set named i true))
 made_behind i w (Err fault) words named = refl
 made_behind i w (Ok ss) words named = refl
 
--- Where nothing is set, there is the fault.
+-- If nothing is set, there is a fault.
 pub fault_behind : (r : Result (List Setting) LineFault) (m : Start) (fault : LineFault) →
     set_behind r m ≡ Err fault → r ≡ Err fault
 fault_behind (Err e) m fault h = ap (λ x. Err (error_in e x)) h
@@ -51,7 +51,7 @@ fault_behind (Err e) m fault h = ap (λ x. Err (error_in e x)) h
     error_in d (Err e) = e
 fault_behind (Ok ss) m fault h = absurd (cc)
 
--- A text that is a setting sets its global, and those behind it go on.
+-- A text that is a setting sets its global, and the later texts go on.
 pub each_more : (s : Settable) (n : ℕ) (ts : List (List ℕ)) (t : List ℕ) (i : ℕ) (w : ℤ) (words : List ℤ)
     (named : List Bool) → Ok (i, w) ≡ one_setting s n (fields_of t) → n < length ts → slice_get ts n ≡ Some t →
     set_behind (settings_each s (n + 1) (drop (n + 1) ts)) (start (slice_set words i w) (slice_set named i true))
@@ -61,7 +61,7 @@ each_more s n ts t i w words named made within is =
     sym (ap (λ r. set_behind r (start words named)) (next_text s n ts t within is)
     ∙ ap (λ o. set_behind (in_front o rest) (start words named)) (sym made) ∙ made_behind i w rest words named)
 
--- A text that is none is the fault of those from it on.
+-- A text that is no setting is the fault of the texts from it on.
 pub each_fault : (s : Settable) (n : ℕ) (ts : List (List ℕ)) (t : List ℕ) (f : LineFault) (m : Start) →
     Err f ≡ one_setting s n (fields_of t) → n < length ts → slice_get ts n ≡ Some t →
     set_behind (settings_each s n (drop n ts)) m ≡ Err f

@@ -4,28 +4,28 @@ use Rattle.std.specs.Prelude.{slice_range, codes, ◌==◌}
 use Rattle.std.proofs.lemmas.List.{drop_more, get_or-drop, length-drop, take_more}
 use Rattle.vsi_drive.specs.Fields as spec
 
--- A field that ends stands in front of those behind it.
+-- A field that ends goes before the later fields.
 pub ended_in_front : (part : List ℕ) (fs : List (List ℕ)) → spec.ended part [] ++ fs ≡ spec.ended part fs
 ended_in_front [] fs = refl
 ended_in_front (b ∷ bs) fs = refl
 
--- Behind a blank no field goes on.
+-- A blank ends the field.
 pub behind_blank : (part rest : List ℕ) (b : ℕ) → spec.is_blank b ≡ true →
     spec.fields_behind part (b ∷ rest) ≡ spec.ended part [] ++ spec.fields_behind [] rest
 behind_blank part rest b blank = rw blank (sym (ended_in_front part (spec.fields_behind [] rest)))
 
--- Behind `=` no field goes on, and it is a field.
+-- `=` ends the field and is a field itself.
 pub behind_equal : (part rest : List ℕ) (b : ℕ) → spec.is_blank b ≡ false → (b == 61) ≡ true →
     spec.fields_behind part (b ∷ rest) ≡ (spec.ended part [] ++ codes "=" ∷ []) ++ spec.fields_behind [] rest
 behind_equal [] rest b blank equal = rw (blank, equal) refl
 behind_equal (p ∷ ps) rest b blank equal = rw (blank, equal) refl
 
--- Another byte goes on with the field.
+-- Any other byte continues the field.
 pub behind_other : (part rest : List ℕ) (b : ℕ) → spec.is_blank b ≡ false → (b == 61) ≡ false →
     spec.fields_behind part (b ∷ rest) ≡ spec.fields_behind (part ++ b ∷ []) rest
 behind_other part rest b blank equal = rw (blank, equal) refl
 
--- A range with the byte behind it.
+-- A range extended by the next byte.
 range_more : (line : List ℕ) (start at : ℕ) → start ≤ at → at < length line →
     slice_range line start at ++ get_or line at 0 ∷ [] ≡ slice_range line start (at + 1)
 range_more line start at before within =
@@ -37,7 +37,7 @@ range_more line start at before within =
     sym (ap (λ n. take n (drop start line)) width ∙ take_more (drop start line) (at - start) 0 room
     ∙ ap (λ b. take (at - start) (drop start line) ++ b ∷ []) same)
 
--- A field goes on with a byte that is no blank and no `=`.
+-- A byte that is neither a blank nor `=` continues a field.
 pub goes_on : (line : List ℕ) (start at : ℕ) → start ≤ at → at < length line →
     spec.is_blank (get_or line at 0) ≡ false → (get_or line at 0 == 61) ≡ false →
     spec.fields_behind (slice_range line start (at + 1)) (drop (at + 1) line)

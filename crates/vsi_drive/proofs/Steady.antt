@@ -1,4 +1,4 @@
--- Drives of a steady image are alike, whatever the budget does.
+-- Drives of a steady image are alike, whatever the budget.
 use Rattle.std.proofs.Common.{◌≡◌, List, Some, Ok, Err, Bool, true, false, refl, ap, subst}
 use Rattle.std.specs.Prelude.{ℤ, Result, if◌then◌else◌}
 use Rattle.vsi_lattice.specs.Order.{IsClass}
@@ -18,7 +18,7 @@ use Rattle.vsi_drive.proofs.Alike.{CycleAlike, EachAlike, agree_applied, drives_
 spends_with : (c : Control) (m : List ℤ) (s : State) → s.halted ≡ false → run_to c m (Some s) ≡ spent m
 spends_with c m s h = ap (λ v. if v then halted c (globals_of c.image s) else spent m) h
 
--- Two states, both halted or both not, with words that agree, end cycles that are alike.
+-- Two states whose words agree, both halted or both not, end cycles that are alike.
 ended_alike : (c : Control) (m m' : List ℤ) (s s' : State) (h : Bool) → s.halted ≡ h → s'.halted ≡ h →
     AgreeFor c m m' → AgreeFor c (globals_of c.image s) (globals_of c.image s') →
     CycleAlike c (run_to c m (Some s)) (run_to c m' (Some s'))
@@ -44,14 +44,14 @@ module _ (c : Control) (class : IsClass c.order c.class) (valid : IsValid c.imag
       } in
       rw (x.reached, x.reached') (ended_alike c m m' x.state x.state' x.state'.halted x.halted refl before last)
 
-  -- Two cycles of the same settings, or of one fault, are alike.
+  -- Two cycles with the same settings, or with one fault, are alike.
   of_alike : (r : Result (List Setting) LineFault) (m m' : List ℤ) → AgreeFor c m m' →
       CycleAlike c (cycle_of c m r) (cycle_of c m' r)
   of_alike (Err fault) m m' first = record { line = refl; stores = first }
   of_alike (Ok ss) m m' first =
       from_alike m m' (applied ss m) (applied ss m') first (agree_applied c ss m m' first)
 
-  -- So are the first cycles of any lines.
+  -- The first cycles of any lines are alike.
   pub each_steady : EachAlike c (λ m lines. Unit {0})
   each_steady m m' l l' ls ls' first sets h h' =
       (subst (λ r. CycleAlike c (cycle c m l) (cycle_of c m' r)) sets (of_alike (settings_of c l) m m' first), tt, tt)

@@ -1,4 +1,4 @@
--- What fields set, three by three.
+-- The settings of fields, three by three.
 use Rattle.std.proofs.Common.{◌≡◌, ℕ, ◌+◌, ◌<◌, List, [], ◌∷◌, length, drop, Some, Ok, Err, refl, sym, ap, ◌∙◌, arith}
 use Rattle.std.specs.Prelude.{ℤ, Result, slice_get, slice_set}
 use Rattle.std.proofs.lemmas.List.{drop_more}
@@ -9,13 +9,13 @@ use Rattle.vsi_drive.specs.Control.{Control}
 use Rattle.vsi_drive.specs.Settings as spec
 use Rattle.vsi_drive.specs.Cycles as cycles
 
--- What stands behind a place is the field there and what stands behind it.
+-- The fields from a position on are the field at it and the later ones.
 pub drop_field : (fs : List (List ℕ)) (at : ℕ) (x : List ℕ) → at < length fs → slice_get fs at ≡ Some x →
     drop at fs ≡ x ∷ drop (at + 1) fs
 drop_field fs at x within is =
     drop_more fs at [] within ∙ ap (λ f. f ∷ drop (at + 1) fs) (get_or_from_slice_get fs at x [] is)
 
--- The next three fields are a setting in front of the others.
+-- The next three fields are a setting before the others.
 pub next_setting : (c : spec.Settable) (n at : ℕ) (fs : List (List ℕ)) (x y z : List ℕ) → at + 2 < length fs →
     slice_get fs at ≡ Some x → slice_get fs (at + 1) ≡ Some y → slice_get fs (at + 2) ≡ Some z →
     spec.settings_from c n (drop at fs)
@@ -28,13 +28,13 @@ next_setting c n at fs x y z within isx isy isz =
     ap (spec.settings_from c n)
     (first ∙ ap (λ l. x ∷ l) (second ∙ ap (λ l. y ∷ l) (third ∙ ap (λ l. z ∷ l) end)))
 
--- A setting that is made goes in front of those behind it.
+-- A setting that is made goes before the later ones.
 pub made : (i : ℕ) (w : ℤ) (r : Result (List spec.Setting) LineFault) (m : List ℤ) →
     spec.written (spec.in_front (Ok (i, w)) r) m ≡ spec.written r (slice_set m i w)
 made i w (Err fault) m = refl
 made i w (Ok ss) m = refl
 
--- Where nothing is written, there is the fault.
+-- If nothing is written, there is a fault.
 pub fault_of : (r : Result (List spec.Setting) LineFault) (m : List ℤ) (fault : LineFault) →
     spec.written r m ≡ Err fault → r ≡ Err fault
 fault_of (Err e) m fault h = ap (λ x. Err (error_in e x)) h
@@ -44,7 +44,7 @@ fault_of (Err e) m fault h = ap (λ x. Err (error_in e x)) h
     error_in d (Err e) = e
 fault_of (Ok ss) m fault h = absurd (cc)
 
--- Fields of which there are none set nothing.
+-- An empty list of fields sets nothing.
 pub none_left : (c : spec.Settable) (n : ℕ) (fs : List (List ℕ)) → length fs ≡ 0 → spec.settings_from c n fs ≡ Ok []
 none_left c n [] none = refl
 none_left c n (f ∷ fs) none = absurd (omega (arith, none))
@@ -57,7 +57,7 @@ few_left c n (x ∷ []) some few = refl
 few_left c n (x ∷ y ∷ []) some few = refl
 few_left c n (x ∷ y ∷ z ∷ fs) some few = absurd (omega (arith, few))
 
--- A cycle of settings that are made is the one from the store that they lead to.
+-- The cycle of settings that are made begins from the store that they lead to.
 pub cycle_written : (c : Control) (m words : List ℤ) (r : Result (List spec.Setting) LineFault) →
     spec.written r m ≡ Ok words → cycles.cycle_of c m r ≡ cycles.cycle_from c m words
 cycle_written c m words (Err fault) h = absurd (cc)
@@ -67,12 +67,12 @@ cycle_written c m words (Ok ss) h = ap (λ x. cycles.cycle_from c m (words_in m 
     words_in d (Ok x) = x
     words_in d (Err e) = d
 
--- A faulty setting is the fault of all.
+-- A faulty setting is the fault of all settings.
 pub faulty : (s : Result spec.Setting LineFault) (r : Result (List spec.Setting) LineFault) {fault : LineFault} →
     Err fault ≡ s → spec.in_front s r ≡ Err fault
 faulty s r {fault} h = ap (λ x. spec.in_front x r) (sym h)
 
--- Where there is a fault, nothing is written.
+-- If there is a fault, nothing is written.
 pub written_fault : (r : Result (List spec.Setting) LineFault) (m : List ℤ) (fault : LineFault) →
     r ≡ Err fault → spec.written r m ≡ Err fault
 written_fault r m fault h = ap (λ x. spec.written x m) h

@@ -14,7 +14,7 @@ pub record Control : Type 0 where
   pub image : Image
   pub budget : ℕ
 
--- What a controller is driven by.
+-- The parts of a controller that its cycles depend on.
 abbrev pub control : Controller → Control
 control c =
     record {

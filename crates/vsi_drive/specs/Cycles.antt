@@ -1,4 +1,4 @@
--- Cycles of a controller: a line sets globals, the image runs, and what the class sees is written.
+-- Cycles of a controller: a line sets globals, the image runs, and the globals that the class sees are written.
 use Rattle.std.specs.Prelude.{◌≡◌, ℕ, ◌-◌, ◌≤◌, ℤ, List, [], ◌∷◌, ◌++◌, length, take, Option, Some, None, Result, Ok, Err, if◌then◌else◌, codes}
 use Rattle.std.specs.Fmt.{signed_decimal}
 use Rattle.vsi_image.specs.Fields.{Global, globals}
@@ -11,23 +11,23 @@ use Rattle.vsi_drive.specs.declared.controller.CycleEnding.TheVariants.{Halted, 
 use Rattle.vsi_drive.specs.Control.{Control}
 use Rattle.vsi_drive.specs.Settings.{Setting, settings_of, applied, fault_line}
 
--- `NAME = NUMBER` and a space, for a global that the class sees, and nothing for another.
+-- `NAME = NUMBER` and a space for a global that the class sees, and nothing for any other.
 abbrev pub global_seen : Control → Global → ℤ → List ℕ
 global_seen c g w =
     if is_seen c.known c.order c.class g.1 then g.0 ++ codes " = " ++ signed_decimal w ++ codes " " else []
 
--- What the class sees of a store.
+-- The text of the globals that the class sees of a store.
 abbrev pub globals_seen : Control → List Global → List ℤ → List ℕ
 globals_seen c [] words = []
 globals_seen c (g ∷ gs) [] = []
 globals_seen c (g ∷ gs) (w ∷ ws) = global_seen c g w ++ globals_seen c gs ws
 
--- The same as a line, whose end stands in place of the last space.
+-- The same text as a line, with a line end in place of the last space.
 abbrev pub line_seen : Control → List ℤ → List ℕ
 line_seen c words =
     let seen = globals_seen c (globals c.image.globals.items) words in take (length seen - 1) seen ++ codes "\n"
 
--- How a cycle ends, the line that it writes, and the store behind it.
+-- The end of a cycle, the line that it writes, and the store after it.
 pub record Cycle : Type 0 where
   pub ending : CycleEnding
   pub line : List ℕ
@@ -41,7 +41,7 @@ spent m = record { ending = OutOfBudget; line = codes "out of budget\n"; store =
 abbrev pub halted : Control → List ℤ → Cycle
 halted c words = record { ending = Halted; line = line_seen c words; store = words }
 
--- A cycle from this store whose run ends in this state.
+-- The cycle from this store whose run ends in this state.
 abbrev pub run_to : Control → List ℤ → Option State → Cycle
 run_to c m None = spent m
 run_to c m (Some s) = if s.halted then halted c (globals_of c.image s) else spent m
@@ -50,7 +50,7 @@ run_to c m (Some s) = if s.halted then halted c (globals_of c.image s) else spen
 abbrev pub cycle_from : Control → List ℤ → List ℤ → Cycle
 cycle_from c m words = run_to c m (run_of c.image words c.budget)
 
--- The cycle of what a line sets, or of its fault, which leaves the store as it was.
+-- The cycle of a line's settings, or of its fault, which leaves the store as it was.
 abbrev pub cycle_of : Control → List ℤ → Result (List Setting) LineFault → Cycle
 cycle_of c m (Err fault) = record { ending = Refused fault; line = fault_line fault; store = m }
 cycle_of c m (Ok settings) = cycle_from c m (applied settings m)
@@ -59,18 +59,18 @@ cycle_of c m (Ok settings) = cycle_from c m (applied settings m)
 abbrev pub cycle : Control → List ℤ → List ℕ → Cycle
 cycle c m line = cycle_of c m (settings_of c line)
 
--- The store behind the cycles of these lines.
+-- The store after the cycles of these lines.
 abbrev pub store_behind : Control → List ℤ → List (List ℕ) → List ℤ
 store_behind c m [] = m
 store_behind c m (line ∷ lines) = store_behind c (cycle c m line).store lines
 
--- A store stands behind whole cycles: those of the first of these lines, as many as i.
+-- The store is the store after whole cycles, namely those of the first i of these lines.
 pub record StandsBehind (c : Control) (m : List ℤ) (lines : List (List ℕ)) (words : List ℤ) : Type 0 where
   pub i : ℕ
   pub within : i ≤ length lines
   pub is : words ≡ store_behind c m (take i lines)
 
--- What the cycles of these lines write.
+-- The output of the cycles of these lines.
 abbrev pub text_of : Control → List ℤ → List (List ℕ) → List ℕ
 text_of c m [] = []
 text_of c m (line ∷ lines) = (cycle c m line).line ++ text_of c (cycle c m line).store lines

@@ -1,4 +1,4 @@
--- The fields of a line, and the number that a field writes.
+-- The fields of a line, and the number that a field spells.
 use Rattle.std.specs.Prelude.{ℕ, ◌==◌, ℤ, pos, neg_ℤ, Bool, ◌&&◌, ◌||◌, nat_le, if◌then◌else◌, List, [], ◌∷◌, ◌++◌, Option, Some, None, option_map, codes}
 use Rattle.vsi_syntax.specs.Words.{is_digit, every, begins_with, value_of}
 
@@ -6,12 +6,12 @@ use Rattle.vsi_syntax.specs.Words.{is_digit, every, begins_with, value_of}
 abbrev pub is_blank : ℕ → Bool
 is_blank b = (b == 9 || b == 13) || b == 32
 
--- A field that ends, in front of the fields behind it; without bytes it is none.
+-- A finished field before the later fields; an empty one is no field.
 abbrev pub ended : List ℕ → List (List ℕ) → List (List ℕ)
 ended [] fields = fields
 ended (b ∷ bs) fields = (b ∷ bs) ∷ fields
 
--- The fields of these bytes, behind those of a field that goes on: blanks stand between fields, and `=` is one.
+-- The fields of these bytes after those of an unfinished field: blanks separate fields, and `=` is a field.
 abbrev pub fields_behind : List ℕ → List ℕ → List (List ℕ)
 fields_behind part [] = ended part []
 fields_behind part (b ∷ bs) =
@@ -22,12 +22,12 @@ fields_behind part (b ∷ bs) =
 abbrev pub fields_of : List ℕ → List (List ℕ)
 fields_of line = fields_behind [] line
 
--- The number that one or more digits write, where it is at most the limit.
+-- The number that one or more digits spell, if it is at most the limit.
 abbrev pub number_up_to : ℕ → List ℕ → Option ℕ
 number_up_to limit ds =
     if (begins_with is_digit ds && every is_digit ds) && nat_le (value_of ds) limit then Some (value_of ds) else None
 
--- The word that a field writes: digits, behind a `-` where it is below 0.
+-- The word that a field spells: digits, after a `-` if it is below 0.
 abbrev pub word_of : List ℕ → Option ℤ
 word_of [] = None
 word_of (b ∷ bs) =

@@ -1,4 +1,4 @@
--- What two drives of one controller show.
+-- The laws of two drives of one controller.
 use Rattle.std.specs.Prelude.{◌≡◌, ◌≢◌, ℕ, ℤ, List, [], ◌∷◌, map}
 use Rattle.vsi_image.specs.Valid.{IsValid}
 use Rattle.vsi_lattice.specs.Order.{IsClass}
@@ -22,38 +22,38 @@ pub record AgreeFor (c : Control) (m m' : List ℤ) : Type 0 where
   pub full' : IsStoreOf c.image m'
   pub agree : AgreeAt c.known c.order c.image c.class m m'
 
--- Two drives write the same, and end in stores that agree.
+-- Two drives write the same output, and end in stores that agree.
 pub record DriveAlike (c : Control) (m m' : List ℤ) (lines lines' : List (List ℕ)) : Type 0 where
   pub text : text_of c m lines ≡ text_of c m' lines'
   pub stores : AgreeFor c (store_behind c m lines) (store_behind c m' lines')
 
--- Lines that set the same give the same output from stores that agree at and below the class, and lead to such stores,
--- as long as no cycle is out of budget.
+-- From stores that agree at and below the class, lines that set the same write the same output and lead to stores that
+-- agree, as long as no cycle is out of budget.
 abbrev pub DrivesAlike : Control → Type 0
 DrivesAlike c =
     (lines lines' : List (List ℕ)) (m m' : List ℤ) → AgreeFor c m m' →
     map (settings_of c) lines ≡ map (settings_of c) lines' → AllHalt c m lines → AllHalt c m' lines' →
     DriveAlike c m m' lines lines'
 
--- So it is for a valid image that is noninterfering.
+-- Drives are alike for a valid image that is noninterfering.
 abbrev pub SameDrives : Type 0
 SameDrives =
     (c : Control) → IsClass c.order c.class → IsValid c.image → IsNoninterfering c.known c.order c.image →
     DrivesAlike c
 
--- So it is for an image that was compiled over the same classes.
+-- Drives are alike for an image that was compiled over the same classes.
 abbrev pub SameCompiledDrives : Type 0
 SameCompiledDrives =
     (c : Control) (P : Profile) (text : List ℕ) → IsClass c.order c.class →
     IsCompiled c.known c.order P text c.image → DrivesAlike c
 
--- Lines that set the same do so whatever the budget does: cycles may be out of it.
+-- Lines that set the same give drives that are alike whatever the budget: cycles may be out of budget.
 abbrev pub AlwaysAlike : Control → Type 0
 AlwaysAlike c =
     (lines lines' : List (List ℕ)) (m m' : List ℤ) → AgreeFor c m m' →
     map (settings_of c) lines ≡ map (settings_of c) lines' → DriveAlike c m m' lines lines'
 
--- Of a valid image whose runs stand alike, as a steady one's do, drives are alike whatever the budget does.
+-- For a valid image whose runs agree in every step, such as a steady one, drives are alike whatever the budget.
 abbrev pub SameSteadyDrives : Type 0
 SameSteadyDrives =
     (c : Control) → IsClass c.order c.class → IsValid c.image → RunsAlike c.known c.order c.image → AlwaysAlike c

@@ -1,10 +1,10 @@
--- Who sets globals.
+-- The two setters of globals.
 use Rattle.vsi_drive.specs.declared.reach.Reach.{Reach}
 use Rattle.vsi_drive.specs.declared.reach.Reach.TheVariants.{UpTo, All}
 use Rattle.vsi_drive.specs.Control.{control}
 use Rattle.vsi_drive.specs.Settings.{Settable, at_or_below, any_of}
 
--- What a controller sets, or who starts a run.
+-- The globals that a controller's class, or the user who starts a run, may set.
 abbrev pub settable : Reach → Settable
 settable (UpTo c) = at_or_below (control c.now)
 settable (All image) = any_of image.now

@@ -1,4 +1,4 @@
--- What a line sets, and what is wrong with one that sets nothing.
+-- The settings of a line, and the faults of a line that sets nothing.
 use Rattle.std.specs.Prelude.{ℕ, ◌+◌, nat_lt, ℤ, List, [], ◌∷◌, ◌++◌, length, Bool, true, Option, Some, None, Result, Ok, Err, if◌then◌else◌, bytes_eq, codes, decimal, slice_set}
 use Rattle.vsi_image.specs.declared.instr.Image.{Image}
 use Rattle.vsi_image.specs.Fields.{Global, globals}
@@ -17,40 +17,40 @@ pub record Settable : Type 0 where
   pub may : List ℕ → Bool
   pub image : Image
 
--- A class sets what is at or below it.
+-- A class may set the globals at or below it.
 abbrev pub at_or_below : Control → Settable
 at_or_below c = record { may = λ name. is_seen c.known c.order c.class name; image = c.image }
 
--- Who starts a run sets any global.
+-- A user who starts a run may set every global.
 abbrev pub any_of : Image → Settable
 any_of image = record { may = λ name. true; image = image }
 
--- The number of the global that a setting names, where these globals have numbers from i on. It may be set.
+-- The number of the global that a setting names, which may be set; these globals have numbers from i on.
 abbrev pub target_from : Settable → ℕ → ℕ → List Global → List ℕ → Result ℕ LineFault
 target_from s n i [] name = Err (UnknownGlobal n)
 target_from s n i (g ∷ gs) name =
     if bytes_eq g.0 name then (if s.may g.1 then Ok i else Err (AboveClass n)) else target_from s n (i + 1) gs name
 
--- The setting of a global to the word that a field writes.
+-- The setting of a global to the word that a field spells.
 abbrev pub with_word : ℕ → Result ℕ LineFault → Option ℤ → Result Setting LineFault
 with_word n (Err fault) w = Err fault
 with_word n (Ok i) None = Err (NotANumber n)
 with_word n (Ok i) (Some w) = Ok (i, w)
 
--- The setting that three fields are: the name of a global, `=`, and a number.
+-- The setting that three fields form: the name of a global, `=`, and a number.
 abbrev pub setting : Settable → ℕ → List ℕ → List ℕ → List ℕ → Result Setting LineFault
 setting s n name equal number =
     if bytes_eq equal (codes "=")
     then with_word n (target_from s n 0 (globals s.image.globals.items) name) (word_of number)
     else Err (BadSetting n)
 
--- A setting in front of others; the first fault stands for all.
+-- A setting before others; the first fault is the fault of all.
 abbrev pub in_front : Result Setting LineFault → Result (List Setting) LineFault → Result (List Setting) LineFault
 in_front (Err fault) others = Err fault
 in_front (Ok s) (Err fault) = Err fault
 in_front (Ok s) (Ok ss) = Ok (s ∷ ss)
 
--- The settings that fields are, three by three, of which the first has this number.
+-- The settings that fields form, three by three, the first of which has this number.
 abbrev pub settings_from : Settable → ℕ → List (List ℕ) → Result (List Setting) LineFault
 settings_from s n [] = Ok []
 settings_from s n (x ∷ []) = Err (BadSetting n)
@@ -66,7 +66,7 @@ abbrev pub settings_of : Control → List ℕ → Result (List Setting) LineFaul
 settings_of c line =
     if nat_lt max_line_length (length line) then Err TooLong else settings_from (at_or_below c) 0 (fields_of line)
 
--- A store in which globals have been set, one after another.
+-- The store after these settings, made in order.
 abbrev pub applied : List Setting → List ℤ → List ℤ
 applied [] m = m
 applied (s ∷ ss) m = applied ss (slice_set m s.0 s.1)
@@ -87,7 +87,7 @@ fault_name (NotANumber n) = numbered (codes "48 NoNumber") n
 abbrev pub fault_line : LineFault → List ℕ
 fault_line fault = codes "refused: " ++ fault_name fault ++ codes "\n"
 
--- The store in which settings have been made, or their fault.
+-- The store after settings are made, or their fault.
 abbrev pub written : Result (List Setting) LineFault → List ℤ → Result (List ℤ) LineFault
 written (Err fault) m = Err fault
 written (Ok ss) m = Ok (applied ss m)

@@ -1,4 +1,4 @@
--- What a run begins with: a store file, and globals that are set behind it.
+-- How a run begins: from a store file, and from globals that are set after it.
 use Rattle.std.specs.Prelude.{◌≡◌, ℕ, ◌+◌, ℤ, Bool, true, List, [], ◌∷◌, ◌++◌, Option, Some, None, Result, Ok, Err, if◌then◌else◌, codes, slice_set}
 use Rattle.vsi_image.specs.declared.instr.Image.{Image}
 use Rattle.vsi_image.specs.Fields.{globals}
@@ -10,7 +10,7 @@ use Rattle.vsi_drive.specs.declared.starts.StartFault.TheVariants as fault
 use Rattle.vsi_drive.specs.Fields.{fields_of}
 use Rattle.vsi_drive.specs.Settings.{Setting, Settable, any_of, applied, fault_name, in_front, numbered, setting}
 
--- The setting that the fields of a text are, which are three.
+-- The setting that the three fields of a text form.
 abbrev pub one_setting : Settable → ℕ → List (List ℕ) → Result Setting LineFault
 one_setting s n [] = Err (BadSetting n)
 one_setting s n (x ∷ []) = Err (BadSetting n)
@@ -18,40 +18,40 @@ one_setting s n (x ∷ y ∷ []) = Err (BadSetting n)
 one_setting s n (x ∷ y ∷ z ∷ []) = setting s n x y z
 one_setting s n (x ∷ y ∷ z ∷ w ∷ fields) = Err (BadSetting n)
 
--- The settings that texts are, one each, of which the first has this number.
+-- The settings that texts form, one each, the first of which has this number.
 abbrev pub settings_each : Settable → ℕ → List (List ℕ) → Result (List Setting) LineFault
 settings_each s n [] = Ok []
 settings_each s n (t ∷ ts) = in_front (one_setting s n (fields_of t)) (settings_each s (n + 1) ts)
 
--- Which globals are named, where those that are set are named too.
+-- The globals that are named, counting those that are set.
 abbrev pub marked : List Setting → List Bool → List Bool
 marked [] named = named
 marked (s ∷ ss) named = marked ss (slice_set named s.0 true)
 
--- The words behind settings, and which globals are named in the file or set.
+-- The words after settings, and which globals are in the file or set.
 pub record Start : Type 0 where
   pub words : List ℤ
   pub named : List Bool
 
--- A start of these words, in which these globals are named.
+-- The start with these words, in which these globals are named.
 abbrev pub start : List ℤ → List Bool → Start
 start words named = record { words = words; named = named }
 
--- The start that settings make of another one, or their fault.
+-- The start after settings are made, or their fault.
 abbrev pub set_behind : Result (List Setting) LineFault → Start → Result Start LineFault
 set_behind (Err f) m = Err f
 set_behind (Ok ss) m = Ok (start (applied ss m.words) (marked ss m.named))
 
--- The number of the first that isn't named, where these have numbers from n on.
+-- The number of the first global that isn't named, where these have numbers from n on.
 abbrev pub first_unnamed : ℕ → List Bool → Option ℕ
 first_unnamed n [] = None
 first_unnamed n (b ∷ bs) = if b then first_unnamed (n + 1) bs else Some n
 
--- What is refused of a start: where each global must be named, the first that isn't.
+-- The fault of a start if every global must be named: the first that isn't.
 abbrev pub unnamed_in : Bool → List Bool → Option ℕ
 unnamed_in is_full named = if is_full then first_unnamed 0 named else None
 
--- A store file tells these words and names these globals.
+-- The store file gives these words and names these globals.
 pub record IsFile (image : Image) (file : List ℕ) (m : Start) : Type 0 where
   pub tells : Tells file (globals image.globals.items) m.words
   pub names : Names file (globals image.globals.items) m.named
@@ -66,7 +66,7 @@ pub record Begins (image : Image) (file : List ℕ) (texts : List (List ℕ)) (i
   pub full : unnamed_in is_full behind.named ≡ None
   pub is : words ≡ behind.words
 
--- The start whose global of this number is the first that must be named and isn't.
+-- The global with this number is the first that must be named and isn't.
 pub record Lacks (image : Image) (file : List ℕ) (texts : List (List ℕ)) (is_full : Bool) (i : ℕ) : Type 0 where
   pub first : Start
   pub behind : Start

@@ -28,8 +28,8 @@ pub enum CycleEnding {
     Refused(LineFault),
 }
 
-/// An image that is run once a cycle, for at most so many instructions, and the class that sets and
-/// sees its globals.
+/// An image that runs once per cycle, the budget of a cycle, and the class that sets and sees its
+/// globals.
 #[derive(Drop)]
 pub struct Controller<'a> {
     lattice: &'a Lattice,
@@ -88,7 +88,7 @@ impl<'a> Controller<'a> {
         self.verified.image().globals.as_slice()
     }
 
-    /// Whether the class is at or above the one of this name.
+    /// Whether the class is at or above the class of this name.
     pub(crate) fn sees(&self, name: &[u8]) -> bool
         ensures { result
             ≡ is_seen (control self.now).known (control self.now).order (control self.now).class
@@ -100,9 +100,9 @@ impl<'a> Controller<'a> {
         }
     }
 
-    /// Does a cycle: sets the globals that the line names, runs the image, and gives the line of
-    /// what the class sees, or the one of a faulty line or of a spent budget. The store has a word
-    /// for each global.
+    /// Does a cycle: sets the globals that the line names, runs the image, and returns the line of
+    /// the globals that the class sees. For a faulty line or a spent budget it returns the line for
+    /// that. The store has a word for each global.
     pub fn cycle(
         &self,
         alloc: Global,
@@ -128,7 +128,7 @@ impl<'a> Controller<'a> {
         }
     }
 
-    /// Runs the image from these words; the store is what a run that is out of budget leaves.
+    /// Runs the image from these words. A run that is out of budget leaves this store.
     fn run_from(
         &self,
         alloc: Global,
@@ -160,8 +160,8 @@ impl<'a> Controller<'a> {
         }
     }
 
-    /// Does a cycle for each line, and gives what they write. Where memory is wanting the store is
-    /// that behind the last whole cycle: none is left half done, though what they wrote is lost.
+    /// Does a cycle for each line, and returns their output. If memory runs out, the store is the
+    /// store after the last whole cycle: no cycle is left half done, though the output is lost.
     pub fn drive(
         &self,
         alloc: Global,

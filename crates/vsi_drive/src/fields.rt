@@ -7,20 +7,20 @@ ghost use Rattle.vsi_drive.specs.Fields as spec;
 
 use std::alloc::{AllocError, Global};
 
-/// The greatest number of 64 bits with a sign.
+/// The greatest signed number of 64 bits.
 const GREATEST: u64 = 9_223_372_036_854_775_807;
 
-/// How far the least such number is below 0.
+/// The magnitude of the least such number.
 const LEAST_MAGNITUDE: u64 = 9_223_372_036_854_775_808;
 
-/// Whether the byte stands between fields.
+/// Whether the byte separates fields.
 fn is_blank(byte: u8) -> bool
     ensures { result ≡ spec.is_blank byte }
 {
     byte == b'\t' || byte == b'\r' || byte == b' '
 }
 
-/// One field more, unless it has no bytes.
+/// Adds a field, unless it is empty.
 fn push_field<'a>(fields: &mut Vec<&'a [u8]>, field: &'a [u8]) -> Result<(), AllocError>
     ensures { OnOk result
         (texts fields.new.items ≡ texts fields.old.items ++ spec.ended field.now []) }
@@ -31,8 +31,8 @@ fn push_field<'a>(fields: &mut Vec<&'a [u8]>, field: &'a [u8]) -> Result<(), All
     Ok(())
 }
 
-/// Does the byte at a place, where a field goes on from `start`, and answers where a field goes on
-/// behind it.
+/// Processes the byte at a position, within a field that began at `start`, and returns the start of
+/// the field after it.
 fn push_byte<'a>(
     fields: &mut Vec<&'a [u8]>,
     line: &'a [u8],
@@ -88,7 +88,7 @@ fn all_digits(text: &[u8]) -> bool
     true
 }
 
-/// The value of digits, where it is at most the limit.
+/// The value of digits, if it is at most the limit.
 fn value_up_to(digits: &[u8], limit: u64) -> Option<u64>
     requires { every is_digit digits.now ≡ true }
     ensures value { result
@@ -108,7 +108,7 @@ fn value_up_to(digits: &[u8], limit: u64) -> Option<u64>
     Some(value)
 }
 
-/// The number that one or more digits write, where it is at most the limit.
+/// The number that one or more digits spell, if it is at most the limit.
 fn number_up_to(digits: &[u8], limit: u64) -> Option<u64>
     ensures number { result ≡ spec.number_up_to limit digits.now }
     ensures bound { IfSome result (λ n. n ≤ limit) }
@@ -119,7 +119,7 @@ fn number_up_to(digits: &[u8], limit: u64) -> Option<u64>
     value_up_to(digits, limit)
 }
 
-/// The word that is this far below 0.
+/// The word with this magnitude below 0.
 fn negative(value: u64) -> i64
     requires { value ≤ 9223372036854775808 }
     ensures { result ≡ neg_ℤ (pos value) }
@@ -131,7 +131,7 @@ fn negative(value: u64) -> i64
     }
 }
 
-/// The word that a field writes.
+/// The word that a field spells.
 pub(crate) fn word_of(field: &[u8]) -> Option<i64>
     ensures { result ≡ spec.word_of field.now }
 {

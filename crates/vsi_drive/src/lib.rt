@@ -1,16 +1,16 @@
 //! Controllers: a program that runs once a cycle, whose store stays in memory.
 //!
-//! A `Controller` does one cycle for a line, `cycle`, or one for each of several, `drive`. A line
-//! sets globals, the image runs within a budget, and what the class sees of the store is written as
-//! a line of the same form. Their clauses cite `specs/Settings`, what a line sets, and
-//! `specs/Cycles`, what a cycle writes and leaves behind. `laws` says that what is written shows
-//! nothing from above the class.
+//! A `Controller` does one cycle for a line (`cycle`), or one for each of several lines (`drive`).
+//! A line sets globals, the image runs within a budget, and the globals that the class sees are
+//! written as a line of the same form. The clauses cite `specs/Settings` for the settings of a
+//! line, and `specs/Cycles` for the output of a cycle and the store after it. `laws` shows that the
+//! output reveals nothing from above the class.
 //!
-//! `first_words` gives what a run begins with, a store file and globals that are set behind it:
-//! `specs/Starts`.
+//! `first_words` returns the words with which a run begins, from a store file and from globals that
+//! are set after it: see `specs/Starts`.
 //!
 //! To be believed: `specs/Control`, `specs/Cycles`, `specs/Fields`, `specs/Laws`, `specs/Settings`,
-//! `specs/Starts`; the other files of `specs/` are stepping stones of proofs.
+//! `specs/Starts`. The other files of `specs/` only support proofs.
 #![tactic(auto)]
 
 mod controller;

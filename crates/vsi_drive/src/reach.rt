@@ -1,4 +1,4 @@
-//! Who sets globals.
+//! The two setters of globals.
 
 ghost use Rattle.std.specs.Prelude.{◌≡◌};
 ghost use Rattle.vsi_drive.specs.Reaches.{settable};
@@ -9,9 +9,9 @@ use vsi_image::Image;
 /// Which globals of an image may be set.
 #[derive(Clone, Copy)]
 pub(crate) enum Reach<'r, 'a> {
-    /// Those at or below the class that drives the controller.
+    /// Those at or below the class of the controller.
     UpTo(&'r Controller<'a>),
-    /// All, by who starts a run.
+    /// All globals, for the user who starts a run.
     All(&'r Image),
 }
 

@@ -1,4 +1,4 @@
-//! What a line sets.
+//! The settings of a line.
 
 ghost use Rattle.std.specs.Prelude.{◌≡◌, ◌+◌, ◌*◌, ◌<◌, length, drop, slice_get, Some, Ok, Err, IfOk, MatchResult};
 ghost use Rattle.vsi_image.specs.Fields.{globals};
@@ -13,7 +13,7 @@ use crate::fields::{fields_of, word_of};
 use crate::reach::Reach;
 use std::alloc::{AllocError, Global};
 
-/// The number of the global that the setting of this number names, which may be set.
+/// The number of the global that the setting of this number names, if it may be set.
 fn target(reach: &Reach, number: usize, name: &[u8]) -> Result<usize, LineFault>
     ensures target { result ≡ spec.target_from (settable reach.now) number 0
         (globals (settable reach.now).image.globals.items) name.now }
@@ -31,7 +31,7 @@ fn target(reach: &Reach, number: usize, name: &[u8]) -> Result<usize, LineFault>
     Err(LineFault::UnknownGlobal(number))
 }
 
-/// The setting that three fields are.
+/// The setting that three fields form.
 pub(crate) fn setting(
     reach: &Reach,
     number: usize,
@@ -53,7 +53,7 @@ pub(crate) fn setting(
     }
 }
 
-/// The field at a place.
+/// The field at a position.
 pub(crate) fn field<'a>(fields: &[&'a [u8]], at: usize) -> &'a [u8]
     requires { at < length fields.now }
     ensures { slice_get (texts fields.now) at ≡ Some result.now }
@@ -91,7 +91,7 @@ fn set_next(
     Ok(())
 }
 
-/// Sets the globals that fields name, three by three; where there is a fault, some of them are set.
+/// Sets the globals that fields name, three by three. After a fault some of them are set.
 fn set_fields(reach: &Reach, fields: &[&[u8]], words: &mut Vec<i64>) -> Result<(), LineFault>
     requires { length words.old.items ≡ length (settable reach.now).image.globals.items }
     ensures len { length words.new.items ≡ length words.old.items }
@@ -111,7 +111,7 @@ fn set_fields(reach: &Reach, fields: &[&[u8]], words: &mut Vec<i64>) -> Result<(
     Ok(())
 }
 
-/// A store in which the globals are set that a line names, or the fault of the line.
+/// The store after the settings of a line, or the fault of the line.
 pub(crate) fn words_set(
     alloc: Global,
     controller: &Controller,

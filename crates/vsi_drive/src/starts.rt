@@ -1,4 +1,4 @@
-//! What a run begins with.
+//! How a run begins.
 
 ghost use Rattle.std.specs.Prelude.{◌≡◌, ◌<◌, length, Ok, Err, Some, None, IfOk, IfErr, MatchResult};
 ghost use Rattle.vsi_lattice.specs.NamePlaces.{texts};
@@ -20,22 +20,22 @@ use vsi_store::{StoreError, named_globals, read_store};
 /// Why a run doesn't begin, though its store file has no fault.
 #[derive(Clone, Copy, PartialEq, Eq, Debug, Error)]
 pub enum StartFault {
-    /// A setting has a fault, whose number is that of the text.
+    /// A setting has a fault. Its number is the number of the text.
     #[error("{0}")]
     Setting(LineFault),
-    /// The global of this number, from 0, has no key in the store file and isn't set; it is the
-    /// first such one.
+    /// The global with this number, from 0, is the first that has no key in the store file and
+    /// isn't set.
     #[error("global {0} is not in the store file and not set")]
     Unnamed(usize),
 }
 
-/// The words that a run begins with: those that a store file tells, and behind it the settings that
-/// texts are, each of the form `NAME=NUMBER` and of any global. With `is_full` each global must
-/// have a key in the file or be set.
+/// The words with which a run begins: those of a store file, and then the settings that the texts
+/// form, each `NAME=NUMBER` for any global. With `is_full` each global must have a key in the file
+/// or be set.
 ///
 /// # Errors
 ///
-/// A fault of the store file, as of `read_store`, comes before one of the settings.
+/// A fault of the store file, as for `read_store`, comes before a fault of the settings.
 pub fn first_words(
     alloc: Global,
     image: &Image,
@@ -62,7 +62,7 @@ pub fn first_words(
     }
 }
 
-/// The setting that a text alone is.
+/// The setting that a single text forms.
 fn setting_of(
     alloc: Global,
     reach: &Reach,
@@ -84,8 +84,8 @@ fn setting_of(
     Ok(setting(reach, number, name, equal, value))
 }
 
-/// Makes the settings that texts are, and marks each global that is set; where there is a fault,
-/// some are made.
+/// Makes the settings that texts form, and marks each global that is set. After a fault some are
+/// made.
 fn set_each(
     alloc: Global,
     reach: &Reach,
@@ -112,7 +112,7 @@ fn set_each(
     Ok(Ok(()))
 }
 
-/// The first global that isn't named, where each must be.
+/// The first global that isn't named, if each must be.
 fn unnamed_in(is_full: bool, named: &[bool]) -> Option<usize>
     ensures { result ≡ spec.unnamed_in is_full named.now }
 {

@@ -1,4 +1,4 @@
-//! The lines that are written.
+//! The lines of output.
 
 ghost use Rattle.std.specs.Prelude.{◌≡◌, ◌++◌, ◌-◌, length, take, codes, decimal, IfOk, OnOk};
 ghost use Rattle.vsi_image.specs.Fields.{global, globals};
@@ -13,7 +13,7 @@ use crate::starts::StartFault;
 use std::alloc::{AllocError, Global};
 use vsi_syntax::{put_number, put_word};
 
-/// A name, a space and a number more.
+/// Adds a name, a space and a number.
 fn push_numbered(text: &mut Vec<u8>, name: &[u8], number: usize) -> Result<(), AllocError>
     ensures { OnOk result (text.new.items ≡ text.old.items ++ settings.numbered name.now number) }
 {
@@ -22,7 +22,7 @@ fn push_numbered(text: &mut Vec<u8>, name: &[u8], number: usize) -> Result<(), A
     put_number(text, number)
 }
 
-/// The number, the name and the field of a fault more.
+/// Adds the number, the name and the field of a fault.
 fn push_fault(text: &mut Vec<u8>, fault: LineFault) -> Result<(), AllocError>
     ensures { OnOk result (text.new.items ≡ text.old.items ++ settings.fault_name fault) }
 {
@@ -45,7 +45,7 @@ pub(crate) fn fault_line(alloc: Global, fault: LineFault) -> Result<Vec<u8>, All
     Ok(text)
 }
 
-/// The line that tells why a run doesn't begin.
+/// The line that says why a run doesn't begin.
 pub fn start_fault_line(alloc: Global, fault: StartFault) -> Result<Vec<u8>, AllocError>
     ensures { IfOk result (λ text. text.items ≡ starts.start_fault_line fault) }
 {
@@ -65,7 +65,7 @@ pub(crate) fn spent_line(alloc: Global) -> Result<Vec<u8>, AllocError>
     Vec::from_slice(alloc, b"out of budget\n")
 }
 
-/// One global more, where the class sees it, and a space.
+/// Adds one global and a space, if the class sees it.
 fn push_seen(
     text: &mut Vec<u8>,
     controller: &Controller,
@@ -84,7 +84,7 @@ fn push_seen(
     Ok(())
 }
 
-/// What the class sees of a store, each global with a space behind it.
+/// The globals of a store that the class sees, with a space after each.
 fn globals_seen(
     alloc: Global,
     controller: &Controller,
@@ -103,7 +103,7 @@ fn globals_seen(
     Ok(text)
 }
 
-/// What the class sees of a store, as a line.
+/// The globals of a store that the class sees, as a line.
 pub(crate) fn line_seen(
     alloc: Global,
     controller: &Controller,

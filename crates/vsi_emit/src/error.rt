@@ -9,10 +9,10 @@ use thiserror::Error;
 /// Why no C is written.
 #[derive(Clone, Copy, PartialEq, Eq, Debug, Error)]
 pub enum EmitError {
-    /// There was no memory for the text.
+    /// There was too little memory for the text.
     #[error("out of memory")]
     Memory,
-    /// The name is no identifier of C, begins with an underscore, or is a keyword of C or C++.
+    /// The name isn't an identifier of C, begins with an underscore, or is a keyword of C or C++.
     #[error("the name is no identifier, or it is a keyword")]
     BadName,
 }

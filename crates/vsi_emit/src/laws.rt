@@ -5,9 +5,8 @@ ghost use Rattle.vsi_emit.specs.Laws.{AnswersLast, Noninterference, SteadyJumps}
 
 use vsi_steady::laws::steady_runs_alike;
 
-/// The function of an image that is noninterfering, as each compiled image is, is noninterfering
-/// itself: two calls that answer 0, with arrays that agree at and below a class, leave arrays that
-/// agree there.
+/// The function of a noninterfering image, such as a compiled one, is noninterfering itself: two
+/// calls that answer 0, with arrays that agree at and below a class, leave arrays that agree there.
 pub fn noninterference()
     ensures { Noninterference }
 {}

@@ -17,14 +17,14 @@ module _ (k : ℕ) where
   abbrev pub IsInside : Step → Type 0
   IsInside s = s.target < k
 
-  -- Flows to a variable stay inside of the program.
+  -- Flows to a variable stay inside the program.
   flows_to : (target : ℕ) (written : Span) (gs : List Guard) → target < k
       → All IsInside (flows target written gs)
   flows_to target written [] lt = All-nil IsInside
   flows_to target written (g ∷ gs) lt =
       All-cons IsInside (flow target written g) (flows target written gs) lt (flows_to target written gs lt)
 
-  -- Under the base profile all steps stay inside of the program.
+  -- Under the base profile all steps stay inside the program.
   pub targets : (names : ℕ → Span) (gs : List Guard) (scope : List ℕ) (n : ℕ) (c : Command)
       → HasPlaces (length scope) c → n + letvars c ≤ k → All (λ v. v < k) scope
       → All IsInside (steps Base names gs scope n c)

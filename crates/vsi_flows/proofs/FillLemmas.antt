@@ -1,4 +1,4 @@
--- The table as far as a place.
+-- The table up to a position.
 use Rattle.std.proofs.Common.{◌≡◌, ◌⊎◌, ℕ, zero, suc, ◌+◌, ◌<◌, ◌≤◌, ◌==◌, cond, List, [], ◌∷◌, ◌++◌, length, refl, sym, ap, ◌∙◌, subst, arith, inl, inr, eq-eqb, ne_eqb}
 use Rattle.std.specs.List.{All, Contains}
 use Rattle.std.proofs.lemmas.Bool.{cases_eq, cases_lt}
@@ -15,7 +15,7 @@ use Rattle.vsi_flows.specs.declared.pair.Pair.{Pair}
 use Rattle.vsi_flows.specs.Table.{IsJoined, IsTold, IsTable, HasPair, Precedes, AreSorted}
 use Rattle.vsi_flows.specs.Filling.{ComesBefore, IsBefore, IsFilled}
 
--- One pair more behind all others.
+-- One more pair at the end.
 sorted_push : (pairs : List Pair) (r : Pair) → AreSorted pairs → All (λ q. Precedes q r) pairs
     → AreSorted (pairs ++ r ∷ [])
 sorted_push [] r s b = (All-nil (Precedes r), tt)
@@ -25,7 +25,7 @@ sorted_push (q ∷ pairs) r s b = (
 )
 
 module _ (L : Lattice) (P : Profile) (p : Program) (limit : size_of p ≤ 1024) where
-  -- A place in a row comes before another where the variable does.
+  -- A position in a row comes before another if its variable does.
   place_before : (b v : ℕ) → b ≤ size_of p → row_of (size_of p) v < b → v < variable_at (size_of p) b
   place_before b v le lt = elim (cases_eq v sink) [
     | inl e ↦ absurd (let q : row_of (size_of p) v ≡ size_of p = ap (λ t. cond t (size_of p) v) (eq-eqb v sink e) in
@@ -39,7 +39,7 @@ module _ (L : Lattice) (P : Profile) (p : Program) (limit : size_of p ≤ 1024) 
         ])
   ]
 
-  -- The place of a variable at a place.
+  -- The position of the variable at a position.
   place_back : (b : ℕ) → b ≤ size_of p → row_of (size_of p) (variable_at (size_of p) b) ≡ b
   place_back b le = elim (cases_eq b (size_of p)) [
     | inl e ↦ ap (λ t. row_of (size_of p) (cond t sink b)) (eq-eqb b (size_of p) e) ∙ sym e
@@ -47,7 +47,7 @@ module _ (L : Lattice) (P : Profile) (p : Program) (limit : size_of p ≤ 1024) 
         ∙ ap (λ t. cond t (size_of p) b) (ne_eqb b sink (λ e. omega (arith, e, le, limit)))
   ]
 
-  -- What stands before a pair stands before a later one.
+  -- A position before a pair is before every later pair.
   later : (a b : ℕ) (r : Pair) → IsBefore (size_of p) a b r → IsBefore (size_of p) a (b + 1) r
   later a b r (inl lt) = inl lt
   later a b r (inr (e, lt)) = inr (e, omega (arith, lt))
@@ -64,11 +64,11 @@ module _ (L : Lattice) (P : Profile) (p : Program) (limit : size_of p ≤ 1024) 
     ];
   }
 
-  -- An empty list is filled up to there.
+  -- An empty list is the table up to its beginning.
   pub start : (pairs : List Pair) → pairs ≡ [] → IsFilled L P p 0 0 pairs
   start pairs e = subst (IsFilled L P p 0 0) (sym e) nothing
 
-  -- A place that has no pair.
+  -- A position without a pair is passed.
   pub skipped : (a b : ℕ) (pairs : List Pair) → (IsJoined L P p a (variable_at (size_of p) b) → ⊥)
       → IsFilled L P p a b pairs → IsFilled L P p a (b + 1) pairs
   skipped a b pairs none f = record {
@@ -89,7 +89,7 @@ module _ (L : Lattice) (P : Profile) (p : Program) (limit : size_of p ≤ 1024) 
         | inr g ↦ inr (e, omega (arith, lt, g))
       ]
 
-  -- A place that has a pair.
+  -- A position with a pair is passed.
   pub pushed : (a b : ℕ) (pairs new : List Pair) (r : Pair) → b ≤ size_of p → new ≡ pairs ++ r ∷ [] → r.source ≡ a
       → r.target ≡ variable_at (size_of p) b → IsTold L P p r → IsFilled L P p a b pairs
       → IsFilled L P p a (b + 1) new
@@ -126,7 +126,7 @@ module _ (L : Lattice) (P : Profile) (p : Program) (limit : size_of p ≤ 1024) 
           → HasPair (pairs ++ r ∷ []) x (variable_at (size_of p) y)
       kept x y h = (h.0, Contains-append_left pairs (r ∷ []) h.0 h.1, h.2, h.3)
 
-  -- All places of a source.
+  -- All positions of a source are passed.
   pub row_done : (a b : ℕ) (pairs : List Pair) → size_of p < b → IsFilled L P p a b pairs
       → IsFilled L P p (a + 1) 0 pairs
   row_done a b pairs past f = record {

@@ -1,4 +1,4 @@
--- Runs of the image of a text end as its evaluations do.
+-- Runs of a text's image end as its evaluations do.
 use Rattle.std.proofs.Common.{◌≡◌, ℕ, ◌+◌, ◌≤◌, List, length, map, sym, ap, subst, ◌∙◌, arith}
 use Rattle.std.proofs.lemmas.List.{length-map}
 use Rattle.vsi_image.specs.declared.instr.Image.{Image}
@@ -14,7 +14,7 @@ use Rattle.vsi_compiler.proofs.Programs.{count_is, body_is}
 use Rattle.vsi_flows.specs.Independence.{ImageIndependence}
 use Rattle.vsi_flows.proofs.IndependenceLemmas.{independent}
 
--- The image does what the resolved program does.
+-- The image behaves like the resolved program.
 behaves : (known : Known) (text : List ℕ) (im : Image) (r : Resolved) → Stands known text r
     → KeepsMeaning known text im → Behaves (length r.globals) (sequence r.body) im
 behaves known text im r stands keeps =

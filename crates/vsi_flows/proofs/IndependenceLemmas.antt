@@ -1,4 +1,5 @@
--- What isn't reached doesn't depend: the order of two classes, with the upper one for all that is reached.
+-- A variable that isn't reached is independent: the proof orders two classes and gives the upper one to all reached
+-- variables.
 use Rattle.std.proofs.Common.{◌≡◌, ◌⊎◌, ℕ, zero, suc, ◌+◌, ◌<◌, ◌≤◌, ◌==◌, cond, Bool, true, false, List, [], ◌∷◌, ◌++◌, map, take, drop, length, get_or, Option, Some, None, pos, ℤ, refl, sym, ap, ◌∙◌, subst, arith, inl, inr, ne_eqb, int_eq}
 use Rattle.std.specs.Prelude.{slice_index, slice_index_or, nat_lt, ◌-◌}
 use Rattle.std.specs.List.{All, AllZip, Contains}
@@ -35,7 +36,7 @@ keeps_none [] (c ∷ s) e = absurd (omega (arith, e))
 keeps_none (d ∷ ds) [] e = absurd (omega (arith, e))
 keeps_none (d ∷ ds) (c ∷ s) e = (tt, keeps_none ds s (omega (arith, e)))
 
--- Equal words are never shown to differ in vain.
+-- Words that can't differ are equal.
 same_word : (x y : ℤ) → ((x ≡ y → ⊥) → ⊥) → x ≡ y
 same_word x y h = by (int_eq x y) refl
   where
@@ -45,7 +46,7 @@ same_word x y h = by (int_eq x y) refl
 
 module _ (p : Program) (entries : length p.declared ≡ letvars p.body) (places : HasPlaces (length p.globals) p.body)
     (limit : length p.globals + letvars p.body ≤ 1024) (from : List ℕ) where
-  -- A walk leads there from a variable of the list.
+  -- A walk leads to the variable from a variable of the list.
   abbrev pub Reached : ℕ → Type 0
   Reached v = (a : ℕ) × Contains from a × ((w : List Step) × IsPath (steps_of Base p) a w v)
 
@@ -59,7 +60,7 @@ module _ (p : Program) (entries : length p.declared ≡ letvars p.body) (places 
     pub count : length classes ≡ n
     pub each : (v : ℕ) → v < n → Says (get_or classes v 0) v
 
-  -- The classes of one variable more.
+  -- The classes of one more variable.
   more : (n : ℕ) (a : AreSaid n) (c : ℕ) → Says c n → AreSaid (suc n)
   more n a c says = record {
     classes = a.classes ++ c ∷ [];
@@ -73,7 +74,7 @@ module _ (p : Program) (entries : length p.declared ≡ letvars p.body) (places 
     ];
   }
 
-  -- There can't be no such classes.
+  -- It is impossible that there are no such classes.
   some : (n : ℕ) → (AreSaid n → ⊥) → ⊥
   some zero no' = no' (record { classes = []; count = refl; each = λ v lt. absurd (omega (arith, lt)) })
   some (suc n) no' =
@@ -90,7 +91,7 @@ module _ (p : Program) (entries : length p.declared ≡ letvars p.body) (places 
     g : ℕ
     g = length p.globals
 
-    -- The program with these classes for its globals, and none declared.
+    -- The program with these classes for its globals, and without declared classes of letvars.
     abbrev pub raised : Program
     raised = record {
       globals = take (length p.globals) said.classes;
@@ -99,15 +100,15 @@ module _ (p : Program) (entries : length p.declared ≡ letvars p.body) (places 
       body = p.body;
     }
 
-    -- A class is left for each global.
+    -- There is a class for each global.
     count : length (take (length p.globals) said.classes) ≡ length p.globals
     count = length-take-le (length p.globals) said.classes (omega (arith, said.count))
 
-    -- The steps are those of the program, since classes make none.
+    -- The steps are those of the program, because they don't depend on classes.
     same_steps : steps_of Base raised ≡ steps_of Base p
     same_steps = ap (λ (n : ℕ). steps Base p.names [] (count_from 0 n) n p.body) count
 
-    -- A class is the lower or the upper one.
+    -- Every class is the lower or the upper one.
     is_class : (v : ℕ) → v < size_of p → get_or said.classes v 0 < 2
     is_class v lt = elim (said.each v lt) [
       | inl (e, r) ↦ omega (arith, e)
@@ -131,7 +132,7 @@ module _ (p : Program) (entries : length p.declared ≡ letvars p.body) (places 
     rest : List ℕ
     rest = drop (length p.globals) said.classes
 
-    -- A class is left for each `letvar`.
+    -- There is a class for each `letvar`.
     rest_count : length (drop (length p.globals) said.classes) ≡ length p.declared
     rest_count =
         let d = length-drop (length p.globals) said.classes in
@@ -141,7 +142,7 @@ module _ (p : Program) (entries : length p.declared ≡ letvars p.body) (places 
     chosen : IsChoice raised (drop (length p.globals) said.classes)
     chosen = keeps_none p.declared (drop (length p.globals) said.classes) rest_count
 
-    -- The class of a variable that isn't the lower one.
+    -- A class that isn't the lower one is the upper one.
     upper : (v : ℕ) → (class_of two said.classes v ≡ 0) ⊎ ((class_of two said.classes v ≡ 1) × Reached v)
     upper v = by (v == sink) refl
       where
@@ -159,7 +160,7 @@ module _ (p : Program) (entries : length p.declared ≡ letvars p.body) (places 
               | inr ge ↦ inl (q ∙ get_or_past said.classes v 0 (omega (arith, ge, said.count)))
             ]
 
-    -- What is reached has the upper class.
+    -- A reached variable has the upper class.
     reached_upper : (v : ℕ) → v < size_of p → Reached v → class_of two said.classes v ≡ 1
     reached_upper v lt r =
         ap (λ t. cond t 0 (slice_index said.classes v)) (ne_eqb v sink (λ e. omega (arith, e, lt, limit)))
@@ -205,7 +206,7 @@ module _ (p : Program) (entries : length p.declared ≡ letvars p.body) (places 
         (steps_decide two Base raised (drop (length p.globals) said.classes) two_laws formed
         (All-drop (IsClass two) (length p.globals) said.classes all_classes)).1 (chosen, in_order)
 
-    -- A global has the class that is said of it.
+    -- A global has its stated class.
     at_global : (l : ℕ) → l < length p.globals → get_or (take (length p.globals) said.classes) l 0
         ≡ get_or said.classes l 0
     at_global l lt = get_or-take (length p.globals) said.classes l 0 lt
@@ -214,7 +215,7 @@ module _ (p : Program) (entries : length p.declared ≡ letvars p.body) (places 
     not_below : (c : ℕ) → c ≡ 1 → two_leq c 0 ≡ true → ⊥
     not_below c e t = false≢true (subst (λ (x : ℕ). two_leq x 0 ≡ true) e t)
 
-    -- Two stores that differ at the given globals alone agree at and below the lower class.
+    -- Two stores that differ only at the given globals agree at and below the lower class.
     agree : (m m' : Store) → AgreeOutside from m m' → Agree two raised.globals 0 m m'
     agree m m' out l lt low = out l (λ c.
         let lg : l < length p.globals = omega (arith, lt, count) in
@@ -223,7 +224,8 @@ module _ (p : Program) (entries : length p.declared ≡ letvars p.body) (places 
           | inr (e, n) ↦ n (l, c, ([], refl))
         ])
 
-    -- So it is by the classes that are said.
+    -- By the stated classes, two stores that differ only in the given globals end with equal words in an unreached
+    -- global.
     pub equal_words : (b : ℕ) → b < length p.globals → IsUnreached p from b → (m₁ m₂ m₁' m₂' : Store)
         → length m₁ ≡ length p.globals → length m₂ ≡ length p.globals → AgreeOutside from m₁ m₂
         → Evaluates p.body m₁ m₁' → Evaluates p.body m₂ m₂' → get_or m₁' b (pos 0) ≡ get_or m₂' b (pos 0)
@@ -235,7 +237,7 @@ module _ (p : Program) (entries : length p.declared ≡ letvars p.body) (places 
           | inr (e, n) ↦ subst (λ (x : ℕ). two_leq x 0 ≡ true) (sym (at_global b lt ∙ e)) refl
         ])
 
-  -- Two stores that differ in the given globals alone end with equal words in one that none of these reaches.
+  -- Two stores that differ only in the given globals end with equal words in a global that none of these reaches.
   pub independent : (b : ℕ) → b < length p.globals → IsUnreached p from b → (m₁ m₂ m₁' m₂' : Store)
       → length m₁ ≡ length p.globals → length m₂ ≡ length p.globals → AgreeOutside from m₁ m₂
       → Evaluates p.body m₁ m₁' → Evaluates p.body m₂ m₂' → get_or m₁' b (pos 0) ≡ get_or m₂' b (pos 0)
@@ -247,7 +249,7 @@ module _ (p : Program) (entries : length p.declared ≡ letvars p.body) (places 
 pub independence : Independence
 independence L p from b res = independent p res.entries res.places res.limit from b
 
--- A walk of the base profile is one of each profile.
+-- A walk of the base profile is a walk of each profile.
 each_profile : (P : Profile) (p : Program) (a b : ℕ) (w : List Step) → IsPath (steps_of Base p) a w b
     → IsPath (steps_of P p) a w b
 each_profile Base p a b w q = q
@@ -258,7 +260,7 @@ each_profile Strict p a b (s ∷ rest) q = (
   each_profile Strict p s.target b rest q.2,
 )
 
--- A global has its class declared.
+-- A global has a declared class.
 global_class : (L : Lattice) (p : Program) (v : ℕ) → length p.globals ≤ 1024 → v < length p.globals
     → declared_class L p v ≡ Some (slice_index p.globals v)
 global_class L p v small lt =
@@ -267,7 +269,7 @@ global_class L p v small lt =
     ∙ ap (λ t. cond t (Some (slice_index p.globals v)) (slice_index_or p.declared (v - length p.globals) None))
     (lt-ltb v (length p.globals) lt)
 
--- Where the table has no pair no walk reaches.
+-- If the table has no pair, no walk leads from the one to the other.
 pub unlisted_is_unreached : UnlistedIsUnreached
 unlisted_is_unreached L P p pairs from b res table lb none a w c q =
     let n = none a c in

@@ -1,4 +1,4 @@
--- Distances of places are distances of variables.
+-- Distances of positions are distances of variables.
 use Rattle.std.proofs.Common.{◌≡◌, ◌⊎◌, ℕ, zero, suc, ◌+◌, ◌<◌, ◌≤◌, Bool, true, List, [], ◌∷◌, ◌++◌, map, length, get_or, Some, refl, sym, ap, ◌∙◌, subst, arith, inl, inr}
 use Rattle.std.specs.Prelude.{Result, Ok, Err, IfOk}
 use Rattle.std.proofs.lemmas.Bool.{cases_lt}
@@ -19,7 +19,7 @@ use Rattle.vsi_flows.specs.Rows.{AreLeastRows, IsRowTo, AreRows, AreRowsOf}
 
 module _ (L : Lattice) (laws : IsLattice L) (P : Profile) (p : Program) (res : IsWellFormed L p)
     (ds : AreClasses L p.declared) (flows : ℕ → ℕ → Bool) (are : AreFlowsOf P p flows) where
-  -- How many variables the program has.
+  -- The number of variables of the program.
   k : ℕ
   k = size_of p
 
@@ -57,7 +57,7 @@ module _ (L : Lattice) (laws : IsLattice L) (P : Profile) (p : Program) (res : I
         ap suc rest.2,
       )
 
-  -- The row of a place is the row of its variable.
+  -- The row of a position is the row of its variable.
   pub row_is : (b : ℕ) (row : List ℕ) → b ≤ size_of p → AreLeast flows (size_of p + 1) b row
       → IsRowTo P p (variable_at (size_of p) b) row
   row_is b row lb d = record {
@@ -65,7 +65,7 @@ module _ (L : Lattice) (laws : IsLattice L) (P : Profile) (p : Program) (res : I
     fewest = λ a w la q. d.least (length w) a (path_leads a b w la lb q);
   }
 
-  -- The rows of places are rows of variables.
+  -- The rows of positions are rows of variables.
   pub rows_are : (last : ℕ) (rows : List (List ℕ)) → last ≡ size_of p → AreLeastRows L p flows last rows
       → AreRows L P p rows
   rows_are last rows e h b c le d =
@@ -73,7 +73,7 @@ module _ (L : Lattice) (laws : IsLattice L) (P : Profile) (p : Program) (res : I
       row_is b (get_or rows b []) le (subst (λ (n : ℕ). AreLeast flows (n + 1) b (get_or rows b [])) e
       (h b c lb (subst (λ (n : ℕ). declared_class L p (variable_at n b) ≡ Some c) (sym e) d)))
 
--- Flows go between places.
+-- Flows go between positions.
 pub within_last : (P : Profile) (p : Program) (flows : ℕ → ℕ → Bool) → AreFlowsOf P p flows → (last : ℕ)
     → last ≡ size_of p → (a b : ℕ) → flows a b ≡ true → (a < last + 1) × (b < last + 1)
 within_last P p flows are last e a b f = let w = are.within a b f in (omega (arith, w.0, e), omega (arith, w.1, e))
@@ -94,7 +94,7 @@ pub are_rows : (L : Lattice) → IsLattice L → (P : Profile) (p : Program) →
     → AreClasses L p.declared → (rows : List (List ℕ)) → AreRowsOf L P p rows → AreRows L P p rows
 are_rows L laws P p res ds rows are = rows_are L laws P p res ds are.flows are.same (size_of p) rows refl are.least
 
--- One row more.
+-- One more row.
 pub rows_push : {V : Type 0} (f : V → List ℕ) (rows : List V) (row : V) (Q : ℕ → List ℕ → Type 0)
     → ((b : ℕ) → b < length rows → Q b (get_or (map f rows) b [])) → Q (length rows) (f row)
     → (b : ℕ) → b < length rows + 1 → Q b (get_or (map f (rows ++ row ∷ [])) b [])

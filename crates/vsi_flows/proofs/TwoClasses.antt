@@ -3,7 +3,7 @@ use Rattle.std.proofs.Common.{◌≡◌, ℕ, zero, suc, ◌<◌, Bool, true, fa
 use Rattle.std.proofs.lemmas.Bool.{false≢true}
 use Rattle.vsi_lattice.specs.Order.{Lattice, IsLattice, HasJoin, HasMeet, Below}
 
--- The first class is at or below each, and the second at or below itself.
+-- The first class is at or below each class, and the second is at or below itself.
 abbrev pub two_leq : ℕ → ℕ → Bool
 two_leq zero b = true
 two_leq (suc a) zero = false
@@ -18,19 +18,19 @@ itself : (a : ℕ) → two_leq a a ≡ true
 itself zero = refl
 itself (suc a) = refl
 
--- Any class is at or below one that isn't the lowest.
+-- Every class is at or below one that isn't the lowest.
 over : (a b : ℕ) → two_leq b (suc a) ≡ true
 over a zero = refl
 over a (suc b) = refl
 
--- Two classes at or below each other are one.
+-- Two classes that are at or below each other are equal.
 one_way : (a b : ℕ) → a < 2 → b < 2 → two_leq a b ≡ true → two_leq b a ≡ true → a ≡ b
 one_way zero zero la lb x y = refl
 one_way zero (suc b) la lb x y = absurd (false≢true y)
 one_way (suc a) zero la lb x y = absurd (false≢true x)
 one_way (suc a) (suc b) la lb x y = omega (arith, la, lb)
 
--- Order is passed on.
+-- The order is transitive.
 on : (a b c : ℕ) → two_leq a b ≡ true → two_leq b c ≡ true → two_leq a c ≡ true
 on zero b c x y = refl
 on (suc a) zero c x y = absurd (false≢true x)
@@ -64,7 +64,7 @@ highest : (a : ℕ) → two_leq a 1 ≡ true
 highest zero = refl
 highest (suc a) = refl
 
--- They are a lattice.
+-- The two classes are a lattice.
 pub two_laws : IsLattice two
 two_laws = record {
   reflexive = λ a la. itself a;

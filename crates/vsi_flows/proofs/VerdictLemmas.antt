@@ -1,4 +1,4 @@
--- What pairs tell of a program.
+-- The verdict that pairs imply about a program.
 use Rattle.std.proofs.Common.{◌≡◌, ◌↔◌, ◌⊎◌, ℕ, zero, suc, ◌+◌, ◌<◌, ◌≤◌, Bool, true, false, List, [], ◌∷◌, ◌++◌, length, get_or, Option, Some, None, refl, sym, ap, ◌∙◌, subst, arith, inl, inr, cond, ◌-◌, ◌==◌, eq-eqb, ne_eqb}
 use Rattle.std.specs.Prelude.{IfSome, nat_lt, slice_index, slice_index_or}
 use Rattle.std.specs.List.{All, Contains}
@@ -44,16 +44,16 @@ filled_table L laws P p res ds flows are pairs f = record {
 
 module _ (L : Lattice) (P : Profile) (p : Program) (rows : List (List ℕ))
     (are : AreRows L P p rows) (a b : ℕ) (la : a < size_of p) (lb : b ≤ size_of p) where
-  -- A number is that of its variable.
+  -- A position is the number of its variable.
   here : variable_at (size_of p) a ≡ a
   here = ap (λ t. cond t sink a) (ne_eqb a (size_of p) (λ e. omega (arith, la, e)))
 
-  -- The row of a variable with a class has its fewest steps.
+  -- The row of a variable with a class holds the fewest steps to it.
   row_to : (c : ℕ) → declared_class L p (variable_at (size_of p) b) ≡ Some c
       → IsRowTo P p (variable_at (size_of p) b) (get_or rows b [])
   row_to c e = are b c lb e
 
-  -- A pair that is told.
+  -- The facts that a pair of the table states.
   pub told_at : (r : Pair) (low high : ℕ) → declared_class L p a ≡ Some low
       → declared_class L p (variable_at (size_of p) b) ≡ Some high → (a ≡ variable_at (size_of p) b → ⊥)
       → get_or (get_or rows b []) a 0 < 65535
@@ -81,7 +81,7 @@ module _ (L : Lattice) (P : Profile) (p : Program) (rows : List (List ℕ))
         };
       }
 
-  -- Places that differ are variables that differ.
+  -- Different positions have different variables.
   pub apart_at : size_of p ≤ 1024 → (a ≡ b → ⊥) → a ≡ variable_at (size_of p) b → ⊥
   apart_at small n e = elim (cases_eq b (size_of p)) [
     | inl q ↦ (let t : variable_at (size_of p) b ≡ sink = ap (λ t. cond t sink b) (eq-eqb b (size_of p) q) in
@@ -99,12 +99,12 @@ module _ (L : Lattice) (P : Profile) (p : Program) (rows : List (List ℕ))
 module _ (L : Lattice) (laws : IsLattice L) (P : Profile) (p : Program) (res : IsWellFormed L p)
     (within : (v c : ℕ) → declared_class L p v ≡ Some c → IsClass L c) (pairs : List Pair)
     (table : IsTable L P p pairs) where
-  -- What isn't refused is allowed.
+  -- A pair that isn't refused is allowed.
   allowed_of : (b : Bool) → (b ≡ false → ⊥) → b ≡ true
   allowed_of true n = refl
   allowed_of false n = absurd (n refl)
 
-  -- What is refused isn't allowed.
+  -- A pair that is refused isn't allowed.
   not_below : (b : Bool) → b ≡ false → b ≡ true → ⊥
   not_below b e t = false≢true (sym e ∙ t)
 
@@ -121,14 +121,14 @@ module _ (L : Lattice) (laws : IsLattice L) (P : Profile) (p : Program) (res : I
             (ap (declared_class L p) q.0 ∙ t.source) t.target (not_below (L.leq t.low t.high) (sym t.verdict ∙ e)),
       )
 
-  -- Where some choice is typable each pair is allowed.
+  -- If some choice is typable, each pair is allowed.
   choice_allows : HasChoice L P p → AreAllowed pairs
   choice_allows (s, typed) =
       All-weaker (IsTold L P p) (λ r. r.allowed ≡ true)
       (λ r t. allowed_of r.allowed (λ e. let w = pair_bad r t e in
       bad_walks_refute L P p w.0 s laws res w.1 typed)) pairs table.told
 
-  -- Where some walk is bad not each pair is allowed.
+  -- If some walk is bad, some pair is refused.
   bad_refuses : HasBadWalk L P p → AreAllowed pairs → ⊥
   bad_refuses ([], bad) all = bad
   bad_refuses (s ∷ rest, bad) all =
@@ -150,12 +150,12 @@ module _ (L : Lattice) (laws : IsLattice L) (P : Profile) (p : Program) (res : I
       let b = some_same bad.high t.high (sym bad.target ∙ ap (declared_class L p) (sym h.3) ∙ t.target) in
       bad.down (ap (λ (x : ℕ). L.leq x bad.high) a ∙ ap (L.leq t.low) b ∙ sym t.verdict ∙ yes')
 
-  -- No pair is refused exactly where some choice is typable.
+  -- No pair is refused exactly if some choice is typable.
   pub verdict : HasChoice L P p ⊎ HasBadWalk L P p → AreAllowed pairs ↔ HasChoice L P p
   verdict (inl c) = (λ all. c, choice_allows)
   verdict (inr w) = (λ all. absurd (bad_refuses w all), choice_allows)
 
--- Declared classes are of the lattice.
+-- Declared classes are classes of the lattice.
 pub declared_within : (L : Lattice) → IsLattice L → (p : Program) → All (IsClass L) p.globals
     → AreClasses L p.declared → (v c : ℕ) → declared_class L p v ≡ Some c → IsClass L c
 declared_within L laws p gs ds v c e =

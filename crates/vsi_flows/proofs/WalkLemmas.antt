@@ -34,7 +34,7 @@ use Rattle.vsi_flows.specs.Text.{Walked, IsWalkOf, pair_line, walked_lines, IsWa
 use Rattle.vsi_flows.specs.Walks.{IsUnreached, FindWalks, FindsPair, IsFound, AreWalkLines}
 use Rattle.vsi_flows.proofs.RowLemmas.{row_is}
 
--- One row more.
+-- One more row.
 pub find_more : (ss : List Step) (last : ℕ) (rows : List (List ℕ)) (found : List (Option WalksTo)) (row : List ℕ)
     (o : Option WalksTo) → FindWalks ss last rows found → MatchOption o (IsUnreached row) (FindsWalks ss last row)
     → FindWalks ss last (rows ++ row ∷ []) (found ++ o ∷ [])
@@ -45,9 +45,9 @@ find_more ss last (r ∷ rows) (x ∷ found) row o h q = (h.0, find_more ss last
 
 module _ (L : Lattice) (laws : IsLattice L) (P : Profile) (p : Program) (res : IsWellFormed L p)
     (ds : AreClasses L p.declared) (flows : ℕ → ℕ → Bool) (are : AreFlowsOf P p flows) where
-  -- Along a row of fewest steps a step leads down from each place but the last.
+  -- In a row of fewest steps, a step leads down from each position but the last.
   module _ (b : ℕ) (row : List ℕ) (d : AreLeast flows (size_of p + 1) b row) where
-    -- From each place but the last a step of the program leads down.
+    -- From each position but the last, a step of the program leads down.
     down_at : (i n : ℕ) → get_or row i 0 ≡ suc n → suc n < 65535 → (i < size_of p)
         × ((s : Step) × Contains (steps_of P p) s × (s.source ≡ i) × (get_or row (row_of (size_of p) s.target) 0 ≡ n))
     down_at i n e lt =
@@ -78,7 +78,7 @@ module _ (L : Lattice) (laws : IsLattice L) (P : Profile) (p : Program) (res : I
         let r = down_at (row_of (size_of p) v) n e lt in
         (r.1.0, r.1.1, r.1.2 ∙ row_plain L laws P p res ds flows are v r.0, r.1.3)
 
-    -- Where no step is left the walk has come to the place.
+    -- A walk without a further step has reached the position.
     arrives : b ≤ size_of p → (a e : ℕ) (s : Step) (rest : List Step) → IsPath (steps_of P p) a (s ∷ rest) e
         → get_or row (row_of (size_of p) e) 0 ≡ 0 → e ≡ variable_at (size_of p) b
     arrives lb a e s rest w z =
@@ -90,7 +90,7 @@ module _ (L : Lattice) (laws : IsLattice L) (P : Profile) (p : Program) (res : I
         (d.sound i.0 (omega (arith, i.1)) (omega (arith, at))) in
         i.2 ∙ ap (variable_at (size_of p)) same
 
-    -- The row of a told pair's target has the pair's steps at its source.
+    -- The row of a pair's target has the pair's number of steps at its source.
     told_at : b ≤ size_of p → (r : Pair) → r.target ≡ variable_at (size_of p) b → r.source < size_of p
         → IsTold L P p r → (get_or row r.source 0 ≡ r.steps) × (get_or row r.source 0 < 65535)
     told_at lb r to from told =
@@ -106,7 +106,7 @@ module _ (L : Lattice) (laws : IsLattice L) (P : Profile) (p : Program) (res : I
         (subst (λ (x : ℕ). IsPath (steps_of P p) x u.0 (variable_at k b)) here u.1)) in
         (omega (arith, near.1, far, told.steps.count, u.2), near.0)
 
-    -- What finds the walks down the row finds that of a pair whose target is at the place.
+    -- The finder of walks down a row finds the walk of a pair whose target has this row.
     pub found_at : b ≤ size_of p → (r : Pair) → r.target ≡ variable_at (size_of p) b → r.source < size_of p
         → IsTold L P p r → 0 < r.steps → (w : WalksTo) → FindsWalks (steps_of P p) (size_of p) row w
         → FindsPair (steps_of P p) r w
@@ -135,7 +135,7 @@ module _ (L : Lattice) (laws : IsLattice L) (P : Profile) (p : Program) (res : I
         come (s ∷ rest) e q n z = arrives lb r.source e s rest q z ∙ sym to
 
   module _ (rows : List (List ℕ)) (found : List (Option WalksTo)) (find : FindWalks (steps_of P p) (size_of p) rows found) where
-    -- What stands at a place of a row that is reached.
+    -- The item at a position of a row that is reached.
     at_row : (b : ℕ) (row : List ℕ) → get_or rows b [] ≡ row → (a : ℕ) → 0 < get_or row a 0 → get_or row a 0 < 65535
         → (w : WalksTo) × (slice_get found b ≡ Some (Some w)) × FindsWalks (steps_of P p) (size_of p) row w
     at_row b row is a some small = by (slice_get found b) refl here
@@ -160,7 +160,7 @@ module _ (L : Lattice) (laws : IsLattice L) (P : Profile) (p : Program) (res : I
         by (Some None) e h = absurd (h a some small)
         by (Some (Some w)) e h = (w, e, h)
 
-    -- A pair that is told has what finds its walk.
+    -- A pair of the table has a finder for its walk.
     found_told : (b : ℕ) → b ≤ size_of p → AreLeast flows (size_of p + 1) b (get_or rows b []) → (r : Pair)
         → r.target ≡ variable_at (size_of p) b → r.source < size_of p → IsTold L P p r → 0 < r.steps
         → IsFound (steps_of P p) (size_of p) found r
@@ -173,7 +173,7 @@ module _ (L : Lattice) (laws : IsLattice L) (P : Profile) (p : Program) (res : I
           found_at b row d lb r to from told some at.0 at.2,
         )
 
-    -- A pair that is told is found where its row is.
+    -- If the finder of a pair's row is found, so is the pair's walk.
     found_one : ((b c : ℕ) → b ≤ size_of p → declared_class L p (variable_at (size_of p) b) ≡ Some c
         → AreLeast flows (size_of p + 1) b (get_or rows b [])) → (r : Pair) → IsTold L P p r
         → IsFound (steps_of P p) (size_of p) found r
@@ -188,7 +188,7 @@ module _ (L : Lattice) (laws : IsLattice L) (P : Profile) (p : Program) (res : I
             found_told i.0 i.1 (least i.0 told.high i.1 (ap (declared_class L p) (sym i.2) ∙ told.target)) r i.2
             (omega (arith, lt, q.0)) told (omega (arith, n))
 
--- Each pair of the table has what finds its walk.
+-- Each pair of the table has a finder for its walk.
 pub found_all : (L : Lattice) → IsLattice L → (P : Profile) (p : Program) → IsWellFormed L p
     → AreClasses L p.declared → (rows : List (List ℕ)) → AreRowsOf L P p rows → (found : List (Option WalksTo))
     → FindWalks (steps_of P p) (size_of p) rows found → (pairs : List Pair) → IsTable L P p pairs
@@ -197,14 +197,14 @@ found_all L laws P p res ds rows are found find pairs table =
     All-weaker (IsTold L P p) (IsFound (steps_of P p) (size_of p) found)
     (found_one L laws P p res ds are.flows are.same rows found find are.least) pairs table.told
 
--- What stands at one place is one.
+-- Two finders at one position are equal.
 pub same_walks : (w v : WalksTo) → Some (Some w) ≡ Some (Some v) → w ≡ v
 same_walks w v e = ap (λ o. elim o as (λ _. WalksTo) [
   | None ↦ w
   | Some x ↦ elim x as (λ _. WalksTo) [ None ↦ w | Some y ↦ y ]
 ]) e
 
--- What is read at the place of a pair finds its walk.
+-- The finder that is read at a pair's position finds its walk.
 pub finds_there : (ss : List Step) (last : ℕ) (found : List (Option WalksTo)) (pair : Pair)
     → IsFound ss last found pair → (i : ℕ) → i ≡ row_of last pair.target → (o : Option WalksTo) (w : WalksTo)
     → o ≡ Some w → i < length found → o ≡ get_or found i o → FindsPair ss pair w
@@ -213,7 +213,7 @@ finds_there ss last found pair h i e o w is lt at =
     subst (FindsPair ss pair)
     (same_walks h.0 w (sym h.1 ∙ ap (slice_get found) (sym e) ∙ got ∙ ap Some is)) h.2
 
--- A walk that arrived is one of the pair.
+-- A walk that arrived is a walk of the pair.
 pub arrived_walk : {V E : Type 0} (ss : List Step) (pair : Pair) (w : WalksTo) → FindsPair ss pair w
     → (f : V → List Step) (o : Result V E)
     → IfOk o (λ v. IsArrived ss w.last w.row.now pair.source pair.steps (f v))
@@ -225,7 +225,7 @@ arrived_walk ss pair w h f (Ok v) a = record {
 arrived_walk ss pair w h f (Err e) a = tt
 
 module _ (l : lattices.Lattice) (ss : List Step) (source : List ℕ) (r : Resolved) where
-  -- No pairs have no lines.
+  -- The empty list of pairs has no lines.
   pub lines_none : (text : List ℕ) → text ≡ [] → AreWalkLines l ss source r [] text
   lines_none text e = record {
     walked = [];
@@ -234,7 +234,7 @@ module _ (l : lattices.Lattice) (ss : List Step) (source : List ℕ) (r : Resolv
     lines = e;
   }
 
-  -- One pair more.
+  -- One more pair.
   pub lines_more : (pairs : List Pair) (text with more : List ℕ) (pair : Pair) (walk : List Step)
       → AreWalkLines l ss source r pairs text → IsWalkOf ss pair walk → with ≡ text ++ pair_line l r pair
       → more ≡ with ++ flat_map (step_line source r) walk → AreWalkLines l ss source r (pairs ++ pair ∷ []) more
@@ -253,7 +253,7 @@ module _ (l : lattices.Lattice) (ss : List Step) (source : List ℕ) (r : Resolv
       joined : (x y z : List ℕ) → (x ++ y) ++ z ≡ x ++ ((y ++ z) ++ [])
       joined x y z = append_assoc x y z ∙ ap (λ t. x ++ t) (sym (append-nil (y ++ z)))
 
--- The lines of a table's pairs, each with a walk, are those of the text.
+-- The text consists of the lines of a table's pairs, each with a walk.
 pub walks_text : (l : lattices.Lattice) (P : Profile) (text : List ℕ) (r : Resolved)
     → Stands (class_named l) text r → (pairs : List Pair) → IsTable (order l) P (program r) pairs
     → (out : List ℕ) → AreWalkLines l (steps_of P (program r)) text r pairs out → IsWalksText l P text out

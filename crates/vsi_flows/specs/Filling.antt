@@ -1,4 +1,4 @@
--- A table that is filled place by place.
+-- A table that is filled position by position.
 use Rattle.std.specs.Prelude.{◌≡◌, ◌⊎◌, ℕ, ◌<◌, ◌≤◌, List}
 use Rattle.std.specs.List.{All}
 use Rattle.vsi_lattice.specs.Order.{Lattice}
@@ -9,15 +9,15 @@ use Rattle.vsi_infer.specs.Shortest.{row_of}
 use Rattle.vsi_flows.specs.declared.pair.Pair.{Pair}
 use Rattle.vsi_flows.specs.Table.{IsJoined, IsTold, HasPair, AreSorted}
 
--- A place comes before another one, by its source and then by its target.
+-- A position comes before another one, by its source and then by its target.
 abbrev pub ComesBefore : ℕ → ℕ → ℕ → ℕ → Type 0
 ComesBefore x y a b = (x < a) ⊎ ((x ≡ a) × (y < b))
 
--- The pair's places come before these.
+-- The pair's position comes before this one.
 abbrev pub IsBefore : ℕ → ℕ → ℕ → Pair → Type 0
 IsBefore last a b r = ComesBefore r.source (row_of last r.target) a b
 
--- The list is the table as far as the places (a, b).
+-- The list is the table up to the position (a, b).
 pub record IsFilled (L : Lattice) (P : Profile) (p : Program) (a b : ℕ) (pairs : List Pair) : Type 0 where
   pub told : All (IsTold L P p) pairs
   pub sorted : AreSorted pairs

@@ -1,4 +1,4 @@
--- Independence: what isn't reached from a variable doesn't depend on it, whatever the classes are.
+-- Independence: a variable that isn't reached from another doesn't depend on it, whatever the classes are.
 use Rattle.std.specs.Prelude.{◌≡◌, ℕ, ◌<◌, List, length, slice_index_or, pos}
 use Rattle.std.specs.List.{Contains}
 use Rattle.vsi_lattice.specs.Order.{Lattice}
@@ -21,12 +21,12 @@ use Rattle.vsi_flows.specs.Table.{IsTable, HasPair}
 abbrev pub IsUnreached : Program → List ℕ → ℕ → Type 0
 IsUnreached p from b = (a : ℕ) (w : List Step) → Contains from a → IsPath (steps_of Base p) a w b → ⊥
 
--- Two stores have equal words in every location outside of the list.
+-- Two stores have equal words in every location outside the list.
 abbrev pub AgreeOutside : List ℕ → Store → Store → Type 0
 AgreeOutside from m m' =
     (l : ℕ) → (Contains from l → ⊥) → slice_index_or m l (pos 0) ≡ slice_index_or m' l (pos 0)
 
--- Two stores that differ in some globals alone evaluate to equal words in a global that isn't reached from these.
+-- Two stores that differ only in some globals evaluate to equal words in a global that isn't reached from these.
 abbrev pub Independence : Type 0
 Independence =
     (L : Lattice) (p : Program) (from : List ℕ) (b : ℕ) → IsWellFormed L p → b < length p.globals →
@@ -34,7 +34,7 @@ Independence =
     AgreeOutside from m₁ m₂ → Evaluates p.body m₁ m₁' → Evaluates p.body m₂ m₂' →
     slice_index_or m₁' b (pos 0) ≡ slice_index_or m₂' b (pos 0)
 
--- The same of two runs of the image of a text, whenever both halt.
+-- The same for two runs of a text's image, whenever both halt.
 abbrev pub ImageIndependence : Type 0
 ImageIndependence =
     (known : Known) (text : List ℕ) (im : Image) (r : Resolved) (from : List ℕ) (b : ℕ) → IsResolved r →
@@ -43,7 +43,7 @@ ImageIndependence =
     AgreeOutside from m₁ m₂ → Halts im (length r.globals) m₁ b₁ m₁' → Halts im (length r.globals) m₂ b₂ m₂' →
     slice_index_or m₁' b (pos 0) ≡ slice_index_or m₂' b (pos 0)
 
--- What the table of a profile has no pair of isn't reached.
+-- If a profile's table has no pair for two variables, the second isn't reached from the first.
 abbrev pub UnlistedIsUnreached : Type 0
 UnlistedIsUnreached =
     (L : Lattice) (P : Profile) (p : Program) (pairs : List Pair) (from : List ℕ) (b : ℕ) →

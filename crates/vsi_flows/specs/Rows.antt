@@ -1,4 +1,4 @@
--- Rows of distances: for each declared variable the fewest steps that lead to it.
+-- Rows of distances: for each declared variable, the fewest steps that lead to it.
 use Rattle.std.specs.Prelude.{◌≡◌, ℕ, ◌+◌, ◌<◌, ◌≤◌, Bool, List, [], length, slice_index, slice_index_or, Some}
 use Rattle.vsi_lattice.specs.Order.{Lattice}
 use Rattle.vsi_types.specs.declared.rules.Profile.{Profile}
@@ -9,20 +9,20 @@ use Rattle.vsi_infer.specs.Distances.{AreLeast}
 use Rattle.vsi_infer.specs.Flowing.{size_of, variable_at, AreFlowsOf}
 use Rattle.vsi_infer.specs.Paths.{IsPath}
 
--- There are such numbers for each place whose variable has a declared class.
+-- Each position whose variable has a declared class has a row of least numbers.
 abbrev pub AreLeastRows : Lattice → Program → (ℕ → ℕ → Bool) → ℕ → List (List ℕ) → Type 0
 AreLeastRows L p flows last rows =
     (b c : ℕ) → b ≤ last → declared_class L p (variable_at last b) ≡ Some c →
     AreLeast flows (last + 1) b (slice_index_or rows b [])
 
--- The number at each place is that of the fewest steps from its variable to b, or 65535 where no walk leads there.
+-- The number at each position is the fewest steps from its variable to b, or 65535 if no walk leads there.
 pub record IsRowTo (P : Profile) (p : Program) (b : ℕ) (row : List ℕ) : Type 0 where
   pub walk : (a : ℕ) → a ≤ size_of p → slice_index row a < 65535 →
       (w : List Step) × IsPath (steps_of P p) (variable_at (size_of p) a) w b × (length w ≡ slice_index row a)
   pub fewest : (a : ℕ) (w : List Step) → a ≤ size_of p → IsPath (steps_of P p) (variable_at (size_of p) a) w b →
       (slice_index row a < 65535) × (slice_index row a ≤ length w)
 
--- There is such a row for each place whose variable has a declared class.
+-- Each position whose variable has a declared class has such a row.
 abbrev pub AreRows : Lattice → Profile → Program → List (List ℕ) → Type 0
 AreRows L P p rows =
     (b c : ℕ) → b ≤ size_of p → declared_class L p (variable_at (size_of p) b) ≡ Some c →

@@ -1,4 +1,4 @@
--- The table of flows: which declared variables a chain of flow steps joins.
+-- The table of flows: the pairs of declared variables joined by a chain of flow steps.
 use Rattle.std.specs.Prelude.{◌≡◌, ◌⊎◌, ℕ, ◌<◌, ◌≤◌, true, List, [], ◌∷◌, length, Some}
 use Rattle.std.specs.List.{All, Contains}
 use Rattle.vsi_lattice.specs.Order.{Lattice}
@@ -9,7 +9,7 @@ use Rattle.vsi_types.specs.Walks.{declared_class, IsBad}
 use Rattle.vsi_infer.specs.Paths.{IsPath}
 use Rattle.vsi_flows.specs.declared.pair.Pair.{Pair}
 
--- So many steps lead from a to b, and no walk from a to b has fewer.
+-- This many steps lead from a to b, and no walk from a to b has fewer.
 pub record IsDistance (ss : List Step) (a b n : ℕ) : Type 0 where
   pub walk : List Step
   pub path : IsPath ss a walk b
@@ -26,7 +26,7 @@ pub record IsJoined (L : Lattice) (P : Profile) (p : Program) (a b : ℕ) : Type
   pub walk : List Step
   pub path : IsPath (steps_of P p) a walk b
 
--- What a pair tells is so: the walk's fewest steps, and whether the first class is at or below the second.
+-- The pair is true: its steps are the fewest of a walk, and it is allowed if the first class is at or below the second.
 pub record IsTold (L : Lattice) (P : Profile) (p : Program) (r : Pair) : Type 0 where
   pub apart : r.source ≡ r.target → ⊥
   pub low : ℕ
@@ -40,16 +40,16 @@ pub record IsTold (L : Lattice) (P : Profile) (p : Program) (r : Pair) : Type 0 
 abbrev pub HasPair : List Pair → ℕ → ℕ → Type 0
 HasPair pairs a b = (r : Pair) × Contains pairs r × (r.source ≡ a) × (r.target ≡ b)
 
--- A pair comes before another one: by the source, and then by the target, in the order of declarations.
+-- A pair comes before another one by its source, then by its target, in the order of declarations.
 abbrev pub Precedes : Pair → Pair → Type 0
 Precedes r s = (r.source < s.source) ⊎ ((r.source ≡ s.source) × (r.target < s.target))
 
--- Each pair comes before all that follow.
+-- Each pair comes before all later ones.
 abbrev pub AreSorted : List Pair → Type 0
 AreSorted [] = Unit {0}
 AreSorted (r ∷ rest) = All (Precedes r) rest × AreSorted rest
 
--- What each pair tells is so, each two variables that a walk joins are a pair, and the pairs are sorted.
+-- Each pair is true, every two variables joined by a walk are a pair, and the pairs are sorted.
 pub record IsTable (L : Lattice) (P : Profile) (p : Program) (pairs : List Pair) : Type 0 where
   pub told : All (IsTold L P p) pairs
   pub sorted : AreSorted pairs

@@ -41,16 +41,16 @@ pub record Walked : Type 0 where
   pub pair : Pair
   pub walk : List Step
 
--- The steps lead from the pair's source to its target, and are as many as it tells.
+-- The steps lead from the pair's source to its target, and the pair gives their number.
 pub record IsWalkOf (ss : List Step) (pair : Pair) (walk : List Step) : Type 0 where
   pub path : IsPath ss pair.source walk pair.target
   pub count : length walk ≡ pair.steps
 
--- The line of a pair and, below it, those of the steps of its walk.
+-- The line of a pair and, below it, the lines of its walk's steps.
 abbrev pub walked_lines : Lattice → List ℕ → Resolved → Walked → List ℕ
 walked_lines l source r w = pair_line l r w.pair ++ flat_map (step_line source r) w.walk
 
--- The lines are those of the table of the text's program, each pair with a walk of its fewest steps.
+-- The lines are those of the table of the text's program, and each pair has a walk of its fewest steps.
 pub record IsWalksText (l : Lattice) (P : Profile) (text out : List ℕ) : Type 0 where
   pub resolved : Resolved
   pub stands : Stands (class_named l) text resolved

@@ -1,4 +1,4 @@
--- What finds the walks of pairs.
+-- Finders for the walks of pairs.
 use Rattle.std.specs.Prelude.{◌≡◌, ℕ, ◌<◌, List, map, length, slice_index, Option, Some}
 use Rattle.std.specs.List.{All, AllZip, Contains, flat_map, slice_get}
 use Rattle.std.specs.Option.{MatchOption}
@@ -11,15 +11,15 @@ use Rattle.vsi_infer.specs.declared.shortest.WalksTo.{WalksTo}
 use Rattle.vsi_flows.specs.declared.pair.Pair.{Pair}
 use Rattle.vsi_flows.specs.Text.{Walked, IsWalkOf, walked_lines}
 
--- No other place is some steps away.
+-- No other position reaches the row's variable.
 abbrev pub IsUnreached : List ℕ → Type 0
 IsUnreached row = (a : ℕ) → 0 < slice_index row a → slice_index row a < 65535 → ⊥
 
--- Row by row there is what finds the walks down the row, but where the row has none.
+-- Each row has a finder for the walks down it, unless it has no walk.
 abbrev pub FindWalks : List Step → ℕ → List (List ℕ) → List (Option WalksTo) → Type 0
 FindWalks ss last rows found = AllZip (λ row o. MatchOption o (IsUnreached row) (FindsWalks ss last row)) rows found
 
--- Down this row the walk of the pair comes to its target.
+-- Down this row the walk of the pair reaches its target.
 pub record FindsPair (ss : List Step) (pair : Pair) (w : WalksTo) : Type 0 where
   pub known : All (Contains ss) w.known.steps.items
   pub down : LeadsDown ss w.last w.row.now
@@ -28,12 +28,12 @@ pub record FindsPair (ss : List Step) (pair : Pair) (w : WalksTo) : Type 0 where
   pub arrives : (walk : List Step) (e : ℕ) → IsPath ss pair.source walk e → length walk ≡ pair.steps
       → slice_index w.row.now (row_of w.last e) ≡ 0 → e ≡ pair.target
 
--- At the place of the pair's target stands what finds its walk.
+-- The finder at the position of the pair's target finds its walk.
 abbrev pub IsFound : List Step → ℕ → List (Option WalksTo) → Pair → Type 0
 IsFound ss last found pair =
     (w : WalksTo) × (slice_get found (row_of last pair.target) ≡ Some (Some w)) × FindsPair ss pair w
 
--- The text is that of the pairs, each with a walk.
+-- The text consists of the lines of the pairs, each with a walk.
 pub record AreWalkLines (l : Lattice) (ss : List Step) (source : List ℕ) (r : Resolved) (pairs : List Pair)
     (text : List ℕ) : Type 0 where
   pub walked : List Walked

@@ -1,4 +1,4 @@
-//! Why no table is made.
+//! Why there is no table.
 
 ghost use Rattle.std.specs.Prelude.{◌≡◌};
 ghost use Rattle.vsi_flows.specs.declared.error.FlowsError.TheVariants.{Memory};
@@ -6,7 +6,7 @@ ghost use Rattle.vsi_flows.specs.declared.error.FlowsError.TheVariants.{Memory};
 use std::alloc::{AllocError, AllocFailed};
 use thiserror::Error;
 
-/// Why no table is made.
+/// Why there is no table.
 #[derive(Debug, Drop, Error)]
 pub enum FlowsError {
     /// There was too little memory.

@@ -3,19 +3,19 @@
 ghost use Rattle.vsi_flows.specs.Independence.{Independence, ImageIndependence};
 ghost use Rattle.vsi_flows.specs.Independence.{UnlistedIsUnreached};
 
-/// Two stores that differ in some globals alone evaluate to equal words in a global that no walk
+/// Two stores that differ only in some globals evaluate to equal words in a global that no walk
 /// reaches from these, whatever the classes are.
 pub fn independence()
     ensures { Independence }
 {}
 
-/// The same of two runs of the image that `vsi_compiler::compile_in` makes of a text, whenever both
-/// halt.
+/// The same for two runs of the image that `vsi_compiler::compile_in` makes of a text, whenever
+/// both halt.
 pub fn image_independence()
     ensures { ImageIndependence }
 {}
 
-/// No walk reaches a global from others that the table of a profile has no pair of.
+/// If a profile's table has no pair from some globals to another, no walk leads from these to it.
 pub fn unlisted_is_unreached()
     ensures { UnlistedIsUnreached }
 {}

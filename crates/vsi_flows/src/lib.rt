@@ -1,13 +1,12 @@
 //! All flows of a program at a glance.
 //!
-//! A resolved program over a lattice comes in; out comes a pair for each two declared variables
-//! that a chain of flow steps joins, with the fewest steps of such a chain and whether the order
-//! allows it. A program is accepted exactly where no pair is refused (clause `verdict` of
-//! `flows_in`). That what isn't joined is independent, whatever the classes are, is a law and
-//! stands in `laws`.
+//! `flows_in` takes a resolved program over a lattice. It returns a pair for every two declared
+//! variables joined by a chain of flow steps, with the fewest steps of such a chain and whether the
+//! order allows it. A program is accepted exactly if no pair is refused (clause `verdict`).
+//! Variables that aren't joined are independent, whatever the classes are: that is a law in `laws`.
 //!
-//! To be believed: `specs/Independence`, `specs/Table`, `specs/Text`; the other files of `specs/`
-//! are stepping stones of proofs.
+//! To be believed: `specs/Independence`, `specs/Table`, `specs/Text`. The other files of `specs/`
+//! only support proofs.
 #![tactic(auto)]
 
 mod error;

@@ -2,14 +2,14 @@
 
 use vsi_scope::Var;
 
-/// Two different declared variables that a chain of flow steps joins.
+/// Two different declared variables joined by a chain of flow steps.
 #[derive(Clone, Copy, Debug, PartialEq, Eq)]
 pub struct Pair {
-    /// Where the chain begins.
+    /// The beginning of the chain.
     pub source: Var,
-    /// Where it ends; `vsi_types::LOOP` for the ending of loops.
+    /// The end of the chain; `vsi_types::LOOP` for the ending of loops.
     pub target: Var,
-    /// Whether the class of the source is at or below that of the target.
+    /// Whether the class of the source is at or below the class of the target.
     pub allowed: bool,
     /// The fewest steps of such a chain, at most 1,024.
     pub steps: u16,

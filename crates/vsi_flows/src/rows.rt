@@ -1,4 +1,4 @@
-//! For each declared variable the fewest steps that lead to it.
+//! For each declared variable, the fewest steps that lead to it.
 
 ghost use Rattle.std.specs.Prelude.{◌≡◌, ◌≤◌, ◌<◌, ◌+◌, ℕ, true, [], Some, map};
 ghost use Rattle.std.specs.Prelude.{slice_index, slice_index_or, IfOk};
@@ -15,14 +15,14 @@ use vsi_lattice::Classes;
 use vsi_scope::{Resolved, Var};
 use vsi_types::{LOOP, Profile};
 
-/// The variable at a place; the last place is that of the ending of loops.
+/// The variable at a position; the last position is the ending of loops.
 pub(crate) fn variable_at(last: u16, place: u16) -> Var
     ensures { result ≡ variable_at_of last place }
 {
     if place == last { LOOP } else { Var(place) }
 }
 
-/// The row of a place whose variable has a declared class, and an empty one for another place.
+/// The row of a position whose variable has a declared class, and an empty row for any other.
 fn row_for<C: Classes>(
     alloc: Heap,
     lattice: &C,
@@ -51,13 +51,13 @@ pub(crate) fn declarations(program: &Resolved<'_>) -> u16
     ensures count { result ≡ size_of (program_of program.now) }
     ensures small { result ≤ 1024 }
 {
-    // What `body` ensures says that the program is resolved, and so that its declarations are few.
+    // `body` ensures that the program is resolved, so its number of declarations is limited.
     let _body = program.body();
     program.globals().len() as u16 + program.letvars().len() as u16
 }
 
-/// For each declared variable the fewest flows that lead there from each place, and an empty row
-/// for the others.
+/// For each declared variable, the fewest flows that lead to it from each position, and an empty
+/// row for the others.
 pub(crate) fn rows_of<C: Classes>(
     alloc: Heap,
     lattice: &C,
@@ -79,7 +79,7 @@ pub(crate) fn rows_of<C: Classes>(
     Ok(rows)
 }
 
-/// The rows of a program, for each declared variable the fewest steps that lead there.
+/// The rows of a program: for each declared variable, the fewest steps that lead to it.
 pub(crate) fn program_rows<C: Classes>(
     alloc: Heap,
     profile: Profile,
@@ -95,7 +95,7 @@ pub(crate) fn program_rows<C: Classes>(
     rows_of(alloc, lattice, program, &flow, last)
 }
 
-/// The fewest flows between two places; 65535 where there is no walk.
+/// The fewest flows between two positions; 65535 if there is no walk.
 pub(crate) fn far(rows: &[Vec<u16>], source: u16, target: u16) -> u16
     ensures { result ≡
         slice_index (slice_index_or (map (λ r. r.items) rows.now) target []) source }

@@ -21,7 +21,7 @@ use vsi_lattice::Classes;
 use vsi_scope::{Resolved, Var};
 use vsi_types::Profile;
 
-/// The pair of a variable and the one at a place, if a walk joins them.
+/// The pair of a variable and the one at a position, if a walk joins them.
 fn pair_at<C: Classes>(
     lattice: &C,
     program: &Resolved<'_>,
@@ -111,7 +111,7 @@ pub(crate) fn pairs_of<C: Classes>(
         (map (λ r. r.items) rows.now)
         → IfOk result (λ t. IsTable (C.lattice lattice.now) P (program_of program.now) t.items) }
 {
-    // What `body` ensures says that the program is resolved, which the proofs ask for.
+    // `body` ensures that the program is resolved, which the proofs need.
     let _body = program.body();
     let last = declarations(program);
     let mut pairs = Vec::new(alloc);
@@ -137,7 +137,7 @@ fn table_of<C: Classes>(
     pairs_of(alloc, lattice, program, &rows)
 }
 
-/// Sees that some choice of classes is typable or some walk is bad.
+/// Establishes that some choice of classes is typable or some walk is bad.
 fn decide<C: Classes>(
     alloc: Heap,
     profile: Profile,
@@ -156,9 +156,9 @@ fn decide<C: Classes>(
     }
 }
 
-/// The pairs of declared variables that a chain of flow steps joins, by the source and then by
-/// the target, in the order of declarations, the ending of loops last. A variable beside itself
-/// is no pair.
+/// The pairs of declared variables joined by a chain of flow steps, sorted by the source, then by
+/// the target, in the order of declarations, with the ending of loops last. A variable forms no
+/// pair with itself.
 ///
 /// # Errors
 ///
@@ -176,7 +176,7 @@ pub fn flows_in<C: Classes>(
     ensures verdict { IfOk result (λ t. AreAllowed t.items
         ↔ HasChoice (C.lattice lattice.now) profile (program_of program.now)) }
 {
-    // What `body` ensures says that the program is resolved, which the proofs ask for.
+    // `body` ensures that the program is resolved, which the proofs need.
     let _body = program.body();
     let pairs = table_of(alloc, profile, lattice, program)?;
     decide(alloc, profile, lattice, program)?;

@@ -94,7 +94,7 @@ pub fn flows_text_of(
 ///
 /// # Errors
 ///
-/// Those of `read_source`: no flow is refused here.
+/// The errors of `read_source`: no flow is refused here.
 pub fn flows_text_in(
     alloc: Heap,
     profile: Profile,

@@ -29,7 +29,7 @@ use vsi_lattice::Lattice;
 use vsi_scope::Resolved;
 use vsi_types::{Profile, Step};
 
-/// Whether steps lead to the place of the row from another one.
+/// Whether steps lead to the row's position from any other.
 fn is_reached(row: &[u16]) -> bool
     ensures { result ≡ false → IsUnreached row.now }
 {
@@ -41,7 +41,7 @@ fn is_reached(row: &[u16]) -> bool
     false
 }
 
-/// What finds the walks down a row, where there are some. It takes one walk over the program.
+/// The finder for the walks down a row, if there are any. It takes one pass over the program.
 fn walks_down<'a>(
     alloc: Heap,
     profile: Profile,
@@ -58,7 +58,7 @@ fn walks_down<'a>(
     Ok(Some(walks_to(alloc, profile, program, row, last)?))
 }
 
-/// For each row what finds the walks down that row, where there are some.
+/// For each row, the finder for the walks down it, if there are any.
 fn found_in<'a>(
     alloc: Heap,
     profile: Profile,
@@ -76,7 +76,7 @@ fn found_in<'a>(
     Ok(found)
 }
 
-/// A walk of a pair's fewest steps.
+/// A walk with a pair's fewest steps.
 fn walk_of(
     alloc: Heap,
     profile: Profile,
@@ -95,7 +95,7 @@ fn walk_of(
     walks.walk_from(alloc, profile, program, pair.source, pair.steps)
 }
 
-/// The line of each pair and, below it, those of a walk.
+/// The line of each pair and, below it, the lines of a walk.
 fn walk_lines(
     alloc: Heap,
     profile: Profile,
@@ -123,9 +123,9 @@ fn walk_lines(
     Ok(text)
 }
 
-/// The table of a source text under a profile, as text, and below the line of each pair those of a
-/// walk of its fewest steps, as a refusal's explanation has them. Of these walks it is the one that
-/// a refusal would have, the first in the order of the program's steps, step by step.
+/// The table of a source text under a profile, as text. Below the line of each pair are the lines
+/// of a walk of its fewest steps, as in a refusal's explanation. It is the walk that a refusal
+/// would show: the first in the order of the program's steps, step by step.
 pub fn walks_text_of(
     alloc: Heap,
     profile: Profile,
@@ -149,7 +149,7 @@ pub fn walks_text_of(
 ///
 /// # Errors
 ///
-/// Those of `read_source`: no flow is refused here.
+/// The errors of `read_source`: no flow is refused here.
 pub fn walks_text_in(
     alloc: Heap,
     profile: Profile,

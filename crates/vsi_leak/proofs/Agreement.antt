@@ -10,7 +10,7 @@ use Rattle.vsi_scope.specs.Meaning.{Store}
 use Rattle.vsi_lattice.specs.Known.{Known}
 use Rattle.vsi_leak.specs.Agreement.{is_seen, AgreeIn}
 
--- The global at a place, as the code reads it.
+-- The global at a position, as the code reads it.
 pub global_at : (vs : List (Vec ℕ × Vec ℕ)) (i : ℕ) (v : Vec ℕ × Vec ℕ) → i < length vs → v ≡ get_or vs i v →
     slice_get (globals vs) i ≡ Some (global v)
 global_at vs i v lt is =
@@ -23,16 +23,16 @@ module _ (known : Known) (L : Lattice) (gs : List Global) (a : ℕ) (m m' : Stor
       (i : ℕ) (g : Global) (c : ℕ) → i < n → slice_get gs i ≡ Some g → known g.1 ≡ Some c → Below L c a →
       slice_index_or m i (pos 0) ≡ slice_index_or m' i (pos 0)
 
-  -- What stands for a class at or below is seen.
+  -- A global whose class is at or below the observer's is seen.
   seen_is : (g : Global) (c : ℕ) → known g.1 ≡ Some c → Below L c a → is_seen known L a g.1 ≡ true
   seen_is g c is below = ap (λ o. option_map_or (λ d. L.leq d a) o false) is ∙ below
 
-  -- What is seen stands for a class at or below.
+  -- A global that is seen has a class at or below the observer's.
   class_of : (o : Option ℕ) → option_map_or (λ c. L.leq c a) o false ≡ true → (c : ℕ) × (o ≡ Some c) × Below L c a
   class_of None h = cc
   class_of (Some c) h = (c, refl, h)
 
-  -- A global more agrees where its words are equal, if it is seen.
+  -- One more global agrees if it isn't seen or its words are equal.
   pub agree_more : (n : ℕ) (x : Global) → slice_get gs n ≡ Some x →
       (is_seen known L a x.1 ≡ true → slice_index_or m n (pos 0) ≡ slice_index_or m' n (pos 0)) → AgreeBefore n →
       AgreeBefore (n + 1)
@@ -50,7 +50,7 @@ module _ (known : Known) (L : Lattice) (gs : List Global) (a : ℕ) (m m' : Stor
           ap (λ j. slice_index_or m j (pos 0)) same ∙ equal seen
           ∙ sym (ap (λ j. slice_index_or m' j (pos 0)) same)
 
-  -- Stores that agree in as many globals as there are agree.
+  -- Stores that agree in as many globals as the image has agree.
   pub agree_all : (n : ℕ) → length gs ≤ n → AgreeBefore n → AgreeIn known L gs a m m'
   agree_all n all h i g c at is below =
       let within = slice_get_within gs i g at in h i g c (omega (arith, within, all)) at is below

@@ -1,4 +1,4 @@
--- Two stores show what their runs show, and nothing else.
+-- Two stores show the leak that their runs show, and no other.
 use Rattle.std.proofs.Common.{◌≡◌, ◌≢◌, ◌∙◌, ℕ, length, sym, ap, subst}
 use Rattle.vsi_image.specs.declared.instr.Image.{Image}
 use Rattle.vsi_lattice.specs.Order.{Lattice}
@@ -12,7 +12,7 @@ use Rattle.vsi_leak.specs.declared.found.Sign.TheVariants.{Words, Endings, Steps
 use Rattle.vsi_leak.specs.Leaks.{EndsSo, ShowNone, TellsApart}
 use Rattle.vsi_leak.proofs.Counts.{lasts, one_count, one_end}
 
--- Two endings are told alike: both are out of budget, or halt after as many instructions with the same words.
+-- Two endings are alike: both are out of budget, or both halt after equally many instructions with the same words.
 abbrev pub Alike : Ending → Ending → Type 0
 Alike (Halted n words) (Halted n' words') = (n ≡ n') × (words.items ≡ words'.items)
 Alike (Halted n words) OutOfBudget = ⊥
@@ -33,7 +33,7 @@ one_ending image m budget OutOfBudget (Halted n words) h h' =
 one_ending image m budget OutOfBudget OutOfBudget h h' = tt
 
 module _ (known : Known) (L : Lattice) (image : Image) (a : ℕ) where
-  -- Endings that are alike are told apart alike.
+  -- Endings that are alike are distinguished by the same signs.
   apart_alike : (s : Sign) (e₁ e₂ e₁' e₂' : Ending) → Alike e₁ e₁' → Alike e₂ e₂' →
       TellsApart known L image a s e₁ e₂ → TellsApart known L image a s e₁' e₂'
   apart_alike Words (Halted n w) (Halted k v) (Halted n' w') (Halted k' v') h h' t =
@@ -56,11 +56,11 @@ module _ (known : Known) (L : Lattice) (image : Image) (a : ℕ) where
   apart_alike Steps OutOfBudget e₂ e e' h h' t = absurd t
 
 module _ (known : Known) (L : Lattice) (image : Image) (budget : ℕ) (s : Sign) (a : ℕ) (m m' : Store) where
-  -- Words of which there isn't one per global show nothing.
+  -- A first list of words without one per global shows nothing.
   pub wrong_first : length m ≢ length image.globals.items → ShowNone known L image budget s a m m'
   wrong_first wrong leak of is = wrong (sym (ap length of.first) ∙ is.first_store)
 
-  -- Nor do they beside a store.
+  -- Neither does such a second list.
   pub wrong_second : length m' ≢ length image.globals.items → ShowNone known L image budget s a m m'
   wrong_second wrong leak of is = wrong (sym (ap length of.second) ∙ is.second_store)
 
@@ -72,7 +72,7 @@ module _ (known : Known) (L : Lattice) (image : Image) (budget : ℕ) (s : Sign)
       (subst (λ x. AgreeAt known L image a x leak.second.store.items) of.first
       (subst (λ c. AgreeAt known L image c leak.first.store.items leak.second.store.items) of.class is.agree)))
 
-  -- Stores whose runs aren't told apart show nothing.
+  -- Stores whose runs can't be told apart show nothing.
   pub not_apart : (e e' : Ending) → EndsSo image m budget e → EndsSo image m' budget e' →
       ¬ (TellsApart known L image a s e e') → ShowNone known L image budget s a m m'
   not_apart e e' ends ends' same leak of is =

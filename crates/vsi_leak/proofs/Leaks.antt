@@ -1,4 +1,4 @@
--- What a leak refutes, and what an accepted text shows.
+-- The property that a leak refutes, and the leaks that an accepted text can't show.
 use Rattle.std.proofs.Common.{ℕ, subst}
 use Rattle.vsi_image.specs.declared.instr.Image.{Image}
 use Rattle.vsi_lattice.specs.Order.{Lattice, IsClass}
@@ -17,7 +17,7 @@ use Rattle.vsi_leak.specs.Leaks.{IsFinding, EndsSo, TellsApart, TellsNoWords}
 module _ (known : Known) (L : Lattice) (image : Image) (budget a : ℕ) (within : IsClass L a) (m m' : Store)
     (fits : IsStoreOf image m) (fits' : IsStoreOf image m') (agree : AgreeAt known L image a m m')
     (secure : IsNoninterfering known L image) where
-  -- Two halted runs from stores that agree end in agreement, so that no words tell them apart.
+  -- Two halted runs from stores that agree end in agreement, so no final words tell them apart.
   untold : (e e' : Ending) → EndsSo image m budget e → EndsSo image m' budget e' →
       ¬ (TellsApart known L image a Words e e')
   untold (Halted n words) (Halted n' words') h h' apart =
@@ -32,7 +32,7 @@ leak_refutes known L image budget leak is words secure =
     is.second_store is.agree secure leak.first.ending leak.second.ending is.first_end is.second_end
     (subst (λ (s : Sign). TellsApart known L image leak.class s leak.first.ending leak.second.ending) words is.apart)
 
--- A search of an image that lets nothing flow where it may not tells no leak by words.
+-- A search of an image that lets no information flow where it may not reports no leak by words.
 pub tells_no_words : (known : Known) (L : Lattice) (image : Image) (budget : ℕ) (f : Finding) →
     IsFinding known L image budget f → IsNoninterfering known L image → TellsNoWords f
 tells_no_words known L image budget (finding.Leak leak) is secure =

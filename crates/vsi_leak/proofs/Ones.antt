@@ -1,4 +1,4 @@
--- Stores with a 1 in one global alone, one after another.
+-- Stores with a 1 in a single global, one after another.
 use Rattle.std.proofs.Common.{◌≡◌, ℕ, ◌+◌, ◌<◌, ◌≤◌, ◌⊎◌, inl, inr, pos, List, slice_set, sym, subst, arith}
 use Rattle.std.proofs.Math.Nat.{eq-or-lt_of_le}
 use Rattle.vsi_image.specs.declared.instr.Image.{Image}
@@ -9,7 +9,7 @@ use Rattle.vsi_leak.specs.declared.found.Sign.{Sign}
 use Rattle.vsi_leak.specs.Leaks.{NoOneShows, ShowNoneEither, zeros}
 
 module _ (known : Known) (L : Lattice) (image : Image) (budget : ℕ) (s : Sign) (a : ℕ) where
-  -- Where none of the first ones shows a leak, and the next doesn't, none of these shows one.
+  -- If none of the first stores shows a leak, and the next one doesn't, none of them does.
   pub one_more : (n : ℕ) (m : Store) → m ≡ zeros image → NoOneShows known L image budget s a n →
       ShowNoneEither known L image budget s a m (slice_set m n (pos 1)) → NoOneShows known L image budget s a (n + 1)
   one_more n m same before here i lt = by_order (eq-or-lt_of_le within)

@@ -7,13 +7,13 @@ use Rattle.vsi_lattice.specs.Order.{Lattice}
 use Rattle.vsi_lattice.specs.Known.{Known}
 use Rattle.vsi_leak.specs.Texts.{is_shown, shown_row, word_rows, shown_cell, left_cells, longest}
 
--- What is at a place stands first behind what is before it.
+-- A list from a position on begins with the item at it.
 drop_at : {X : Type 0} (xs : List X) (i : ℕ) (x : X) → slice_get xs i ≡ Some x → drop i xs ≡ x ∷ drop (suc i) xs
 drop_at [] i x h = absurd cc
 drop_at (y ∷ ys) zero x h = ap (λ z. z ∷ ys) (same_Some y x h)
 drop_at (y ∷ ys) (suc i) x h = drop_at ys i x h
 
--- The rows from a place on are its row and those behind it.
+-- The rows from a position on are its row and the later ones.
 pub rows_step : (known : Known) (L : Lattice) (to : Option ℕ) (width : ℕ) (gs : List (Vec ℕ × Vec ℕ))
     (ws vs : List ℤ) (i : ℕ) (g : Vec ℕ × Vec ℕ) (w v : ℤ) → slice_get gs i ≡ Some g → slice_get ws i ≡ Some w →
     slice_get vs i ≡ Some v →
@@ -29,7 +29,7 @@ rows_step known L to width gs ws vs i g w v hg hw hv =
     ∙ ap (λ n. shown_row (is_shown known L to g.1.items) width g.0.items w v
     ++ word_rows known L to width (globals (drop n gs)) (drop n ws) (drop n vs)) next
 
--- The left cells from a place on are that of its row and those behind it.
+-- The left cells from a position on are the cell of its row and the later ones.
 pub cells_step : (known : Known) (L : Lattice) (to : Option ℕ) (gs : List (Vec ℕ × Vec ℕ)) (ws vs : List ℤ) (i : ℕ)
     (g : Vec ℕ × Vec ℕ) (w v : ℤ) → slice_get gs i ≡ Some g → slice_get ws i ≡ Some w → slice_get vs i ≡ Some v →
     left_cells known L to (globals (drop i gs)) (drop i ws) (drop i vs)
@@ -52,7 +52,7 @@ longest_append (x ∷ xs) ys =
     omega arith in
     ap (max (length x)) rest ∙ around
 
--- A width that has met a cell is the greater of the one before and what is left, where it is so behind the cell.
+-- A width widened by a cell, and then by the remaining cells, is the greatest of all of them.
 pub widened : (width width' whole : ℕ) (cell rest cells : List (List ℕ)) → width' ≡ max width (longest cell) →
     cells ≡ cell ++ rest → max width (longest cells) ≡ whole → max width' (longest rest) ≡ whole
 widened width width' whole cell rest cells here parts all =

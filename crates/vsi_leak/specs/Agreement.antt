@@ -1,4 +1,4 @@
--- What a class sees of stores.
+-- The part of a store that a class sees.
 use Rattle.std.specs.Prelude.{◌≡◌, ℕ, pos, List, Bool, false, Some, slice_get, slice_index_or}
 use Rattle.std.specs.Option.{option_map_or}
 use Rattle.vsi_image.specs.Fields.{Global}
@@ -6,11 +6,11 @@ use Rattle.vsi_lattice.specs.Order.{Lattice, Below}
 use Rattle.vsi_scope.specs.Meaning.{Store}
 use Rattle.vsi_lattice.specs.Known.{Known}
 
--- A class sees what has a class name that stands for a class at or below it.
+-- A class sees a global whose class name denotes a class at or below it.
 abbrev pub is_seen : Known → Lattice → ℕ → List ℕ → Bool
 is_seen known L a name = option_map_or (λ c. L.leq c a) (known name) false
 
--- Two stores have equal words in each of these globals whose class name stands for a class at or below a.
+-- Two stores have equal words in each of these globals whose class is at or below a.
 abbrev pub AgreeIn : Known → Lattice → List Global → ℕ → Store → Store → Type 0
 AgreeIn known L gs a m m' =
     (i : ℕ) (g : Global) (c : ℕ) → slice_get gs i ≡ Some g → known g.1 ≡ Some c → Below L c a →

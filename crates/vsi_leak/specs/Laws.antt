@@ -1,4 +1,4 @@
--- What a leak refutes.
+-- The property that a leak refutes.
 use Rattle.std.specs.Prelude.{◌≡◌, ℕ}
 use Rattle.vsi_image.specs.declared.instr.Image.{Image}
 use Rattle.vsi_lattice.specs.Order.{Lattice}
@@ -8,7 +8,7 @@ use Rattle.vsi_leak.specs.declared.found.Leak.{Leak}
 use Rattle.vsi_leak.specs.declared.found.Sign.TheVariants.{Words}
 use Rattle.vsi_leak.specs.Leaks.{IsLeak}
 
--- An image of which a leak by words is shown lets something flow where it may not.
+-- An image with a leak by words lets information flow where it may not.
 abbrev pub LeakRefutes : Type 0
 LeakRefutes =
     (known : Known) (L : Lattice) (image : Image) (budget : ℕ) (leak : Leak) → IsLeak known L image budget leak →

@@ -1,4 +1,4 @@
--- What a leak is: two runs of an image that an observer at a class tells apart, though their stores agreed there.
+-- Leaks: two runs of an image that an observer at a class tells apart, though their stores agreed there.
 use Rattle.std.specs.Prelude.{◌≡◌, ◌≢◌, ℕ, ◌-◌, ◌<◌, ◌≤◌, pos, List, length, replicate, slice_set, Some, false, IfSome, IsTrue}
 use Rattle.std.specs.List.{Contains}
 use Rattle.vsi_image.specs.declared.instr.Image.{Image}
@@ -24,7 +24,7 @@ pub record GoesOn (image : Image) (m : Store) (budget : ℕ) : Type 0 where
   pub going : state.halted ≡ false
 
 -- The run from a store takes this many instructions: it has halted within them, with these words in the globals, and
--- had not within one fewer.
+-- had not halted within one fewer.
 pub record Takes (image : Image) (m : Store) (n : ℕ) (m' : Store) : Type 0 where
   pub ends : Ends image m n m'
   pub before : GoesOn image m (n - 1)
@@ -37,12 +37,12 @@ HasHalted image m n = (m' : Store) × Ends image m n m'
 abbrev pub TakesSome : Image → Store → ℕ → Type 0
 TakesSome image m n = (m' : Store) × Takes image m n m'
 
--- What is told of the end of a run from a store, within a budget, is so.
+-- The reported ending of a run from a store, within a budget, is true.
 abbrev pub EndsSo : Image → Store → ℕ → Ending → Type 0
 EndsSo image m budget (Halted n words) = (n ≤ budget) × Takes image m n words.items
 EndsSo image m budget OutOfBudget = GoesOn image m budget
 
--- An observer at a class tells the ends of two runs apart by this sign.
+-- An observer at a class can tell the ends of two runs apart by this sign.
 abbrev pub TellsApart : Known → Lattice → Image → ℕ → Sign → Ending → Ending → Type 0
 TellsApart known L image a Words (Halted n words) (Halted n' words') =
     ¬ (AgreeAt known L image a words.items words'.items)
@@ -55,8 +55,8 @@ TellsApart known L image a Steps (Halted n words) (Halted n' words') = n ≢ n'
 TellsApart known L image a Steps (Halted n words) OutOfBudget = ⊥
 TellsApart known L image a Steps OutOfBudget e = ⊥
 
--- A leak of an image at a class: two stores that agree at and below it, and their runs within a budget, which an
--- observer at the class tells apart.
+-- A leak of an image at a class: two stores that agree at and below it, with runs within a budget that an observer at
+-- the class can tell apart.
 pub record IsLeak (known : Known) (L : Lattice) (image : Image) (budget : ℕ) (leak : Leak) : Type 0 where
   pub class : IsClass L leak.class
   pub first_store : IsStoreOf image leak.first.store.items
@@ -66,14 +66,14 @@ pub record IsLeak (known : Known) (L : Lattice) (image : Image) (budget : ℕ) (
   pub second_end : EndsSo image leak.second.store.items budget leak.second.ending
   pub apart : TellsApart known L image leak.class leak.sign leak.first.ending leak.second.ending
 
--- A leak by this sign at this class, of runs from these stores.
+-- A leak by this sign at this class, in runs from these stores.
 pub record IsOf (s : Sign) (a : ℕ) (m m' : Store) (leak : Leak) : Type 0 where
   pub sign : leak.sign ≡ s
   pub class : leak.class ≡ a
   pub first : leak.first.store.items ≡ m
   pub second : leak.second.store.items ≡ m'
 
--- Two stores show no leak by this sign at this class: none is one of runs from them.
+-- Two stores show no leak by this sign at this class.
 abbrev pub ShowNone : Known → Lattice → Image → ℕ → Sign → ℕ → Store → Store → Type 0
 ShowNone known L image budget s a m m' = (leak : Leak) → IsOf s a m m' leak → ¬ (IsLeak known L image budget leak)
 
@@ -86,7 +86,7 @@ ShowNoneEither known L image budget s a m m' =
 abbrev pub zeros : Image → Store
 zeros image = replicate (length image.globals.items) (pos 0)
 
--- Beside the store of zeros none of these shows a leak: the store with a 1 in the i-th global alone, of the first n.
+-- Next to the store of zeros, no store with a 1 in a single one of the first n globals shows a leak.
 abbrev pub NoOneShows : Known → Lattice → Image → ℕ → Sign → ℕ → ℕ → Type 0
 NoOneShows known L image budget s a n =
     (i : ℕ) → i < n → ShowNoneEither known L image budget s a (zeros image) (slice_set (zeros image) i (pos 1))
@@ -98,54 +98,54 @@ pub record IsLeakBy (known : Known) (L : Lattice) (image : Image) (budget : ℕ)
   pub sign : leak.sign ≡ s
   pub class : leak.class ≡ a
 
--- What is told is by this sign at this class.
+-- The finding is by this sign at this class.
 abbrev pub IsAsked : Sign → ℕ → Finding → Type 0
 IsAsked s a (finding.Leak leak) = (leak.sign ≡ s) × (leak.class ≡ a)
 IsAsked s a (finding.Nothing pairs) = Unit {0}
 
--- No more pairs of runs are told of than these.
+-- The finding reports at most this many pairs of runs.
 abbrev pub TellsAtMost : ℕ → Finding → Type 0
 TellsAtMost tries (finding.Leak leak) = Unit {0}
 TellsAtMost tries (finding.Nothing pairs) = pairs ≤ tries
 
--- Where none is told and there were as many tries as globals, no 1 in one global alone shows a leak.
+-- If no leak is found and there were as many tries as globals, no 1 in a single global shows a leak.
 abbrev pub LeavesNoOne : Known → Lattice → Image → ℕ → Sign → ℕ → ℕ → Finding → Type 0
 LeavesNoOne known L image budget s a tries (finding.Leak leak) = Unit {0}
 LeavesNoOne known L image budget s a tries (finding.Nothing pairs) =
     length image.globals.items ≤ tries → NoOneShows known L image budget s a (length image.globals.items)
 
--- A text is searched for leaks by this sign: always by words, by what else is asked for.
+-- A search uses this sign: always words, and the others if they are requested.
 abbrev pub IsWantedSign : Wanted → Sign → Type 0
 IsWantedSign wanted Words = Unit {0}
 IsWantedSign wanted Endings = IsTrue wanted.endings
 IsWantedSign wanted Steps = IsTrue wanted.steps
 
--- What is told is by this sign.
+-- The finding is by this sign.
 abbrev pub IsBy : Sign → Finding → Type 0
 IsBy s (finding.Leak leak) = leak.sign ≡ s
 IsBy s (finding.Nothing pairs) = Unit {0}
 
--- What is told is at one of these classes.
+-- The finding is at one of these classes.
 abbrev pub IsAtOne : List ℕ → Finding → Type 0
 IsAtOne classes (finding.Leak leak) = Contains classes leak.class
 IsAtOne classes (finding.Nothing pairs) = Unit {0}
 
--- What is told is by a sign that a text is searched for.
+-- The finding is by a sign that the search uses.
 abbrev pub IsByWanted : Wanted → Finding → Type 0
 IsByWanted wanted (finding.Leak leak) = IsWantedSign wanted leak.sign
 IsByWanted wanted (finding.Nothing pairs) = Unit {0}
 
--- What is told of a text is at the class that is asked for, if one is, and by a sign that it is searched for.
+-- The finding is at the requested class, if there is one, and by a sign that the search uses.
 abbrev pub IsWanted : Wanted → Finding → Type 0
 IsWanted wanted (finding.Leak leak) = IfSome wanted.class (λ a. leak.class ≡ a) × IsWantedSign wanted leak.sign
 IsWanted wanted (finding.Nothing pairs) = Unit {0}
 
--- What a search ends with is a leak, or tells of none.
+-- A search ends with a leak, or without one.
 abbrev pub IsFinding : Known → Lattice → Image → ℕ → Finding → Type 0
 IsFinding known L image budget (finding.Leak leak) = IsLeak known L image budget leak
 IsFinding known L image budget (finding.Nothing pairs) = Unit {0}
 
--- No leak by words is told.
+-- The finding is no leak by words.
 abbrev pub TellsNoWords : Finding → Type 0
 TellsNoWords (finding.Leak leak) = leak.sign ≢ Words
 TellsNoWords (finding.Nothing pairs) = Unit {0}

@@ -12,7 +12,7 @@ use Rattle.vsi_leak.specs.declared.found.Ending.{Ending}
 use Rattle.vsi_leak.specs.declared.found.Ending.TheVariants.{Halted, OutOfBudget}
 use Rattle.vsi_leak.specs.declared.found.Leak.{Leak}
 
--- A cell with as many spaces behind it as bring it to the width.
+-- A cell filled up with spaces to the width.
 abbrev pub padded : ℕ → List ℕ → List ℕ
 padded width cell = cell ++ replicate (width - length cell) 32
 
@@ -24,12 +24,12 @@ mark left right = if bytes_eq left right then codes "  " else codes "* "
 abbrev pub row : ℕ → List ℕ → List ℕ → List ℕ
 row width left right = mark left right ++ padded width left ++ codes "  " ++ right ++ 10 ∷ []
 
--- Whether a global is shown: to a class what it sees, else all.
+-- Whether a global is shown: those that a class sees or, without a class, all.
 abbrev pub is_shown : Known → Lattice → Option ℕ → List ℕ → Bool
 is_shown known L None name = true
 is_shown known L (Some a) name = is_seen known L a name
 
--- The row of a global, where it is shown.
+-- The row of a global, if it is shown.
 abbrev pub shown_row : Bool → ℕ → List ℕ → ℤ → ℤ → List ℕ
 shown_row shown width name w v = if shown then row width (word_cell name w) (word_cell name v) else []
 
@@ -41,7 +41,7 @@ word_rows known L to width (g ∷ gs) (w ∷ ws) [] = []
 word_rows known L to width (g ∷ gs) (w ∷ ws) (v ∷ vs) =
     shown_row (is_shown known L to g.1) width g.0 w v ++ word_rows known L to width gs ws vs
 
--- The left cell of a row, where it is shown.
+-- The left cell of a row, if it is shown.
 abbrev pub shown_cell : Bool → List ℕ → ℤ → List (List ℕ)
 shown_cell shown name w = if shown then word_cell name w ∷ [] else []
 
@@ -58,18 +58,18 @@ abbrev pub longest : List (List ℕ) → ℕ
 longest [] = 0
 longest (cell ∷ cells) = max (length cell) (longest cells)
 
--- After how many instructions a run halts, or that it is out of budget.
+-- The number of instructions after which a run halts, or that it is out of budget.
 abbrev pub end_cell : Ending → List ℕ
 end_cell (Halted n words) = halted_cell n
 end_cell OutOfBudget = codes "out of budget"
 
--- What the class sees at the ends of both runs, where both halt.
+-- The rows that the class sees at the ends of both runs, if both halt.
 abbrev pub seen_rows : Known → Lattice → ℕ → ℕ → List Global → Ending → Ending → List ℕ
 seen_rows known L a width gs (Halted n ws) (Halted n' vs) = word_rows known L (Some a) width gs ws.items vs.items
 seen_rows known L a width gs (Halted n ws) OutOfBudget = []
 seen_rows known L a width gs OutOfBudget e = []
 
--- The left cells of what the class sees, where both runs halt.
+-- The left cells that the class sees, if both runs halt.
 abbrev pub seen_cells : Known → Lattice → ℕ → List Global → Ending → Ending → List (List ℕ)
 seen_cells known L a gs (Halted n ws) (Halted n' vs) = left_cells known L (Some a) gs ws.items vs.items
 seen_cells known L a gs (Halted n ws) OutOfBudget = []
@@ -82,7 +82,7 @@ left_width known L gs leak =
     (longest (left_cells known L None gs leak.first.store.items leak.second.store.items)))
     (longest (seen_cells known L leak.class gs leak.first.ending leak.second.ending))
 
--- The whole text: the class, both stores at the start, and what the class sees of both runs.
+-- The whole text: the class, both stores at the start, and the words that the class sees after both runs.
 abbrev pub leak_text_of : Known → Lattice → List ℕ → ℕ → List Global → Leak → List ℕ
 leak_text_of known L name width gs leak =
     codes "leak at " ++ name ++ 10 ∷ []

@@ -1,4 +1,4 @@
-//! Whether two stores show a leak: both runs are made, and what is told of them is compared.
+//! Whether two stores show a leak: both are run, and their endings compared.
 
 ghost use Rattle.std.specs.Prelude.{◌≡◌, ◌↔◌, IfOk, IfNone, IfSome, IsTrue};
 ghost use Rattle.vsi_lattice.specs.LatticeView.{class_named, order};
@@ -64,9 +64,9 @@ fn run_from(
     Ok(Run { store, ending })
 }
 
-/// The leak that two stores show at the class by this sign, and `None` exactly where they show
-/// none: both are run for at most `budget` instructions, and the first is the one that is to halt
-/// where the sign is `Endings`.
+/// The leak that two stores show at the class by this sign, and `None` exactly if they show none.
+/// Both are run for at most `budget` instructions. With the sign `Endings`, the first run must
+/// halt.
 pub fn check_leak(
     alloc: Global,
     lattice: &Lattice,

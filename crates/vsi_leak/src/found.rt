@@ -1,8 +1,8 @@
-//! What is searched for, and what is found.
+//! The subject of a search, and its findings.
 
 use vsi_lattice::Class;
 
-/// By what an observer tells two runs apart.
+/// The sign by which an observer tells two runs apart.
 #[derive(Clone, Copy, PartialEq, Eq)]
 pub enum Sign {
     /// Both runs halt, and a word that the class sees differs at their ends.
@@ -13,24 +13,24 @@ pub enum Sign {
     Steps,
 }
 
-/// What becomes of a run within a budget.
+/// The ending of a run within a budget.
 #[derive(Drop)]
 pub enum Ending {
-    /// It halts after this many instructions, HALT among them, with these words in the globals.
+    /// It halts after this many instructions, including HALT, with these words in the globals.
     Halted { instructions: u64, words: Vec<i64> },
     /// The budget is spent before a HALT.
     OutOfBudget,
 }
 
-/// A run: the words of the globals at its start, and what becomes of it.
+/// A run: the words of the globals at its start, and its ending.
 #[derive(Drop)]
 pub struct Run {
     pub store: Vec<i64>,
     pub ending: Ending,
 }
 
-/// Two runs from stores that agree at and below a class, which an observer at the class tells
-/// apart.
+/// Two runs from stores that agree at and below a class, and that an observer at the class can
+/// distinguish.
 #[derive(Drop)]
 pub struct Leak {
     pub class: Class,
@@ -39,8 +39,8 @@ pub struct Leak {
     pub second: Run,
 }
 
-/// How long is searched: the most instructions of a run, the most pairs of runs for a class and a
-/// sign, and the seed of what is drawn.
+/// The extent of a search: the budget of a run, the largest number of pairs of runs for a class and
+/// a sign, and the seed of the random stores.
 #[derive(Clone, Copy)]
 pub struct Effort {
     pub budget: u64,
@@ -48,11 +48,11 @@ pub struct Effort {
     pub seed: u64,
 }
 
-/// What a search ends with.
+/// The result of a search.
 #[derive(Drop)]
 pub enum Finding {
     /// A leak.
     Leak(Leak),
-    /// None was met in this many pairs of runs, which says nothing of other pairs.
+    /// No leak was found in this many pairs of runs, which says nothing about other pairs.
     Nothing { pairs: u64 },
 }

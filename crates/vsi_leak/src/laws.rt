@@ -2,7 +2,7 @@
 
 ghost use Rattle.vsi_leak.specs.Laws.{LeakRefutes};
 
-/// An image of which a leak by words is shown lets something flow where it may not.
+/// An image with a leak by words lets information flow where it may not.
 pub fn leak_refutes()
     ensures { LeakRefutes }
 {}

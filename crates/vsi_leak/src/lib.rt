@@ -1,10 +1,11 @@
-//! Leaks shown: two stores that agree at and below a class, and whose runs an observer at that
-//! class tells apart.
+//! Leaks: two stores that agree at and below a class, with runs that an observer at that class can
+//! tell apart.
 //!
-//! `find_leak` searches an image for them, `leak_of` and `leak_of_text` the image of a source text,
-//! accepted or not. What they answer has been run on the machine by `check_leak`, whose clauses
-//! `leak` and `none` say that it answers a leak exactly where two stores show one (`specs/Leaks`);
-//! what proposes them need not be believed. `leak_text` prints it. The laws of leaks are in `laws`.
+//! `find_leak` searches an image for leaks; `leak_of` and `leak_of_text` search the image of a
+//! source text, accepted or not. Every leak that they return has been run on the machine by
+//! `check_leak`. Its clauses `leak` and `none` say that it returns a leak exactly if the two stores
+//! show one (`specs/Leaks`). The code that proposes stores needs no proof. `leak_text` prints a
+//! leak. The laws of leaks are in `laws`.
 //!
 //! To be believed: all files of `specs/`.
 #![tactic(auto)]

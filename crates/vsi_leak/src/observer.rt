@@ -1,4 +1,4 @@
-//! What an observer at a class sees of stores.
+//! The globals of a store that an observer at a class sees.
 
 ghost use Rattle.std.specs.Prelude.{◌≡◌, ◌≢◌, ◌↔◌, IsTrue, true, false, pos, slice_index_or};
 ghost use Rattle.vsi_image.specs.Fields.{globals};
@@ -11,7 +11,7 @@ use crate::values::word_at;
 use vsi_image::Image;
 use vsi_lattice::{Class, Classes, Lattice};
 
-/// Whether the class sees what has this class name.
+/// Whether the class sees a global with this class name.
 pub(crate) fn sees(lattice: &Lattice, class: Class, name: &[u8]) -> bool
     requires { IsClass (order lattice.now) class }
     ensures { result ≡ is_seen (class_named lattice.now) (order lattice.now) class name.now }
@@ -22,7 +22,7 @@ pub(crate) fn sees(lattice: &Lattice, class: Class, name: &[u8]) -> bool
     }
 }
 
-/// Whether the class sees a global of this class name, whose words differ at this place.
+/// Whether the class sees a global of this class name, and its words differ at this position.
 fn differs(
     lattice: &Lattice,
     class: Class,

@@ -1,4 +1,4 @@
-//! Whether two stores seem to show a leak. What is proposed here is judged by `check_leak`.
+//! Whether two stores seem to show a leak. `check_leak` checks what is proposed here.
 
 ghost use Rattle.vsi_lattice.specs.LatticeView.{order};
 ghost use Rattle.vsi_lattice.specs.Order.{IsClass};
@@ -11,8 +11,8 @@ use vsi_image::{Image, Instr, Verified};
 use vsi_lattice::{Class, Lattice};
 use vsi_machine::Outcome;
 
-/// What pairs of runs are tried for: an image, the globals that the class sees, a sign and a
-/// budget.
+/// The conditions of a search for a pair of runs: an image, the globals that the class sees, a sign
+/// and a budget.
 #[derive(Drop)]
 pub(crate) struct Probe<'a> {
     pub(crate) alloc: Global,
@@ -55,7 +55,7 @@ pub(crate) fn hidden_sources(
     Ok(sources)
 }
 
-/// Adds a global that the code reads and the class doesn't see, where it isn't there yet.
+/// Adds a global that the code reads and the class doesn't see, unless it is in the list.
 fn add_source(
     sources: &mut Vec<usize>,
     seen: &[bool],
@@ -81,7 +81,7 @@ pub(crate) fn reads(image: &Image, place: usize) -> bool {
     false
 }
 
-/// Whether a word that is seen differs.
+/// Whether the stores differ in a word that is seen.
 fn differ(seen: &[bool], first: &[i64], second: &[i64]) -> bool {
     for ((is_seen, word), other) in seen.iter().zip(first.iter()).zip(second.iter()) {
         if *is_seen && *word != *other {
@@ -92,7 +92,7 @@ fn differ(seen: &[bool], first: &[i64], second: &[i64]) -> bool {
 }
 
 impl<'a> Probe<'a> {
-    /// Whether the runs from two stores seem to be told apart, under `Endings` in either order.
+    /// Whether the runs from two stores seem to be distinguishable. With `Endings` either may halt.
     pub(crate) fn distinguishes(&self, first: &[i64], second: &[i64]) -> Result<bool, AllocError> {
         let mut one = started(self.alloc, self.verified, first)?;
         let mut other = started(self.alloc, self.verified, second)?;
@@ -112,7 +112,7 @@ impl<'a> Probe<'a> {
         }
     }
 
-    /// How many instructions a run takes that halts, 0 where it doesn't.
+    /// The number of instructions that a halting run takes, or 0 for any other run.
     fn instructions(&self, store: &[i64]) -> Result<u64, AllocError> {
         match ending(self.alloc, self.verified, store, self.budget)? {
             Ending::Halted { instructions, .. } => Ok(instructions),

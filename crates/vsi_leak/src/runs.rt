@@ -1,4 +1,4 @@
-//! Runs of an image, and how many instructions they take.
+//! Runs of an image, and the number of instructions they take.
 
 ghost use Rattle.std.specs.Prelude.{◌≡◌, ◌≤◌, false, IfOk, IsTrue};
 ghost use Rattle.vsi_image.specs.Meaning.{start};
@@ -41,9 +41,8 @@ fn goes_on(
     }
 }
 
-/// How many instructions a run takes that halts within the budget: the number that is known to be
-/// too small is doubled while it is, and then halves the way to the one that is known to be large
-/// enough.
+/// The number of instructions of a run that halts within the budget. It doubles a lower bound as
+/// long as the run goes on within the double, and then halves the distance to the upper bound.
 fn instructions_of(
     alloc: Global,
     verified: &Verified,
@@ -67,7 +66,7 @@ fn instructions_of(
     Ok(enough)
 }
 
-/// What becomes of the run within the budget.
+/// The ending of the run within the budget.
 pub(crate) fn ending(
     alloc: Global,
     verified: &Verified,

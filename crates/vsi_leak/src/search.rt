@@ -18,7 +18,7 @@ use std::alloc::{AllocError, Global};
 use vsi_image::{Image, Verified};
 use vsi_lattice::{Class, Lattice};
 
-/// What is changed, and to which words.
+/// The globals to change, and the words to try.
 #[derive(Drop)]
 struct Plan {
     sources: Vec<usize>,
@@ -46,8 +46,8 @@ fn zeros(alloc: Global, image: &Image) -> Result<Vec<i64>, AllocError>
     Ok(words)
 }
 
-/// Changes one hidden global at a time, from a store of zeros, to each of the words; answers
-/// whether the pair then seems to show a leak, and how many pairs were tried.
+/// Changes one hidden global at a time, from a store of zeros, to each of the words. Returns
+/// whether the last pair seems to show a leak, and how many pairs were tried.
 fn sweep(
     probe: &Probe<'_>,
     plan: &Plan,
@@ -73,7 +73,7 @@ fn sweep(
     Ok((false, pairs))
 }
 
-/// Takes random words for what is read, and changes one hidden global, or several.
+/// Draws random words for the globals that are read, and changes one or several hidden globals.
 fn randomise(plan: &Plan, random: &mut SplitMix64, pair: &mut Pair) {
     for place in plan.read.iter() {
         let word = if random_below(random, 2) == 0 {
@@ -93,7 +93,7 @@ fn randomise(plan: &Plan, random: &mut SplitMix64, pair: &mut Pair) {
     }
 }
 
-/// Tries pairs until one seems to show a leak; answers whether one does, and how many were tried.
+/// Tries pairs until one seems to show a leak. Returns whether one does, and how many were tried.
 fn propose(
     probe: &Probe<'_>,
     plan: &Plan,
@@ -143,8 +143,8 @@ fn leak_of(
     }
 }
 
-/// The leak that a 1 in one global alone shows beside a store of zeros. A search has tried these
-/// pairs, which are the smallest; that none of them shows one is said by the check made here.
+/// The leak that a 1 in a single global shows next to a store of zeros. The search has already
+/// tried these smallest pairs; the check here proves that none of them shows a leak.
 fn leak_of_ones(
     alloc: Global,
     lattice: &Lattice,
@@ -174,7 +174,7 @@ fn leak_of_ones(
     Ok(None)
 }
 
-/// What is changed where a probe is made, the preferred globals first, and to which words.
+/// The plan of a probe: the globals to change, the preferred ones first, and the words to try.
 fn plan_of(probe: &Probe<'_>, image: &Image, preferred: &[usize]) -> Result<Plan, AllocError> {
     let sources = hidden_sources(probe.alloc, &probe.seen, image, preferred)?;
     let read = read_globals(probe.alloc, image)?;
@@ -193,8 +193,8 @@ fn zero_pair(alloc: Global, image: &Image) -> Result<Pair, AllocError> {
     Ok(Pair { first, second })
 }
 
-/// Two stores that seem to show a leak, made small, and how many pairs were tried for them; `None`
-/// where none were met.
+/// Two stores that seem to show a leak, made small, and the number of pairs tried; `None` if no
+/// pair was found.
 fn small_pair(
     probe: &Probe<'_>,
     plan: &Plan,
@@ -211,7 +211,7 @@ fn small_pair(
     Ok((Some(pair), pairs))
 }
 
-/// The pair of `small_pair` for an image at a class, by a sign. None is tried by words where the
+/// The pair of `small_pair` for an image at a class, by a sign. For words, no pair is tried if the
 /// class sees nothing.
 fn proposed(
     alloc: Global,
@@ -242,7 +242,7 @@ fn proposed(
     small_pair(&probe, &plan, pair, effort)
 }
 
-/// `find_leak`, for which the hidden globals at these places are changed before others.
+/// Like `find_leak`, but changes the hidden globals at these positions first.
 pub(crate) fn find_leak_from(
     alloc: Global,
     lattice: &Lattice,
@@ -277,9 +277,9 @@ pub(crate) fn find_leak_from(
     }
 }
 
-/// Searches an image for a leak at the class by this sign: first each hidden global alone is
-/// changed in a store of zeros, to words of the program and their neighbours; then stores are drawn
-/// from the seed. A leak is made small before it is answered: few globals that differ, and small
+/// Searches an image for a leak at the class by this sign. First it changes each hidden global
+/// alone in a store of zeros, to words of the program and their neighbours. Then it draws stores
+/// from the seed. It makes a leak small before it returns it: few globals that differ, and small
 /// numbers. Equal arguments give equal answers.
 pub fn find_leak(
     alloc: Global,

@@ -1,4 +1,4 @@
-//! Smaller stores that seem to show the same.
+//! Smaller stores that still seem to show the leak.
 
 use crate::propose::Probe;
 use crate::values::{put, word_at};
@@ -15,8 +15,8 @@ pub(crate) struct Pair {
 }
 
 impl Pair {
-    /// Tries other words at a place, keeps them where the runs still seem to be told apart, and
-    /// answers whether it did.
+    /// Tries other words at a position, and keeps them if the runs still seem to be
+    /// distinguishable. Returns whether it kept them.
     fn attempt(
         &mut self,
         probe: &Probe<'_>,
@@ -37,7 +37,7 @@ impl Pair {
         Ok(false)
     }
 
-    /// Tries equal words at a place where they differ.
+    /// Tries equal words at a position where they differ.
     fn equalise(&mut self, probe: &Probe<'_>, place: usize) -> Result<bool, AllocError> {
         let (one, other) = (word_at(&self.first, place), word_at(&self.second, place));
         if one == other {
@@ -49,8 +49,8 @@ impl Pair {
         self.attempt(probe, place, (other, other))
     }
 
-    /// Tries the first store's word at a place without a part of it, all of it first, and the
-    /// second's with it where the two are equal.
+    /// Tries smaller words in the first store at a position: 0 first, then the word less a part of
+    /// it. The second store's word changes too if the two are equal.
     fn lessen_first(&mut self, probe: &Probe<'_>, place: usize) -> Result<bool, AllocError> {
         let (one, other) = (word_at(&self.first, place), word_at(&self.second, place));
         let mut part = one;
@@ -68,8 +68,8 @@ impl Pair {
         Ok(false)
     }
 
-    /// Tries the second store's word at a place without a part of it, where it differs from the
-    /// first's.
+    /// Tries smaller words in the second store at a position, if its word differs from the first
+    /// store's.
     fn lessen_second(&mut self, probe: &Probe<'_>, place: usize) -> Result<bool, AllocError> {
         let (one, other) = (word_at(&self.first, place), word_at(&self.second, place));
         let mut part = other;
@@ -85,7 +85,7 @@ impl Pair {
         Ok(false)
     }
 
-    /// Tries absolute values in place of words below 0.
+    /// Tries the absolute values of words below 0.
     fn take_absolute(&mut self, probe: &Probe<'_>, place: usize) -> Result<bool, AllocError> {
         let (one, other) = (word_at(&self.first, place), word_at(&self.second, place));
         if one >= 0 && other >= 0 {
@@ -95,7 +95,7 @@ impl Pair {
         self.attempt(probe, place, words)
     }
 
-    /// One round over all globals; answers whether something became smaller.
+    /// One round over all globals. Returns whether something became smaller.
     fn round(&mut self, probe: &Probe<'_>) -> Result<bool, AllocError> {
         let mut changed = false;
         for place in 0..self.first.len() {
@@ -112,7 +112,7 @@ impl Pair {
         Ok(changed)
     }
 
-    /// Rounds until nothing changes.
+    /// Repeats rounds until nothing changes.
     pub(crate) fn shrink(&mut self, probe: &Probe<'_>) -> Result<(), AllocError> {
         for _ in 0..ROUNDS {
             if !self.round(probe)? {

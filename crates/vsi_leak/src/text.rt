@@ -13,7 +13,7 @@ use vsi_image::Image;
 use vsi_lattice::{Class, Lattice};
 use vsi_machine::{halted_cell, word_cell};
 
-/// A cell with as many spaces behind it as bring it to the width.
+/// A cell filled up with spaces to the width.
 fn padded(alloc: Global, width: usize, cell: &[u8]) -> Result<Vec<u8>, AllocError>
     ensures { IfOk result (λ wide. wide.items ≡ spec.padded width cell.now) }
 {
@@ -31,7 +31,7 @@ fn mark(left: &[u8], right: &[u8]) -> &'static [u8]
     if left == right { b"  " } else { b"* " }
 }
 
-/// A row of two cells, marked where they differ.
+/// A row of two cells, marked if they differ.
 fn put_row(
     alloc: Global,
     text: &mut Vec<u8>,
@@ -49,7 +49,7 @@ fn put_row(
     text.extend_from_slice(b"\n")
 }
 
-/// After how many instructions a run halts, or that it is out of budget.
+/// The number of instructions after which a run halts, or that it is out of budget.
 fn end_cell(alloc: Global, ending: &Ending) -> Result<Vec<u8>, AllocError>
     ensures { IfOk result (λ cell. cell.items ≡ spec.end_cell ending.now) }
 {
@@ -59,7 +59,8 @@ fn end_cell(alloc: Global, ending: &Ending) -> Result<Vec<u8>, AllocError>
     }
 }
 
-/// Whether a global of this class name is shown: to a class what it sees, else all.
+/// Whether a global of this class name is shown: those that the class sees or, without a class,
+/// all.
 fn is_shown(lattice: &Lattice, to: &Option<Class>, name: &[u8]) -> bool
     requires { IfSome to.now (IsClass (order lattice.now)) }
     ensures { result ≡ spec.is_shown (class_named lattice.now) (order lattice.now) to.now name.now }
@@ -70,7 +71,7 @@ fn is_shown(lattice: &Lattice, to: &Option<Class>, name: &[u8]) -> bool
     }
 }
 
-/// The row of a global, where it is shown.
+/// The row of a global, if it is shown.
 fn put_word_row(
     alloc: Global,
     text: &mut Vec<u8>,
@@ -150,7 +151,7 @@ fn put_seen(
     }
 }
 
-/// The greater of a width and the length of a global's left cell, where its row is shown.
+/// The greater of a width and the length of a global's left cell, if its row is shown.
 fn wider(
     alloc: Global,
     width: usize,
@@ -219,7 +220,7 @@ fn left_width(
     }
 }
 
-/// The row of what both runs end with.
+/// The row of both endings.
 fn put_ends(alloc: Global, text: &mut Vec<u8>, width: usize, leak: &Leak) -> Result<(), AllocError>
     ensures { OnOk result (text.new.items ≡ text.old.items
         ++ spec.row width (spec.end_cell leak.now.first.ending)
@@ -240,8 +241,8 @@ fn heading(alloc: Global, name: &[u8]) -> Result<Vec<u8>, AllocError>
     Ok(text)
 }
 
-/// The text of a leak: both stores side by side, then what the class sees of both runs and after
-/// how many instructions they halt. A star stands before each row whose sides differ.
+/// The text of a leak: both stores side by side, then the words that the class sees after both
+/// runs, and the number of instructions of each. A star marks each row whose sides differ.
 pub fn leak_text(
     alloc: Global,
     lattice: &Lattice,

@@ -1,5 +1,5 @@
-//! The words that a search tries: those of the program and their neighbours, small ones, the
-//! extremes, and drawn ones.
+//! The words that a search tries: the program's words and their neighbours, small words, the
+//! extremes, and random words.
 
 ghost use Rattle.std.specs.Prelude.{◌≡◌, pos, slice_index_or};
 
@@ -8,10 +8,10 @@ use rand_xoshiro::SplitMix64;
 use std::alloc::{AllocError, Global};
 use vsi_image::{Image, Instr};
 
-/// The most words that are taken from a program.
+/// The largest number of words taken from a program.
 const MOST_VALUES: usize = 256;
 
-/// A word more, where it isn't there yet and there is room.
+/// Adds a word, unless it is there or the list is full.
 fn add(values: &mut Vec<i64>, word: i64) -> Result<(), AllocError> {
     if values.len() < MOST_VALUES && !values.contains(&word) {
         values.push(word)?;
@@ -19,7 +19,7 @@ fn add(values: &mut Vec<i64>, word: i64) -> Result<(), AllocError> {
     Ok(())
 }
 
-/// 1, -1 and 0, the numbers of the code with what stands beside them, and the extremes.
+/// 1, -1 and 0, the numbers in the code with their neighbours, and the extremes.
 pub(crate) fn values_of(alloc: Global, image: &Image) -> Result<Vec<i64>, AllocError> {
     let mut values = Vec::new(alloc);
     for word in [1, 0, -1, i64::MAX, i64::MIN].iter() {
@@ -35,7 +35,7 @@ pub(crate) fn values_of(alloc: Global, image: &Image) -> Result<Vec<i64>, AllocE
     Ok(values)
 }
 
-/// A number below a bound that isn't 0; 0 where it is.
+/// A random number below a bound, or 0 if the bound is 0.
 pub(crate) fn random_below(random: &mut SplitMix64, bound: usize) -> usize {
     match random.next_u64().checked_rem(bound as u64) {
         Some(number) => number as usize,
@@ -43,7 +43,7 @@ pub(crate) fn random_below(random: &mut SplitMix64, bound: usize) -> usize {
     }
 }
 
-/// A word: mostly one of the values, seldom any.
+/// A random word: usually one of the values, rarely any.
 pub(crate) fn random_word(random: &mut SplitMix64, values: &[i64]) -> i64 {
     if random_below(random, 8) == 0 {
         return random.next_u64().cast_signed();
@@ -52,14 +52,14 @@ pub(crate) fn random_word(random: &mut SplitMix64, values: &[i64]) -> i64 {
     word_at(values, place)
 }
 
-/// The word at a place, 0 where there is none.
+/// The word at a position, or 0 if there is none.
 pub(crate) fn word_at(words: &[i64], place: usize) -> i64
     ensures { result ≡ slice_index_or words.now place (pos 0) }
 {
     if place < words.len() { words[place] } else { 0 }
 }
 
-/// Puts a word at a place, where there is one.
+/// Puts a word at a position, if it exists.
 pub(crate) fn put(words: &mut [i64], place: usize, word: i64) {
     if place < words.len() {
         words[place] = word;

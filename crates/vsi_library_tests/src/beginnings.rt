@@ -1,16 +1,16 @@
-//! What could stand behind the beginnings of programs, worked by hand.
+//! The continuations of unfinished programs, worked by hand.
 
 use std::alloc::Global;
 use vsi_expected::{Sort, expected_after};
 use vsi_syntax::lex;
 
-/// What is told behind a text.
+/// The text that lists the continuations of a text.
 fn told(alloc: Global, text: &[u8]) -> Option<Vec<u8>> {
     let tokens = lex(alloc, text).ok()?;
     expected_after(alloc, &tokens).ok()?.words(alloc).ok()
 }
 
-/// Whether exactly these words are told behind a text.
+/// Whether the continuations of a text are exactly these.
 fn tells(alloc: Global, text: &[u8], words: &[u8]) -> bool {
     match told(alloc, text) {
         Some(found) => found.as_slice() == words,
@@ -96,7 +96,7 @@ fn no_beginnings(rt: HostRuntime) {
     }
 }
 
-/// Whether a sort is told behind `x := 1`.
+/// Whether a sort is listed after `x := 1`.
 fn is_told(alloc: Global, sort: Sort) -> Option<bool> {
     let tokens = lex(alloc, b"x := 1").ok()?;
     Some(expected_after(alloc, &tokens).ok()?.has(sort))

@@ -1,4 +1,4 @@
-//! Numbers of instructions, and what is told of them.
+//! Numbers of instructions, and the reports of them.
 
 use std::alloc::Global;
 use vsi_compiler::unjudged_image;
@@ -9,8 +9,8 @@ const TWO: &[u8] = b"classes = [\"L\", \"H\"]\nbelow = [[\"L\", \"H\"]]\n";
 
 const SUM: &[u8] = b"var x : L; x := 1 + 2";
 
-/// Each turn does LOAD, PUSH, LT, JZ, LOAD, PUSH, ADD, STORE and JMP, and behind the last one the
-/// first four are done again, and HALT.
+/// Each turn does LOAD, PUSH, LT, JZ, LOAD, PUSH, ADD, STORE and JMP. After the last turn the first
+/// four run again, and then HALT.
 const TURNS: &[u8] = b"var x : L; while x < 3000 do x := x + 1";
 
 const ENDLESS: &[u8] = b"var x : L; while x < 1 do x := x";
@@ -23,7 +23,7 @@ fn count_of(alloc: Global, text: &[u8], budget: u64) -> Option<(u64, bool)> {
     Some((count.instructions, count.outcome == Outcome::Halted))
 }
 
-/// Whether this is told of a run from 0.
+/// Whether this is the report of a run from 0.
 fn is_told(alloc: Global, text: &[u8], budget: u64, told: &[u8]) -> Option<bool> {
     let lattice = read_lattice(alloc, TWO).ok()?;
     let verified = unjudged_image(alloc, &lattice, text).ok()?;

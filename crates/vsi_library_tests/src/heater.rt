@@ -1,5 +1,5 @@
-//! A heater that its owner and everyone drive over one store, and how its cycles end. A whole day
-//! of it is told by the transcript `cases/faulty-lines.txt`.
+//! A heater that its owner and everyone drive over one store, and how its cycles end. The
+//! transcript `cases/faulty-lines.txt` covers a whole day of it.
 
 ghost use Rattle.std.specs.Prelude.{◌≡◌, IfSome, length};
 ghost use Rattle.vsi_drive.specs.Control.{control};
@@ -50,7 +50,7 @@ fn controller<'a>(
     }
 }
 
-/// Whether lines of a class write the text.
+/// Whether the lines of a class write this text.
 fn writes(
     alloc: Global,
     controller: &Controller,
@@ -66,7 +66,7 @@ fn writes(
     }
 }
 
-/// Whether a cycle of the line ends so.
+/// Whether a cycle of the line has this end.
 fn ends(
     alloc: Global,
     controller: &Controller,
@@ -82,17 +82,17 @@ fn ends(
     }
 }
 
-/// What the owner's line writes.
+/// The output of the owner's line.
 const KEYED: &[u8] = b"temperature = 0 target = 0 heater = 0 used = 0 key = 5 seal = 5\n";
 
-/// What four lines of everyone write behind it.
+/// The output of four later lines of everyone.
 const FOUR: &[u8] = b"temperature = 17 target = 20 heater = 1
 refused: 47 AboveClass 1
 refused: 47 AboveClass 0
 temperature = 17 target = 20 heater = 1
 ";
 
-/// Whether the owner's line and those of everyone write what they should.
+/// Whether the owner's line and those of everyone write the expected output.
 fn heats(alloc: Global, lattice: &Lattice, verified: &Verified, store: &mut [i64]) -> bool
     requires { length store.old ≡ length verified.now.globals.items }
 {
@@ -112,7 +112,7 @@ fn heats(alloc: Global, lattice: &Lattice, verified: &Verified, store: &mut [i64
         && writes(alloc, &everyone, store, &lines, FOUR)
 }
 
-/// Whether cycles end out of their budget, refused and halted.
+/// Whether cycles end out of budget, refused and halted.
 fn is_ended(alloc: Global, lattice: &Lattice, verified: &Verified, store: &mut [i64]) -> bool
     requires { length store.old ≡ length verified.now.globals.items }
 {

@@ -1,4 +1,4 @@
-//! Two stores that are given, and whether they show a leak.
+//! Two given stores, and whether they show a leak.
 
 use std::alloc::Global;
 use vsi_compiler::unjudged_image;
@@ -9,7 +9,7 @@ const TWO: &[u8] = b"classes = [\"L\", \"H\"]\nbelow = [[\"L\", \"H\"]]\n";
 
 const DIRECT: &[u8] = b"var h : H; var k : H; var l : L; l := h";
 
-/// Whether two stores of `l := h` show a leak to L, the words being those of h, k and l.
+/// Whether two stores of `l := h`, with the words of h, k and l, show a leak to L.
 fn is_shown(alloc: Global, first: [i64; 3], second: [i64; 3], budget: u64) -> Option<bool> {
     let lattice = read_lattice(alloc, TWO).ok()?;
     let verified = unjudged_image(alloc, &lattice, DIRECT).ok()?;

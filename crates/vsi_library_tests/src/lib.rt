@@ -1,6 +1,6 @@
-//! The tests of the library that rows and transcripts can't hold: devices that fail in mid-stream,
-//! images whose bytes are changed, leaks over stores that are given, controllers that share a
-//! store, refused flows and counts, what could stand behind a beginning, and places with carets.
+//! The tests of the library that rows and transcripts can't hold: devices that fail mid-stream,
+//! images with changed bytes, leaks over given stores, controllers that share a store, refused
+//! flows and counts, continuations of unfinished texts, and positions with carets.
 #![tactic(auto)]
 
 #[cfg(test)]

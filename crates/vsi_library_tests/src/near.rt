@@ -1,4 +1,5 @@
-//! Images near a worked one, each byte with each other value: what isn't refused is kept and runs.
+//! Images near a worked one, with each byte set to each other value: every image that isn't refused
+//! is kept and runs.
 
 use std::alloc::Global;
 use vsi_image::{DecodeError, Image, Verified, VerifyError, decode, encode, verify};
@@ -10,9 +11,8 @@ const STORES: [u8; 31] = [
     3, 0, 0, 10,
 ];
 
-/// What becomes of bytes: no image, one that isn't valid, a run with the word that it leaves in the
-/// only global, or nothing that is known, as without memory or where the image is written otherwise
-/// than it was read.
+/// The fate of bytes: no image, an image that isn't valid, a run with the last word of the only
+/// global, or unknown, as without memory or if the image isn't written as it was read.
 #[derive(Clone, Copy, PartialEq, Eq)]
 enum Fate {
     NoImage,
@@ -21,7 +21,7 @@ enum Fate {
     Unknown,
 }
 
-/// How a run of 1,000 instructions from zeros ends where the image has one global.
+/// How a run of 1,000 instructions from zeros ends if the image has one global.
 fn fate_of_run(alloc: Global, verified: &Verified) -> Fate {
     match Machine::new(alloc, verified, &[0]) {
         Ok(mut machine) => {
@@ -45,7 +45,7 @@ fn is_kept(alloc: Global, image: &Image, bytes: &[u8; 31]) -> bool {
     }
 }
 
-/// What becomes of the image of bytes.
+/// The fate of the image of these bytes.
 fn fate_of_image(alloc: Global, image: Image, bytes: &[u8; 31]) -> Fate {
     if !is_kept(alloc, &image, bytes) {
         return Fate::Unknown;
@@ -56,7 +56,7 @@ fn fate_of_image(alloc: Global, image: Image, bytes: &[u8; 31]) -> Fate {
     }
 }
 
-/// What becomes of bytes whose image, if they are one's, has one global.
+/// The fate of bytes; their image, if they have one, has one global.
 fn fate_of(alloc: Global, bytes: &[u8; 31]) -> Fate {
     match decode(alloc, bytes) {
         Ok(image) => fate_of_image(alloc, image, bytes),
@@ -65,7 +65,7 @@ fn fate_of(alloc: Global, bytes: &[u8; 31]) -> Fate {
     }
 }
 
-/// The word 3 with another byte at one of its eight places.
+/// The word 3 with another byte at one of its eight positions.
 fn pushed(place: usize, other: u8) -> i64 {
     let mut word = [0, 0, 0, 0, 0, 0, 0, 3];
     if let Some(byte) = word.get_mut(place) {
@@ -74,7 +74,7 @@ fn pushed(place: usize, other: u8) -> i64 {
     i64::from_be_bytes(word)
 }
 
-/// What has to become of the image in this version with a byte at a place, worked field by field.
+/// The expected fate of the image in this version with a byte at a position, worked field by field.
 fn wanted(version: u8, at: usize, other: u8) -> Fate {
     match (at, other) {
         (3, 1..=2) | (6, 1) | (7, 2..=255) | (9, 2..=255) => Fate::Ran(Outcome::Halted, 3),
@@ -89,7 +89,7 @@ fn wanted(version: u8, at: usize, other: u8) -> Fate {
     }
 }
 
-/// Whether what is wanted becomes of the image in this version with a byte at a place.
+/// Whether the image in this version with a byte at a position has the expected fate.
 fn is_as_wanted(alloc: Global, version: u8, at: usize, other: u8) -> bool {
     let mut near = STORES;
     near[3] = version;

@@ -1,10 +1,10 @@
-//! Places as they are shown.
+//! Positions as they are shown.
 
 use std::alloc::{AllocError, Global};
 use std::test::Fail;
 use vsi_caret::{Manner, put_place, put_place_in, put_safe, put_text};
 
-/// A place of a text called `t`.
+/// A position in a text called `t`.
 fn placed(alloc: Global, source: &[u8], start: usize, stop: usize) -> Result<Vec<u8>, AllocError> {
     let mut text = Vec::new(alloc);
     put_place(&mut text, b"t", source, start, stop)?;

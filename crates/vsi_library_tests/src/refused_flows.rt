@@ -1,4 +1,4 @@
-//! What is told of refused flows.
+//! The reports of refused flows.
 
 use std::alloc::Global;
 use vsi_blame::refused_flows;
@@ -7,13 +7,13 @@ use vsi_types::Profile;
 
 const TWO: &[u8] = b"classes = [\"L\", \"H\"]\nbelow = [[\"L\", \"H\"]]\n";
 
-/// What is told of a text's refused flows.
+/// The report of a text's refused flows.
 fn told(alloc: Global, profile: Profile, path: &str, text: &[u8]) -> Option<Vec<u8>> {
     let lattice = read_lattice(alloc, TWO).ok()?;
     refused_flows(alloc, profile, &lattice, path, text).ok()
 }
 
-/// Whether this is told of a text's refused flows.
+/// Whether this is the report of a text's refused flows.
 fn is_told(alloc: Global, profile: Profile, path: &str, text: &[u8], wanted: &[u8]) -> bool {
     match told(alloc, profile, path, text) {
         Some(text) => text.as_slice() == wanted,
@@ -89,7 +89,7 @@ fn tells(rt: HostRuntime) {
     assert!(rt; is_told(alloc, Profile::Base, "wait.vsi", WAIT, NONE_TOLD));
 }
 
-/// Of 21 refused pairs 20 are told.
+/// The report lists 20 of 21 refused pairs.
 const MANY: &[u8] = b"var h : H; var a : L; var b : L; var c : L; var d : L; var e : L; var f : L;
 var g : L; var i : L; var j : L; var k : L; var l : L; var m : L; var n : L; var o : L; var p : L;
 var q : L; var r : L; var s : L; var t : L; var u : L; var v : L;
@@ -109,7 +109,7 @@ fn counts(rt: HostRuntime) {
     assert!(rt; is_counted);
 }
 
-/// A new variable without a declared class has one by what is put into it.
+/// A new variable without a declared class gets one from the values put into it.
 const SAME: &[u8] = b"var pin : H; var ok : L;
 letvar same := pin = 1 in ok := same
 ";
@@ -127,7 +127,7 @@ fn follows(rt: HostRuntime) {
     assert!(rt; is_told);
 }
 
-/// Whether a part stands in a text.
+/// Whether a text contains a part.
 fn has(text: &[u8], part: &[u8]) -> bool {
     for at in 0..text.len() {
         if text[at..].starts_with(part) {

@@ -1,4 +1,4 @@
-//! Images that were made by hand, judged for steadiness.
+//! Images made by hand, judged for steadiness.
 
 use std::alloc::Global;
 use vsi_image::{Image, Instr, Verified, verify};
@@ -29,7 +29,7 @@ fn image_of(alloc: Global, code: &[Instr]) -> Option<Verified> {
     .ok()
 }
 
-// Whether an image is answered so: accepted where no text is wanted.
+// Whether an image gets this answer. It is accepted if the text is empty.
 fn is_judged(alloc: Global, code: &[Instr], want: &[u8]) -> bool {
     let Some(lattice) = two_classes(alloc) else {
         return false;
@@ -46,7 +46,7 @@ fn is_judged(alloc: Global, code: &[Instr], want: &[u8]) -> bool {
     }
 }
 
-// What the guard of a branch, of a loop, and of an early HALT is told by.
+// The message for the guard of a branch, of a loop, and of an early HALT.
 const GUARD: &[u8] =
     b"refused: 25 Refused\n0 h flows to (jump) by JZ at 1\nh : H may not flow to (jump) : L\n";
 
@@ -109,7 +109,7 @@ fn images_are_judged(rt: HostRuntime) {
               h : H may not flow to l : L\n"
         )
     );
-    // A chain against the order of the code, behind a jump into the middle.
+    // A chain against the order of the code, after a jump into the middle.
     let back = [
         Jmp(4),
         Load(3),

@@ -10,7 +10,7 @@ use Rattle.vsi_opt.proofs.Removal.{append_most, IsCarried, kept_live_carried}
 pub append_nesting : (a b : Command) → nesting (append a b) ≤ max (nesting a) (nesting b)
 append_nesting = append_most nesting (λ a b. refl)
 
--- Removal doesn't deepen the nesting where it doesn't in the parts.
+-- Removal doesn't deepen the nesting if it doesn't deepen it in the parts.
 no_deeper_nesting : IsCarried (λ a c. nesting a ≤ nesting c)
 no_deeper_nesting = record {
   nothing = omega arith;
@@ -22,14 +22,14 @@ no_deeper_nesting = record {
   local = λ e a c x. omega (arith, x);
 }
 
--- A choice that is folded isn't nested deeper than its branches.
+-- A folded choice isn't nested deeper than its branches.
 branch_nesting : (t : Option Bool) (e : Expression) (a b : Command) →
     nesting (branch t e a b) ≤ max (nesting a) (nesting b)
 branch_nesting (Some true) e a b = omega arith
 branch_nesting (Some false) e a b = omega arith
 branch_nesting None e a b = omega arith
 
--- A loop that is folded isn't nested deeper than its body.
+-- A folded loop isn't nested deeper than its body.
 loop_nesting : (t : Option Bool) (e : Expression) (c : Command) → nesting (loop t e c) ≤ nesting c
 loop_nesting (Some true) e c = omega arith
 loop_nesting (Some false) e c = omega arith
@@ -56,7 +56,7 @@ optimised_nesting c g =
 pub append_depth : (a b : Command) → depth (append a b) ≤ max (depth a) (depth b)
 append_depth = append_most depth (λ a b. refl)
 
--- Removal doesn't deepen a command where it doesn't deepen the parts.
+-- Removal doesn't deepen a command if it doesn't deepen the parts.
 no_deeper : IsCarried (λ a c. depth a ≤ depth c)
 no_deeper = record {
   nothing = omega arith;
@@ -68,7 +68,7 @@ no_deeper = record {
   local = λ e a c x. omega (arith, x);
 }
 
--- An operator that is folded isn't deeper.
+-- A folded operator isn't deeper.
 operator_depth : (o : Op) (a b : Expression) →
     expression_depth (fold_operator o a b) ≤ 1 + max (expression_depth a) (expression_depth b)
 operator_depth o (Number x) (Number y) = omega arith
@@ -77,20 +77,20 @@ operator_depth o (Number x) (Operator p c d) = omega arith
 operator_depth o (Location l s) b = omega arith
 operator_depth o (Operator p c d) b = omega arith
 
--- An expression that is folded isn't deeper.
+-- A folded expression isn't deeper.
 folded_depth : (e : Expression) → expression_depth (folded e) ≤ expression_depth e
 folded_depth (Number n) = omega arith
 folded_depth (Location l s) = omega arith
 folded_depth (Operator o a b) = omega (arith, operator_depth o (folded a) (folded b), folded_depth a, folded_depth b)
 
--- A choice that is folded isn't deeper than the choice.
+-- A folded choice isn't deeper than the choice.
 branch_depth : (t : Option Bool) (e : Expression) (a b : Command) →
     depth (branch t e a b) ≤ 1 + max (expression_depth e) (max (depth a) (depth b))
 branch_depth (Some true) e a b = omega arith
 branch_depth (Some false) e a b = omega arith
 branch_depth None e a b = omega arith
 
--- A loop that is folded isn't deeper than the loop.
+-- A folded loop isn't deeper than the loop.
 loop_depth : (t : Option Bool) (e : Expression) (c : Command) →
     depth (loop t e c) ≤ 1 + max (expression_depth e) (depth c)
 loop_depth (Some true) e c = omega arith
@@ -120,7 +120,7 @@ optimised_depth c g =
 pub append_expressions : (a b : Command) → expressions_depth (append a b) ≤ max (expressions_depth a) (expressions_depth b)
 append_expressions = append_most expressions_depth (λ a b. refl)
 
--- Removal leaves no deeper expression where it leaves none in the parts.
+-- Removal leaves no deeper expression if it leaves none in the parts.
 no_deeper_expressions : IsCarried (λ a c. expressions_depth a ≤ expressions_depth c)
 no_deeper_expressions = record {
   nothing = omega arith;
@@ -132,14 +132,14 @@ no_deeper_expressions = record {
   local = λ e a c x. omega (arith, x);
 }
 
--- A choice that is folded has no deeper expression than the choice.
+-- A folded choice has no deeper expression than the choice.
 branch_expressions : (t : Option Bool) (e : Expression) (a b : Command) →
     expressions_depth (branch t e a b) ≤ max (expression_depth e) (max (expressions_depth a) (expressions_depth b))
 branch_expressions (Some true) e a b = omega arith
 branch_expressions (Some false) e a b = omega arith
 branch_expressions None e a b = omega arith
 
--- A loop that is folded has no deeper expression than the loop.
+-- A folded loop has no deeper expression than the loop.
 loop_expressions : (t : Option Bool) (e : Expression) (c : Command) →
     expressions_depth (loop t e c) ≤ max (expression_depth e) (expressions_depth c)
 loop_expressions (Some true) e c = omega arith

@@ -1,4 +1,4 @@
--- Folding keeps what a command does.
+-- Folding preserves the behaviour of a command.
 use Rattle.std.proofs.Common.{◌≡◌, ℕ, zero, suc, ◌++◌, [], ◌∷◌, length, Option, Some, None, ℤ, pos, negsuc, refl, sym, ap, ◌∙◌}
 use Rattle.std.specs.Prelude.{slice_set}
 use Rattle.vsi_syntax.specs.declared.operator.Op.{Op}
@@ -7,18 +7,18 @@ use Rattle.vsi_syntax.specs.Operators.{apply}
 use Rattle.vsi_scope.specs.Meaning.{Store, value, at_zero, and_then, drop_past, turns, runs}
 use Rattle.vsi_opt.specs.Folding.{fold_operator, folded, one, append, truth_of, branch, loop, fold}
 
--- Equal first steps and equal next steps go on alike.
+-- Equal first steps followed by equal next steps are equal.
 pub and_then_same : (o o' : Option Store) (f g : Store → Option Store) → o ≡ o' → ((m : Store) → f m ≡ g m) →
     and_then o f ≡ and_then o' g
 and_then_same None o' f g e h = ap (λ x. and_then x g) e
 and_then_same (Some m) o' f g e h = h m ∙ ap (λ x. and_then x g) e
 
--- Going on without a step changes nothing.
+-- A further step that does nothing changes nothing.
 pub and_then_some : (o : Option Store) → and_then o (λ m. Some m) ≡ o
 and_then_some None = refl
 and_then_some (Some m) = refl
 
--- Two steps are one after the other.
+-- Two further steps are one step that does both.
 pub and_then_then : (o : Option Store) (f g : Store → Option Store) →
     and_then (and_then o f) g ≡ and_then o (λ m. and_then (f m) g)
 and_then_then None f g = refl
@@ -36,7 +36,7 @@ runs_append n (If e a c) b m = refl
 runs_append n (While e c) b m = refl
 runs_append n (Letvar e c) b m = refl
 
--- The sequence of one command runs as the command.
+-- The sequence of one command runs like the command.
 pub runs_one : (n : ℕ) (c : Command) (m : Store) → runs n (one c) m ≡ runs n c m
 runs_one n c m = and_then_some (runs n c m)
 
@@ -58,7 +58,7 @@ folded_value (Operator o a b) m =
     ∙ ap (λ x. apply o x (value (folded b) m)) (folded_value a m)
     ∙ ap (apply o (value a m)) (folded_value b m)
 
--- A folded choice runs as the choice.
+-- A folded choice runs like the choice.
 fold_if_runs : (n : ℕ) (e : Expression) (a b : Command) (m : Store) →
     runs n (branch (truth_of e) e a b) m ≡ at_zero (value e m) (runs n b m) (runs n a m)
 fold_if_runs n (Number (pos zero)) a b m = refl
@@ -67,11 +67,11 @@ fold_if_runs n (Number (negsuc k)) a b m = refl
 fold_if_runs n (Location l s) a b m = runs_one n (If (Location l s) a b) m
 fold_if_runs n (Operator o x y) a b m = runs_one n (If (Operator o x y) a b) m
 
--- Equal guards and equal branches choose alike.
+-- Equal guards and equal branches choose equally.
 pub at_zero_same : (z z' : ℤ) (a b a' b' : Option Store) → z ≡ z' → a ≡ a' → b ≡ b' → at_zero z a b ≡ at_zero z' a' b'
 at_zero_same z z' a b a' b' e f g = ap (λ x. at_zero x a b) e ∙ ap (λ x. at_zero z' x b) f ∙ ap (at_zero z' a') g
 
--- A loop whose guard is false leaves the store.
+-- A loop whose guard is false leaves the store unchanged.
 stops_at_zero : (n : ℕ) (guard : Store → ℤ) (f : Store → Option Store) (m : Store) → guard m ≡ pos zero →
     turns n guard f m ≡ Some m
 stops_at_zero zero guard f m e = ap (λ x. at_zero x (Some m) None) e
@@ -95,7 +95,7 @@ turns_same (suc n) g h f k e d m =
     refl
     (and_then_same (f m) (k m) (turns n g f) (turns n h k) (d m) (turns_same n g h f k e d))
 
--- A folded command does what the command does.
+-- A folded command behaves like the command.
 pub fold_runs : (c : Command) (n : ℕ) (m : Store) → runs n (fold c) m ≡ runs n c m
 fold_runs Skip n m = refl
 fold_runs (Assign l s e) n m = ap (λ x. Some (slice_set m l x)) (folded_value e m)

@@ -1,4 +1,4 @@
--- The size, the places, the letvars, and that nothing folds again.
+-- The size, the locations and the letvars of the optimised body, and that nothing is left to fold.
 use Rattle.std.proofs.Common.{◌≡◌, ℕ, zero, suc, ◌+◌, ◌≤◌, Bool, true, false, Option, Some, None, pos, negsuc, refl, sym, subst, arith}
 use Rattle.vsi_syntax.specs.declared.operator.Op.{Op}
 use Rattle.vsi_scope.specs.Language.{Expression, Number, Location, Operator, Command, Skip, Assign, Sequence, If, While, Letvar, HasLocations, HasPlaces, letvars, expression_size, size}
@@ -10,13 +10,13 @@ use Rattle.vsi_opt.proofs.Removal.{append_sum, IsCarried, kept_live_carried}
 use Rattle.vsi_opt.proofs.Depths.{optimised_depth, optimised_nesting}
 use Rattle.vsi_opt.specs.Optimised.{globals_alone, NotLarger, NothingToFold, PlacesKept}
 
--- A test on commands that all parts pass.
+-- A test that a command passes if all its parts do.
 pub record IsWhole (P : Command → Type 0) : Type 0 where
   pub nothing : P Skip
   pub of_then : (a b : Command) → P (Sequence a b) → P a × P b
   pub to_then : (a b : Command) → P a → P b → P (Sequence a b)
 
--- Two sequences that pass the test pass it joined.
+-- The concatenation of two sequences that pass the test passes it.
 append_whole : (P : Command → Type 0) → IsWhole P → (a b : Command) → P a → P b → P (append a b)
 append_whole P w Skip b x y = y
 append_whole P w (Assign l s e) b x y = w.to_then (Assign l s e) b x y
@@ -26,7 +26,7 @@ append_whole P w (If e a c) b x y = w.to_then (If e a c) b x y
 append_whole P w (While e c) b x y = w.to_then (While e c) b x y
 append_whole P w (Letvar e c) b x y = w.to_then (Letvar e c) b x y
 
--- The sequence of a command that passes passes.
+-- The sequence of a command that passes the test passes it.
 one_whole : (P : Command → Type 0) → IsWhole P → (c : Command) → P c → P (one c)
 one_whole P w c x = w.to_then c Skip x w.nothing
 
@@ -82,7 +82,7 @@ fold_size (While e c) = omega (
 )
 fold_size (Letvar e c) = omega (arith, folded_size e, fold_size c)
 
--- Removal makes nothing larger where it makes no part larger.
+-- Removal makes nothing larger if it makes no part larger.
 no_larger : IsCarried (λ a c. size a ≤ size c)
 no_larger = record {
   nothing = omega arith;
@@ -102,7 +102,7 @@ not_larger c g = (
   optimised_nesting c g,
 )
 
--- In a sequence nothing is left to fold where nothing is in its parts.
+-- A sequence is folded if its parts are.
 folded_parts : IsWhole IsFolded
 folded_parts = record { nothing = tt; of_then = λ a b x. x; to_then = λ a b x y. (x, y) }
 
@@ -131,7 +131,7 @@ fold_if_folded (Location l s) a b f x y =
     one_whole IsFolded folded_parts (If (Location l s) a b) (f, λ h. h, x, y)
 fold_if_folded (Operator o p q) a b f x y = one_whole IsFolded folded_parts (If (Operator o p q) a b) (f, λ h. h, x, y)
 
--- A test that literal 0 alone passes.
+-- The test that only the literal 0 passes.
 is_zero : Expression → Type 0
 is_zero (Number (pos zero)) = Unit {0}
 is_zero (Number (pos (suc n))) = ⊥
@@ -139,12 +139,12 @@ is_zero (Number (negsuc n)) = ⊥
 is_zero (Location l s) = ⊥
 is_zero (Operator o a b) = ⊥
 
--- An expression that fails the test is not literal 0.
+-- An expression that fails the test is not the literal 0.
 not_zero : (e : Expression) → (is_zero e → ⊥) → e ≡ Number (pos zero) → ⊥
 unfolding is_zero
 not_zero e h is = h (subst is_zero (sym is) tt)
 
--- A loop of folded parts, whose guard is not literal 0, has nothing left to fold.
+-- A loop of folded parts, whose guard is not the literal 0, has nothing left to fold.
 loop_folded : (e : Expression) (c : Command) → IsFoldedExpression e → (is_zero e → ⊥) → IsFolded c →
     IsFolded (one (While e c))
 loop_folded e c f h x = one_whole IsFolded folded_parts (While e c) (f, not_zero e h, x)
@@ -169,7 +169,7 @@ fold_folded (If e a b) = fold_if_folded (folded e) (fold a) (fold b) (expression
 fold_folded (While e c) = fold_while_folded (folded e) (fold c) (expression_folded e) (fold_folded c)
 fold_folded (Letvar e c) = ((expression_folded e, fold_folded c), tt)
 
--- Removal leaves nothing new to fold where it leaves nothing new in the parts.
+-- Removal leaves nothing new to fold if it leaves nothing new in the parts.
 stays_folded : IsCarried (λ a c. IsFolded c → IsFolded a)
 stays_folded = record {
   nothing = λ x. tt;
@@ -181,16 +181,16 @@ stays_folded = record {
   local = λ e a c f x. ((x.0, f x.1), tt);
 }
 
--- In the optimised body nothing is left to fold.
+-- The optimised body has nothing left to fold.
 pub nothing_to_fold : NothingToFold
 nothing_to_fold c g =
     kept_live_carried (λ a c. IsFolded c → IsFolded a) stays_folded (fold c) g g (globals_alone g) (fold_folded c)
 
--- A sequence uses existing locations where its parts do.
+-- A sequence uses existing locations if its parts do.
 places_parts : (k : ℕ) → IsWhole (HasPlaces k)
 places_parts k = record { nothing = tt; of_then = λ a b x. x; to_then = λ a b x y. (x, y) }
 
--- A folded operator reads locations that its operands read.
+-- A folded operator reads only locations that its operands read.
 operator_places : (k : ℕ) (o : Op) (a b : Expression) → HasLocations k a → HasLocations k b →
     HasLocations k (fold_operator o a b)
 operator_places k o (Number x) (Number y) f g = tt
@@ -232,7 +232,7 @@ fold_places (While e c) k x = fold_while_places k (truth_of (folded e)) (folded 
     (folded_places k e x.0) (fold_places c k x.1)
 fold_places (Letvar e c) k x = ((folded_places k e x.0, fold_places c (k + 1) x.1), tt)
 
--- Removal leaves existing locations where it leaves such in the parts.
+-- Removal leaves existing locations if it leaves such in the parts.
 stays_placed : IsCarried (λ a c. (k : ℕ) → HasPlaces k c → HasPlaces k a)
 stays_placed = record {
   nothing = λ k x. tt;
@@ -254,7 +254,7 @@ places_kept c g h =
 pub append_letvars : (a b : Command) → letvars (append a b) ≡ letvars a + letvars b
 append_letvars = append_sum letvars refl (λ a b. refl)
 
--- Removal keeps the number of letvars where it keeps that of the parts.
+-- Removal keeps the number of letvars if it keeps that of the parts.
 same_letvars : IsCarried (λ a c. letvars a ≡ letvars c)
 same_letvars = record {
   nothing = refl;
@@ -299,7 +299,7 @@ wider (Number n) k le h = tt
 wider (Location l s) k le h = omega (arith, le, h)
 wider (Operator o a b) k le h = (wider a k le h.0, wider b k le h.1)
 
--- A command whose locations exist, with few letvars, is within the limits.
+-- A command with existing locations and few letvars is within the limits.
 fits_from : (c : Command) (k : ℕ) → HasPlaces k c → k + letvars c ≤ 1024 → Fits k c
 fits_from Skip k h le = tt
 fits_from (Assign l s e) k h le = (omega (arith, h.0, le), wider e k (omega (arith, le)) h.1)

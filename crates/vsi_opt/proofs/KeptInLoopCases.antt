@@ -1,4 +1,4 @@
--- What the walk over a loop makes of each kind of command.
+-- The result of removal inside a loop, for each kind of command.
 use Rattle.std.proofs.Common.{◌≡◌, ℕ, ◌+◌, Bool, true, false, List, [], ◌∷◌, ◌++◌, Vec, Global, sym, ap, ◌∙◌}
 use Rattle.vsi_syntax.specs.declared.token.Span.{Span}
 use Rattle.vsi_scope.specs.declared.program.Ex.{Ex}
@@ -24,7 +24,7 @@ module _ (k : ℕ) (live : Locations) where
       (ap one p
       ∙ sym (ap (λ y. kept_in_loop k (command y) live) is ∙ ap (λ y. kept y (Assign l s (expression e))) (sym f ∙ g)))
 
-  -- An assignment to a location that is not live goes.
+  -- An assignment to a location that is not live is removed.
   pub kept_in_loop_goes : (c : Cmd) (l : ℕ) (s : Span) (e : Ex) (out : List Cmd) (b : Bool) → c ≡ cmd.Assign l s e →
       b ≡ live l → b ≡ false → sequence out ≡ append (sequence out) (kept_in_loop k (command c) live)
   kept_in_loop_goes c l s e out b is f g =
@@ -55,7 +55,7 @@ module _ (k : ℕ) (live : Locations) where
       (same_while v e b' _ p (f ∙ ap (λ l. kept_in_loop k (sequence l) live) ib)
       ∙ sym (ap (λ x. kept_in_loop k (command x) live) is ∙ ap (λ x. kept_in_loop k x live) (command_While e b)))
 
-  -- A letvar, within which its own variable is live where its scope reads it.
+  -- A letvar, in whose body its own variable is live if its scope reads it.
   pub kept_in_loop_letvar : (c : Cmd) (e v : Ex) (b b' : Vec Cmd Global) (bs out out' : List Cmd) (r : Bool)
       (a : Locations) →
       c ≡ Letvar e b → bs ≡ b.items → expression v ≡ expression e → r ≡ all_reads (sequence b.items) k → a

@@ -1,4 +1,4 @@
--- What the walk from the end makes of each kind of command.
+-- The result of the backward removal, for each kind of command.
 use Rattle.std.proofs.Common.{◌≡◌, ℕ, ◌+◌, false, List, [], ◌∷◌, ◌++◌, reverse, Vec, Global, sym, ap, ◌∙◌, true, Bool, cond}
 use Rattle.std.proofs.lemmas.List.{reverse-append}
 use Rattle.vsi_syntax.specs.declared.token.Span.{Span}
@@ -14,7 +14,7 @@ use Rattle.vsi_opt.specs.Liveness.{Locations, joined, with_bit, reads, all_reads
 use Rattle.vsi_opt.proofs.FoldingCases.{one_if, one_while, one_letvar}
 use Rattle.vsi_opt.proofs.ReadingCases.{joined_twice}
 
--- A command pushed to a list that is kept in reverse stands before it.
+-- A command pushed to a reversed list is the first of the sequence.
 pub pushed_front : (out out' : List Cmd) (x : Cmd) (d : Command) → out' ≡ out ++ x ∷ [] → one (command x) ≡ d →
     sequence (reverse out') ≡ append d (sequence (reverse out))
 pushed_front out out' x d e f =
@@ -22,23 +22,23 @@ pushed_front out out' x d e f =
     ∙ ap sequence (reverse-append out (x ∷ []))
     ∙ ap (λ y. append y (sequence (reverse out))) f
 
--- An `if` with an equal guard, over branches that are known.
+-- An `if` with an equal guard, over known branches.
 pub same_if : (v e : Ex) (y n : Vec Cmd Global) (a b : Command) → expression v ≡ expression e → sequence y.items ≡ a →
     sequence n.items ≡ b → one (command (view.If v y n)) ≡ one (If (expression e) a b)
 same_if v e y n a b p f g = one_if v y n a b f g ∙ ap (λ x. one (If x a b)) p
 
--- A loop with an equal guard, over a body that is known.
+-- A loop with an equal guard, over a known body.
 pub same_while : (v e : Ex) (b : Vec Cmd Global) (a : Command) → expression v ≡ expression e → sequence b.items ≡ a →
     one (command (view.While v b)) ≡ one (While (expression e) a)
 same_while v e b a p f = one_while v b a f ∙ ap (λ x. one (While x a)) p
 
--- A letvar with an equal initial value, over a body that is known.
+-- A letvar with an equal initial value, over a known body.
 pub same_letvar : (v e : Ex) (b : Vec Cmd Global) (a : Command) → expression v ≡ expression e → sequence b.items ≡ a →
     one (command (view.Letvar v b)) ≡ one (Letvar (expression e) a)
 same_letvar v e b a p f = one_letvar v b a f ∙ ap (λ x. one (Letvar x a)) p
 
 module _ (g k : ℕ) (live : Locations) where
-  -- An assignment to a live location stays, which takes the location out and adds what is read.
+  -- An assignment to a live location stays; it takes the location out of the live set and adds its reads.
   pub kept_live_stays : (c x : Cmd) (l : ℕ) (s : Span) (e : Ex) (out out' : List Cmd) (b : Bool) (t a : Locations) →
       c ≡ cmd.Assign l s e → command x ≡ Assign l s (expression e) → b ≡ live l → b ≡ true → t ≡ taken g l live →
       a ≡ joined t (reads (expression e)) → out' ≡ out ++ x ∷ [] →
@@ -66,7 +66,7 @@ module _ (g k : ℕ) (live : Locations) where
       ∙ ap (λ l. kept_live g k (sequence l) live) in')
       ∙ sym (ap (λ x. kept_live g k (command x) live) is ∙ ap (λ x. kept_live g k x live) (command_If e y n)))
 
-  -- What is live before an `if`.
+  -- The live locations before an `if`.
   pub before_if : (c : Cmd) (e : Ex) (y n : Vec Cmd Global) (ys ns : List Cmd) (l o j a : Locations) →
       c ≡ view.If e y n → ys ≡ y.items → ns ≡ n.items → l ≡ before g k (sequence ys) live → o ≡ before g k (sequence ns)
       live → j ≡ joined l o → a ≡ joined j (reads (expression e)) → a ≡ before g k (command c) live
@@ -77,7 +77,7 @@ module _ (g k : ℕ) (live : Locations) where
       ∙ ap (joined (before g k (sequence y.items) live)) (eo ∙ ap (λ l. before g k (sequence l) live) in'))
       ∙ sym (ap (λ x. before g k (command x) live) is ∙ ap (λ x. before g k x live) (command_If e y n))
 
-  -- What is live before a loop.
+  -- The live locations before a loop.
   pub before_while : (c : Cmd) (e : Ex) (b : Vec Cmd Global) (bs : List Cmd) (r a : Locations) → c ≡ view.While e b →
       bs ≡ b.items → r ≡ joined live (reads (expression e)) → a ≡ joined r (all_reads (sequence bs)) → a ≡ before g k
       (command c) live
@@ -112,7 +112,7 @@ module _ (g k : ℕ) (live : Locations) where
       ∙ ap (kept_live g (k + 1) (sequence b.items)) ea)
       ∙ sym (ap (λ x. kept_live g k (command x) live) is ∙ ap (λ x. kept_live g k x live) (command_Letvar e b)))
 
-  -- What is live before a letvar.
+  -- The live locations before a letvar.
   pub before_letvar : (c : Cmd) (e : Ex) (b : Vec Cmd Global) (bs : List Cmd) (a n r d : Locations) →
       c ≡ view.Letvar e b → bs ≡ b.items → a ≡ with_bit live k false → n ≡ before g (k + 1) (sequence bs) a → r ≡
       with_bit n k false → d ≡ joined r (reads (expression e)) → d ≡ before g k (command c) live

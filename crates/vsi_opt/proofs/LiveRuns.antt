@@ -1,4 +1,4 @@
--- Stores that agree on what is live stay so, and a dead assignment changes nothing that is live.
+-- Stores that agree on the live locations stay in agreement, and a dead assignment changes no live location.
 use Rattle.std.proofs.Common.{◌≡◌, ◌≢◌, ℕ, zero, suc, ◌+◌, Bool, true, false, ◌||◌, cond, eqb, ltb, ◌++◌, [], ◌∷◌, length, take, get_or, Option, Some, None, ℤ, pos, negsuc, refl, sym, ap, ◌∙◌, subst, ⊎_elim, arith, length-set}
 use Rattle.std.specs.Prelude.{slice_set, if◌then◌else◌}
 use Rattle.std.proofs.lemmas.List.{get_or_append_left, get_or-set_same, get_or-set_other, get_or-take, get_or_push, length_push, get_or_past, length-take-le, ext_get_or}
@@ -28,7 +28,7 @@ joined_right a b l h = or_right (a l) (b l) h
 within_on : (a b c : Locations) → Within a b → Within b c → Within a c
 within_on a b c f g l h = g l (f l h)
 
--- Equal words in what is live.
+-- Equal words in the live locations.
 abbrev pub Agree : Locations → Store → Store → Type 0
 Agree live m m' = (l : ℕ) → live l ≡ true → get_or m l (pos 0) ≡ get_or m' l (pos 0)
 
@@ -47,7 +47,7 @@ SameOn k live (Some m) (Some m') = (length m ≡ k) × (length m' ≡ k) × Agre
 abbrev pub Keeps : ℕ → Locations → Locations → (Store → Option Store) → (Store → Option Store) → Type 0
 Keeps k b a f f' = (m m' : Store) → length m ≡ k → length m' ≡ k → Agree b m m' → SameOn k a (f m) (f' m')
 
--- Two steps one after the other keep agreement.
+-- Two steps that keep agreement keep it together.
 same_on_then : (k : ℕ) (b a : Locations) (o o' : Option Store) (f f' : Store → Option Store) → SameOn k b o o' →
     Keeps k b a f f' → SameOn k a (and_then o f) (and_then o' f')
 same_on_then k b a None None f f' s h = tt
@@ -55,18 +55,18 @@ same_on_then k b a None (Some m') f f' s h = absurd s
 same_on_then k b a (Some m) None f f' s h = absurd s
 same_on_then k b a (Some m) (Some m') f f' s h = h m m' s.0 s.1 s.2
 
--- Agreement on a set is agreement on each set within it.
+-- Agreement on a set implies agreement on each set within it.
 same_on_within : (k : ℕ) (a b : Locations) (o o' : Option Store) → Within a b → SameOn k b o o' → SameOn k a o o'
 same_on_within k a b None None w s = tt
 same_on_within k a b None (Some m') w s = absurd s
 same_on_within k a b (Some m) None w s = absurd s
 same_on_within k a b (Some m) (Some m') w s = (s.0, s.1, agree_within a b m m' w s.2)
 
--- Agreement of an equal outcome.
+-- Agreement carries over to an equal outcome.
 same_on_from : (k : ℕ) (a : Locations) (o p o' : Option Store) → o ≡ p → SameOn k a p o' → SameOn k a o o'
 same_on_from k a o p o' e s = subst (λ x. SameOn k a x o') (sym e) s
 
--- An expression has one value in stores that agree on what it reads.
+-- An expression has one value in stores that agree on the locations it reads.
 value_same : (e : Expression) (live : Locations) (m m' : Store) → Within (reads e) live → Agree live m m' →
     value e m ≡ value e m'
 value_same (Number n) live m m' w h = refl
@@ -75,11 +75,11 @@ value_same (Operator o a b) live m m' w h =
     ap (λ x. apply o x (value b m)) (value_same a live m m' (λ l r. w l (or_left (reads a l) (reads b l) r)) h)
     ∙ ap (apply o (value a m')) (value_same b live m m' (λ l r. w l (or_right (reads a l) (reads b l) r)) h)
 
--- At its own number a set has what was put in.
+-- At the number that is set, a set has the new bit.
 pub bit_same : (live : Locations) (k : ℕ) (b : Bool) → with_bit live k b k ≡ b
 bit_same live k b = cond-true (eqb k k) b (live k) (eq-eqb k k refl)
 
--- At any other number a set is as before.
+-- At any other number a set is unchanged.
 pub bit_other : (live : Locations) (k : ℕ) (b : Bool) (l : ℕ) → l ≢ k → with_bit live k b l ≡ live l
 bit_other live k b l ne = cond-false (eqb l k) b (live l) (ne_eqb l k ne)
 
@@ -91,7 +91,7 @@ taken_other g k live l ne = go (ltb k g)
     go true = refl
     go false = bit_other live k false l ne
 
--- Stores that agree elsewhere agree once one word is set in both.
+-- Stores that agree elsewhere agree after one word is set in both.
 set_agree : (m m' : Store) (k l : ℕ) (v : ℤ) → length m ≡ length m' →
     (l ≢ k → get_or m l (pos 0) ≡ get_or m' l (pos 0)) → get_or (slice_set m k v) l (pos 0) ≡ get_or
     (slice_set m' k v) l (pos 0)
@@ -109,7 +109,7 @@ set_agree m m' k l v len h =
     (λ other. get_or-set_other m k l v (pos 0) other ∙ h other ∙ sym (get_or-set_other m' k l v (pos 0) other))
     (cases_eq l k)
 
--- An assignment that stays.
+-- An assignment that stays keeps agreement.
 put_keeps : (k l : ℕ) (e : Expression) (b a : Locations) (m m' : Store) → length m ≡ k → length m' ≡ k →
     Within (reads e) b → ((i : ℕ) → i ≢ l → a i ≡ true → b i ≡ true) → Agree b m m' → SameOn k a
     (Some (slice_set m l (value e m))) (Some (slice_set m' l (value e m')))
@@ -121,7 +121,7 @@ put_keeps k l e b a m m' len len' w w' h = (
       ∙ set_agree m m' l i (value e m') (len ∙ sym len') (λ other. h i (w' i other is)),
 )
 
--- An assignment that goes.
+-- An assignment that is removed keeps agreement.
 gone_keeps : (k l : ℕ) (v : ℤ) (a : Locations) (m m' : Store) → length m ≡ k → length m' ≡ k → a l ≡ false →
     Agree a m m' → SameOn k a (Some m) (Some (slice_set m' l v))
 gone_keeps k l v a m m' len len' dead h = (
@@ -130,7 +130,7 @@ gone_keeps k l v a m m' len len' dead h = (
   λ i is. h i is ∙ sym (get_or-set_other m' l i v (pos 0) (λ e. false≢true (sym dead ∙ sym (ap a e) ∙ is))),
 )
 
--- A letvar.
+-- A letvar keeps agreement.
 allocate_keeps : (k : ℕ) (e : Expression) (b₀ b a a₀ : Locations) (f f' : Store → Option Store) → Within (reads e) b₀ →
     ((i : ℕ) → i ≢ k → b i ≡ true → b₀ i ≡ true) → ((i : ℕ) → i ≢ k → a i ≡ true → a₀ i ≡ true) → Keeps (k + 1) b
     a₀ f f' → Keeps k b₀ a (λ m. drop_past (length m) (f (m ++ value e m ∷ [])))
@@ -206,13 +206,13 @@ turns_keep (suc n) k a e f f' w h m m' len len' agree =
     (same_on_then k a a (f m) (f' m') (turns n (value e) f) (turns n (value e) f') (h m m' len len' agree)
     (turns_keep n k a e f f' w h))
 
--- The sequence of one command keeps what the command keeps.
+-- The sequence of one command keeps agreement if the command does.
 one_keeps : (n k : ℕ) (b a : Locations) (c : Command) (f' : Store → Option Store) → Keeps k b a (runs n c) f' →
     Keeps k b a (runs n (one c)) f'
 one_keeps n k b a c f' h m m' len len' agree = same_on_from k a (runs n (one c) m) (runs n c m) (f' m')
     (runs_one n c m) (h m m' len len' agree)
 
--- Two sequences joined keep what they keep one after the other.
+-- Two sequences joined keep agreement if both do.
 append_keeps : (n k : ℕ) (b d a : Locations) (x y x' y' : Command) → Keeps k b d (runs n x) (runs n x') →
     Keeps k d a (runs n y) (runs n y') → Keeps k b a (runs n (append x y)) (runs n (Sequence x' y'))
 append_keeps n k b d a x y x' y' f g m m' len len' agree =
@@ -220,7 +220,7 @@ append_keeps n k b d a x y x' y' f g m m' len len' agree =
     (runs_append n x y m)
     (same_on_then k d a (runs n x m) (runs n x' m') (runs n y) (runs n y') (f m m' len len' agree) g)
 
--- An assignment in a loop keeps agreement, whether it stays or goes.
+-- An assignment in a loop keeps agreement, whether it stays or is removed.
 kept_in_loop_put : (k n l : ℕ) (s : Span) (e : Expression) (live : Locations) → Within (reads e) live →
     Keeps k live live (runs n (kept (live l) (Assign l s e))) (runs n (Assign l s e))
 kept_in_loop_put k n l s e live w m m' len len' agree = go (live l) refl
@@ -269,7 +269,7 @@ kept_in_loop_keeps (Letvar e c) k n live w =
     (λ other. bit_other live k (all_reads c k) l other ∙ w l (or_right (reads e l) (all_reads c l) r))
     (cases_eq l k))))
 
--- An assignment outside loops keeps agreement, whether it stays or goes.
+-- An assignment outside loops keeps agreement, whether it stays or is removed.
 kept_live_put : (g k n l : ℕ) (s : Span) (e : Expression) (live : Locations) →
     Keeps k (if live l then joined (taken g l live) (reads e) else live) live (runs n (kept (live l) (Assign l s e)))
     (runs n (Assign l s e))
@@ -283,7 +283,7 @@ kept_live_put g k n l s e live m m' len len' agree = go (live l) refl agree
         (λ i other r. joined_left (taken g l live) (reads e) i (taken_other g l live i other ∙ r)) h
     go false is h = gone_keeps k l (value e m') live m m' len len' is h
 
--- Removal takes agreement on what is live before to agreement on what is live after.
+-- Removal turns agreement on the live locations before a command into agreement on those after it.
 pub kept_live_keeps : (c : Command) (g k n : ℕ) (live : Locations) →
     Keeps k (before g k c live) live (runs n (kept_live g k c live)) (runs n c)
 kept_live_keeps Skip g k n live = λ m m' len len' agree. (len, len', agree)
@@ -335,7 +335,7 @@ all_agree g (Some x) None s = absurd s
 all_agree g (Some x) (Some x') s =
     ap Some (ext_get_or (pos 0) x x' (s.0 ∙ sym s.1) (λ i lt. s.2 i (lt-ltb i g (omega (arith, lt, s.0)))))
 
--- The optimised body does what the body does.
+-- The optimised body behaves like the body.
 pub evaluates_same : EvaluatesSame
 evaluates_same c g n m len =
     all_agree g (runs n (optimised g c) m) (runs n (fold c) m)

@@ -1,4 +1,4 @@
--- What the two walks over a loop make of each kind of command.
+-- The results of the two walks over a loop, for each kind of command.
 use Rattle.std.proofs.Common.{◌≡◌, ℕ, ◌+◌, ◌<◌, ◌≤◌, Bool, true, false, ◌||◌, List, length, get_or, drop, Vec, Global, refl, sym, ap, ◌∙◌, subst, ⊎_elim, arith}
 use Rattle.std.proofs.lemmas.Bool.{cases_eq}
 use Rattle.std.proofs.lemmas.List.{drop_more, drop_all}
@@ -16,32 +16,32 @@ use Rattle.vsi_opt.specs.Ranges.{Fits}
 use Rattle.vsi_opt.proofs.LiveRuns.{bit_same, bit_other}
 use Rattle.vsi_opt.proofs.ReadingCases.{joined_joined, joined_nothing, joined_twice, joined_thrice}
 
--- What holds of the commands from a place on holds of the first of them, and of those behind it.
+-- A fact about the commands from a position on holds for the first of them and for the later ones.
 from_place : (P : Command → Type 0) (cs : List Cmd) (i : ℕ) (c : Cmd) → i < length cs → c ≡ get_or cs i c →
     P (sequence (drop i cs)) → P (Sequence (command c) (sequence (drop (i + 1) cs)))
 from_place P cs i c lt is p =
     subst (λ x. P (Sequence (command x) (sequence (drop (i + 1) cs)))) (sym is)
     (subst (λ l. P (sequence l)) (drop_more cs i c lt) p)
 
--- What holds of a command and those behind it holds of the commands from its place on.
+-- A fact about a command and the later ones holds for the commands from its position on.
 to_place : (P : Command → Type 0) (cs : List Cmd) (i : ℕ) (c : Cmd) → i < length cs → c ≡ get_or cs i c →
     P (Sequence (command c) (sequence (drop (i + 1) cs))) → P (sequence (drop i cs))
 to_place P cs i c lt is p =
     subst (λ l. P (sequence l)) (sym (drop_more cs i c lt))
     (subst (λ x. P (Sequence (command x) (sequence (drop (i + 1) cs)))) is p)
 
--- A fact of a list of commands, about an equal list.
+-- A fact about a list of commands holds for an equal list.
 pub of_list : (P : Command → Type 0) (cs ds : List Cmd) → ds ≡ cs → P (sequence cs) → P (sequence ds)
 of_list P cs ds e p = subst (λ l. P (sequence l)) (sym e) p
 
--- The first of the commands from a place on is within the limits.
+-- The first of the commands from a position on is within the limits.
 pub add_fits_one : (k n : ℕ) (cs : List Cmd) (i : ℕ) (c : Cmd) → i < length cs → c ≡ get_or cs i c →
     AddFits k n (sequence (drop i cs)) → AddFits k n (command c)
 add_fits_one k n cs i c lt is f =
     let g = from_place (AddFits k n) cs i c lt is f in
     (g.0.0, omega (arith, g.1))
 
--- Those behind it are within the limits.
+-- The later commands are within the limits.
 pub add_fits_rest : (k n n' : ℕ) (cs : List Cmd) (i : ℕ) (c : Cmd) → i < length cs → c ≡ get_or cs i c →
     n' ≡ n + letvars (command c) → AddFits k n (sequence (drop i cs)) → AddFits k n' (sequence (drop (i + 1) cs))
 add_fits_rest k n n' cs i c lt is e f =
@@ -70,18 +70,18 @@ add_fits_letvar k n c e b is f =
     let g = subst (AddFits k n) (ap command is ∙ command_Letvar e b) f in
     (g.0.0, omega (arith, g.1), (g.0.2, omega (arith, g.1)))
 
--- What a walk has done over a list of commands, it has done over an equal list.
+-- A walk over a list of commands is a walk over an equal list.
 pub adds_list : (k n m : ℕ) (cs ds : List Cmd) (live all own every : Locations) → ds ≡ cs →
     Adds k (sequence ds) live own n all every m → Adds k (sequence cs) live own n all every m
 adds_list k n m cs ds live all own every e f = subst (λ l. Adds k (sequence l) live own n all every m) e f
 
--- A walk over an assignment has added its reads.
+-- A walk over an assignment adds its reads.
 pub adds_assign : (k n : ℕ) (c : Cmd) (l : ℕ) (s : Span) (e : Ex) (live live' own : Locations) → c ≡ cmd.Assign l s e →
     live' ≡ joined live (reads (expression e)) → Adds k (command c) live own n live' own n
 adds_assign k n c l s e live live' own is add =
     subst (λ x. Adds k (command x) live own n live' own n) (sym is) (add, refl, omega arith)
 
--- A walk over an `if` has gone over its guard and its branches.
+-- A walk over an `if` is a walk over its guard and its branches.
 pub adds_if : (k n n₁ n₂ : ℕ) (c : Cmd) (e : Ex) (y z : Vec Cmd Global)
     (live live₁ live₂ live₃ own own₁ own₂ : Locations) →
     c ≡ view.If e y z → live₁ ≡ joined live (reads (expression e)) →
@@ -96,7 +96,7 @@ adds_if k n n₁ n₂ c e y z live live₁ live₂ live₃ own own₁ own₂ is 
       omega (arith, f.2, g.2),
     )
 
--- A walk over a loop has gone over its guard and its body.
+-- A walk over a loop is a walk over its guard and its body.
 pub adds_while : (k n n₁ : ℕ) (c : Cmd) (e : Ex) (b : Vec Cmd Global) (live live₁ live₂ own own₁ : Locations) →
     c ≡ view.While e b → live₁ ≡ joined live (reads (expression e)) →
     Adds k (sequence b.items) live₁ own n live₂ own₁ n₁ →
@@ -119,7 +119,7 @@ put_back a r b d k was e f = f ∙ (λ i l. go l i)
         (λ other. bit_other b k true l other ∙ ap (λ x. x l) e ∙ ap (λ x. x || r l) (bit_other a k false l other))
         (cases_eq l k)
 
--- A location that wasn't in a set is left as a walk has it.
+-- A location that wasn't in a set stays as a walk leaves it.
 pub left_out : (a r b : Locations) (k : ℕ) → a k ≡ false → b ≡ joined (with_bit a k false) r → b ≡ joined a r
 left_out a r b k was e = e ∙ ap (λ x. joined x r) (λ i l. go l i)
   where
@@ -130,11 +130,11 @@ left_out a r b k was e = e ∙ ap (λ x. joined x r) (λ i l. go l i)
         (λ other. bit_other a k false l other)
         (cases_eq l k)
 
--- What a walk finds at a location that it began without is what the commands read there.
+-- After a walk that began without a location, the set has it exactly if the commands read it.
 found_there : (a r b : Locations) (k : ℕ) → b ≡ joined (with_bit a k false) r → b k ≡ r k
 found_there a r b k e = ap (λ x. x k) e ∙ ap (λ x. x || r k) (bit_same a k false)
 
--- A walk over a letvar has gone over its initial value and its body, and has noted it.
+-- A walk over a letvar is a walk over its initial value and its body that notes the letvar.
 pub adds_letvar : (k n n₁ : ℕ) (c : Cmd) (e : Ex) (b : Vec Cmd Global)
     (live live₁ live₂ live₃ live₄ own own₁ own₂ : Locations) (r : Bool) →
     c ≡ view.Letvar e b → live₁ ≡ joined live (reads (expression e)) → live₂ ≡ with_bit live₁ k false →
@@ -152,7 +152,7 @@ adds_letvar k n n₁ c e b live live₁ live₂ live₃ live₄ own own₁ own�
       omega (arith, f.2),
     )
 
--- What a walk has done from the next command on, it has done from a command on.
+-- A walk over a command and then over the later ones is a walk from the command on.
 pub adds_more : (k n n' m : ℕ) (cs : List Cmd) (i : ℕ) (c : Cmd) (live live' all own own' every : Locations) →
     i < length cs →
     c ≡ get_or cs i c → Adds k (command c) live own n live' own' n' →
@@ -166,14 +166,14 @@ adds_more k n n' m cs i c live live' all own own' every lt is f g =
       omega (arith, f.2, g.2),
     )
 
--- At the end of a list of commands a walk has done nothing more.
+-- At the end of a list of commands a walk adds nothing more.
 pub adds_end : (k n : ℕ) (cs : List Cmd) (i : ℕ) (live own : Locations) → length cs ≤ i →
     Adds k (sequence (drop i cs)) live own n live own n
 adds_end k n cs i live own le =
     subst (λ l. Adds k (sequence l) live own n live own n) (sym (drop_all i cs le))
     (sym (joined_nothing live), refl, omega arith)
 
--- A walk notes no number before the commands' own.
+-- A walk notes no number below the commands' own.
 noted_below : (c : Command) (k n i : ℕ) (own : Locations) → i < n → noted k n c own i ≡ own i
 noted_below Skip k n i own lt = refl
 noted_below (Assign l s e) k n i own lt = refl
@@ -186,7 +186,7 @@ noted_below (Letvar e c) k n i own lt =
     bit_other (noted (k + 1) (n + 1) c own) n (all_reads c k) i (λ is. absurd (omega (arith, is, lt)))
     ∙ noted_below c (k + 1) (n + 1) i own (omega (arith, lt))
 
--- What tells of commands hangs on their own numbers alone.
+-- The notes about commands depend on their own numbers alone.
 tells_same : (c : Command) (k n : ℕ) (own other : Locations) →
     ((i : ℕ) → n ≤ i → i < n + letvars c → other i ≡ own i) → Tells own k n c → Tells other k n c
 tells_same Skip k n own other h t = tt
@@ -205,7 +205,7 @@ tells_same (Letvar e c) k n own other h t = (
   tells_same c (k + 1) (n + 1) own other (λ i le lt. h i (omega (arith, le)) (omega (arith, lt))) t.1,
 )
 
--- What is noted of commands tells of them.
+-- The notes that a walk makes of commands are true of them.
 noted_tells : (c : Command) (k n : ℕ) (own : Locations) → Tells (noted k n c own) k n c
 noted_tells Skip k n own = tt
 noted_tells (Assign l s e) k n own = tt
@@ -230,7 +230,7 @@ noted_tells (Letvar e c) k n own =
           (noted_tells c (k + 1) (n + 1) own),
     )
 
--- A loop's body, once its letvars are noted.
+-- A loop's body is within the limits after its letvars are noted.
 pub kept_in_loop_fits_noted : (k : ℕ) (cs ds : List Cmd) (own own' : Locations) → Fits k (sequence cs) →
     letvars (sequence cs) ≤ 1024 →
     ds ≡ cs → own' ≡ noted k 0 (sequence ds) own → KeptInLoopFits own' k 0 (sequence ds)
@@ -242,7 +242,7 @@ kept_in_loop_fits_noted k cs ds own own' f few e note =
           (arith, few, ap (λ l. letvars (sequence l)) e),
     )
 
--- The first of the commands from a place on is noted and within the limits.
+-- The first of the commands from a position on is noted and within the limits.
 pub kept_in_loop_fits_one : (own : Locations) (k n : ℕ) (cs : List Cmd) (i : ℕ) (c : Cmd) → i < length cs →
     c ≡ get_or cs i c →
     KeptInLoopFits own k n (sequence (drop i cs)) → KeptInLoopFits own k n (command c)
@@ -250,7 +250,7 @@ kept_in_loop_fits_one own k n cs i c lt is f =
     let g = from_place (KeptInLoopFits own k n) cs i c lt is f in
     (g.0.0, g.1.0, omega (arith, g.2))
 
--- Those behind it are noted and within the limits.
+-- The later commands are noted and within the limits.
 pub kept_in_loop_fits_rest : (own : Locations) (k n n' : ℕ) (cs : List Cmd) (i : ℕ) (c : Cmd) → i < length cs →
     c ≡ get_or cs i c → n' ≡ n + letvars (command c) → KeptInLoopFits own k n (sequence (drop i cs)) →
     KeptInLoopFits own k n' (sequence (drop (i + 1) cs))

@@ -1,4 +1,4 @@
--- How many letvars a walk has passed, and which entries it has added.
+-- The number of letvars that a walk has passed, and the entries that it has added.
 use Rattle.std.proofs.Common.{◌≡◌, ℕ, zero, suc, ◌+◌, ◌-◌, ◌<◌, ◌≤◌, Bool, true, false, List, [], ◌∷◌, ◌++◌, map, length, get_or, take, drop, Some, slice_get, Vec, Global, refl, sym, ap, ◌∙◌, subst, arith}
 use Rattle.std.proofs.lemmas.List.{drop_more, drop_all, take_more, take_all, map-append}
 use Rattle.std.proofs.lemmas.List.Elements.{All-append, All-cons}
@@ -24,12 +24,12 @@ pub letvars_while : (c : Cmd) (e : Ex) (b : Vec Cmd Global) → c ≡ view.While
     letvars (command c) ≡ letvars (sequence b.items)
 letvars_while c e b is = ap (λ x. letvars (command x)) is ∙ ap letvars (command_While e b)
 
--- A letvar is one more than those of its body.
+-- A letvar has one letvar more than its body.
 pub letvars_letvar : (c : Cmd) (e : Ex) (b : Vec Cmd Global) → c ≡ view.Letvar e b →
     letvars (command c) ≡ letvars (sequence b.items) + 1
 letvars_letvar c e b is = ap (λ x. letvars (command x)) is ∙ ap letvars (command_Letvar e b)
 
--- The letvars from a command on are its own and those behind it.
+-- The letvars from a command on are its own and those of the later commands.
 pub letvars_from : (cs : List Cmd) (i : ℕ) (c : Cmd) → i < length cs → c ≡ get_or cs i c →
     letvars (sequence (drop i cs)) ≡ letvars (command c) + letvars (sequence (drop (i + 1) cs))
 letvars_from cs i c lt is =
@@ -50,7 +50,7 @@ pub joined_nothing : (xs : List ℕ) → xs ++ [] ≡ xs
 joined_nothing [] = refl
 joined_nothing (x ∷ xs) = ap (λ l. x ∷ l) (joined_nothing xs)
 
--- A walk over a list of commands that has gone past one more of them.
+-- A walk over a list of commands that has passed one more of them.
 pub picks_more : (cs : List Cmd) (i : ℕ) (c : Cmd) (n n' : ℕ) (xs xs' : List ℕ) → i < length cs → c ≡ get_or cs i c →
     Picks (command c) n n' xs xs' →
     xs' ++ remaining (sequence (drop (i + 1) cs)) n' ≡ xs ++ remaining (sequence (drop i cs)) n
@@ -62,12 +62,12 @@ picks_more cs i c n n' xs xs' lt is p =
     ∙ ap (λ x. xs ++ (remaining (command x) n ++ remaining rest (n + letvars (command x)))) is
     ∙ ap (λ l. xs ++ remaining (sequence l) n) (sym (drop_more cs i c lt))
 
--- A walk over a list of commands that has come to its end.
+-- A walk over a list of commands that has reached the end.
 pub picks_end : (cs : List Cmd) (i n : ℕ) (xs : List ℕ) → length cs ≤ i →
     xs ++ remaining (sequence (drop i cs)) n ≡ xs
 picks_end cs i n xs le = ap (λ l. xs ++ remaining (sequence l) n) (drop_all i cs le) ∙ joined_nothing xs
 
--- A walk over an `if` is one over each of its branches.
+-- A walk over an `if` consists of a walk over each branch.
 pub picks_if : (c : Cmd) (e : Ex) (y z : Vec Cmd Global) (ys zs : List Cmd) (b d : Bool) (n n₁ n₂ : ℕ)
     (xs xs₁ xs₂ : List ℕ) → c ≡ view.If e y z → ys ≡ y.items → zs ≡ z.items →
     b ≡ may_be_true (truth_of (folded (expression e))) → d ≡ may_be_false (truth_of (folded (expression e))) →
@@ -98,7 +98,7 @@ picks_if c e y z ys zs b d n n₁ n₂ xs xs₁ xs₂ is iy iz ib id p q =
         (letvars (sequence y.items) + letvars (sequence z.items))
     sums = omega arith
 
--- A walk over a loop is one over its body.
+-- A walk over a loop is a walk over its body.
 pub picks_while : (c : Cmd) (e : Ex) (b : Vec Cmd Global) (bs : List Cmd) (t : Bool) (n n' : ℕ) (xs xs' : List ℕ) →
     c ≡ view.While e b → bs ≡ b.items → t ≡ may_be_true (truth_of (folded (expression e))) →
     PicksIf t (sequence bs) n n' xs xs' → Picks (command c) n n' xs xs'
@@ -110,7 +110,7 @@ picks_while c e b bs t n n' xs xs' is ib it p =
           ∙ ap (λ u. xs ++ list_if u (remaining (sequence b.items) n)) it,
     )
 
--- A walk over a letvar adds its own number, and is then one over its body.
+-- A walk over a letvar adds its own number, and then walks over its body.
 pub picks_letvar : (c : Cmd) (e : Ex) (b : Vec Cmd Global) (bs : List Cmd) (n n' : ℕ) (xs xs₁ xs' : List ℕ) →
     c ≡ view.Letvar e b → bs ≡ b.items → xs₁ ≡ xs ++ n ∷ [] → Picks (sequence bs) (n + 1) n' xs₁ xs' →
     Picks (command c) n n' xs xs'
@@ -126,7 +126,7 @@ picks_letvar c e b bs n n' xs xs₁ xs' is ib push p =
     sums : n + 1 + letvars (sequence b.items) ≡ n + (letvars (sequence b.items) + 1)
     sums = omega arith
 
--- A list that remains or goes keeps what holds of its elements.
+-- A list that is kept or dropped keeps the properties of its elements.
 list_if_all : (P : ℕ → Type 0) (b : Bool) (xs : List ℕ) → All P xs → All P (list_if b xs)
 list_if_all P true xs h = h
 list_if_all P false xs h = λ k d lt. absurd (omega (arith, lt))
@@ -181,7 +181,7 @@ entries_more xs ys ys' ns i lt below more has =
     ∙ sym (map-append (slice_get xs) (take i ns) (n ∷ []))
     ∙ ap (map (slice_get xs)) (sym (take_more ns i 0 lt))
 
--- A walk over numbers that has come to its end.
+-- A walk over numbers that has reached the end.
 pub entries_end : (xs ys : List Entry) (ns ms old : List ℕ) (c : Command) (i : ℕ) → ns ≡ ms →
     ms ≡ old ++ remaining c 0 →
     old ≡ [] → length ns ≤ i → HasEntries ys xs (take i ns) → HasEntries ys xs (remaining c 0)

@@ -1,4 +1,4 @@
--- What the walks over live locations meet at each kind of command.
+-- The results of the walks over live locations, for each kind of command.
 use Rattle.std.proofs.Common.{◌≡◌, ℕ, zero, suc, ◌+◌, ◌<◌, ◌≤◌, Bool, true, false, ◌||◌, cond, eqb, List, [], ◌∷◌, length, get_or, drop, Vec, Global, refl, sym, ap, ◌∙◌, subst}
 use Rattle.std.proofs.lemmas.List.{drop_more, drop_all}
 use Rattle.vsi_syntax.specs.declared.token.Span.{Span}
@@ -13,24 +13,24 @@ use Rattle.vsi_opt.specs.Liveness.{Locations, joined, with_bit, reads, all_reads
 use Rattle.vsi_opt.specs.Ranges.{Fits}
 use Rattle.vsi_opt.proofs.Sequences.{append_append, append_nothing}
 
--- Three tests joined, in either order.
+-- The disjunction of three tests is associative.
 or_or : (x y z : Bool) → ((x || y) || z) ≡ (x || (y || z))
 or_or true y z = refl
 or_or false y z = refl
 
--- Nothing more is joined.
+-- A disjunction with false changes nothing.
 or_false : (x : Bool) → (x || false) ≡ x
 or_false true = refl
 or_false false = refl
 
--- A number put in is there.
+-- A number that is put in is in the set.
 or_bit : (x b : Bool) → (x || b) ≡ cond b true x
 or_bit true true = refl
 or_bit true false = refl
 or_bit false true = refl
 or_bit false false = refl
 
--- Three sets joined, in either order.
+-- The union of three sets is associative.
 pub joined_joined : (a b c : Locations) → joined (joined a b) c ≡ joined a (joined b c)
 joined_joined a b c = λ i l. or_or (a l) (b l) (c l) i
 
@@ -38,15 +38,15 @@ joined_joined a b c = λ i l. or_or (a l) (b l) (c l) i
 pub joined_nothing : (a : Locations) → joined a (all_reads Skip) ≡ a
 joined_nothing a = λ i l. or_false (a l) i
 
--- What a location alone reads is put in.
+-- The union with the reads of one location puts the location in.
 pub joined_one : (a : Locations) (k : ℕ) (s : Span) → joined a (reads (Location k s)) ≡ with_bit a k true
 joined_one a k s = λ i l. or_bit (a l) (eqb l k) i
 
--- Two sets added one after the other.
+-- Two sets added in turn are the union of both.
 pub joined_twice : (o a b n₁ n₂ : Locations) → n₁ ≡ joined o a → n₂ ≡ joined n₁ b → n₂ ≡ joined o (joined a b)
 joined_twice o a b n₁ n₂ e f = f ∙ ap (λ x. joined x b) e ∙ joined_joined o a b
 
--- Three sets added one after the other.
+-- Three sets added in turn are the union of all.
 pub joined_thrice : (o a b d n₁ n₂ n₃ : Locations) → n₁ ≡ joined o a → n₂ ≡ joined n₁ b → n₃ ≡ joined n₂ d →
     n₃ ≡ joined o (joined a (joined b d))
 joined_thrice o a b d n₁ n₂ n₃ e f g = joined_twice n₁ b d n₂ n₃ f g ∙ ap (λ x. joined x (joined b d)) e
@@ -87,7 +87,7 @@ fits_at k cs i c lt is f =
     fits_drop (c ∷ cs) zero f = f
     fits_drop (c ∷ cs) (suc i) f = fits_drop cs i f.1
 
--- Removal in a loop goes over one command more.
+-- Removal in a loop handles one more command.
 pub kept_in_loop_more : (k : ℕ) (live : Locations) (cs out out' : List Cmd) (i : ℕ) (c : Cmd) → i < length cs →
     c ≡ get_or cs i c → sequence out' ≡ append (sequence out) (kept_in_loop k (command c) live) → append (sequence out')
     (kept_in_loop k (sequence (drop (i + 1) cs)) live)

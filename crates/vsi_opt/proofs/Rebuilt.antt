@@ -15,7 +15,7 @@ use Rattle.vsi_opt.proofs.Depths.{optimised_expressions}
 use Rattle.vsi_opt.proofs.Kept.{append_letvars, kept_live_letvars, fold_letvars, not_larger, nothing_to_fold, places_kept}
 use Rattle.vsi_opt.proofs.LiveRuns.{evaluates_same}
 
--- A folded choice has as many letvars as numbers remain of its branches.
+-- A folded choice has as many letvars as numbers remain from its branches.
 branch_count : (t : Option Bool) (e : Expression) (a b : Command) (xs ys : List ℕ) →
     length xs ≡ letvars a → length ys ≡ letvars b →
     length (list_if (may_be_true t) xs ++ list_if (may_be_false t) ys) ≡ letvars (branch t e a b)
@@ -23,7 +23,7 @@ branch_count (Some true) e a b xs ys p q = omega (arith, length-append xs [], p)
 branch_count (Some false) e a b xs ys p q = q
 branch_count None e a b xs ys p q = omega (arith, length-append xs ys, p, q)
 
--- A folded loop has as many letvars as numbers remain of its body.
+-- A folded loop has as many letvars as numbers remain from its body.
 loop_count : (t : Option Bool) (e : Expression) (c : Command) (xs : List ℕ) →
     length xs ≡ letvars c → length (list_if (may_be_true t) xs) ≡ letvars (loop t e c)
 loop_count (Some true) e c xs p = omega (arith, p)
@@ -45,7 +45,7 @@ remaining_count (While e c) n =
     loop_count (truth_of (folded e)) (folded e) (fold c) (remaining c n) (remaining_count c n)
 remaining_count (Letvar e c) n = omega (arith, remaining_count c (n + 1))
 
--- The entries that remain are as many as the optimised body's letvars.
+-- As many entries remain as the optimised body has letvars.
 entries_count : (xs ys : List Entry) (c : Command) (g : ℕ) → HasEntries ys xs (remaining c 0) →
     length ys ≡ letvars (optimised g c)
 entries_count xs ys c g has =
@@ -59,7 +59,7 @@ entries_count xs ys c g has =
 optimised_letvars : (c : Command) (g : ℕ) → letvars (optimised g c) ≤ letvars c
 optimised_letvars c g = omega (arith, kept_live_letvars (fold c) g g (globals_alone g), fold_letvars c)
 
--- A program with the optimised body and the entries that remain keeps what a resolved program keeps.
+-- A program with the optimised body and the remaining entries has the invariants of a resolved program.
 pub rebuilt_resolved : (p : Resolved) (ys : List Entry) (cs : List Cmd) → IsResolved p →
     HasEntries ys p.letvars (remaining (sequence p.body) 0) →
     sequence cs ≡ optimised (length p.globals) (sequence p.body) → IsResolved (resolved_of p.globals ys cs)
@@ -86,7 +86,7 @@ pub rebuilt_body : (p r : Resolved) (ys : List Entry) (cs : List Cmd) → r ≡ 
 rebuilt_body p r ys cs is body =
     subst (λ x. sequence x.body ≡ optimised (length x.globals) (sequence p.body)) (sym is) body
 
--- A program with the optimised body does what the program does.
+-- A program with the optimised body behaves like the program.
 pub rebuilt_runs : (p r : Resolved) → sequence r.body ≡ optimised (length r.globals) (sequence p.body) →
     RunsAlike (length r.globals) (sequence r.body) (sequence p.body)
 rebuilt_runs p r is =
@@ -99,12 +99,12 @@ pub rebuilt_size : (p r : Resolved) → sequence r.body ≡ optimised (length r.
 rebuilt_size p r is =
     subst (λ x. size x ≤ size (sequence p.body)) (sym is) ((not_larger (sequence p.body) (length r.globals)).0)
 
--- In a program with the optimised body nothing is left to fold.
+-- A program with the optimised body has nothing left to fold.
 pub rebuilt_folded : (p r : Resolved) → sequence r.body ≡ optimised (length r.globals) (sequence p.body) →
     IsFolded (sequence r.body)
 rebuilt_folded p r is = subst IsFolded (sym is) (nothing_to_fold (sequence p.body) (length r.globals))
 
--- A program with the optimised body has what remains of the program's.
+-- A program with the optimised body is the remainder of the program.
 pub rebuilt_remains : (p r : Resolved) → IsResolved p → r.globals ≡ p.globals →
     sequence r.body ≡ optimised (length r.globals) (sequence p.body) → IsRemainder p r
 rebuilt_remains p r resolved same is =

@@ -1,4 +1,4 @@
--- What remains of a command in the optimised body.
+-- The commands that remain in the optimised body.
 use Rattle.std.proofs.Common.{◌≡◌, ℕ, zero, suc, ◌+◌, ◌<◌, ◌≤◌, Bool, true, false, ◌||◌, cond, ltb, inl, inr, ⊎_elim, List, ◌++◌, Option, Some, None, pos, negsuc, refl, sym, ap, ◌∙◌, subst, arith}
 use Rattle.std.proofs.lemmas.Bool.{cases_eq, cases_lt, false≢true, true≢false, lt-ltb, or_left, or_right, or_cases}
 use Rattle.vsi_syntax.specs.declared.operator.Op.{Op}
@@ -12,15 +12,15 @@ use Rattle.vsi_opt.proofs.LiveRuns.{bit_same, bit_other}
 use Rattle.vsi_opt.proofs.Numbers.{joined_nothing}
 use Rattle.vsi_opt.proofs.Sequences.{append_append}
 
--- A set that is within another as far as the first k locations go.
+-- One set within another, for the first k locations.
 abbrev pub WithinFirst : ℕ → Locations → Locations → Type 0
 WithinFirst k a b = (l : ℕ) → l < k → a l ≡ true → b l ≡ true
 
--- A set that has the first g locations.
+-- A set with the first g locations.
 abbrev pub HasFirst : ℕ → Locations → Type 0
 HasFirst g a = (l : ℕ) → l < g → a l ≡ true
 
--- Removal in a loop goes over the parts of a sequence.
+-- Removal in a loop treats the parts of a sequence separately.
 kept_in_loop_append : (x y : Command) (k : ℕ) (live : Locations) →
     kept_in_loop k (append x y) live ≡ append (kept_in_loop k x live) (kept_in_loop k y live)
 kept_in_loop_append Skip y k live = refl
@@ -32,7 +32,7 @@ kept_in_loop_append (If e a c) y k live = refl
 kept_in_loop_append (While e c) y k live = refl
 kept_in_loop_append (Letvar e c) y k live = refl
 
--- What is live before a sequence is what is live before its first part.
+-- The live locations before a sequence are those before its first part.
 before_append : (x y : Command) (g k : ℕ) (live : Locations) →
     before g k (append x y) live ≡ before g k x (before g k y live)
 before_append Skip y g k live = refl
@@ -42,7 +42,7 @@ before_append (If e a c) y g k live = refl
 before_append (While e c) y g k live = refl
 before_append (Letvar e c) y g k live = refl
 
--- Removal goes over the parts of a sequence from its end.
+-- Removal treats the parts of a sequence separately, from the end.
 kept_live_append : (x y : Command) (g k : ℕ) (live : Locations) →
     kept_live g k (append x y) live ≡ append (kept_live g k x (before g k y live)) (kept_live g k y live)
 kept_live_append Skip y g k live = refl
@@ -65,7 +65,7 @@ operator_reads o (Number x) (Operator p c d) l h = h
 operator_reads o (Location m s) b l h = h
 operator_reads o (Operator p c d) b l h = h
 
--- Two tests that give two others.
+-- A disjunction of two tests implies the disjunction of two weaker ones.
 or_both : (a b a' b' : Bool) → (a ≡ true → a' ≡ true) → (b ≡ true → b' ≡ true) → (a || b) ≡ true → (a' || b') ≡ true
 or_both a b a' b' f g h = ⊎_elim (λ x. or_left a' b' (f x)) (λ y. or_right a' b' (g y)) (or_cases a b h)
 
@@ -91,7 +91,7 @@ append_reads (If e a c) y l h = h
 append_reads (While e c) y l h = h
 append_reads (Letvar e c) y l h = h
 
--- The sequence of one command reads what it reads.
+-- The sequence of one command reads only what the command reads.
 one_reads : (b : Bool) → (b || false) ≡ true → b ≡ true
 one_reads true h = refl
 one_reads false h = h
@@ -136,7 +136,7 @@ fold_reads (Letvar e c) l h =
     (fold_reads c l)
     (one_reads (reads (folded e) l || all_reads (fold c) l) h)
 
--- A location that is in a set without another is in the set.
+-- A location in a set without another location is in the set.
 bit_within : (live : Locations) (k l : ℕ) → with_bit live k false l ≡ true → live l ≡ true
 bit_within live k l h =
     ⊎_elim
@@ -144,7 +144,7 @@ bit_within live k l h =
     (λ other. sym (bit_other live k false l other) ∙ h)
     (cases_eq l k)
 
--- What an assignment leaves live was live.
+-- An assignment leaves only locations live that were live.
 taken_within : (g k : ℕ) (live : Locations) (l : ℕ) → taken g k live l ≡ true → live l ≡ true
 taken_within g k live l h = go (ltb k g) h
   where
@@ -152,7 +152,7 @@ taken_within g k live l h = go (ltb k g) h
     go true x = x
     go false x = bit_within live k l x
 
--- What is live before a command is live after it or is read in it.
+-- A location that is live before a command is live after it or is read in it.
 before_reads : (c : Command) (g k : ℕ) (live : Locations) (l : ℕ) → before g k c live l ≡ true →
     (live l || all_reads c l) ≡ true
 before_reads Skip g k live l h = or_left (live l) false h
@@ -189,7 +189,7 @@ before_reads (Letvar e c) g k live l h =
     (λ x. or_right (live l) (reads e l || all_reads c l) (or_left (reads e l) (all_reads c l) x))
     (or_cases (with_bit (before g (k + 1) c inner) k false l) (reads e l) h)
 
--- A location below another stays where that one goes.
+-- A location below another stays when that one is taken out.
 bit_first : (live : Locations) (g k : ℕ) (b : Bool) → g ≤ k → HasFirst g live → HasFirst g (with_bit live k b)
 bit_first live g k b le h l lt = bit_other live k b l (λ is. absurd (omega (arith, is, lt, le))) ∙ h l lt
 
@@ -205,7 +205,7 @@ taken_first live g k h l lt =
     cases true ne = h l lt
     cases false ne = bit_other live k false l ne ∙ h l lt
 
--- The globals are live before a command where they are live after it.
+-- The globals are live before a command if they are live after it.
 before_first : (c : Command) (g k : ℕ) (live : Locations) → g ≤ k → HasFirst g live → HasFirst g (before g k c live)
 before_first Skip g k live le h = h
 before_first (Assign m s e) g k live le h = go (live m)
@@ -234,7 +234,7 @@ false_is_zero (Number (negsuc n)) h = absurd
 false_is_zero (Location l s) h = absurd (true≢false (ap (λ o. elim o as (λ _. Bool) [ None ↦ true | Some b ↦ b ]) h))
 false_is_zero (Operator o a b) h = absurd (true≢false (ap (λ o. elim o as (λ _. Bool) [ None ↦ true | Some b ↦ b ]) h))
 
--- An assignment stays where its location is live, and goes where it isn't.
+-- An assignment stays if its location is live, and is removed otherwise.
 put_remains : (g k l : ℕ) (s : Span) (e : Expression) (w live : Locations) → l < k → WithinFirst k live w →
     HasFirst g live → AssignmentRemains g w l (Assign l s e) (append (kept (live l) (Assign l s e)) Skip)
 put_remains g k l s e w live lt within first = go (live l) refl
@@ -244,7 +244,7 @@ put_remains g k l s e w live lt within first = go (live l) refl
     go false is =
         inr (refl, ⊎_elim (λ low. absurd (false≢true (sym is ∙ first l low))) (λ high. high) (cases_lt l g))
 
--- A choice that is folded, in whose branches removal has been.
+-- A choice that is folded after removal in its branches.
 choice_remains : (g k n : ℕ) (w : Locations) (e : Expression) (a b a' b' : Command) (xs ys : List ℕ) (P : Command →
     Command) →
     ((x y : Command) → P (one (If (folded e) x y)) ≡ one (If (folded e) (P x) (P y))) →
@@ -258,7 +258,7 @@ choice_remains g k n w e a b a' b' xs ys P over ra rb (Some false) is = inr (inl
 choice_remains g k n w e a b a' b' xs ys P over ra rb None is =
     inr (inr (P a', P b', xs, ys, ra, rb, over a' b', refl))
 
--- A loop that is folded, in whose body removal has been.
+-- A loop that is folded after removal in its body.
 loop_remains : (g k n : ℕ) (w : Locations) (e : Expression) (c d : Command) (xs : List ℕ) (P : Command → Command) →
     P Skip ≡ Skip → (c' : Command) → P (one (While (folded e) d)) ≡ one (While (folded e) c') →
     Remains g w k n c c' xs → (t : Option Bool) → truth_of (folded e) ≡ t →
@@ -267,7 +267,7 @@ loop_remains g k n w e c d xs P gone c' over r (Some true) is = inr (c', r, over
 loop_remains g k n w e c d xs P gone c' over r (Some false) is = inl (false_is_zero (folded e) is, gone, refl)
 loop_remains g k n w e c d xs P gone c' over r None is = inr (c', r, over)
 
--- In a loop: what is live there is where assignments may be, and has the globals.
+-- In a loop, the live locations may be assigned, and they include the globals.
 pub kept_in_loop_remains : (c : Command) (g k n : ℕ) (w live : Locations) → g ≤ k → HasPlaces k c →
     WithinFirst k live w →
     HasFirst g live → Remains g w k n c (kept_in_loop k (fold c) live) (remaining c n)
@@ -311,7 +311,7 @@ kept_in_loop_remains (Letvar e c) g k n w live le p within first =
       refl,
     )
 
--- Outside loops: what is live after a command, and what it reads, is where assignments may be.
+-- Outside loops, the locations that are live after a command, and those it reads, may be assigned.
 pub kept_live_remains : (c : Command) (g k n : ℕ) (w live : Locations) → g ≤ k → HasPlaces k c → WithinFirst k live w →
     WithinFirst k (all_reads c) w → HasFirst g live → Remains g w k n c (kept_live g k (fold c) live) (remaining c n)
 kept_live_remains Skip g k n w live le p within reading first = (refl, refl)
@@ -379,7 +379,7 @@ kept_live_remains (Letvar e c) g k n w live le p within reading first =
       refl,
     )
 
--- What remains of a body in the optimised one.
+-- The optimised body is a remainder of the body.
 pub optimised_remains : (c : Command) (g : ℕ) → HasPlaces g c →
     Remains g (globals_alone g) g 0 c (optimised g c) (remaining c 0)
 optimised_remains c g p =

@@ -1,4 +1,5 @@
--- What joining and removal keep of commands, shown once for every measure and for every relation to what was there.
+-- Properties that joining and removal preserve, shown once for every measure and every relation to the original
+-- command.
 use Rattle.std.proofs.Common.{◌≡◌, ℕ, ◌+◌, ◌≤◌, max, Bool, true, false, refl, arith}
 use Rattle.vsi_syntax.specs.declared.token.Span.{Span}
 use Rattle.vsi_scope.specs.Language.{Expression, Command, Skip, Assign, Sequence, If, While, Letvar}
@@ -7,7 +8,7 @@ use Rattle.vsi_opt.specs.Liveness.{Locations, with_bit, all_reads, throughout, b
 
 -- ---- two sequences joined.
 
--- A measure that adds up over sequences does so where they are joined.
+-- A measure that adds up over sequences adds up over joined sequences.
 pub append_sum : (f : Command → ℕ) → f Skip ≡ 0 → ((a b : Command) → f (Sequence a b) ≡ f a + f b) →
     (a b : Command) → f (append a b) ≡ f a + f b
 append_sum f z s Skip b = let behind : f (append Skip b) ≡ f b = refl in omega (arith, behind, z)
@@ -19,7 +20,7 @@ append_sum f z s (If e a c) b = s (If e a c) b
 append_sum f z s (While e c) b = s (While e c) b
 append_sum f z s (Letvar e c) b = s (Letvar e c) b
 
--- A measure that is the greater one of the parts is no greater where they are joined.
+-- A measure that is the greatest of the parts is no greater for joined sequences.
 pub append_most : (f : Command → ℕ) → ((a b : Command) → f (Sequence a b) ≡ max (f a) (f b)) →
     (a b : Command) → f (append a b) ≤ max (f a) (f b)
 append_most f s Skip b = let behind : f (append Skip b) ≡ f b = refl in omega (arith, behind)
@@ -37,7 +38,7 @@ append_most f s (Letvar e c) b =
 
 -- ---- removal.
 
--- A relation of what is left to what was there, which goes over from the parts of a command.
+-- A relation of the remaining command to the original that carries over from the parts of a command.
 pub record IsCarried (R : Command → Command → Type 0) : Type 0 where
   pub nothing : R Skip Skip
   pub stays : (l : ℕ) (s : Span) (e : Expression) → R (one (Assign l s e)) (Assign l s e)
@@ -47,13 +48,13 @@ pub record IsCarried (R : Command → Command → Type 0) : Type 0 where
   pub repeated : (e : Expression) (a c : Command) → R a c → R (one (While e a)) (While e c)
   pub local : (e : Expression) (a c : Command) → R a c → R (one (Letvar e a)) (Letvar e c)
 
--- An assignment is so related whether it stays or goes.
+-- An assignment that stays or is removed is related to the original.
 kept_carried : (R : Command → Command → Type 0) → IsCarried R → (b : Bool) (l : ℕ) (s : Span) (e : Expression) →
     R (kept b (Assign l s e)) (Assign l s e)
 kept_carried R w true l s e = w.stays l s e
 kept_carried R w false l s e = w.goes l s e
 
--- What removal in a loop leaves is so related to the command.
+-- The result of removal in a loop is related to the original.
 pub kept_in_loop_carried : (R : Command → Command → Type 0) → IsCarried R → (c : Command) (k : ℕ) (live : Locations) →
     R (kept_in_loop k c live) c
 kept_in_loop_carried R w Skip k live = w.nothing
@@ -70,7 +71,7 @@ kept_in_loop_carried R w (Letvar e c) k live =
     let inside = with_bit live k (all_reads c k) in
     w.local e (kept_in_loop (k + 1) c inside) c (kept_in_loop_carried R w c (k + 1) inside)
 
--- What removal leaves is so related to the command.
+-- The result of removal is related to the original.
 pub kept_live_carried : (R : Command → Command → Type 0) → IsCarried R → (c : Command) (g k : ℕ) (live : Locations) →
     R (kept_live g k c live) c
 kept_live_carried R w Skip g k live = w.nothing

@@ -6,7 +6,7 @@ use Rattle.vsi_scope.specs.Language.{Command, Skip, Assign, Sequence, If, While,
 use Rattle.vsi_scope.specs.View.{command, sequence}
 use Rattle.vsi_opt.specs.Folding.{one, append, fold}
 
--- Three sequences joined, in either order.
+-- Joining three sequences is associative.
 pub append_append : (a b c : Command) → append (append a b) c ≡ append a (append b c)
 append_append Skip b c = refl
 append_append (Assign l s e) b c = refl
@@ -20,17 +20,17 @@ pub append_nothing : (cs : List Cmd) → append (sequence cs) Skip ≡ sequence 
 append_nothing [] = refl
 append_nothing (c ∷ cs) = ap (Sequence (command c)) (append_nothing cs)
 
--- A command pushed to a list stands at the end of its sequence.
+-- A command pushed to a list is at the end of its sequence.
 pub sequence_push : (cs : List Cmd) (c : Cmd) → sequence (cs ++ c ∷ []) ≡ append (sequence cs) (one (command c))
 sequence_push [] c = refl
 sequence_push (d ∷ cs) c = ap (Sequence (command d)) (sequence_push cs c)
 
--- One command pushed.
+-- One more command is pushed.
 pub pushed : (cs cs' : List Cmd) (x : Cmd) (d : Command) → cs' ≡ cs ++ x ∷ [] → one (command x) ≡ d →
     sequence cs' ≡ append (sequence cs) d
 pushed cs cs' x d e f = ap sequence e ∙ sequence_push cs x ∙ ap (append (sequence cs)) f
 
--- One command folded.
+-- One more command is folded.
 pub fold_more : (cs out out' : List Cmd) (i : ℕ) (c : Cmd) → i < length cs → c ≡ get_or cs i c →
     sequence out' ≡ append (sequence out) (fold (command c)) → append (sequence out')
     (fold (sequence (drop (i + 1) cs))) ≡ append (sequence out) (fold (sequence (drop i cs)))

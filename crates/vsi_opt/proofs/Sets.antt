@@ -9,7 +9,7 @@ use Rattle.vsi_opt.specs.Liveness.{Locations, joined, with_bit}
 use Rattle.vsi_opt.specs.Ranges.{bit_of}
 use Rattle.vsi_opt.specs.Optimised.{globals_alone}
 
--- One bit of one word set, with the others as before, is one number put in or taken out.
+-- Setting one bit of one word, with the others unchanged, puts one number in or takes it out.
 pub set_bits : (ws : List ℕ) (l v : ℕ) (b : Bool) → l / 64 < length ws → (eqb (bit_at v (l % 64)) 1 ≡ b) →
     ((j : ℕ) → j < 64 → j ≢ l % 64 → bit_at v j ≡ bit_at (get_or ws (l / 64) 0) j) → bit_of
     (slice_set ws (l / 64) v) ≡ with_bit (bit_of ws) l b
@@ -53,7 +53,7 @@ remove_bits ws l lt len =
     (ap (λ n. eqb n 1) (bit_at_clear_same w64 (get_or ws (l / 64) 0) (l % 64) (omega arith)))
     (λ j below ne. bit_at_clear_other w64 (get_or ws (l / 64) 0) (l % 64) (omega arith) j below ne)
 
--- The greater of two bits is 1 where either is.
+-- The greater of two bits is 1 exactly if either is.
 bit_max : (a b : ℕ) → a < 2 → b < 2 → eqb (max a b) 1 ≡ (eqb a 1 || eqb b 1)
 bit_max a b la lb =
     ⊎_elim
@@ -84,7 +84,7 @@ join_bits as' os ws la lo lw h = λ i x. go x i
         z ws lw ∙ none ∙ sym (ap (λ t. t || bit_of os x) (z as' la ∙ none) ∙ z os lo ∙ none))
         (cases_lt (x / 64) 16)
 
--- The numbers below the next one are those below, and the number itself.
+-- A number is below the next one if it is below the number or equal to it.
 one_below : (l i : ℕ) → cond (eqb l i) true (ltb l i) ≡ ltb l (i + 1)
 one_below l i =
     ⊎_elim
@@ -97,7 +97,7 @@ one_below l i =
     (cases_lt l i))
     (cases_eq l i)
 
--- The numbers below a number and that number are those below the next.
+-- The numbers below a number, with that number, are those below the next.
 pub below_more : (i : ℕ) (a b : Locations) → a ≡ globals_alone i → b ≡ with_bit a i true → b ≡ globals_alone (i + 1)
 below_more i a b e f = f ∙ ap (λ x. with_bit x i true) e ∙ (λ j l. one_below l i j)
 
@@ -109,7 +109,7 @@ nothing = replicate 16 0
 zero_at : (k : ℕ) → get_or (nothing) k 0 ≡ 0
 zero_at k = ⊎_elim (λ lt. get_or-replicate 16 k 0 0 lt) (λ ge. get_or_past (nothing) k 0 ge) (cases_lt k 16)
 
--- The empty set is that of the numbers below 0.
+-- The empty set is the set of the numbers below 0.
 pub none_below : bit_of (nothing) ≡ globals_alone 0
 none_below = λ i x. go x i
   where

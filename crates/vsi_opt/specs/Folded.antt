@@ -1,4 +1,4 @@
--- Nothing is left to fold.
+-- Commands in which nothing is left to fold.
 use Rattle.std.specs.Prelude.{◌≡◌, pos}
 use Rattle.vsi_scope.specs.Language.{Expression, Number, Location, Operator, Command, Skip, Assign, Sequence, If, While, Letvar}
 

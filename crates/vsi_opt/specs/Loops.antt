@@ -1,6 +1,6 @@
--- What the two walks over a loop's body keep: the one that gathers its reads, and the one that removes assignments.
+-- The invariants of the two walks over a loop's body: one gathers its reads, the other removes assignments.
 --   k  the number of locations in scope
---   n  the number of letvars of the loop that stand before the command.
+--   n  the number of letvars of the loop before the command.
 use Rattle.std.specs.Prelude.{◌≡◌, ℕ, ◌+◌, ◌≤◌}
 use Rattle.vsi_scope.specs.Language.{Command, Skip, Assign, Sequence, If, While, Letvar, letvars}
 use Rattle.vsi_opt.specs.Liveness.{Locations, joined, with_bit, all_reads}
@@ -8,7 +8,7 @@ use Rattle.vsi_opt.specs.Ranges.{Fits, bits}
 use Rattle.vsi_opt.specs.declared.small_set.SmallSet.{SmallSet}
 use Rattle.vsi_scope.specs.Limits.{max_declarations}
 
--- A set of numbers in which it is noted of each letvar whether its scope reads its variable.
+-- A set with a note, for each letvar, whether its scope reads its variable.
 abbrev pub noted : ℕ → ℕ → Command → Locations → Locations
 noted k n Skip own = own
 noted k n (Assign l s e) own = own
@@ -17,7 +17,7 @@ noted k n (If e a b) own = noted k (n + letvars a) b (noted k n a own)
 noted k n (While e c) own = noted k n c own
 noted k n (Letvar e c) own = with_bit (noted (k + 1) (n + 1) c own) n (all_reads c k)
 
--- A set of numbers tells of each letvar whether its scope reads its variable.
+-- A set of numbers says for each letvar whether its scope reads its variable.
 abbrev pub Tells : Locations → ℕ → ℕ → Command → Type 0
 Tells own k n Skip = Unit {0}
 Tells own k n (Assign l s e) = Unit {0}
@@ -30,12 +30,12 @@ Tells own k n (Letvar e c) = (own n ≡ all_reads c k) × Tells own (k + 1) (n +
 abbrev pub AddFits : ℕ → ℕ → Command → Type 0
 AddFits k n c = Fits k c × (n + letvars c ≤ max_declarations)
 
--- A walk has added the reads of a command to one set, has noted its letvars in another, and has gone past them.
+-- A walk has added the reads of a command to one set, has noted its letvars in another, and has passed them.
 abbrev pub Adds : ℕ → Command → Locations → Locations → ℕ → Locations → Locations → ℕ → Type 0
 Adds k c live own n live' own' n' =
     (live' ≡ joined live (all_reads c)) × (own' ≡ noted k n c own) × (n' ≡ n + letvars c)
 
--- The same of the sets that are stored as bits.
+-- The same for sets that are stored as bits.
 abbrev pub AddsTo : ℕ → Command → SmallSet → SmallSet → ℕ → SmallSet → SmallSet → ℕ → Type 0
 AddsTo k c live own n live' own' n' = Adds k c (bits live) (bits own) n (bits live') (bits own') n'
 

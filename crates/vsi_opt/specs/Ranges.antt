@@ -1,11 +1,11 @@
--- What a program within the limits keeps, and sets that are stored as bits.
+-- The limits of a program, and sets that are stored as bits.
 use Rattle.std.specs.Prelude.{ℕ, ◌+◌, ◌/◌, ◌%◌, ◌^◌, ◌<◌, ◌≤◌, ◌==◌, List, slice_index}
 use Rattle.vsi_scope.specs.Language.{Command, Skip, Assign, Sequence, If, While, Letvar, HasLocations, letvars}
 use Rattle.vsi_opt.specs.Liveness.{Locations}
 use Rattle.vsi_opt.specs.declared.small_set.SmallSet.{SmallSet}
 use Rattle.vsi_scope.specs.Limits.{max_declarations}
 
--- Every location is below 1,024, the letvars' own too, with k locations in scope, and no loop has more letvars.
+-- Every location is below 1,024, including those of letvars, with k locations in scope, and no loop has more letvars.
 abbrev pub Fits : ℕ → Command → Type 0
 Fits k Skip = Unit {0}
 Fits k (Assign l s e) = (l < max_declarations) × HasLocations max_declarations e

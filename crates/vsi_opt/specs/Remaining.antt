@@ -1,8 +1,8 @@
--- What remains of a command.
+-- The remainder of a command.
 --   g  the number of globals
---   w  where a location may be assigned
+--   w  the locations that may be assigned
 --   k  the number of locations in scope
---   n  the number of letvars that stand before the command.
+--   n  the number of letvars before the command.
 use Rattle.std.specs.Prelude.{◌≡◌, ℕ, ◌+◌, ◌≤◌, Bool, true, false, not, ◌⊎◌, List, [], ◌∷◌, ◌++◌, map, length, Option, Some, None, slice_get, pos}
 use Rattle.vsi_scope.specs.declared.resolved.Entry.{Entry}
 use Rattle.vsi_scope.specs.Language.{Number, Command, Skip, Assign, Sequence, If, While, Letvar, letvars}
@@ -12,12 +12,12 @@ use Rattle.vsi_scope.specs.View.{sequence}
 use Rattle.vsi_opt.specs.Liveness.{Locations, with_bit, all_reads}
 use Rattle.vsi_opt.specs.Optimised.{globals_alone}
 
--- Whether a guard may be true, where it may be known.
+-- Whether a guard whose truth may be known may be true.
 abbrev pub may_be_true : Option Bool → Bool
 may_be_true (Some b) = b
 may_be_true None = true
 
--- Whether a guard may be false, where it may be known.
+-- Whether a guard whose truth may be known may be false.
 abbrev pub may_be_false : Option Bool → Bool
 may_be_false (Some b) = not b
 may_be_false None = true
@@ -27,7 +27,7 @@ abbrev pub list_if : Bool → List ℕ → List ℕ
 list_if true xs = xs
 list_if false xs = []
 
--- The numbers of the letvars that folding leaves of a command, in order.
+-- The numbers of the letvars that remain of a command after folding, in order.
 abbrev pub remaining : Command → ℕ → List ℕ
 remaining Skip n = []
 remaining (Assign l s e) n = []
@@ -38,25 +38,25 @@ remaining (If e a b) n =
 remaining (While e c) n = list_if (may_be_true (truth_of (folded e))) (remaining c n)
 remaining (Letvar e c) n = n ∷ remaining c (n + 1)
 
--- A list has the entries that stand at these places in another, in this order.
+-- A list consists of the entries at these positions of another, in this order.
 abbrev pub HasEntries : List Entry → List Entry → List ℕ → Type 0
 HasEntries ys xs ns = map Some ys ≡ map (slice_get xs) ns
 
--- A walk over a command has gone past its letvars and has added the numbers of those that remain.
+-- A walk over a command has passed its letvars and added the numbers of those that remain.
 abbrev pub Picks : Command → ℕ → ℕ → List ℕ → List ℕ → Type 0
 Picks c n n' xs xs' = (n' ≡ n + letvars c) × (xs' ≡ xs ++ remaining c n)
 
--- The same, where the command remains or goes as a whole.
+-- The same if the command as a whole remains or is removed.
 abbrev pub PicksIf : Bool → Command → ℕ → ℕ → List ℕ → List ℕ → Type 0
 PicksIf b c n n' xs xs' = (n' ≡ n + letvars c) × (xs' ≡ xs ++ list_if b (remaining c n))
 
--- An assignment remains only where its location may be assigned, and goes only where that isn't a global.
+-- An assignment remains only if its location may be assigned, and is removed only if that isn't a global.
 abbrev pub AssignmentRemains : ℕ → Locations → ℕ → Command → Command → Type 0
 AssignmentRemains g w l c d = ((d ≡ one c) × (w l ≡ true)) ⊎ ((d ≡ Skip) × (g ≤ l))
 
--- A command d remains of a command, with the letvars of these numbers: each command is kept in its place with its
--- expressions folded, but for assignments that go, `if`s on a literal, which leave a branch, and loops on literal 0;
--- a letvar's variable may be assigned where an expression of its scope reads it.
+-- A command d remains of a command, with the letvars of these numbers: each command keeps its position with its
+-- expressions folded, except for removed assignments, for `if`s on a literal, which leave a branch, and for loops on
+-- literal 0; a letvar's variable may be assigned if an expression of its scope reads it.
 abbrev pub Remains : ℕ → Locations → ℕ → ℕ → Command → Command → List ℕ → Type 0
 Remains g w k n Skip d ns = (d ≡ Skip) × (ns ≡ [])
 Remains g w k n (Assign l s e) d ns = AssignmentRemains g w l (Assign l s (folded e)) d × (ns ≡ [])
@@ -76,7 +76,7 @@ Remains g w k n (Letvar e c) d ns =
     (c' : Command) × (xs : List ℕ) × Remains g (with_bit w k (all_reads c k)) (k + 1) (n + 1) c c' xs
     × (d ≡ one (Letvar (folded e) c')) × (ns ≡ n ∷ xs)
 
--- The body of a program is what remains of another's body, in which the globals may be assigned.
+-- The body of a program is a remainder of another's body, in which the globals may be assigned.
 abbrev pub IsRemainder : Resolved → Resolved → Type 0
 IsRemainder p r =
     let g = length p.globals in

@@ -1,4 +1,4 @@
-//! The entries of the letvars that folding leaves.
+//! The entries of the letvars that remain after folding.
 
 ghost use Rattle.std.specs.Prelude.{◌≡◌, ◌+◌, ◌≤◌, OnOk, IfOk, length};
 ghost use Rattle.vsi_scope.specs.Language.{letvars};
@@ -10,7 +10,7 @@ ghost use Rattle.vsi_scope.specs.Limits.{max_declarations};
 use std::alloc::{AllocError, Global};
 use vsi_scope::{Cmd, Entry, Ex};
 
-/// The number that an expression folds to, if it folds to one.
+/// The number to which an expression folds, if it folds to one.
 fn folded_number(e: &Ex) -> Option<i64>
     ensures { result ≡ literal_of (folded (expression e.now)) }
 {
@@ -27,7 +27,7 @@ fn folded_number(e: &Ex) -> Option<i64>
     }
 }
 
-/// Whether a guard may be true once it is folded.
+/// Whether a guard may be true after folding.
 fn can_be_true(guard: &Ex) -> bool
     ensures { result ≡ may_be_true (truth_of (folded (expression guard.now))) }
 {
@@ -38,7 +38,7 @@ fn can_be_true(guard: &Ex) -> bool
     }
 }
 
-/// Whether a guard may be false once it is folded.
+/// Whether a guard may be false after folding.
 fn can_be_false(guard: &Ex) -> bool
     ensures { result ≡ may_be_false (truth_of (folded (expression guard.now))) }
 {
@@ -49,7 +49,7 @@ fn can_be_false(guard: &Ex) -> bool
     }
 }
 
-/// Goes past the letvars of commands that folding takes away.
+/// Passes the letvars of commands that folding removes.
 #[cycle(passing)]
 fn pass_all(body: &[Cmd], next: &mut usize)
     requires { next.now + letvars (sequence body.now) ≤ max_declarations }
@@ -79,8 +79,8 @@ fn pass_one(c: &Cmd, next: &mut usize)
     }
 }
 
-/// Adds the numbers of the letvars that remain of commands, the first of which has the number
-/// `next`.
+/// Adds the numbers of the letvars that remain of these commands. `next` is the number of the first
+/// letvar.
 #[cycle(picking)]
 fn pick_all(body: &[Cmd], next: &mut usize, out: &mut Vec<usize>) -> Result<(), AllocError>
     requires { next.now + letvars (sequence body.now) ≤ max_declarations }
@@ -93,7 +93,7 @@ fn pick_all(body: &[Cmd], next: &mut usize, out: &mut Vec<usize>) -> Result<(), 
     Ok(())
 }
 
-/// Adds the numbers of the letvars that remain, or goes past all of them.
+/// Adds the numbers of the letvars that remain, or passes all of them.
 #[cycle(picking)]
 fn pick_if(
     remains: bool,
@@ -133,7 +133,7 @@ fn pick_one(c: &Cmd, next: &mut usize, out: &mut Vec<usize>) -> Result<(), Alloc
     }
 }
 
-/// The entries of the letvars that folding leaves of a body.
+/// The entries of the letvars that remain of a body after folding.
 pub(crate) fn remaining_entries<'a>(
     alloc: Global,
     body: &[Cmd],

@@ -20,7 +20,7 @@ fn literal(e: &Ex) -> Option<i64>
     }
 }
 
-/// Whether a guard is a number, and then whether it is true.
+/// Whether a guard is a number and, if so, whether it is true.
 fn truth(e: &Ex) -> Option<bool>
     ensures { result ≡ truth_of (expression e.now) }
 {
@@ -49,7 +49,7 @@ fn operate(op: Op, left: Ex, right: Ex, alloc: Global) -> Result<Ex, AllocError>
     Ok(Ex::Op(op, Box::new(alloc, left)?, Box::new(alloc, right)?))
 }
 
-/// The operator on two expressions, or the number that it gives.
+/// The operator on two expressions, or the number that it yields.
 fn fold_operands(op: Op, left: Ex, right: Ex, alloc: Global) -> Result<Ex, AllocError>
     ensures { IfOk result
         (λ x. expression x ≡ fold_operator op (expression left) (expression right)) }

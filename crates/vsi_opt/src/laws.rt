@@ -2,7 +2,7 @@
 
 ghost use Rattle.vsi_opt.specs.Optimised.{EvaluatesSame, NotLarger, NothingToFold, PlacesKept};
 
-/// The optimised body does what the body does.
+/// The optimised body behaves like the body.
 pub fn evaluates_same()
     ensures { EvaluatesSame }
 {}
@@ -12,7 +12,7 @@ pub fn not_larger()
     ensures { NotLarger }
 {}
 
-/// Nothing that folds is left.
+/// Nothing is left to fold.
 pub fn nothing_to_fold()
     ensures { NothingToFold }
 {}

@@ -1,8 +1,8 @@
-//! Live variables, and the assignments that go.
+//! Live variables, and the removal of dead assignments.
 //!
 //! A set of live variables holds their locations. Two variables that share a location are never in
-//! scope together, and a location is taken out of the set at both ends of its variable's scope, so
-//! that it stands for one declaration.
+//! scope together, and a location is taken out of the set at both ends of its variable's scope. So
+//! each location in the set belongs to one declaration.
 
 ghost use Rattle.std.specs.Prelude.{◌≡◌, ◌+◌, ◌<◌, ◌≤◌, IfOk, OnOk, reverse};
 ghost use Rattle.vsi_scope.specs.Language.{HasLocations, Assign, letvars};
@@ -41,7 +41,7 @@ fn copy_assignment(loc: u16, span: Span, value: &Ex, alloc: Global) -> Result<Cm
     Ok(Cmd::Assign { loc, span, value })
 }
 
-/// Adds what an expression reads.
+/// Adds the locations that an expression reads.
 fn add_reads(e: &Ex, live: &mut SmallSet)
     requires { HasLocations max_declarations (expression e.now) }
     ensures { bits live.new ≡ joined (bits live.old) (reads (expression e.now)) }
@@ -56,7 +56,7 @@ fn add_reads(e: &Ex, live: &mut SmallSet)
     }
 }
 
-/// Takes a location out, if it isn't a global.
+/// Takes a location out, unless it is a global.
 fn take_out(live: &mut SmallSet, globals: u16, l: u16)
     requires { l < max_declarations }
     ensures { bits live.new ≡ taken globals l (bits live.old) }
@@ -66,8 +66,9 @@ fn take_out(live: &mut SmallSet, globals: u16, l: u16)
     }
 }
 
-/// Adds what the expressions of a loop's commands read, and notes of each letvar, by its number,
-/// whether its scope reads its variable. `next` is the number of the commands' first letvar.
+/// Adds the locations that the expressions of a loop's commands read, and notes for each letvar, by
+/// its number, whether its scope reads its variable. `next` is the number of the commands' first
+/// letvar.
 #[cycle(adding)]
 fn add_all(body: &[Cmd], scope: u16, live: &mut SmallSet, own: &mut SmallSet, next: &mut u16)
     requires { AddFits scope next.now (sequence body.now) }
@@ -109,9 +110,9 @@ fn add_one(c: &Cmd, scope: u16, live: &mut SmallSet, own: &mut SmallSet, next: &
     }
 }
 
-/// Commands of a loop, without the assignments to what isn't live there. `own` tells of each
-/// letvar, by its number, whether its scope reads its variable, and `next` is the number of the
-/// commands' first letvar.
+/// The commands of a loop, without the assignments to locations that aren't live there. `own` says
+/// for each letvar, by its number, whether its scope reads its variable, and `next` is the number
+/// of the commands' first letvar.
 #[cycle(kept_in_loop)]
 fn kept_in_loop_all(
     body: &[Cmd],
@@ -182,7 +183,7 @@ fn kept_in_loop_one(
     }
 }
 
-/// Commands without their dead assignments; what is live after them becomes what is live before.
+/// Commands without their dead assignments. Turns the live locations after them into those before.
 #[cycle(kept_live)]
 pub(crate) fn kept_live_all(
     body: &[Cmd],

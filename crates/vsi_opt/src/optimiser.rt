@@ -15,7 +15,7 @@ use crate::small_set::SmallSet;
 use std::alloc::{AllocError, Global};
 use vsi_scope::{Cmd, Resolved};
 
-/// The commands of a body, folded and then without their dead assignments.
+/// The commands of a body, folded, then without their dead assignments.
 fn optimise_body(alloc: Global, body: &[Cmd], globals: u16) -> Result<Vec<Cmd>, AllocError>
     requires places { HasPlaces globals (sequence body.now) }
     requires limit { globals + letvars (sequence body.now) ≤ max_declarations }
@@ -27,12 +27,12 @@ fn optimise_body(alloc: Global, body: &[Cmd], globals: u16) -> Result<Vec<Cmd>, 
     kept_live_all(&folded, globals, globals, &mut live, alloc)
 }
 
-/// A program that does what the given one does, with the same globals and the entries of the
-/// letvars that remain.
+/// A program that behaves like the given one, with the same globals and the entries of the letvars
+/// that remain.
 ///
-/// First operators on two literals, `if`s on a literal and loops on literal 0 are folded, from the
-/// leaves up. Then each assignment to the variable of a letvar goes that isn't live behind it. A
-/// branch, or the body of a loop or a letvar, may become empty. The one error is want of memory.
+/// First it folds operators on two literals, `if`s on a literal and loops on literal 0, from the
+/// leaves up. Then it removes each assignment to a letvar's variable that isn't live after it. A
+/// branch, or the body of a loop or a letvar, may become empty. The only error is lack of memory.
 pub fn optimise<'a>(alloc: Global, program: &Resolved<'a>) -> Result<Resolved<'a>, AllocError>
     ensures same { IfOk result
         (λ r. RunsAlike (length r.globals) (sequence r.body) (sequence program.now.body)) }

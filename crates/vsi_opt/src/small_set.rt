@@ -64,7 +64,7 @@ impl SmallSet {
         }
     }
 
-    /// Puts in what another set has.
+    /// Adds the numbers of another set.
     pub(crate) fn join(&mut self, other: &SmallSet)
         ensures { bits self.new ≡ joined (bits self.old) (bits other.now) }
     {

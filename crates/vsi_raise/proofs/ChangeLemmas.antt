@@ -25,7 +25,7 @@ pub record AreSettled (L : Lattice) (P : Profile) (p : Program) (n : ℕ) (polic
   pub forced : All (IsForced L P p) raises
 
 module _ (L : Lattice) (P : Profile) (p : Program) where
-  -- A class more at the end changes nothing before.
+  -- One more class at the end changes nothing before it.
   changes_push : (policy : List ℕ) (c n : ℕ) → n ≤ length policy
       → changes L p (policy ++ c ∷ []) n ≡ changes L p policy n
   changes_push policy c zero le = refl
@@ -35,7 +35,7 @@ module _ (L : Lattice) (P : Profile) (p : Program) where
       ∙ ap (λ (x : ℕ). changes L p policy n ++ change_at n (declared_class L p n) x)
       (get_or_append_left policy (c ∷ []) 0 n (omega (arith, le)))
 
-  -- The changes of one declaration more.
+  -- The changes of one more declaration.
   changes_more : (policy : List ℕ) (c n : ℕ) → length policy ≡ n
       → changes L p (policy ++ c ∷ []) (suc n) ≡ changes L p policy n ++ change_at n (declared_class L p n) c
   changes_more policy c n len =
@@ -44,7 +44,7 @@ module _ (L : Lattice) (P : Profile) (p : Program) where
       ∙ ap (λ (x : ℕ). changes L p policy n ++ change_at n (declared_class L p n) x)
       (get_or_at policy c [] 0 n len)
 
-  -- A class more that reaches its variable.
+  -- One more class that reaches its variable.
   reached_more : (policy : List ℕ) (c n : ℕ) → length policy ≡ n
       → ((b : ℕ) → b < n → IsReached L P p b (get_or policy b 0)) → IsReached L P p n c
       → (b : ℕ) → b < suc n → IsReached L P p b (get_or (policy ++ c ∷ []) b 0)
@@ -55,7 +55,7 @@ module _ (L : Lattice) (P : Profile) (p : Program) where
         (subst (λ (x : ℕ). IsReached L P p x c) (sym e) one))
   ]
 
-  -- Before the first declaration.
+  -- The state before the first declaration.
   pub settled_start : (policy : List ℕ) (raises : List Raise) → policy ≡ [] → raises ≡ []
       → AreSettled L P p 0 policy raises
   settled_start policy raises e f = record {
@@ -67,7 +67,7 @@ module _ (L : Lattice) (P : Profile) (p : Program) where
 
   module _ (n c : ℕ) (policy after : List ℕ) (raises : List Raise) (s : AreSettled L P p n policy raises)
       (is : after ≡ policy ++ c ∷ []) where
-    -- A declaration more, as the rest follows.
+    -- One more declaration, given the rest.
     more : (raise : Option Raise) (now : List Raise) → IsSettled L P p n c raise
         → map change_of now ≡ map change_of raises ++ change_at n (declared_class L p n) c
         → All (IsForced L P p) now → AreSettled L P p (suc n) after now
@@ -79,7 +79,7 @@ module _ (L : Lattice) (P : Profile) (p : Program) where
       forced = all;
     })
 
-    -- A declaration more that stays.
+    -- One more declaration whose class stays.
     pub settled_none : IsSettled L P p n c None → AreSettled L P p (n + 1) after raises
     settled_none one =
         let k : suc n ≡ n + 1 = omega arith in
@@ -87,7 +87,7 @@ module _ (L : Lattice) (P : Profile) (p : Program) where
         (more None raises one (sym (ap (λ l. map change_of raises ++ l) one.changed ∙ append-nil (map change_of raises)))
         s.forced)
 
-    -- A declaration more that rises.
+    -- One more declaration whose class rises.
     pub settled_some : (r : Raise) (now : List Raise) → IsSettled L P p n c (Some r) → now ≡ raises ++ r ∷ []
         → AreSettled L P p (n + 1) after now
     settled_some r now one e =
@@ -97,7 +97,7 @@ module _ (L : Lattice) (P : Profile) (p : Program) where
         ∙ ap (λ l. map change_of raises ++ l) (sym one.changed.0))
         (subst (All (IsForced L P p)) (sym e) (All-push (IsForced L P p) raises r s.forced one.changed.1)))
 
--- All declarations are settled: the raises are those to the least policy.
+-- When all declarations are settled, the raises are those to the least policy.
 pub settled_all : (L : Lattice) (laws : IsLattice L) (P : Profile) (p : Program) (res : IsWellFormed L p)
     (ds : AreClasses L p.declared) (flows : ℕ → ℕ → Bool) → AreFlowsOf P p flows → (n : ℕ) → n ≡ size_of p
     → (policy : List ℕ) (raises : List Raise) → AreSettled L P p n policy raises → IsQuiet L P p

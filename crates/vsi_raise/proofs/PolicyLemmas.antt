@@ -1,4 +1,4 @@
--- Where a class reaches each variable, these classes are the least policy.
+-- If each variable has the class that reaches it, these classes are the least policy.
 use Rattle.std.proofs.Common.{◌≡◌, ℕ, suc, ◌+◌, ◌-◌, ◌<◌, ◌≤◌, inl, inr, cond, Bool, List, [], ◌∷◌, ◌++◌, take, drop, length, get_or, Option, Some, None, refl, sym, ap, ◌∙◌, subst, arith, ne_eqb, eq-eqb}
 use Rattle.std.specs.Prelude.{slice_index, unwrap_or, ◌==◌}
 use Rattle.std.specs.List.{All, AllZip, Contains}
@@ -35,7 +35,7 @@ module _ (L : Lattice) (laws : IsLattice L) (P : Profile) (p : Program) (res : I
     formed : IsWellFormed L (under policy p)
     formed = well_formed L p res.limit policy above.len res above.classes
 
-    -- It is a class of the lattice.
+    -- Each variable's class is a class of the lattice.
     chosen_within : (v : ℕ) → IsClass L (chosen v)
     chosen_within = within L laws P (under policy p) t formed typed.1
 
@@ -51,7 +51,7 @@ module _ (L : Lattice) (laws : IsLattice L) (P : Profile) (p : Program) (res : I
     chosen_declared v c lt e = class_declared L (under policy p) t typed.0 v (get_or policy v 0)
         (declared_under L p res.limit policy above.len v c lt e)
 
-    -- The classes go up along walks.
+    -- Classes go up along walks.
     path_up : (a b : ℕ) (w : List Step) → IsPath (steps_of P p) a w b
         → Below L (chosen a) (chosen b)
     path_up a b [] e = subst (λ (x : ℕ). Below L (chosen a) (chosen x)) e
@@ -71,18 +71,18 @@ module _ (L : Lattice) (laws : IsLattice L) (P : Profile) (p : Program) (res : I
         by None e = laws.bottom_least (chosen v) (chosen_within v)
         by (Some c) e = subst (Below L c) (sym (chosen_declared v c lt e)) (above.above v c lt e)
 
-    -- The floor of a variable is at or below the class of what it reaches.
+    -- The floor of a variable is at or below the class of every variable that it reaches.
     floor_path : (inside : (x : ℕ) → x < size_of p → IsClass L (floor L p x)) (a b : ℕ) (w : List Step) → a < size_of p
         → IsPath (steps_of P p) a w b → Below L (floor L p a) (chosen b)
     floor_path inside a b w lt path = laws.transitive (floor L p a) (chosen a) (chosen b) (inside a lt)
         (chosen_within a) (chosen_within b) (floor_up a lt) (path_up a b w path)
 
-    -- The class that reaches a variable is at or below its class.
+    -- The class that reaches a variable is at or below the variable's class.
     reached_below : (inside : (x : ℕ) → x < size_of p → IsClass L (floor L p x)) (b c : ℕ) → IsReached L P p b c
         → Below L c (chosen b)
     reached_below inside b c r = r.least (chosen b) (chosen_within b) (λ a w lt path. floor_path inside a b w lt path)
 
-  -- Where a variable whose floor isn't the bottom reaches the ending of loops, no policy serves.
+  -- If a variable whose floor isn't the bottom reaches the ending of loops, no policy helps.
   pub hopeless : (inside : (x : ℕ) → x < size_of p → IsClass L (floor L p x)) (a : ℕ) (w : List Step) → a < size_of p
       → IsPath (steps_of P p) a w sink → (Below L (floor L p a) L.bottom → ⊥) → IsHopeless L P p
   hopeless inside a w lt path high policy above (t, typed) =
@@ -91,7 +91,7 @@ module _ (L : Lattice) (laws : IsLattice L) (P : Profile) (p : Program) (res : I
   module _ (ds : AreClasses L p.declared) (flows : ℕ → ℕ → Bool) (are : AreFlowsOf P p flows)
       (inside : (x : ℕ) → x < size_of p → IsClass L (floor L p x)) (policy : List ℕ) (len : length policy ≡ size_of p)
       (reached : (b : ℕ) → b < size_of p → IsReached L P p b (get_or policy b 0)) (quiet : IsQuiet L P p) where
-    -- The policy has classes.
+    -- The policy consists of classes.
     classes : All (IsClass L) policy
     classes = All-from_get_or (IsClass L) policy 0 (λ i lt. (reached i (omega (arith, lt, len))).within)
 

@@ -1,4 +1,4 @@
--- What rows of distances say of the classes that reach variables.
+-- The classes that reach variables, from rows of distances.
 use Rattle.std.proofs.Common.{◌≡◌, ℕ, suc, ◌+◌, ◌<◌, ◌≤◌, inl, inr, cond, Bool, List, [], ◌∷◌, ◌++◌, length, get_or, Option, Some, None, refl, sym, ap, ◌∙◌, subst, arith, ne_eqb, eq-eqb}
 use Rattle.std.specs.Prelude.{unwrap_or, ◌==◌, MatchOption, Result, Ok, Err, IfOk}
 use Rattle.std.specs.List.{All, Contains}
@@ -62,7 +62,7 @@ module _ (L : Lattice) (laws : IsLattice L) (p : Program) (gs : All (IsClass L) 
       by None e n = absurd (n (laws.bottom_least c here))
       by (Some x) e n = e
 
-  -- Before the first floor.
+  -- The state before the first floor.
   pub floors_start : (floors : List ℕ) → floors ≡ [] → AreFirstFloors L p 0 floors
   floors_start floors e = record {
     len = ap length e;
@@ -70,7 +70,7 @@ module _ (L : Lattice) (laws : IsLattice L) (p : Program) (gs : All (IsClass L) 
     classes = subst (All (IsClass L)) (sym e) (All-nil (IsClass L));
   }
 
-  -- A floor more.
+  -- One more floor.
   pub floors_more : (n : ℕ) (floors after : List ℕ) (c : ℕ) → AreFirstFloors L p n floors → c ≡ floor L p n
       → after ≡ floors ++ c ∷ [] → AreFirstFloors L p (n + 1) after
   floors_more n floors after c f e is = subst (AreFirstFloors L p (n + 1)) (sym is) (record {
@@ -91,7 +91,7 @@ module _ (L : Lattice) (laws : IsLattice L) (P : Profile) (p : Program) (res : I
   fewest : IsRowTo P p (variable_at (size_of p) b) row
   fewest = row_is L laws P p res ds flows are b row lb d
 
-  -- From a place with a distance a walk leads to the row's variable.
+  -- From a position with a distance, a walk leads to the row's variable.
   pub near_path : (a : ℕ) → a < size_of p → get_or row a 0 < 65535
       → (w : List Step) × IsPath (steps_of P p) a w (variable_at (size_of p) b)
   near_path a la near =
@@ -101,7 +101,7 @@ module _ (L : Lattice) (laws : IsLattice L) (P : Profile) (p : Program) (res : I
             (at_place L p res.entries res.limit a la) r.1,
       )
 
-  -- A place from which a walk leads to the row's variable has a distance.
+  -- A position from which a walk leads to the row's variable has a distance.
   pub path_near : (a : ℕ) (w : List Step) → a < size_of p
       → IsPath (steps_of P p) a w (variable_at (size_of p) b) → get_or row a 0 < 65535
   path_near a w la path = (fewest.fewest a w (omega (arith, la))
@@ -121,13 +121,14 @@ module _ (L : Lattice) (laws : IsLattice L) (P : Profile) (p : Program) (res : I
         subst (λ (y : ℕ). Below L y x) (sym (fl.each a la)) (h a w.0 la w.1));
   }
 
-  -- Where all floors with a distance are at or below a class, the floors of all that reach the variable are.
+  -- If the floors of all positions with a distance are at or below a class, so are the floors of all variables that
+  -- reach the row's variable.
   pub under_all : (c : ℕ) → AreUnder L floors row c → (a : ℕ) (w : List Step) → a < size_of p
       → IsPath (steps_of P p) a w (variable_at (size_of p) b) → Below L (floor L p a) c
   under_all c under a w la path = subst (λ (x : ℕ). Below L x c) (fl.each a la)
       (under a (omega (arith, la, fl.len)) (path_near a w la path))
 
-  -- A place over a class is a declared variable that reaches the row's variable.
+  -- A position with a floor over a class is a declared variable that reaches the row's variable.
   pub over_path : (c a : ℕ) → IsOver L floors row c a → (a < size_of p)
       × ((w : List Step) × IsPath (steps_of P p) a w (variable_at (size_of p) b)) × (Below L (floor L p a) c → ⊥)
   over_path c a o =
@@ -153,11 +154,11 @@ module _ (L : Lattice) (laws : IsLattice L) (P : Profile) (p : Program) (res : I
     old_below : Below L old new
     old_below = subst (λ o. Below L (unwrap_or o L.bottom) new) e (reached.above v [] lt refl)
 
-    -- The old class is one of the lattice.
+    -- The old class is a class of the lattice.
     old_within : IsClass L old
     old_within = declared_within L laws p res.classes ds v old e
 
-    -- A class that nothing over it reaches stays.
+    -- A class stays if no floor that reaches the variable is over it.
     pub settled_same : AreUnder L floors row old → IsSettled L P p v new None
     settled_same under =
         let below : Below L new old = reached.least old old_within (λ a w la path.
@@ -170,7 +171,7 @@ module _ (L : Lattice) (laws : IsLattice L) (P : Profile) (p : Program) (res : I
               ∙ ap (λ t. cond t [] (one v old new)) (eq-eqb old new same);
         }
 
-    -- A class that something over it reaches rises.
+    -- A class rises if some floor that reaches the variable is over it.
     pub settled_raised : (a : ℕ) → IsOver L floors row old a → (r : Raise) → r.variable ≡ v → r.old ≡ old
         → r.new ≡ new → r.cause ≡ a → IsSettled L P p v new (Some r)
     settled_raised a over r rv ro rn rc =
@@ -203,7 +204,7 @@ module _ (L : Lattice) (laws : IsLattice L) (P : Profile) (p : Program) (res : I
 module _ (L : Lattice) (laws : IsLattice L) (P : Profile) (p : Program) (res : IsWellFormed L p)
     (ds : AreClasses L p.declared) (flows : ℕ → ℕ → Bool) (are : AreFlowsOf P p flows) (row : List ℕ)
     (d : AreLeast flows (size_of p + 1) (size_of p) row) where
-  -- The last place is that of the ending of loops.
+  -- The last position is the ending of loops.
   last_sink : variable_at (size_of p) (size_of p) ≡ sink
   last_sink = ap (λ t. cond t sink (size_of p)) (eq-eqb (size_of p) (size_of p) refl)
 
@@ -212,7 +213,7 @@ module _ (L : Lattice) (laws : IsLattice L) (P : Profile) (p : Program) (res : I
   to_sink = subst (λ (x : ℕ). IsRowTo P p x row) last_sink
       (row_is L laws P p res ds flows are (size_of p) row (omega arith) d)
 
-  -- Where no place is over the bottom, only variables at the bottom reach the ending of loops.
+  -- If no position's floor is over the bottom, only variables at the bottom reach the ending of loops.
   pub quiet : (floors : List ℕ) → AreFloors L p floors → AreUnder L floors row L.bottom → IsQuiet L P p
   quiet floors fl under a w la path =
       under_all L laws P p res ds flows are floors fl (size_of p) (omega arith) row d L.bottom under a w la
@@ -229,7 +230,7 @@ module _ (L : Lattice) (laws : IsLattice L) (P : Profile) (p : Program) (res : I
       steps = get_or row a 0;
     }
 
-    -- The class that is declared.
+    -- The declared class.
     declared : declared_class L p a ≡ Some (floor L p a)
     declared = floor_declared L laws p res.classes ds a L.bottom laws.bottom_within high
 
@@ -251,7 +252,7 @@ module _ (L : Lattice) (laws : IsLattice L) (P : Profile) (p : Program) (res : I
         by [] path n = absurd (apart path)
         by (s ∷ rest) path n = omega (arith, n)
 
-    -- What the pair says is so.
+    -- The facts that the pair states.
     told : IsTold L P p pair
     told = record {
       apart = apart;
@@ -269,7 +270,7 @@ module _ (L : Lattice) (laws : IsLattice L) (P : Profile) (p : Program) (res : I
       };
     }
 
-    -- What finds the walks down the row finds that of the pair.
+    -- The finder of walks down the row finds the walk of the pair.
     pub finds : (w : WalksTo) → FindsWalks (steps_of P p) (size_of p) row w → FindsPair (steps_of P p) pair w
     finds w f = found_at L laws P p res ds flows are (size_of p) row d (omega arith) pair (sym last_sink) la told some w f
 
@@ -287,7 +288,7 @@ module _ (L : Lattice) (laws : IsLattice L) (P : Profile) (p : Program) (res : I
 
   module _ (floors : List ℕ) (fl : AreFloors L p floors) (a : ℕ) (over : IsOver L floors row L.bottom a) (w : WalksTo)
       (f : FindsWalks (steps_of P p) (size_of p) row w) where
-    -- The place is a declaration.
+    -- The position is a declaration.
     from_within : a < size_of p
     from_within = omega (arith, over.within, fl.len)
 

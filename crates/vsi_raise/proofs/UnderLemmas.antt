@@ -30,7 +30,7 @@ replaced_at (x ∷ ds) [] i d lt e = absurd (omega (arith, lt))
 replaced_at (x ∷ ds) (c ∷ cs) zero d lt e = ap (λ o. replaced o c) e
 replaced_at (x ∷ ds) (c ∷ cs) (suc i) d lt e = replaced_at ds cs i d (omega (arith, lt)) e
 
--- The classes that take the places of the declared ones are a choice that keeps them.
+-- The classes that replace the declared ones are a choice that keeps them.
 pub keeps_replaced : (ds : List (Option ℕ)) (cs : List ℕ) → length cs ≡ length ds
     → AllZip Keeps (all_replaced ds cs) cs
 keeps_replaced [] [] e = tt
@@ -86,7 +86,7 @@ module _ (L : Lattice) (p : Program) (limit : size_of p ≤ 1024) (policy : List
       small : v < 1024
       small = omega (arith, lt, limit)
 
-  -- The program under a policy keeps what a resolved one keeps.
+  -- The program under a policy has the invariants of a resolved one.
   pub well_formed : IsWellFormed L p → All (IsClass L) policy → IsWellFormed L (under policy p)
   well_formed res all = record {
     classes = All-take (IsClass L) (length p.globals) policy all;

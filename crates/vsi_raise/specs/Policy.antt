@@ -8,12 +8,12 @@ use Rattle.vsi_types.specs.Walks.{declared_class}
 use Rattle.vsi_infer.specs.Flowing.{size_of}
 use Rattle.vsi_flows.specs.Table.{HasChoice}
 
--- The class that takes the place of a declared one; an omitted class stays omitted.
+-- The class that replaces a declared one; an omitted class stays omitted.
 abbrev pub replaced : Option ℕ → ℕ → Option ℕ
 replaced None c = None
 replaced (Some d) c = Some c
 
--- The classes of a list take the places of the declared ones.
+-- The classes of a list replace the declared ones.
 abbrev pub all_replaced : List (Option ℕ) → List ℕ → List (Option ℕ)
 all_replaced [] cs = []
 all_replaced (d ∷ ds) [] = d ∷ ds

@@ -1,4 +1,4 @@
--- What is answered of a program: the raises that make it accepted, or a walk that no raise permits.
+-- The answer for a program: the raises that make it accepted, or a walk that no raise permits.
 use Rattle.std.specs.Prelude.{◌≡◌, ℕ, zero, suc, ◌<◌, ◌==◌, if◌then◌else◌, Option, Some, None, List, [], ◌∷◌, ◌++◌, map, slice_index}
 use Rattle.std.specs.List.{All}
 use Rattle.vsi_lattice.specs.Order.{Lattice, Below}
@@ -24,7 +24,7 @@ pub record Change : Type 0 where
 abbrev pub change : ℕ → ℕ → ℕ → List Change
 change v old new = if old == new then [] else record { variable = v; old = old; new = new } ∷ []
 
--- The change at a declaration; where no class is declared there is none.
+-- The change at a declaration, if a class is declared there.
 abbrev pub change_at : ℕ → Option ℕ → ℕ → List Change
 change_at v None new = []
 change_at v (Some old) new = change v old new
@@ -54,14 +54,14 @@ pub record AreLeastRaises (L : Lattice) (P : Profile) (p : Program) (raises : Li
   pub listed : map change_of raises ≡ changes L p policy (size_of p)
   pub forced : All (IsForced L P p) raises
 
--- A bad walk to the ending of loops, whose class can't rise: no policy serves.
+-- A bad walk to the ending of loops, whose class can't rise: no policy helps.
 pub record IsFinal (L : Lattice) (P : Profile) (p : Program) (walk : List Step) : Type 0 where
   pub bad : IsBad L P p walk
   pub from : ℕ
   pub ends : IsPath (steps_of P p) from walk sink
   pub hopeless : IsHopeless L P p
 
--- What an answer says.
+-- The meaning of an answer.
 abbrev pub Answers : Lattice → Profile → Program → Raising → Type 0
 Answers L P p (Raised raises) = AreLeastRaises L P p raises.items
 Answers L P p (Refused walk) = IsFinal L P p walk.steps.items

@@ -1,4 +1,4 @@
--- The class that reaches a variable: the least one at or above those of all variables that flow there.
+-- The class that reaches a variable: the least one at or above those of all variables that flow to it.
 use Rattle.std.specs.Prelude.{◌≡◌, ℕ, ◌<◌, Option, Some, None, List, [], ◌∷◌, length, slice_index, unwrap_or, MatchOption}
 use Rattle.vsi_lattice.specs.Order.{Lattice, IsClass, Below}
 use Rattle.vsi_types.specs.declared.rules.Profile.{Profile}
@@ -11,7 +11,7 @@ use Rattle.vsi_infer.specs.Paths.{IsPath}
 use Rattle.vsi_raise.specs.declared.raise.Raise.{Raise}
 use Rattle.vsi_raise.specs.Raising.{change_at, change_of, IsForced}
 
--- The class that a variable has at least: its declared one, and the bottom where none is declared.
+-- The least class that a variable can have: its declared class, or the bottom if none is declared.
 abbrev pub floor : Lattice → Program → ℕ → ℕ
 floor L p v = unwrap_or (declared_class L p v) L.bottom
 
@@ -20,20 +20,20 @@ pub record AreFloors (L : Lattice) (p : Program) (floors : List ℕ) : Type 0 wh
   pub len : length floors ≡ size_of p
   pub each : (v : ℕ) → v < size_of p → slice_index floors v ≡ floor L p v
 
--- The class is at or above the floors of the first n places that the row has a distance for, and least so.
+-- The class is the least one at or above the floors of those of the first n positions with a distance in the row.
 pub record IsJoined (L : Lattice) (floors row : List ℕ) (n c : ℕ) : Type 0 where
   pub within : IsClass L c
   pub above : (a : ℕ) → a < n → slice_index row a < 65535 → Below L (slice_index floors a) c
   pub least : (x : ℕ) → IsClass L x →
       ((a : ℕ) → a < n → slice_index row a < 65535 → Below L (slice_index floors a) x) → Below L c x
 
--- The place has a distance in the row, and its floor isn't at or below the class.
+-- The position has a distance in the row, and its floor isn't at or below the class.
 pub record IsOver (L : Lattice) (floors row : List ℕ) (class a : ℕ) : Type 0 where
   pub within : a < length floors
   pub near : slice_index row a < 65535
   pub high : Below L (slice_index floors a) class → ⊥
 
--- The floors of all places that have a distance in the row are at or below the class.
+-- The floors of all positions with a distance in the row are at or below the class.
 abbrev pub AreUnder : Lattice → List ℕ → List ℕ → ℕ → Type 0
 AreUnder L floors row class =
     (a : ℕ) → a < length floors → slice_index row a < 65535 → Below L (slice_index floors a) class

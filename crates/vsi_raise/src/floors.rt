@@ -1,4 +1,4 @@
-//! The class that each declaration has at least.
+//! The least class that each declaration can have.
 
 ghost use Rattle.std.specs.Prelude.{◌≡◌, ◌≤◌, IfOk};
 ghost use Rattle.std.specs.List.{All};
@@ -18,12 +18,12 @@ pub(crate) fn declarations(program: &Resolved<'_>) -> u16
     ensures count { result ≡ size_of (program_of program.now) }
     ensures small { result ≤ 1024 }
 {
-    // What `body` ensures says that the program is resolved, and so that its declarations are few.
+    // `body` ensures that the program is resolved, so its number of declarations is limited.
     let _body = program.body();
     program.globals().len() as u16 + program.letvars().len() as u16
 }
 
-/// The declared class of a variable, and the bottom where none is declared.
+/// The declared class of a variable, or the bottom if none is declared.
 fn floor_of<C: Classes>(lattice: &C, program: &Resolved<'_>, variable: Var) -> Class
     ensures { result ≡ floor (C.lattice lattice.now) (program_of program.now) variable }
 {

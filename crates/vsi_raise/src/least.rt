@@ -46,7 +46,7 @@ fn all_raises<C: Classes>(
     ensures { IfOk result (λ r.
         AreLeastRaises (C.lattice lattice.now) profile (program_of program.now) r.items) }
 {
-    // What `body` ensures says that the program is resolved, which the proofs ask for.
+    // `body` ensures that the program is resolved, which the proofs need.
     let _body = program.body();
     let count = declarations(program);
     let mut policy = Vec::new(alloc);
@@ -63,7 +63,7 @@ fn all_raises<C: Classes>(
 }
 
 /// The raises of declared classes to the least policy at or above the declared one under which a
-/// program is accepted under a profile; or a walk that no such policy permits.
+/// profile accepts the program, or a walk that no such policy permits.
 pub fn raises_in<C: Classes>(
     alloc: Heap,
     profile: Profile,

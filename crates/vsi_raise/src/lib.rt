@@ -1,13 +1,13 @@
 //! The least policy under which a program is accepted.
 //!
-//! A source text comes in whose flows may be out of order; out come the declared variables whose
-//! classes have to rise, each with its new class and a variable that forces it, or a walk to the
+//! `raises_of` takes a source text whose flows may be refused. It returns the declared variables
+//! whose classes must rise, each with its new class and a variable that forces it, or a walk to the
 //! ending of loops that no raise permits. With the raises the program is accepted, and every policy
 //! at or above the declared one under which it is accepted is at or above the raised one (clause
-//! `answer` of `raises_of`).
+//! `answer`).
 //!
-//! To be believed: `specs/Policy`, `specs/Raising`; the other files of `specs/` are stepping stones
-//! of proofs.
+//! To be believed: `specs/Policy`, `specs/Raising`. The other files of `specs/` only support
+//! proofs.
 #![tactic(auto)]
 
 mod floors;

@@ -1,4 +1,4 @@
-//! What a row of distances says of classes: which class reaches its place, and from where.
+//! The class that reaches a row's position, and the position from which it does.
 
 ghost use Rattle.std.specs.Prelude.{◌≤◌, length, IfSome, IfNone};
 ghost use Rattle.std.specs.List.{All};
@@ -7,7 +7,7 @@ ghost use Rattle.vsi_raise.specs.Reaching.{IsJoined, IsOver, AreUnder};
 
 use vsi_lattice::{Class, Classes};
 
-/// The least class at or above the floors of all places that have a distance in the row.
+/// The least class at or above the floors of all positions with a distance in the row.
 pub(crate) fn joined<C: Classes>(lattice: &C, floors: &[Class], row: &[u16]) -> Class
     requires classes { All (IsClass (C.lattice lattice.now)) floors.now }
     requires room { length floors.now ≤ length row.now }
@@ -22,8 +22,8 @@ pub(crate) fn joined<C: Classes>(lattice: &C, floors: &[Class], row: &[u16]) -> 
     class
 }
 
-/// Of the places that have a distance in the row and whose floor isn't at or below a class, the one
-/// with the least distance.
+/// The position with the least distance, among those with a distance in the row whose floor isn't
+/// at or below a class.
 pub(crate) fn nearest_over<C: Classes>(
     lattice: &C,
     floors: &[Class],

@@ -113,7 +113,7 @@ fn one_raise_each(rt: HostRuntime) {
 #[test]
 fn more_raises_and_none(rt: HostRuntime) {
     let rows: [(&[u8], &[u8], &[Row]); 9] = [
-        // Accepted as it is.
+        // Accepted unchanged.
         (TWO, b"var h : H; var l : L; h := l", &[]),
         (TWO, b"var h : H; letvar x := h in h := x", &[]),
         (DIAMOND, b"var a : A; var t : T; t := a", &[]),
@@ -139,7 +139,7 @@ fn more_raises_and_none(rt: HostRuntime) {
         (DIAMOND, b"var a : A; var b : B; a := b", &[(0, 1, 3, 1)]),
         // A raise to a class below the top.
         (DIAMOND, b"var b : B; var l : L; l := b", &[(1, 0, 2, 0)]),
-        // What is raised raises what it flows to.
+        // A raised variable raises those to which it flows.
         (
             DIAMOND,
             b"var a : A; var b : B; var c : B; a := b; c := a",

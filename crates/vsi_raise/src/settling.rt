@@ -18,7 +18,7 @@ use vsi_lattice::{Class, Classes};
 use vsi_scope::{Resolved, Var};
 use vsi_types::Profile;
 
-/// The class that reaches a variable, and its raise where its declared class isn't that one.
+/// The class that reaches a variable, and its raise if its declared class is another one.
 pub(crate) fn settle<C: Classes>(
     alloc: Heap,
     profile: Profile,
@@ -38,7 +38,7 @@ pub(crate) fn settle<C: Classes>(
     ensures { IfOk result (λ r. IsSettled (C.lattice lattice.now) profile (program_of program.now)
         variable r.0 r.1) }
 {
-    // What `body` ensures says that the program is resolved, which the proofs ask for.
+    // `body` ensures that the program is resolved, which the proofs need.
     let _body = program.body();
     let row = fewest_flows(alloc, flow, floors.len() + 1, variable as usize)?;
     let new = joined(lattice, floors, &row);
@@ -76,7 +76,7 @@ pub(crate) fn final_walk<C: Classes>(
         (IsQuiet (C.lattice lattice.now) profile (program_of program.now))
         (λ w. IsFinal (C.lattice lattice.now) profile (program_of program.now) w.steps.items)) }
 {
-    // What `body` ensures says that the program is resolved, which the proofs ask for.
+    // `body` ensures that the program is resolved, which the proofs need.
     let _body = program.body();
     let last = declarations(program);
     let row = fewest_flows(alloc, flow, last as usize + 1, last as usize)?;

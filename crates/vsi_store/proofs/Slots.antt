@@ -10,7 +10,7 @@ use Rattle.vsi_image.specs.Meaning.{State, stepped, after, start, acted}
 use Rattle.vsi_machine.specs.Runs.{globals_of, run_of}
 use Rattle.vsi_machine.proofs.Steps.{moved}
 
--- What an instruction leaves has as many slots, where there is an instruction.
+-- An instruction, if there is one, leaves the number of slots unchanged.
 slots_acted : (o : Option Instr) (s t : State) →
     option_and_then (λ i. acted i s.pc s.operands s.slots) o ≡ Some t → length t.slots ≡ length s.slots
 slots_acted None s t e = absurd (none-some _ e)
@@ -25,7 +25,7 @@ slots_stepped code s t e =
       | false ↦ λ h. slots_acted (slice_get code s.pc) s t h
     ] e
 
--- A run that goes on after a first step keeps the number of slots, where what follows keeps it.
+-- A run keeps the number of slots if its first step and the rest do.
 slots_on : (code : List Instr) (n : ℕ) (s t : State) (o : Option State) → stepped code s ≡ o →
     ((u : State) → after code n u ≡ Some t → length t.slots ≡ length u.slots) →
     option_and_then (after code n) o ≡ Some t → length t.slots ≡ length s.slots

@@ -19,14 +19,14 @@ use Rattle.vsi_store.specs.declared.comparison.Comparison.{Comparison}
 abbrev pub halted_within : Image → List ℤ → ℕ → Option Bool
 halted_within image m n = option_map (λ s. s.halted) (run_of image m n)
 
--- What is told of the end of a run within a budget is so: it halts with these words within so many instructions and not
+-- The reported ending of a run within a budget is true: it halts with these words within so many instructions and not
 -- within one fewer, or hasn't halted within the budget.
 abbrev pub EndsSo : Image → List ℤ → ℕ → RunEnding → Type 0
 EndsSo image m budget (Halted n words) =
     (n ≤ budget) × HaltsWith image m n words.items × (halted_within image m (n - 1) ≡ Some false)
 EndsSo image m budget OutOfBudget = halted_within image m budget ≡ Some false
 
--- The words with which a run halts are so many.
+-- A run that halts has this many words.
 abbrev pub IsOfLength : ℕ → RunEnding → Type 0
 IsOfLength count (Halted n words) = length words.items ≡ count
 IsOfLength count OutOfBudget = Unit {0}
@@ -42,20 +42,20 @@ agree_in known L a (g ∷ gs) [] vs = true
 agree_in known L a (g ∷ gs) (w ∷ ws) [] = true
 agree_in known L a (g ∷ gs) (w ∷ ws) (v ∷ vs) = alike known L a g w v && agree_in known L a gs ws vs
 
--- A class sees the same behind two runs: both halt and it sees no difference between their stores, or neither halts.
+-- A class sees the same after two runs: both halt and it sees no difference between their stores, or neither halts.
 abbrev pub same_ends : Known → Lattice → ℕ → List Global → RunEnding → RunEnding → Bool
 same_ends known L a gs (Halted n ws) (Halted n' vs) = agree_in known L a gs ws.items vs.items
 same_ends known L a gs (Halted n ws) OutOfBudget = false
 same_ends known L a gs OutOfBudget (Halted n' vs) = false
 same_ends known L a gs OutOfBudget OutOfBudget = true
 
--- A row of what is equal on both sides, or of both sides behind a star.
+-- A row of one text that both sides share, or of both sides after a star.
 abbrev pub row : List ℕ → List ℕ → List ℕ
 row left right =
     if bytes_eq left right then codes "  " ++ left ++ codes "\n"
     else codes "* " ++ left ++ codes " | " ++ right ++ codes "\n"
 
--- The row of a global that the class sees, and nothing of another.
+-- The row of a global that the class sees, and nothing for any other.
 abbrev pub global_row : Known → Lattice → ℕ → Global → ℤ → ℤ → List ℕ
 global_row known L a g w v = if is_seen known L a g.1 then row (word_cell g.0 w) (word_cell g.0 v) else []
 
@@ -66,25 +66,25 @@ rows known L a (g ∷ gs) [] vs = []
 rows known L a (g ∷ gs) (w ∷ ws) [] = []
 rows known L a (g ∷ gs) (w ∷ ws) (v ∷ vs) = global_row known L a g w v ++ rows known L a gs ws vs
 
--- What the class sees of the stores in which both runs halt.
+-- The rows of the stores in which both runs halt, as the class sees them.
 abbrev pub rows_behind : Known → Lattice → ℕ → List Global → RunEnding → RunEnding → List ℕ
 rows_behind known L a gs (Halted n ws) (Halted n' vs) = rows known L a gs ws.items vs.items
 rows_behind known L a gs (Halted n ws) OutOfBudget = []
 rows_behind known L a gs OutOfBudget e = []
 
--- After how many instructions a run halts, or that it is out of budget.
+-- The number of instructions after which a run halts, or that it is out of budget.
 abbrev pub end_cell : RunEnding → List ℕ
 end_cell (Halted n words) = halted_cell n
 end_cell OutOfBudget = codes "out of budget"
 
--- What the class of this name sees before the runs and behind them, and how they end.
+-- The view of this class before the runs and after them, and how they end.
 abbrev pub comparison_text_of : Known → Lattice → List ℕ → ℕ → List Global → List ℤ → List ℤ → RunEnding →
     RunEnding → List ℕ
 comparison_text_of known L name a gs m m' e e' =
     name ++ codes " sees before\n" ++ rows known L a gs m m'
     ++ name ++ codes " sees after\n" ++ rows_behind known L a gs e e' ++ row (end_cell e) (end_cell e')
 
--- What is told of the runs of an image from two stores, within a budget, is what a class sees of them.
+-- The report of an image's runs from two stores, within a budget, is the class's view of them.
 pub record Compares (l : named.Lattice) (a : ℕ) (image : Image) (m m' : List ℤ) (budget : ℕ)
     (c : Comparison) : Type 0 where
   pub name : List ℕ

@@ -1,4 +1,4 @@
--- What a store file says of the globals, and what is wrong with one that says nothing.
+-- The words that a store file gives to the globals, and the faults of a file that gives none.
 use Rattle.std.specs.Prelude.{◌≡◌, ℕ, ℤ, pos, List, map, Bool, false, ◌||◌, if◌then◌else◌, Option, Some, None, unwrap_or, is_some}
 use Rattle.std.specs.List.{list_any}
 use Rattle.std.specs.Str.{IsUtf8, bytes_eq}
@@ -8,31 +8,31 @@ use Rattle.vsi_image.specs.Fields.{Global}
 use Rattle.vsi_store.specs.declared.error.StoreError.{StoreError}
 use Rattle.vsi_store.specs.declared.error.StoreError.TheVariants.{NotToml, NotANumber, UnknownGlobal, Memory}
 
--- The bytes are text, and TOML reads it as this table.
+-- The bytes are text, and as TOML they are this table.
 abbrev pub IsDocument : List ℕ → Members → Type 0
 IsDocument bytes ms = IsUtf8 bytes × (parse_document bytes ≡ Some ms)
 
--- The bytes are no TOML.
+-- The bytes are not TOML.
 abbrev pub IsNoDocument : List ℕ → Type 0
 IsNoDocument bytes = (ms : Members) → ¬ (IsDocument bytes ms)
 
--- What a key of a store file can be refused for.
+-- The faults of a key in a store file.
 pub data KeyFault : Type 0 where
   no_number : List ℕ → KeyFault
   no_global : List ℕ → KeyFault
 
--- A global of this name is there.
+-- There is a global with this name.
 abbrev pub has_name : List Global → List ℕ → Bool
 has_name globals key = list_any (λ g. bytes_eq g.0 key) globals
 
--- What is wrong with one key; that its value is no number comes first.
+-- The fault of one key; a value that isn't a number comes first.
 abbrev pub entry_fault : List Global → List ℕ → Data → Option KeyFault
 entry_fault globals key d =
     if is_some (as_integer d)
     then (if has_name globals key then None else Some (no_global key))
     else Some (no_number key)
 
--- What is wrong with the first faulty key of a table, whose keys ascend.
+-- The fault of the first faulty key of a table, whose keys ascend.
 abbrev pub store_fault : List Global → Members → Option KeyFault
 store_fault globals no_members = None
 store_fault globals (member key d ms) =
@@ -47,7 +47,7 @@ number_in (member key d ms) name = if bytes_eq key name then unwrap_or (as_integ
 abbrev pub store_of : List Global → Members → List ℤ
 store_of globals ms = map (λ g. number_in ms g.0) globals
 
--- The text is a store file without fault, and these are its words.
+-- The text is a store file without a fault, and these are its words.
 abbrev pub Tells : List ℕ → List Global → List ℤ → Type 0
 Tells text globals words =
     (ms : Members) × IsDocument text ms × (store_fault globals ms ≡ None) × (words ≡ store_of globals ms)
@@ -82,6 +82,6 @@ abbrev pub has_key : Members → List ℕ → Bool
 has_key no_members name = false
 has_key (member key d ms) name = bytes_eq key name || has_key ms name
 
--- The text is a document, and this tells of each global, in their order, whether it has a key there.
+-- The text is a document, and these say for each global, in order, whether it has a key there.
 abbrev pub Names : List ℕ → List Global → List Bool → Type 0
 Names text globals named = (ms : Members) × IsDocument text ms × (named ≡ map (λ g. has_key ms g.0) globals)

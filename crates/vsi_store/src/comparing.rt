@@ -1,4 +1,4 @@
-//! What a class sees of two runs, side by side.
+//! A class's view of two runs, side by side.
 
 ghost use Rattle.std.specs.Prelude.{◌≡◌, ◌++◌, ℕ, List, length, slice_get, Some, None, Err, IfOk, IfErr, OnOk, MatchResult};
 ghost use Rattle.vsi_image.specs.Fields.{global, globals};
@@ -22,8 +22,8 @@ use vsi_machine::{halted_cell, word_cell};
 ///
 /// # Errors
 ///
-/// `ClassNotInLattice`, with the number of the first global whose class name is no class, before a
-/// run; `Memory`.
+/// `ClassNotInLattice`, with the number of the first global whose class name is no class, before
+/// any run; `Memory`.
 pub fn compare(
     alloc: Global,
     lattice: &Lattice,
@@ -102,7 +102,7 @@ fn agree(
     true
 }
 
-/// Whether the class sees the same behind two runs.
+/// Whether the class sees the same after two runs.
 fn have_same_ends(
     lattice: &Lattice,
     verified: &Verified,
@@ -146,7 +146,7 @@ fn push_row(text: &mut Vec<u8>, left: &[u8], right: &[u8]) -> Result<(), AllocEr
     text.extend_from_slice(b"\n")
 }
 
-/// The row of a global, where the class sees it.
+/// The row of a global, if the class sees it.
 fn push_global(
     alloc: Global,
     text: &mut Vec<u8>,
@@ -191,7 +191,7 @@ fn push_rows(
     Ok(())
 }
 
-/// What the class sees of the stores in which both runs halt.
+/// The rows of the stores in which both runs halt, as the class sees them.
 fn push_behind(
     alloc: Global,
     text: &mut Vec<u8>,
@@ -226,7 +226,7 @@ fn push_behind(
     }
 }
 
-/// After how many instructions a run halts, or that it is out of budget.
+/// The number of instructions after which a run halts, or that it is out of budget.
 fn end_cell(alloc: Global, ending: &RunEnding) -> Result<Vec<u8>, AllocError>
     ensures { IfOk result (λ cell. cell.items ≡ spec.end_cell ending.now) }
 {
@@ -236,7 +236,7 @@ fn end_cell(alloc: Global, ending: &RunEnding) -> Result<Vec<u8>, AllocError>
     }
 }
 
-/// The row of how two runs end.
+/// The row with the ends of two runs.
 fn push_ends(
     alloc: Global,
     text: &mut Vec<u8>,

@@ -45,8 +45,8 @@ fn has_halted(
     }
 }
 
-/// How many instructions a run takes that halts within the budget: doubled until it halts, then
-/// halved.
+/// The number of instructions of a run that halts within the budget. The number is doubled until
+/// the run halts, and then found by halving.
 fn instructions_of(
     alloc: Global,
     verified: &Verified,
@@ -93,7 +93,7 @@ fn last_words(
     Ok(words)
 }
 
-/// What becomes of the run within the budget.
+/// The ending of the run within the budget.
 pub(crate) fn ending_of(
     alloc: Global,
     verified: &Verified,

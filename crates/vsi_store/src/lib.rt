@@ -1,9 +1,9 @@
-//! Store files, store texts, and what a class sees of a run.
+//! Store files, store texts, and views of a run.
 //!
-//! `read_store` gives the words that a store file tells, or its first fault, `named_globals` which
-//! globals it names; `store_text` prints words as the lines of a store; `view` runs an image and
-//! prints the lines that a class sees, and `compare` runs it from two stores and prints them side
-//! by side. Their clauses cite `specs/File`, `specs/Text`, `specs/View` and `specs/Compare`.
+//! `read_store` returns the words of a store file, or its first fault, and `named_globals` the
+//! globals that it names. `store_text` prints words as the lines of a store. `view` runs an image
+//! and prints the lines that a class sees, and `compare` runs it from two stores and prints them
+//! side by side. Their clauses cite `specs/File`, `specs/Text`, `specs/View` and `specs/Compare`.
 //!
 //! To be believed: all files of `specs/`.
 #![tactic(auto)]

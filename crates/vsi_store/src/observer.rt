@@ -1,4 +1,4 @@
-//! What a class sees of a run.
+//! A class's view of a run.
 
 ghost use Rattle.std.specs.Prelude.{◌≡◌, ◌≢◌, ◌++◌, ℕ, length, Some, None, Err, IfOk, OnOk, MatchResult};
 ghost use Rattle.vsi_image.specs.Fields.{global, globals};
@@ -14,8 +14,8 @@ use vsi_image::{Image, Verified};
 use vsi_lattice::{Class, Classes, Lattice};
 use vsi_machine::{Machine, Outcome, StartError};
 
-/// What a class sees of the image's run from a store, for at most `budget` instructions: the lines
-/// of `store_text` for the globals whose class is at or below it, where the run halts.
+/// The class's view of the image's run from a store, for at most `budget` instructions. If the run
+/// halts, it has the lines of `store_text` for the globals whose class is at or below it.
 ///
 /// # Errors
 ///
@@ -73,7 +73,7 @@ pub(crate) fn unknown_in(lattice: &Lattice, variables: &[(Vec<u8>, Vec<u8>)]) ->
     None
 }
 
-/// Whether the class sees what has this class name.
+/// Whether the class sees a global with this class name.
 pub(crate) fn sees(lattice: &Lattice, class: Class, name: &[u8]) -> bool
     requires { IsClass (order lattice.now) class }
     ensures { result ≡ is_seen (class_named lattice.now) (order lattice.now) class name.now }
@@ -84,7 +84,7 @@ pub(crate) fn sees(lattice: &Lattice, class: Class, name: &[u8]) -> bool
     }
 }
 
-/// One line more where the class sees the global.
+/// Adds a line if the class sees the global.
 fn push_seen(
     text: &mut Vec<u8>,
     lattice: &Lattice,

@@ -11,7 +11,7 @@ use std::alloc::Global;
 use toml::{Table, Value};
 use vsi_image::Image;
 
-/// The number of a global that a store file doesn't name.
+/// The number of a global that a store file doesn't mention.
 const UNNAMED: i64 = 0;
 
 /// The words of the globals that a store file gives, in the order of the globals; a global without
@@ -22,8 +22,9 @@ const UNNAMED: i64 = 0;
 ///
 /// # Errors
 ///
-/// `NotToml` where the text is no document, no UTF-8, or has an integer beyond 64 bits; else the
-/// fault of the first faulty key in byte order, `NotANumber` before `UnknownGlobal` at one key.
+/// `NotToml` if the text isn't a document, isn't UTF-8, or has an integer beyond 64 bits. Otherwise
+/// the fault of the first faulty key in byte order, with `NotANumber` before `UnknownGlobal` at one
+/// key.
 pub fn read_store(alloc: Global, image: &Image, text: &[u8]) -> Result<Vec<i64>, StoreError>
     ensures words { IfOk result
         (λ words. Tells text.now (globals image.now.globals.items) words.items) }
@@ -101,11 +102,11 @@ fn number_of(table: &Table, name: &[u8]) -> i64
     UNNAMED
 }
 
-/// Whether each global, in their order, has a key in a store file. What the keys hold isn't judged.
+/// Whether each global, in order, has a key in a store file. The values of the keys aren't checked.
 ///
 /// # Errors
 ///
-/// `NotToml` where the text is no document, no UTF-8, or has an integer beyond 64 bits; `Memory`.
+/// `NotToml` if the text isn't a document, isn't UTF-8, or has an integer beyond 64 bits; `Memory`.
 pub fn named_globals(alloc: Global, image: &Image, text: &[u8]) -> Result<Vec<bool>, StoreError>
     ensures named { IfOk result
         (λ named. Names text.now (globals image.now.globals.items) named.items) }

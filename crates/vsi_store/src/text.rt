@@ -22,7 +22,7 @@ pub fn store_text(alloc: Global, image: &Image, words: &[i64]) -> Result<Vec<u8>
     Ok(text)
 }
 
-/// One line more.
+/// Adds one line.
 pub(crate) fn push_line(text: &mut Vec<u8>, name: &[u8], word: i64) -> Result<(), AllocError>
     ensures { OnOk result (text.new.items ≡ text.old.items ++ line_of name.now word) }
 {

@@ -1,4 +1,4 @@
-//! What is seen of a run, and why nothing is.
+//! A class's view of a run, and the reasons for having none.
 
 ghost use Rattle.std.specs.Prelude.{◌≡◌};
 ghost use Rattle.vsi_store.specs.declared.views.ViewError.TheVariants.{Memory};
@@ -6,7 +6,7 @@ ghost use Rattle.vsi_store.specs.declared.views.ViewError.TheVariants.{Memory};
 use std::alloc::{AllocError, AllocFailed};
 use thiserror::Error;
 
-/// What a class sees of a run.
+/// A class's view of a run.
 #[derive(Debug, Drop)]
 pub enum View {
     /// The run halted, with these lines of the store.
@@ -15,17 +15,17 @@ pub enum View {
     OutOfBudget,
 }
 
-/// Why nothing is seen.
+/// Why there is no view.
 #[derive(Debug, PartialEq, Eq, Drop, Error)]
 pub enum ViewError {
-    /// The class name of the global of this number, from 0, is no class of the lattice; it is the
+    /// The class name of the global with this number, from 0, is no class of the lattice; it is the
     /// first such global.
     #[error("a global has a class that the lattice lacks")]
     ClassNotInLattice(usize),
-    /// The store has this many words, and not one for each global.
+    /// The store has this many words, which isn't one for each global.
     #[error("the store has not one word per global")]
     WrongStore(usize),
-    /// A growth was refused.
+    /// An allocation failed.
     #[error("out of memory")]
     Memory,
 }

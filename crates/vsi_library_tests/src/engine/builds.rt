@@ -1,4 +1,4 @@
-//! Builds of texts that a reader gives.
+//! Builds of texts that a reader supplies.
 
 use crate::engine::fakes::{
     Failure, Faults, NO_FAULTS, drip_of, read_fault, scant_of, write_fault,
@@ -41,7 +41,7 @@ fn ending_of(answer: &Result<(), EngineError>) -> Ending {
     }
 }
 
-/// How a build of a text over a lattice ends, and what its devices met.
+/// How a build of a text over a lattice ends, and the tallies of its devices.
 fn build_over(
     alloc: Global,
     lattice: &Lattice,
@@ -54,7 +54,7 @@ fn build_over(
     Ok((ending, given_by(reader), taken_by(writer, IMAGE)))
 }
 
-/// How a build of a text over two classes ends, and what its devices met.
+/// How a build of a text over two classes ends, and the tallies of its devices.
 fn build_of(alloc: Global, text: &[u8], faults: Faults) -> Result<(Ending, Given, Taken), Fail> {
     let lattice = read_lattice(alloc, TWO_CLASSES)?;
     build_over(alloc, &lattice, text, faults)
@@ -67,7 +67,7 @@ fn writes_the_image(rt: HostRuntime) -> Result<(), Fail> {
     Ok(())
 }
 
-/// Whether a build ends where the reader fails, and asks nothing of the writer.
+/// Whether a build ends when the reader fails, and never calls the writer.
 fn stops_at_the_read(alloc: Global, fails_at: u64) -> Result<bool, Fail> {
     let (ending, given, taken) = build_of(alloc, THREE, read_fault(fails_at))?;
     Ok(matches!(ending, Ending::ReadFault) && given.is(fails_at, 1) && taken.is_nothing())
@@ -81,13 +81,13 @@ fn a_read_fault_writes_nothing(rt: HostRuntime) -> Result<(), Fail> {
     Ok(())
 }
 
-/// Whether a build ends where the writer fails so, which took a start of the image.
+/// Whether a build ends when the writer fails in this way, after a prefix of the image.
 fn stops_at_the_write(alloc: Global, fails_at: u64, failure: Failure) -> Result<bool, Fail> {
     let (ending, _, taken) = build_of(alloc, THREE, write_fault(fails_at, failure))?;
     Ok(matches!(ending, Ending::WriteFault) && taken.is_cut(fails_at))
 }
 
-/// Whether a build ends where the writer refuses, and where it takes nothing.
+/// Whether a build ends when the writer fails, and when it accepts nothing.
 fn stops_at_each_write(alloc: Global, fails_at: u64) -> Result<bool, Fail> {
     Ok(
         stops_at_the_write(alloc, fails_at, Failure::Refuses)?
@@ -103,7 +103,7 @@ fn a_write_fault_leaves_a_prefix(rt: HostRuntime) -> Result<(), Fail> {
     Ok(())
 }
 
-/// Whether a build whose devices fail behind their last calls is a whole one.
+/// Whether a build is whole if its devices would only fail after their last calls.
 fn is_whole_before_faults(alloc: Global, failure: Failure) -> Result<bool, Fail> {
     let faults = Faults {
         read: 23,
@@ -114,8 +114,8 @@ fn is_whole_before_faults(alloc: Global, failure: Failure) -> Result<bool, Fail>
     Ok(matches!(ending, Ending::Built) && given.is(22, 0) && taken.is_whole(31))
 }
 
-/// The 21 bytes are read in 22 calls, the last of which gives nothing, and the image's 31 are
-/// written in as many.
+/// The 21 bytes are read in 22 calls, the last of which reads nothing, and the image's 31 bytes are
+/// written in as many calls.
 #[test]
 fn a_fault_behind_the_last_call_is_not_met(rt: HostRuntime) -> Result<(), Fail> {
     assert!(rt; is_whole_before_faults(rt.alloc(), Failure::Refuses)?);
@@ -131,8 +131,7 @@ fn refuses_a_flow(rt: HostRuntime) -> Result<(), Fail> {
     Ok(())
 }
 
-/// Whether a loop on a class above the least is refused under a profile, and nothing is written, or
-/// else neither.
+/// Whether a profile refuses a loop on a class above the least and writes nothing, or does neither.
 fn judges_a_loop(alloc: Global, profile: Profile, is_refused: bool) -> Result<bool, Fail> {
     let mut writer = scant_of(alloc, 0, Failure::Refuses)?;
     let mut reader = drip_of(b"var h : H; while h do h := h", 0);

@@ -28,7 +28,7 @@ fn reads_until_a_fault(rt: HostRuntime) {
     }
 }
 
-/// How many bytes are read of a reader without end, and how many calls failed.
+/// The number of bytes read from an endless reader, and of calls that failed.
 fn read_of_endless(alloc: Global) -> Result<(usize, u64), EngineError> {
     let mut reader = Counted::new(io::repeat(b' '));
     let bytes = read_all(alloc, &mut reader)?;

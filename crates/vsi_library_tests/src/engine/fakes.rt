@@ -1,4 +1,4 @@
-//! A reader and a writer of one byte a call that fail at one call, and count their calls.
+//! A reader and a writer of one byte per call that fail at one call and count their calls.
 
 ghost use Rattle.std.specs.Prelude.{◌≡◌, Some, IfOk};
 ghost use Rattle.vsi_devices.specs.Counted.{faults_of};
@@ -8,7 +8,7 @@ use std::io;
 use std::io::{ErrorKind, Read, Write};
 use vsi_devices::Counted;
 
-/// Gives one byte a call, and fails at one call.
+/// Reads one byte per call, and fails at one call.
 #[derive(Drop)]
 pub(crate) struct Drip<'a> {
     bytes: &'a [u8],
@@ -40,14 +40,14 @@ pub(crate) fn drip_of<'a>(bytes: &'a [u8], fails_at: u64) -> Counted<Drip<'a>>
     })
 }
 
-/// What a writer does at the call that fails.
+/// The behaviour of a writer at the call that fails.
 #[derive(Clone, Copy)]
 pub(crate) enum Failure {
     Refuses,
     TakesNothing,
 }
 
-/// Takes one byte a call, and fails at one call. The room is made beforehand.
+/// Accepts one byte per call, and fails at one call. Its room is allocated beforehand.
 #[derive(Drop)]
 pub(crate) struct Scant {
     pub(crate) bytes: Vec<u8>,
@@ -83,8 +83,8 @@ impl Write for Scant {
     }
 }
 
-/// The calls, counted from 1, at which a reader and a writer fail, and what the writer does there;
-/// at 0 none fails.
+/// The calls, counted from 1, at which a reader and a writer fail, and the behaviour of the writer
+/// there. With 0 none fails.
 #[derive(Clone, Copy)]
 pub(crate) struct Faults {
     pub(crate) read: u64,
@@ -107,7 +107,7 @@ pub(crate) fn read_fault(fails_at: u64) -> Faults {
     }
 }
 
-/// The writer fails so at this call.
+/// The writer fails in this way at this call.
 pub(crate) fn write_fault(fails_at: u64, failure: Failure) -> Faults {
     Faults {
         read: 0,
@@ -116,10 +116,10 @@ pub(crate) fn write_fault(fails_at: u64, failure: Failure) -> Faults {
     }
 }
 
-/// The room that a writer is given.
+/// The room of a writer.
 const ROOM: usize = 64;
 
-/// A writer that fails so at this call, counted from 1; at 0 it never fails.
+/// A writer that fails in this way at this call, counted from 1; with 0 it never fails.
 pub(crate) fn scant_of(
     alloc: Global,
     fails_at: u64,

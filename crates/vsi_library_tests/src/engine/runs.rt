@@ -1,4 +1,4 @@
-//! Runs of images that a reader gives.
+//! Runs of images that a reader supplies.
 
 use crate::engine::fakes::{
     Failure, Faults, NO_FAULTS, drip_of, read_fault, scant_of, write_fault,
@@ -51,7 +51,7 @@ fn ending_of(answer: &Result<Outcome, EngineError>) -> Ending {
     }
 }
 
-/// Whether a run of the image for a budget ends so and shows this, with a trace or without.
+/// Whether a run of the image with this budget has this end and output, with a trace or without.
 fn shows(
     alloc: Global,
     budget: u64,
@@ -76,7 +76,7 @@ fn traces_a_run(rt: HostRuntime) -> Result<(), Fail> {
     Ok(())
 }
 
-/// How a traced run of an image for 3 instructions ends, and what its devices met.
+/// How a traced run of an image for 3 instructions ends, and the tallies of its devices.
 fn run_of(
     alloc: Global,
     image: &[u8],
@@ -89,7 +89,7 @@ fn run_of(
     Ok((ending, given_by(reader), taken_by(writer, SHOWN)))
 }
 
-/// Whether a run ends where the reader fails, and asks nothing of the writer.
+/// Whether a run ends when the reader fails, and never calls the writer.
 fn stops_at_the_read(alloc: Global, fails_at: u64) -> Result<bool, AllocError> {
     let (ending, given, taken) = run_of(alloc, THREE, b"", read_fault(fails_at))?;
     Ok(matches!(ending, Ending::ReadFault) && given.is(fails_at, 1) && taken.is_nothing())
@@ -103,13 +103,13 @@ fn a_read_fault_writes_nothing(rt: HostRuntime) -> Result<(), Fail> {
     Ok(())
 }
 
-/// Whether a run ends where the writer fails so, which took a start of what is shown.
+/// Whether a run ends when the writer fails in this way, after a prefix of the output.
 fn stops_at_the_write(alloc: Global, fails_at: u64, failure: Failure) -> Result<bool, AllocError> {
     let (ending, given, taken) = run_of(alloc, THREE, b"", write_fault(fails_at, failure))?;
     Ok(matches!(ending, Ending::WriteFault) && given.faults == 0 && taken.is_cut(fails_at))
 }
 
-/// Whether a run ends where the writer refuses, and where it takes nothing.
+/// Whether a run ends when the writer fails, and when it accepts nothing.
 fn stops_at_each_write(alloc: Global, fails_at: u64) -> Result<bool, AllocError> {
     Ok(
         stops_at_the_write(alloc, fails_at, Failure::Refuses)?
@@ -125,7 +125,7 @@ fn a_write_fault_leaves_a_prefix(rt: HostRuntime) -> Result<(), Fail> {
     Ok(())
 }
 
-/// Whether a run whose devices fail behind their last calls is a whole one.
+/// Whether a run is whole if its devices would only fail after their last calls.
 fn is_whole_before_faults(alloc: Global, failure: Failure) -> Result<bool, AllocError> {
     let faults = Faults {
         read: 33,
@@ -136,8 +136,8 @@ fn is_whole_before_faults(alloc: Global, failure: Failure) -> Result<bool, Alloc
     Ok(matches!(ending, Ending::Halted) && given.is(32, 0) && taken.is_whole(43))
 }
 
-/// All is read in 32 calls, the last of which gives nothing, and the 43 bytes are written in as
-/// many.
+/// The image is read in 32 calls, the last of which reads nothing, and the 43 bytes are written in
+/// as many calls.
 #[test]
 fn a_fault_behind_the_last_call_is_not_met(rt: HostRuntime) -> Result<(), Fail> {
     assert!(rt; is_whole_before_faults(rt.alloc(), Failure::Refuses)?);

@@ -1,16 +1,16 @@
-//! What a reader and a writer met, counted.
+//! The tallies of a reader and a writer.
 
 use crate::engine::fakes::{Drip, Scant};
 use vsi_devices::Counted;
 
-/// What a reader met.
+/// The tally of a reader.
 #[derive(Clone, Copy)]
 pub(crate) struct Given {
     pub(crate) calls: u64,
     pub(crate) faults: u64,
 }
 
-/// What the reader met.
+/// The tally of this reader.
 pub(crate) fn given_by(reader: Counted<Drip<'_>>) -> Given {
     let faults = reader.faults();
     Given {
@@ -20,13 +20,13 @@ pub(crate) fn given_by(reader: Counted<Drip<'_>>) -> Given {
 }
 
 impl Given {
-    /// Whether it was called so often, and failed so often.
+    /// Whether it was called this often, and failed this often.
     pub(crate) fn is(self, calls: u64, faults: u64) -> bool {
         self.calls == calls && self.faults == faults
     }
 }
 
-/// What a writer met, and how what it took compares with what was wanted.
+/// The tally of a writer, and how its output compares with the expected output.
 #[derive(Clone, Copy)]
 pub(crate) struct Taken {
     pub(crate) calls: u64,
@@ -37,7 +37,7 @@ pub(crate) struct Taken {
     pub(crate) is_all: bool,
 }
 
-/// What the writer met and took, where these bytes were wanted.
+/// The tally of this writer, which should have taken these bytes.
 pub(crate) fn taken_by(writer: Counted<Scant>, wanted: &[u8]) -> Taken {
     let faults = writer.faults();
     let writer = writer.into_inner();
@@ -58,7 +58,7 @@ impl Taken {
         self.calls == 0 && self.faults == 0 && self.length == 0
     }
 
-    /// Whether it failed at this call, behind a byte of what was wanted at each call before.
+    /// Whether it failed at this call, after taking one expected byte at each call before.
     pub(crate) fn is_cut(self, fails_at: u64) -> bool {
         self.calls == fails_at
             && self.faults == 1
@@ -66,7 +66,7 @@ impl Taken {
             && self.is_start
     }
 
-    /// Whether it took all that was wanted, in so many calls of which none failed, and was never
+    /// Whether it took all expected bytes in this many calls, none of which failed, and was never
     /// flushed.
     pub(crate) fn is_whole(self, calls: u64) -> bool {
         self.calls == calls && self.faults == 0 && self.flushes == 0 && self.is_all

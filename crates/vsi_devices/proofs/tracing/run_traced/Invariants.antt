@@ -5,7 +5,7 @@ use Rattle.vsi_devices.specs.Counted.{device_of, faults_of}
 use Rattle.vsi_devices.specs.Running.{trace_text}
 use Rattle.vsi_devices.proofs.tracing.run_traced.Given as goal
 
--- So many steps are done, and their lines are written.
+-- This many steps are done, and their lines are written.
 abbrev pub invariant-loop-step : goal.invariant-loop-step
 invariant-loop-step g l =
     let contents = g.W.Write.contents in

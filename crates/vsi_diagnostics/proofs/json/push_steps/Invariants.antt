@@ -3,7 +3,7 @@ use Rattle.serde_json.specs.View.{view}
 use Rattle.vsi_diagnostics.specs.Json.{step_objects}
 use Rattle.vsi_diagnostics.proofs.json.push_steps.Given as goal
 
--- The objects so far, and then those of the steps that are left.
+-- The objects so far, and then those of the remaining steps.
 abbrev pub invariant-loop-step : goal.invariant-loop-step
 invariant-loop-step l =
     map view l.found.items ++ step_objects l.source l.program (drop l.step-index l.steps)

@@ -4,7 +4,7 @@ use Rattle.vsi_lattice.specs.NamePlaces.{texts}
 use Rattle.vsi_drive.specs.Fields as spec
 use Rattle.vsi_drive.proofs.fields.fields_of.Given as goal
 
--- The fields so far, and those of what is left behind the field that goes on, are all fields.
+-- The fields so far, and the fields of the remaining bytes with the field being read, are all fields.
 abbrev pub invariant-loop-i : goal.invariant-loop-i
 invariant-loop-i l = record {
   start : l.start ≤ l.i;

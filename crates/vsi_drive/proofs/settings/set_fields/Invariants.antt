@@ -4,7 +4,7 @@ use Rattle.vsi_drive.specs.Reaches.{settable}
 use Rattle.vsi_drive.specs.Settings as spec
 use Rattle.vsi_drive.proofs.settings.set_fields.Given as goal
 
--- What the fields that are left set in the words is what all fields set in the first ones.
+-- Setting the remaining fields in the current words gives what setting all fields in the first words gives.
 abbrev pub invariant-loop-number : goal.invariant-loop-number
 invariant-loop-number l = record {
   words : length l.words.items ≡ length (settable l.reach).image.globals.items;

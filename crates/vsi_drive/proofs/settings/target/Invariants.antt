@@ -4,7 +4,7 @@ use Rattle.vsi_drive.specs.Reaches.{settable}
 use Rattle.vsi_drive.specs.Settings as spec
 use Rattle.vsi_drive.proofs.settings.target.Given as goal
 
--- The target among the globals that are left is the target among all.
+-- The target among the remaining globals is the target among all.
 abbrev pub invariant-loop-i : goal.invariant-loop-i
 invariant-loop-i l =
     spec.target_from (settable l.reach) l.number l.i (globals (drop l.i (settable l.reach).image.globals.items)) l.name

@@ -4,7 +4,7 @@ use Rattle.vsi_drive.specs.Reaches.{settable}
 use Rattle.vsi_drive.specs.Starts.{settings_each, set_behind, start}
 use Rattle.vsi_drive.proofs.starts.set_each.Given as goal
 
--- What the texts that are left set in the words is what all texts set in the first ones.
+-- Setting the remaining texts in the current words gives what setting all texts in the first words gives.
 abbrev pub invariant-loop-number : goal.invariant-loop-number
 invariant-loop-number l = record {
   words : length l.words ≡ length (settable l.reach).image.globals.items;

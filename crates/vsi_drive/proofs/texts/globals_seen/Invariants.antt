@@ -4,7 +4,7 @@ use Rattle.vsi_drive.specs.Control.{control}
 use Rattle.vsi_drive.specs.Cycles as spec
 use Rattle.vsi_drive.proofs.texts.globals_seen.Given as goal
 
--- What is written and what is seen of the globals that are left are all that is seen.
+-- The text so far and the text of the remaining globals are the whole text.
 abbrev pub invariant-loop-i : goal.invariant-loop-i
 invariant-loop-i l =
     l.text.items ++ spec.globals_seen (control l.controller) (globals (drop l.i l.variables)) (drop l.i l.words)

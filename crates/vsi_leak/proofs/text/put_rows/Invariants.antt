@@ -4,7 +4,7 @@ use Rattle.vsi_lattice.specs.LatticeView.{class_named, order}
 use Rattle.vsi_leak.specs.Texts.{word_rows}
 use Rattle.vsi_leak.proofs.text.put_rows.Given as goal
 
--- The rows so far and those of what is left are all rows.
+-- The rows so far and the rows of the remaining globals are all rows.
 abbrev pub invariant-loop-i : goal.invariant-loop-i
 invariant-loop-i l =
     let known = class_named l.lattice in

@@ -4,7 +4,7 @@ use Rattle.vsi_lattice.specs.LatticeView.{class_named, order}
 use Rattle.vsi_leak.specs.Texts.{left_cells, longest}
 use Rattle.vsi_leak.proofs.text.widened.Given as goal
 
--- The longest cell is met, or stands among what is left.
+-- The longest cell is among those visited or those that remain.
 abbrev pub invariant-loop-i : goal.invariant-loop-i
 invariant-loop-i l =
     let known = class_named l.lattice in

@@ -4,7 +4,7 @@ use Rattle.vsi_lattice.specs.LatticeView.{class_named, order}
 use Rattle.vsi_store.specs.Compare.{agree_in}
 use Rattle.vsi_store.proofs.comparing.agree.Given as goal
 
--- Where all before are alike, the globals that are left decide.
+-- If all globals before are alike, the remaining ones decide.
 abbrev pub invariant-loop-i : goal.invariant-loop-i
 invariant-loop-i l =
     let known = class_named l.lattice in

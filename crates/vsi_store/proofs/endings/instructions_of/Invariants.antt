@@ -2,7 +2,7 @@ use Rattle.std.proofs.Common.{◌≡◌, ◌≤◌, ◌<◌, ◌-◌, Some, true
 use Rattle.vsi_store.specs.Compare.{halted_within}
 use Rattle.vsi_store.proofs.endings.instructions_of.Given as goal
 
--- The run goes on behind the low number of instructions, and has halted within the high one.
+-- The run goes on after the low number of instructions, and has halted within the high one.
 abbrev pub invariant-loop-high : goal.invariant-loop-high
 invariant-loop-high l = record {
   apart : l.low < l.high;

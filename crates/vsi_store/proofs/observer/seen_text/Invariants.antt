@@ -4,7 +4,7 @@ use Rattle.vsi_lattice.specs.LatticeView.{class_named, order}
 use Rattle.vsi_store.specs.View.{view_text_of}
 use Rattle.vsi_store.proofs.observer.seen_text.Given as goal
 
--- The lines so far and those of what is left are all lines.
+-- The lines so far and the lines of the remaining globals are all lines.
 abbrev pub invariant-loop-i : goal.invariant-loop-i
 invariant-loop-i l =
     let known = class_named l.lattice in

@@ -4,7 +4,7 @@ use Rattle.vsi_image.specs.Fields.{globals}
 use Rattle.vsi_store.specs.File.{store_fault, store_of}
 use Rattle.vsi_store.proofs.reader.read_store.Given as goal
 
--- What is faulty in the keys that are left is what is faulty in all.
+-- The first fault among the remaining keys is the first fault of all.
 abbrev pub invariant-loop-key : goal.invariant-loop-key
 invariant-loop-key l =
     store_fault (globals l.variables) (members_view l.key-iterator)

@@ -3,7 +3,7 @@ use Rattle.vsi_image.specs.Fields.{globals}
 use Rattle.vsi_store.specs.Text.{store_text_of}
 use Rattle.vsi_store.proofs.text.store_text.Given as goal
 
--- The lines so far and those of what is left are all lines.
+-- The lines so far and the lines of the remaining globals are all lines.
 abbrev pub invariant-loop-i : goal.invariant-loop-i
 invariant-loop-i l =
     l.text.items ++ store_text_of (globals (drop l.i l.variables)) (drop l.i l.words)

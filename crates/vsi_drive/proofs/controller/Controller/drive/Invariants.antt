@@ -4,8 +4,8 @@ use Rattle.vsi_drive.specs.Control.{control}
 use Rattle.vsi_drive.specs.Cycles as spec
 use Rattle.vsi_drive.proofs.controller.Controller.drive.Given as goal
 
--- What is written and what the lines that are left write are all that is written; the store that they lead to is the
--- last, and the lines so far lead to the store that is there.
+-- The output so far and the output of the remaining lines are the whole output; the current store is the store after
+-- the lines so far, and the remaining lines lead from it to the last store.
 abbrev pub invariant-loop-line : goal.invariant-loop-line
 invariant-loop-line l = record {
   words : length l.store ≡ length (control l.self).image.globals.items;

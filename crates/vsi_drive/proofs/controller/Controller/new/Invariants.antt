@@ -4,7 +4,7 @@ use Rattle.vsi_lattice.specs.LatticeView.{class_named}
 use Rattle.vsi_store.specs.View.{first_unknown}
 use Rattle.vsi_drive.proofs.controller.Controller.new.Given as goal
 
--- The first of what is left is the first of all.
+-- The first among the remaining globals is the first of all.
 abbrev pub invariant-loop-i : goal.invariant-loop-i
 invariant-loop-i l =
     first_unknown (class_named l.lattice) l.i (globals (drop l.i l.verified.globals.items))
