@@ -61,7 +61,7 @@ SpendsRun remaining told = StopsRun remaining OutOfBudget × told (codes "out of
 
 -- The greeting at a terminal.
 abbrev pub greeting : List ℕ
-greeting = codes "vsi reads a source text from the terminal until Ctrl-D; `vsi --help` tells more.\n"
+greeting = codes "vsi reads a source text from the terminal until Ctrl-D; see `vsi --help` for more.\n"
 
 -- A writer has got this text, after the greeting or alone, unless a call of it failed.
 abbrev pub Hears : {E : Type 0} → (E → Option (List ℕ)) → Counted E → Counted E → List ℕ → Type 0

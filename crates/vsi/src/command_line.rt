@@ -25,7 +25,7 @@ const DEFAULT_BUDGET: u64 = 1_000_000;
 
 /// The greeting at a terminal.
 const GREETING: &[u8] = b"\
-vsi reads a source text from the terminal until Ctrl-D; `vsi --help` tells more.
+vsi reads a source text from the terminal until Ctrl-D; see `vsi --help` for more.
 ";
 
 /// The input of every subcommand except the one that reads the input.
