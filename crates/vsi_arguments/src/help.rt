@@ -18,7 +18,7 @@ pub(crate) const PROGRAM_EXAMPLE: &str = "\
 `vsi explain language` shows the language in one program; `vsi explain` also has
 `lattice`, `store`, `interface`, `classes` and `profiles`.
 
-Statuses; for each one but 0 the cause is written to standard error:
+Statuses, each but 0 with its cause on standard error:
   0  done
   1  refused: the lattice, the source text, the image or the store has a fault
   2  usage: the arguments are wrong, or the lattice lacks the observer's class
