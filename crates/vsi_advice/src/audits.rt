@@ -124,7 +124,7 @@ impl Judged<'_> {
         put_parts(
             words,
             &[
-                Part::Text(b"The image has slots "),
+                Part::Text(b"The image has the fields slots "),
                 Part::Number(self.image.slots as usize),
                 Part::Text(b" and stack "),
                 Part::Number(self.image.stack as usize),
@@ -144,7 +144,7 @@ impl Judged<'_> {
         };
         let (from, to) = (first.read.start, last.written.start);
         words.extend_from_slice(
-            b"The numbers are those of the instructions that read and write. The flow begins at\n",
+            b"The numbers are those of instructions. The flow begins at\n",
         )?;
         self.put_line(words, from)?;
         if to != from {
