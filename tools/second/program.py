@@ -19,7 +19,7 @@ READ_LIMIT = 1_048_577
 TOML_LIMIT = 1_048_576
 DEFAULT_BUDGET = 1_000_000
 VERSION = b"vsi 0.1.0\n"
-HELP = b"Compiles programs whose flows of information are typed, and runs them: docs/FORMATS.md has the words.\n"
+HELP = b"Compiles programs whose information flows are typed, and runs them: see docs/FORMATS.md.\n"
 
 sys.setrecursionlimit(50_000)
 

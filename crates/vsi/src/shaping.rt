@@ -46,7 +46,7 @@ fn mistake_text(alloc: Global, error: &ShapeError) -> Result<String, AllocError>
         ShapeError::WrongCount(shape) => text.extend_from_slice(taken_by(*shape))?,
         ShapeError::NoName(name) => {
             put_quoted(&mut text, name)?;
-            text.extend_from_slice(b" is no name of a class")?;
+            text.extend_from_slice(b" isn't a valid name of a class")?;
         }
         ShapeError::Twice(name) => {
             text.extend_from_slice(b"two classes would have the name ")?;

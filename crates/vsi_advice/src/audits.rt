@@ -30,25 +30,25 @@ fn line_of<'l>(listing: &'l [u8], start: &[u8]) -> Option<&'l [u8]> {
 fn rule_of(instruction: Option<&Instr>) -> &'static str {
     match instruction {
         Some(Instr::Jz(_)) => {
-            "A JZ is that of an `if` or of a `while`: the instruction before its target is a JMP, \
+            "A JZ belongs to an `if` or a `while`: the instruction before its target is a JMP, \
             which ends the first branch or the body.\n"
         }
         Some(Instr::Jmp(_)) => {
             "A JMP ends the first branch of an `if`, or leads from the end of a body back to the \
-            guard of its `while`, and stands nowhere else.\n"
+            guard of its `while`, and is nowhere else.\n"
         }
-        Some(Instr::Halt) => "HALT is the last instruction, and stands nowhere else.\n",
+        Some(Instr::Halt) => "HALT is the last instruction, and is nowhere else.\n",
         Some(Instr::Load(_)) => {
-            "A LOAD reads a global, or a local that a STORE in front of it has set in the same \
-            branch or around it; an expression is nested 200 deep at most.\n"
+            "A LOAD reads a global, or a local that an earlier STORE has set in the same branch or \
+            around it; an expression is nested at most 200 deep.\n"
         }
         Some(Instr::Store(_)) => {
-            "A STORE ends an assignment. It takes the only operand that is there, which reads no \
-            local that isn't set; locals are set first in the order of their slots.\n"
+            "A STORE ends an assignment. It takes the only operand on the stack, which reads no \
+            local that isn't set; locals are first set in the order of their slots.\n"
         }
         _ => {
-            "An operand is taken within its command, and an expression is nested 200 deep at \
-            most.\n"
+            "An operand is used within its command, and an expression is nested at most 200 \
+            deep.\n"
         }
     }
 }
@@ -84,7 +84,7 @@ fn put_other_class(
         words,
         b"its classes are ",
         classes,
-        b".\nHint: name the lattice file with which the image was built; `vsi list IMAGE` shows \
+        b".\nHint: give the lattice file with which the image was built; `vsi list IMAGE` shows \
         each global with its class.\n",
     )
 }
@@ -109,7 +109,7 @@ impl Judged<'_> {
     /// Adds the explanation of code that doesn't consist of commands.
     fn put_code(&self, words: &mut Vec<u8>, number: usize) -> Result<(), AllocError> {
         words.extend_from_slice(
-            b"The image is valid, and its code isn't that of commands from here on:\n",
+            b"The image is valid, but its code isn't that of commands from here on:\n",
         )?;
         self.put_line(words, number)?;
         words.extend_from_slice(rule_of(self.image.code.get(number)).as_bytes())?;
@@ -124,13 +124,13 @@ impl Judged<'_> {
         put_parts(
             words,
             &[
-                Part::Text(b"The fields of the image are slots "),
+                Part::Text(b"The image has the fields slots "),
                 Part::Number(self.image.slots as usize),
                 Part::Text(b" and stack "),
                 Part::Number(self.image.stack as usize),
                 Part::Text(
-                    b", and its commands need another number in one of them.\n\
-                    Hint: `vsi source IMAGE` writes the commands as a text; build the image of \
+                    b", but its commands need another number for one of them.\n\
+                    Hint: `vsi source IMAGE` prints the commands as a text; build an image from \
                     that.\n",
                 ),
             ],
@@ -143,17 +143,15 @@ impl Judged<'_> {
             return Ok(());
         };
         let (from, to) = (first.read.start, last.written.start);
-        words.extend_from_slice(
-            b"The numbers are those of instructions: what reads, and what writes. It begins at\n",
-        )?;
+        words.extend_from_slice(b"The numbers are those of instructions. The flow begins at\n")?;
         self.put_line(words, from)?;
         if to != from {
             words.extend_from_slice(b"and ends at\n")?;
             self.put_line(words, to)?;
         }
         words.extend_from_slice(
-            b"Hint: `vsi source IMAGE` writes the image as a text, and `vsi check LATTICE TEXT \
-            --explain` shows there each step of the flow.\n",
+            b"Hint: `vsi source IMAGE` prints the image as a text, and `vsi check LATTICE TEXT \
+            --explain` shows each step of the flow in that text.\n",
         )
     }
 
@@ -165,12 +163,12 @@ impl Judged<'_> {
         source: &[u8],
     ) -> Result<(), AllocError> {
         if let Some(Instr::Store(_)) = self.image.code.get(number) {
-            let before = b"This instruction writes what depends on ";
+            let before = b"This instruction writes a value that depends on ";
             put_word_between(words, before, source, b":\n")?;
             self.put_line(words, number)?;
             return words.extend_from_slice(
-                b"Hint: give the global that it writes a class at or above that one, or write \
-                there what doesn't depend on it.\n",
+                b"Hint: give the global that it writes a class at or above that one, or write a \
+                value there that doesn't depend on it.\n",
             );
         }
         put_word_between(words, b"This jump depends on ", source, b":\n")?;
@@ -212,7 +210,7 @@ pub(crate) fn put_audit(
         AuditError::Unstructured(number) => judged.put_code(words, *number),
         AuditError::WrongFields => judged.put_fields(words),
         AuditError::NoText => words.extend_from_slice(
-            b"The commands of the code are more, or are nested deeper, than a text may have them.\n\
+            b"The code has more commands, or nests them deeper, than a text may.\n\
             Hint: `vsi list IMAGE` shows the instructions.\n",
         ),
         AuditError::Flow(walk) => judged.put_flow(words, walk),

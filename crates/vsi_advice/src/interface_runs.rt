@@ -11,7 +11,7 @@ use vsi_telling::names::{put_names_between, put_word_between};
 use vsi_telling::tables::value_in;
 
 /// An example of a run.
-const SHAPE: &str = "A run is written so:\n  [[runs]]\n  store = { key = 7 }\n  \
+const SHAPE: &str = "A run is written like this:\n  [[runs]]\n  store = { key = 7 }\n  \
     budget = 1000\n  expect = { out = 3 }\n";
 
 /// The value of a key of the run with this number, from 1.
@@ -69,8 +69,8 @@ impl Page<'_> {
     /// Explains `runs` that aren't valid.
     fn runs(&mut self) -> Result<Option<Span>, AllocError> {
         self.put(
-            "The value of `runs` is no array of tables. Hint: write a line `[[runs]]` before the \
-            keys of each run.\n",
+            "The value of `runs` isn't an array of tables. Hint: write a line `[[runs]]` before \
+            the keys of each run.\n",
         )?;
         self.put(SHAPE)?;
         match key_place(self.bytes, b"runs") {
@@ -82,7 +82,7 @@ impl Page<'_> {
     /// Explains a run that isn't a table or has an invalid key.
     fn other(&mut self, number: usize) -> Result<Option<Span>, AllocError> {
         let Some(key) = other_key(self.table, number) else {
-            self.run("Run ", number, " is no table.\n")?;
+            self.run("Run ", number, " isn't a table.\n")?;
             self.put(SHAPE)?;
             return Ok(run_place(self.bytes, number));
         };
@@ -91,25 +91,25 @@ impl Page<'_> {
             self.words,
             b"",
             key,
-            b", which is none of a run: these are ",
+            b", which isn't a key of a run: the keys are ",
         )?;
         put_names_between(self.words, b"", &RUN_KEYS, b".\n")?;
         self.hint(
             key,
             &RUN_KEYS,
-            "Hint: leave it out; a key of the whole interface stands before the first run.\n",
+            "Hint: leave it out; a key of the whole interface comes before the first run.\n",
         )?;
         Ok(run_key_place(self.bytes, number, key))
     }
 
     /// Adds that a name has no word in a table of a run.
     fn word(&mut self, number: usize, key: &[u8], name: &[u8]) -> Result<(), AllocError> {
-        put_word_between(self.words, b"The word of ", name, b" in ")?;
+        put_word_between(self.words, b"The value of ", name, b" in ")?;
         put_word_between(self.words, b"", key, b" of run ")?;
         self.count(number)?;
         self.put(
-            " is no whole number. Hint: write digits, behind a `-` where it is below 0, without \
-            quotes and without a point.\n",
+            " isn't a whole number. Hint: write digits, after a `-` if it is below 0, without \
+            quotes and without a decimal point.\n",
         )
     }
 
@@ -121,7 +121,7 @@ impl Page<'_> {
         }
         put_word_between(self.words, b"The value of ", key.as_bytes(), b" in run ")?;
         self.count(number)?;
-        self.put(" is no table of whole numbers.\n")?;
+        self.put(" isn't a table of whole numbers.\n")?;
         self.put(SHAPE)?;
         Ok(run_key_place(self.bytes, number, key.as_bytes()))
     }
@@ -130,16 +130,14 @@ impl Page<'_> {
     fn budget(&mut self, number: usize) -> Result<Option<Span>, AllocError> {
         if run_value(self.table, number, "budget").is_none() {
             self.run("Run ", number, " has no budget. ")?;
-            self.put(
-                "Hint: write how many instructions it may do at most, as in `budget = 1000`.\n",
-            )?;
+            self.put("Hint: write how many instructions it may execute, as in `budget = 1000`.\n")?;
         } else {
             self.run(
                 "The budget of run ",
                 number,
-                " is no whole number of at least 0. ",
+                " isn't a whole number of at least 0. ",
             )?;
-            self.put("Hint: write digits alone, as in `budget = 1000`.\n")?;
+            self.put("Hint: write only digits, as in `budget = 1000`.\n")?;
         }
         Ok(run_key_place(self.bytes, number, b"budget"))
     }
@@ -150,14 +148,14 @@ impl Page<'_> {
         if run_value(self.table, number, "expect").is_none() {
             self.run("Run ", number, " has neither `expect` nor `halts = true`. ")?;
             self.put(
-                "Hint: write the words that globals end with, as in `expect = { out = 3 }`, or \
-                `halts = true` where it only has to halt.\n",
+                "Hint: write the values that globals end with, as in `expect = { out = 3 }`, or \
+                `halts = true` if it only has to halt.\n",
             )?;
             return Ok(run_key_place(self.bytes, number, b"halts"));
         }
         if has_halts {
             self.run("Run ", number, " has both `expect` and `halts`. ")?;
-            self.put("Hint: leave `halts` out: what ends with these words halts.\n")?;
+            self.put("Hint: leave out `halts`: a run that ends with these values halts.\n")?;
             return Ok(run_key_place(self.bytes, number, b"halts"));
         }
         self.table(number, "expect")
@@ -173,9 +171,9 @@ impl Page<'_> {
         self.run("Run ", number, " names ")?;
         self.quote(name)?;
         if names.is_empty() {
-            self.put(", and the interface has no global.\n")?;
+            self.put(", but the interface has no global.\n")?;
         } else {
-            let before = b", which is no global of the interface: these are ";
+            let before = b", which isn't a global of the interface: its globals are ";
             put_names_between(self.words, before, names, b".\n")?;
         }
         self.hint(

@@ -13,7 +13,7 @@ use vsi_telling::nearest::put_nearest_or;
 use vsi_telling::tables::{put_syntax, table_in, value_in};
 
 /// An example of the head of an interface.
-const SHAPE: &[u8] = b"An interface begins so:\n  lattice = \"two.toml\"\n  \
+const SHAPE: &[u8] = b"An interface begins like this:\n  lattice = \"two.toml\"\n  \
     profile = \"base\"\n  globals = [[\"key\", \"H\"], [\"out\", \"L\"]]\n";
 
 /// The keys of an interface.
@@ -58,11 +58,11 @@ fn put_not_toml(
     let place = put_syntax(alloc, words, bytes)?;
     let start = bytes.trim_ascii_start();
     if start.starts_with(b"VSI") {
-        words.extend_from_slice(b"Hint: this is an image. The interface is named first.\n")?;
+        words.extend_from_slice(b"Hint: this is an image. The interface comes first.\n")?;
     } else if start.starts_with(b"var") || start.starts_with(b"letvar") {
         words.extend_from_slice(
-            b"Hint: this looks like a source text. The interface is named first, and the source \
-            text behind it: `vsi conform INTERFACE SOURCE`.\n",
+            b"Hint: this looks like a source text. The interface comes first, and the source \
+            text after it: `vsi conform INTERFACE SOURCE`.\n",
         )?;
     }
     words.extend_from_slice(SHAPE)?;
@@ -108,7 +108,7 @@ impl Page<'_> {
                 self.words,
                 b"An interface has no key ",
                 key,
-                b" of its own. Hint: it is a key of a run, and stands behind a line `[[runs]]`.\n",
+                b" of its own. Hint: it is a key of a run, and goes after a line `[[runs]]`.\n",
             )?;
             return Ok(key_place(self.bytes, key));
         }
@@ -119,7 +119,7 @@ impl Page<'_> {
             b": its keys are ",
         )?;
         put_names_between(self.words, b"", &KEYS, b".\n")?;
-        self.hint(key, &KEYS, "Hint: leave the line out.\n")?;
+        self.hint(key, &KEYS, "Hint: remove the line.\n")?;
         Ok(key_place(self.bytes, key))
     }
 
@@ -127,7 +127,7 @@ impl Page<'_> {
     fn lattice(&mut self) -> Result<Option<Span>, AllocError> {
         if self.table.get("lattice").is_none() {
             self.put(
-                "The interface has no lattice. Hint: name a lattice file that lies beside it, as \
+                "The interface has no lattice. Hint: name a lattice file in the same folder, as \
                 in `lattice = \"two.toml\"`, or write `classes` and `below` as in such a file.\n",
             )?;
             self.words.extend_from_slice(SHAPE)?;
@@ -135,13 +135,13 @@ impl Page<'_> {
         }
         if self.table.get("classes").is_some() || self.table.get("below").is_some() {
             self.put(
-                "The interface names a lattice file and has classes of its own. Hint: leave out \
-                `lattice`, or leave out `classes` and `below`.\n",
+                "The interface names a lattice file and also has classes of its own. Hint: leave \
+                out `lattice`, or leave out `classes` and `below`.\n",
             )?;
         } else {
             self.put(
-                "The value of `lattice` is no text. Hint: write the path of a lattice file between \
-                quotes, as in `lattice = \"two.toml\"`.\n",
+                "The value of `lattice` isn't a text. Hint: write the path of a lattice file \
+                between quotes, as in `lattice = \"two.toml\"`.\n",
             )?;
         }
         Ok(key_place(self.bytes, b"lattice"))
@@ -150,8 +150,8 @@ impl Page<'_> {
     /// Explains a key whose value isn't a text and should be one of the choices.
     fn no_choice(&mut self, key: &str, choices: &[&[u8]]) -> Result<Option<Span>, AllocError> {
         let fault: &[u8] = match self.table.get(key) {
-            Some(_) => b"` is to have one of the words ",
-            None => b"` is missing. It has one of the words ",
+            Some(_) => b"` must be one of ",
+            None => b"` is missing. It must be one of ",
         };
         self.put("The key `")?;
         self.put(key)?;
@@ -191,7 +191,7 @@ impl Page<'_> {
         let Some(value) = self.table.get("globals") else {
             self.put(
                 "The key `globals` is missing. Hint: name each global with its class, in the order \
-                in which a text is to declare them.\n",
+                in which a text must declare them.\n",
             )?;
             self.words.extend_from_slice(SHAPE)?;
             return Ok(None);
@@ -200,9 +200,9 @@ impl Page<'_> {
         if is_array {
             self.put("Entry ")?;
             self.count(faulty_pair(self.table).saturating_add(1))?;
-            self.put(" of `globals` is no pair of a name and a class.")?;
+            self.put(" of `globals` isn't a pair of a name and a class.")?;
         } else {
-            self.put("The value of `globals` is no array.")?;
+            self.put("The value of `globals` isn't an array.")?;
         }
         self.put(" Hint: write `[\"x\", \"L\"]` for each global `var x : L`.\n")?;
         self.words.extend_from_slice(SHAPE)?;
@@ -227,7 +227,7 @@ impl Page<'_> {
         classes: &[&[u8]],
     ) -> Result<(), AllocError> {
         put_word_between(self.words, b"The class ", class, b" of the global ")?;
-        put_word_between(self.words, b"", name, b" is none of the lattice. ")?;
+        put_word_between(self.words, b"", name, b" isn't in the lattice. ")?;
         put_names_between(self.words, b"Its classes are ", classes, b".\n")?;
         self.hint(
             class,
@@ -317,22 +317,22 @@ fn put_fault(
         InterfaceError::UnknownKey(key) => page.key(key),
         InterfaceError::BadLattice => page.lattice(),
         InterfaceError::BadProfile => {
-            page.choice("profile", " is no profile: these are ", &PROFILES)
+            page.choice("profile", " isn't a profile: the profiles are ", &PROFILES)
         }
-        InterfaceError::BadOrder => page.choice("order", " is no order: these are ", &ORDERS),
+        InterfaceError::BadOrder => page.choice(
+            "order",
+            " isn't an order: the orders are ",
+            &ORDERS,
+        ),
         InterfaceError::BadGlobals => page.globals(),
         InterfaceError::BadName(name) => page.name(
             name,
             0,
-            " is no name. Hint: a name begins with a letter, goes on with letters, digits and `_`, \
-            has at most 32 of them, and is no keyword.\n",
+            " isn't a valid name. Hint: a name begins with a letter, continues with letters, \
+            digits and `_`, has at most 32 of them, and isn't a keyword.\n",
         ),
         InterfaceError::RepeatedGlobal(name) => {
-            page.name(
-                name,
-                1,
-                " stands twice in `globals`. Hint: leave one out.\n",
-            )
+            page.name(name, 1, " is in `globals` twice. Hint: leave one out.\n")
         }
         InterfaceError::UnknownClass(name) => page.class(name, lattice),
         other => of_run(page, other),

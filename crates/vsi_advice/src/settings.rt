@@ -42,16 +42,16 @@ fn sides(setting: &[u8]) -> (Span, Span) {
 /// The advice for a setting that doesn't have the required form.
 fn form_hint(setting: &[u8], name: &[u8], value: &[u8]) -> &'static str {
     if name.ends_with(b":") {
-        return "Hint: leave the `:` out, since a setting is no assignment.\n";
+        return "Hint: leave out the `:`, since a setting isn't an assignment.\n";
     }
     if value.contains(&b'=') {
         return "Hint: give each global a `--set` of its own.\n";
     }
     if !setting.contains(&b'=') || value.is_empty() {
-        return "Hint: write the number behind a `=`, as in `--set x=1`.\n";
+        return "Hint: write the number after a `=`, as in `--set x=1`.\n";
     }
     if name.is_empty() {
-        return "Hint: write the name of a global in front of the `=`, as in `--set x=1`.\n";
+        return "Hint: write the name of a global before the `=`, as in `--set x=1`.\n";
     }
     "Hint: write one name and one number, as in `--set x=1`.\n"
 }
@@ -64,17 +64,17 @@ fn is_digits(text: &[u8]) -> bool {
 /// The advice for a value that isn't a number.
 fn number_hint(value: &[u8]) -> &'static str {
     if value.starts_with(b"+") {
-        return "Hint: leave the `+` out.\n";
+        return "Hint: leave out the `+`.\n";
     }
     let digits = value.strip_prefix(b"-").unwrap_or(value);
     if is_digits(digits) {
-        return "Hint: take a number that has 64 bits; greater ones don't fit a word.\n";
+        return "Hint: use a number that fits 64 bits.\n";
     }
     if value.contains(&b'.') {
-        return "Hint: leave the point out, since there are whole numbers alone.\n";
+        return "Hint: leave out the point, since there are only whole numbers.\n";
     }
-    "Hint: write digits, behind a `-` where it is below 0; a setting takes no name and no \
-    expression.\n"
+    "Hint: write digits, after a `-` if it is below 0; a setting takes a number, not a name \
+    or an expression.\n"
 }
 
 /// Adds the explanation of a setting that doesn't have the required form.
@@ -104,7 +104,7 @@ fn put_other_name(
         words,
         name,
         names,
-        b"Hint: leave the setting out; a local variable has no word before the run.\n",
+        b"Hint: leave out the setting; a local variable has no value before the run.\n",
     )
 }
 
@@ -137,7 +137,7 @@ fn put_number(words: &mut Vec<u8>, setting: &[u8]) -> Result<Option<Span>, Alloc
     let value = part_of(setting, place);
     put_quoted(words, value)?;
     words.extend_from_slice(
-        b" is no whole number from -9223372036854775808 to 9223372036854775807.\n",
+        b" isn't a whole number from -9223372036854775808 to 9223372036854775807.\n",
     )?;
     words.extend_from_slice(number_hint(value).as_bytes())?;
     Ok(Some(place))
@@ -157,13 +157,13 @@ fn put_unnamed(words: &mut Vec<u8>, name: &[u8]) -> Result<(), AllocError> {
         words,
         b"The global ",
         name,
-        b" has no word. With --full-store each global has a line in the store file or a `--set`.\n\
-        Hint: add `--set ",
+        b" has no value. With --full-store each global needs a line in the store file or a \
+        `--set`.\nHint: add `--set ",
     )?;
     words.extend_from_slice(name)?;
     words.extend_from_slice(b"=0` to the command, or the line `")?;
     words.extend_from_slice(name)?;
-    words.extend_from_slice(b" = 0` to a store file, with the word that is meant.\n")
+    words.extend_from_slice(b" = 0` to a store file, with the value that you mean.\n")
 }
 
 /// Adds the explanation of a run of an image that doesn't begin, and returns the position of the

@@ -34,7 +34,7 @@ pub(crate) const TRIED: Argument = Argument {
 pub(crate) const TRIED_LATTICE: Argument = Argument {
     name: "lattice",
     form: Form::Value("LATTICE"),
-    line: "The lattice file; else the one that the text names",
+    line: "The lattice file; default: the one named by the text",
     whole: word_help::TRIED_LATTICE,
 };
 
@@ -48,7 +48,7 @@ pub(crate) const TRIED_CLASS: Argument = Argument {
 pub(crate) const TRIED_BUDGET: Argument = Argument {
     name: "budget",
     form: Form::Number("N"),
-    line: "The most instructions that are done, else 1000000",
+    line: "The maximum number of instructions; default: 1000000",
     whole: word_help::TRIED_BUDGET,
 };
 
@@ -62,7 +62,7 @@ pub(crate) const TRIED_SET: Argument = Argument {
 pub(crate) const SHAPE: Argument = Argument {
     name: "SHAPE",
     form: Form::Places,
-    line: "The shape, then the names that it takes",
+    line: "The shape, followed by its names",
     whole: word_help::SHAPE,
 };
 
@@ -83,7 +83,7 @@ pub(crate) const IMAGE: Argument = Argument {
 pub(crate) const NEW_IMAGE: Argument = Argument {
     name: "IMAGE",
     form: Form::Place,
-    line: "The image file that is written",
+    line: "The image file to write",
     whole: word_help::NEW_IMAGE,
 };
 
@@ -111,7 +111,7 @@ pub(crate) const BOUNDED_SOURCE: Argument = Argument {
 pub(crate) const NAME: Argument = Argument {
     name: "name",
     form: Form::Value("NAME"),
-    line: "The name that each name of the C begins with",
+    line: "The prefix of each name in the C code",
     whole: word_help::NAME,
 };
 
@@ -146,21 +146,21 @@ pub(crate) const EXPLAINED: Argument = Argument {
 pub(crate) const STRICT: Argument = Argument {
     name: "strict",
     form: Form::Flag,
-    line: "Asks that the ending of loops tells nothing either",
+    line: "Also requires that the ending of loops reveals nothing",
     whole: word_help::STRICT,
 };
 
 pub(crate) const STEADY: Argument = Argument {
     name: "steady",
     form: Form::Flag,
-    line: "Asks that the number of instructions tells nothing",
+    line: "Requires that the number of instructions reveals nothing",
     whole: word_help::STEADY,
 };
 
 pub(crate) const STEADY_SOURCE: Argument = Argument {
     name: "steady",
     form: Form::Flag,
-    line: "Asks that the number of instructions tells nothing",
+    line: "Requires that the number of instructions reveals nothing",
     whole: word_help::STEADY_SOURCE,
 };
 
@@ -195,14 +195,14 @@ pub(crate) const APPLY: Argument = Argument {
 pub(crate) const TRACE: Argument = Argument {
     name: "trace",
     form: Form::Flag,
-    line: "Prints each instruction before it is done",
+    line: "Prints each instruction before it is executed",
     whole: word_help::TRACE,
 };
 
 pub(crate) const COUNT: Argument = Argument {
     name: "count",
     form: Form::Flag,
-    line: "Tells how many instructions were done",
+    line: "Prints how many instructions were executed",
     whole: word_help::COUNT,
 };
 
@@ -223,63 +223,63 @@ pub(crate) const COLOR: Argument = Argument {
 pub(crate) const CLASS: Argument = Argument {
     name: "class",
     form: Form::NeededValue("C"),
-    line: "The class that looks",
+    line: "The observer's class",
     whole: word_help::CLASS,
 };
 
 pub(crate) const LOOKING: Argument = Argument {
     name: "class",
     form: Form::Value("C"),
-    line: "The class that looks; without it each one",
+    line: "The observer's class; default: each class in turn",
     whole: word_help::LOOKING,
 };
 
 pub(crate) const BUDGET: Argument = Argument {
     name: "budget",
     form: Form::NeededNumber("N"),
-    line: "The most instructions that are done, or `auto`",
+    line: "The maximum number of instructions, or `auto`",
     whole: word_help::BUDGET,
 };
 
 pub(crate) const RUN_BUDGET: Argument = Argument {
     name: "budget",
     form: Form::Number("N"),
-    line: "The most instructions of a run, 10000 where it isn't given",
+    line: "The maximum number of instructions per run; default: 10000",
     whole: word_help::RUN_BUDGET,
 };
 
 pub(crate) const TRIES: Argument = Argument {
     name: "tries",
     form: Form::Number("N"),
-    line: "The most pairs of runs, 10000 where it isn't given",
+    line: "The maximum number of pairs of runs; default: 10000",
     whole: word_help::TRIES,
 };
 
 pub(crate) const SEED: Argument = Argument {
     name: "seed",
     form: Form::Number("S"),
-    line: "The seed of what is drawn, 0 where it isn't given",
+    line: "The seed for the stores that are drawn; default: 0",
     whole: word_help::SEED,
 };
 
 pub(crate) const ENDINGS: Argument = Argument {
     name: "endings",
     form: Form::Flag,
-    line: "Looks also for runs that are out of budget",
+    line: "Also looks for runs that are out of budget",
     whole: word_help::ENDINGS,
 };
 
 pub(crate) const STEPS: Argument = Argument {
     name: "steps",
     form: Form::Flag,
-    line: "Looks also for runs of different numbers of instructions",
+    line: "Also looks for runs of different numbers of instructions",
     whole: word_help::STEPS,
 };
 
 pub(crate) const STORE: Argument = Argument {
     name: "store",
     form: Form::Value("FILE"),
-    line: "The store file; without it the run begins from zeros",
+    line: "The store file; without one the run begins from zeros",
     whole: word_help::STORE,
 };
 
@@ -293,27 +293,27 @@ pub(crate) const STORES: Argument = Argument {
 pub(crate) const SET: Argument = Argument {
     name: "set",
     form: Form::Values("NAME=NUMBER"),
-    line: "Sets a global behind the store file; can be repeated",
+    line: "Sets a global after the store file; can be repeated",
     whole: word_help::SET,
 };
 
 pub(crate) const FULL_STORE: Argument = Argument {
     name: "full-store",
     form: Form::Flag,
-    line: "Asks that each global is in the store file or set",
+    line: "Requires each global to be in the store file or set",
     whole: word_help::FULL_STORE,
 };
 
 pub(crate) const OUT: Argument = Argument {
     name: "out",
     form: Form::Value("FILE"),
-    line: "The file that the store goes to, not standard output",
+    line: "The file to write the store to, not standard output",
     whole: word_help::OUT,
 };
 
 pub(crate) const SAVE: Argument = Argument {
     name: "save",
     form: Form::Value("FILE"),
-    line: "The file that gets the last store",
+    line: "The file to write the last store to",
     whole: word_help::SAVE,
 };

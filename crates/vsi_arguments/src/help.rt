@@ -2,26 +2,26 @@
 
 /// The long help of the program.
 pub(crate) const PROGRAM: &str = "\
-Compiles programs whose flows of information are typed, and runs them.
+Compiles programs whose information flows are typed, and runs them.
 
 A source text declares the security class of each global variable. The text is
-accepted only where nothing can flow from a variable to one whose class isn't at
-or above its own. An accepted text is compiled to an image, which is run on a
-stack machine.
+accepted only if nothing can flow from a variable to one whose class isn't at or
+above its own. An accepted text is compiled to an image, which a stack machine
+runs.
 
-Without words the program reads a source text from standard input, judges it
+Without arguments the program reads a source text from standard input, judges it
 under the classes L and H, L below H, runs it from a store of zeros for at most
 1000000 instructions, and prints each global.";
 
 /// The statuses of the program, and an example.
 pub(crate) const PROGRAM_EXAMPLE: &str = "\
-`vsi explain language` shows the language by one program; `vsi explain` also has
+`vsi explain language` shows the language in one program; `vsi explain` also has
 `lattice`, `store`, `interface`, `classes` and `profiles`.
 
-Statuses, of which each but 0 has its cause told on standard error:
+Statuses, each but 0 with its cause on standard error:
   0  done
   1  refused: the lattice, the source text, the image or the store has a fault
-  2  usage: the words are wrong, or the lattice lacks the class that looks
+  2  usage: the arguments are wrong, or the lattice lacks the observer's class
   3  out of budget: the run didn't halt within its budget
   4  file fault: a file or a standard stream can't be opened, read or written
   5  out of memory
@@ -34,10 +34,10 @@ Example:
 pub(crate) const CHECK: &str = "\
 Says whether a source text is accepted.
 
-Reads the lattice file and judges it, then reads the source text and judges it,
-and prints `accepted`. A refusal is told on standard error: its number, its name
-and its place, and of a refused flow each step and the two classes. With
---steady its image is judged too, and nothing is written.
+Reads and judges the lattice file, then the source text, and prints `accepted`.
+A refusal is reported on standard error: its number, its name and its place, and
+for a refused flow each step and the two classes. With --steady the image of the
+text is judged too. No file is written.
 
 Statuses: 0 accepted, 1 refused, 2 usage, 4 file fault, 5 out of memory.";
 
@@ -64,11 +64,11 @@ Example:
 pub(crate) const CONFORM: &str = "\
 Says whether a source text conforms to an interface.
 
-Reads the interface file and its lattice and judges them, then reads the source
-text, and prints `conforms` where its globals are those of the interface, it is
-accepted under the profile of the interface, and each run of the interface halts
-within its budget with the expected words. Else it prints a line for each point
-that differs, the lines of a refusal first.
+Reads and judges the interface file and its lattice, then reads the source text.
+Prints `conforms` if the text has the globals of the interface, is accepted
+under the interface's profile, and halts in each run of the interface within the
+budget and with the expected values. Otherwise prints a line for each point that
+differs, the lines of a refusal first.
 
 Statuses: 0 conforms, 1 refused, or it doesn't conform, 2 usage, 4 file fault,
 5 out of memory.";
@@ -94,8 +94,8 @@ Example:
 pub(crate) const CLASSES: &str = "\
 Prints the class of each declaration, declared or inferred.
 
-Reads the lattice file and the source text as `check` does, and prints for each
-declaration, globals first, a line `LINE:COLUMN NAME : CLASS`. A `letvar`
+Reads the lattice file and the source text as `check` does, and prints a line
+`LINE:COLUMN NAME : CLASS` for each declaration, globals first. A `letvar`
 without a class has the least one with which the text is accepted.
 
 Statuses: 0 accepted, 1 refused, 2 usage, 4 file fault, 5 out of memory.";
@@ -111,17 +111,17 @@ Example:
 
 /// The long help of `flows`.
 pub(crate) const FLOWS: &str = "\
-Prints each two declared variables that a chain of flows joins.
+Lists every pair of declared variables joined by a chain of flows.
 
-Reads the lattice file and the source text as `check` does, and prints for each
-two different variables with a declared class that a chain of flow steps joins a
-line `NAME : CLASS flows to NAME : CLASS VERDICT STEPS`: `allowed` where the
-first class is at or below the second, else `refused`, and the fewest steps of
-such a chain. The lines are in the order of declarations. With --walks the steps
-of a shortest chain stand below each line. The text is accepted where no line is
-refused, but a refused line is no refusal here.
+Reads the lattice file and the source text as `check` does, and prints a line
+`NAME : CLASS flows to NAME : CLASS VERDICT STEPS` for every two different
+variables with declared classes that a chain of flow steps joins. VERDICT is
+`allowed` if the first class is at or below the second, otherwise `refused`, and
+STEPS is the length of a shortest chain. The lines are in the order of
+declarations. With --walks the steps of a shortest chain follow each line. The
+text is accepted if no line is refused; the status is 0 in both cases.
 
-Statuses: 0 printed, 1 refused for another cause than a flow, 2 usage,
+Statuses: 0 printed, 1 refused for a cause other than a flow, 2 usage,
 4 file fault, 5 out of memory.";
 
 /// An example of `flows`.
@@ -165,9 +165,9 @@ Example:
 pub(crate) const BUILD: &str = "\
 Compiles a source text to an image.
 
-Reads the lattice file and the source text as `check` does, and fills the image
-file once all its bytes are there. Nothing is printed. Until then a file at the
-path of the image isn't touched.
+Reads the lattice file and the source text as `check` does, compiles the text,
+and writes the image file. A file that is already at the path of the image isn't
+touched until all bytes of the image are known. Nothing is printed.
 
 Statuses: 0 written, 1 refused, 2 usage, 4 file fault, 5 out of memory.";
 
@@ -184,9 +184,9 @@ Example:
 pub(crate) const LIST: &str = "\
 Prints the instructions of an image.
 
-Reads the image, verifies it, and prints the number of its globals, of its slots
-and of its places for operands, each global with its class, and each instruction
-with its number.
+Reads the image, verifies it, and prints the numbers of its globals, slots and
+places for operands, each global with its class, and each instruction with its
+number.
 
 Statuses: 0 printed, 1 refused, 2 usage, 4 file fault, 5 out of memory.";
 
@@ -206,14 +206,14 @@ Example:
 pub(crate) const AUDIT: &str = "\
 Says whether an image is accepted, whoever made it.
 
-Reads the lattice file and judges it, reads the image and verifies it, reads the
-commands back from its code, and judges their flows. Prints `accepted`. What is
-accepted keeps to the policy: the image itself is judged, and not who made it. A
-refused flow is told with numbers of instructions for places and made-up names
-for the locals, which are those that `vsi source` prints.
+Reads and judges the lattice file, reads and verifies the image, reads the
+commands back from its code, and judges their flows. Prints `accepted`. An
+accepted image keeps to the policy, whoever made it. A refused flow is reported
+with instruction numbers as places, and with made-up names for the locals, which
+are those that `vsi source` prints.
 
-With --steady the code is judged as it stands, also where no commands can be
-read back from it: its jumps may depend on nothing above the least class.
+With --steady the code itself is judged, even if no commands can be read back
+from it: its jumps may depend on nothing above the least class.
 
 Statuses: 0 accepted, 1 refused, 2 usage, 4 file fault, 5 out of memory.";
 
@@ -227,11 +227,11 @@ Example:
 
 /// The long help of `source`.
 pub(crate) const IMAGE_SOURCE: &str = "\
-Prints the source text that an image stands for.
+Prints an image as a source text.
 
 Reads the image, verifies it, reads the commands back from its code, and prints
-them as a text that `check` and `build` take. The locals have made-up names. A
-`letvar` with the number 0 stands where there is no command.
+them as a text that `check` and `build` can read. The locals have made-up names.
+Where there is no command the text has a `letvar` with the number 0.
 
 Statuses: 0 printed, 1 refused, 2 usage, 4 file fault, 5 out of memory.";
 
@@ -248,11 +248,11 @@ Prints an image as a function in C.
 
 Reads and verifies the image, and prints a file in C99 that needs <stdint.h> and
 no library: the numbers of the globals, and a function
-`int NAME_run(int64_t globals[N], uint64_t budget)`. It answers 0 where the run
-halts within the budget, and the globals then hold its last store; else it
-answers 1 and leaves the globals as they were. With --bounded the function takes
-no budget and always leaves the last store, and an image without a bound is
-refused. With --lattice a source text is read, judged and compiled instead.
+`int NAME_run(int64_t globals[N], uint64_t budget)`. It returns 0 if the run
+halts within the budget, and the globals then hold the final store; otherwise it
+returns 1 and leaves the globals as they were. With --bounded the function takes
+no budget and always leaves the final store, and an image without a bound is
+refused. With --lattice a source text is read, judged and compiled first.
 
 Statuses: 0 printed, 1 refused, 2 usage, 4 file fault, 5 out of memory.";
 
@@ -310,14 +310,14 @@ Example:
 
 /// The long help of `report`.
 pub(crate) const REPORT: &str = "\
-Prints a page of a source text, its lattice and its flows.
+Prints a page on a source text, its lattice and its flows.
 
-Reads the lattice file and judges it, then reads the source text and judges it,
-and prints a page in HTML that needs nothing else: the verdict, the source with
-the class of each name, the lattice and the flows as pictures, and all flows. Of
-an accepted text it has the image, of a refused one why it is refused, and a
-leak where one is found. Every text has a page, and a refused one is no refusal
-here.
+Reads and judges the lattice file, then the source text, and prints a page in
+HTML that needs no other file: the verdict, the source with the class of each
+name, pictures of the lattice and of the flows, and a list of all flows. For an
+accepted text the page shows the image; for a refused one, why it is refused,
+and a leak if one is found. Every text has a page: the status is 0 even if the
+text is refused.
 
 Statuses: 0 printed, 1 the lattice is refused, 2 usage, 4 file fault,
 5 out of memory.";
@@ -333,13 +333,13 @@ Example:
 pub(crate) const DRAW: &str = "\
 Prints a lattice, and the flows of a source text, as graphs.
 
-Reads the lattice file and judges it, and prints a graph in the language of
+Reads and judges the lattice file, and prints a graph in the language of
 Graphviz with an edge from each class to each one directly above it. With a
-source text, which is read and judged but for its flows, a second graph has a
+source text, which is read and judged except for its flows, a second graph has a
 node for each variable and an edge for each rule by which one flows to another
 in one step.
 
-Statuses: 0 printed, 1 refused for another cause than a flow, 2 usage,
+Statuses: 0 printed, 1 refused for a cause other than a flow, 2 usage,
 4 file fault, 5 out of memory.";
 
 /// An example of `draw`.
@@ -356,10 +356,10 @@ Example:
 
 /// The long help of `fmt`.
 pub(crate) const FORMAT: &str = "\
-Prints the canonical text of a source text.
+Prints a source text in its canonical form.
 
 Reads the source text and prints it with a command on each line, two spaces for
-each block round it, and one space round each operator. Comments are dropped.
+each block around it, and one space around each operator. Comments are dropped.
 Names and flows aren't judged.
 
 Statuses: 0 printed, 1 refused, 2 usage, 4 file fault, 5 out of memory.";
@@ -381,8 +381,8 @@ The shapes are
   two                L below H
   levels A B ..      each name below the next, 1 to 64 names
   diamond L A B H    L below A and B, which are below H
-  powerset A B ..    a class for each set of the names, 1 to 6 names, below
-                     those with more; `A_B` has A and B, `none` no name
+  powerset A B ..    a class for each set of the names, 1 to 6 names, each set
+                     below those that contain it: `none`, `A`, `B`, `A_B`
 
 Statuses: 0 printed, 2 usage, 4 file fault, 5 out of memory.";
 
@@ -402,14 +402,14 @@ Example:
 pub(crate) const EXPLAIN: &str = "\
 Explains a refusal by its number, or a subject.
 
-Prints what the refusal with this number means, what to do, and, where the
-program can be made to tell it, an example. A refusal is told as the line
+Prints the meaning of the refusal with this number, what to do, and an example
+if the program can be made to print the refusal. A refusal is reported as a line
 `refused: NUMBER NAME`, with its place or other fields after it.
 
 The subjects are
-  language   the whole language, by one program
+  language   the whole language, in one program
   lattice    lattice files: the classes, and which is below which
-  store      store files: the values with which globals begin
+  store      store files: the initial values of globals
   interface  interface files, for `vsi conform`
   classes    which flows are accepted, and which aren't
   profiles   base, strict and steady

@@ -17,14 +17,14 @@ impl Limit {
     pub(crate) fn text(self) -> &'static str {
         match self {
             Limit::Budget => {
-                "--budget takes a number from 0 to 18446744073709551615, by digits alone"
+                "--budget takes a number from 0 to 18446744073709551615, in digits alone"
             }
             Limit::RunBudget => {
-                "--budget takes `auto`, or a number from 0 to 18446744073709551615, by digits alone"
+                "--budget takes `auto`, or a number from 0 to 18446744073709551615, in digits alone"
             }
             Limit::Tries =>
-                "--tries takes a number from 0 to 18446744073709551615, by digits alone",
-            Limit::Seed => "--seed takes a number from 0 to 18446744073709551615, by digits alone",
+                "--tries takes a number from 0 to 18446744073709551615, in digits alone",
+            Limit::Seed => "--seed takes a number from 0 to 18446744073709551615, in digits alone",
         }
     }
 }

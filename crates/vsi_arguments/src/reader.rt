@@ -71,14 +71,14 @@ impl Mistake {
     fn text(self) -> &'static str {
         match self {
             Mistake::NoNumber(limit) => limit.text(),
-            Mistake::NoTwoStores => "two stores are compared",
+            Mistake::NoTwoStores => "`compare` needs two stores",
             Mistake::NoRefusal => "no refusal has this number",
             Mistake::NoSubject => {
                 "`explain` takes the number of a refusal, as in 25, or one of language, lattice, \
                 store, interface, classes and profiles"
             }
-            Mistake::ImageIsRead => "the image would take the place of a file that is read",
-            Mistake::NoName => "the name is no identifier of C, or it is a keyword",
+            Mistake::ImageIsRead => "the image would replace a file that is read",
+            Mistake::NoName => "the name isn't an identifier of C, or it is a keyword",
             Mistake::NoSubcommand => "a subcommand is needed",
         }
     }

@@ -5,11 +5,11 @@ pub(crate) const TRY: &str = "\
 Judges a source text and runs it.
 
 Reads the source text, then the lattice file that --lattice gives, or the one
-that the text names in its first comment, `# policy: FILE`, beside the text.
-Without either the classes are L and H, L below H. Judges both, compiles the
-text, sets globals, all others being 0, and runs the image. If it halts, a line
-`NAME = NUMBER` is printed for each global, with --class for those at or below
-the class. No file is written.
+that the text names in its first comment, `# policy: FILE`. Without either the
+classes are L and H, L below H. Judges both, compiles the text, sets globals,
+with all others at 0, and runs the image. If the run halts, a line
+`NAME = NUMBER` is printed for each global, or with --class for each one at or
+below that class. No file is written.
 
 Statuses: 0 halted, 1 refused, 2 usage or no such class, 3 out of budget,
 4 file fault, 5 out of memory.";
@@ -27,12 +27,12 @@ Example:
 
 /// The long help of `run`.
 pub(crate) const RUN: &str = "\
-Runs an image and prints the store in which it halts.
+Runs an image and prints its final store.
 
-Reads the store file where there is one, then the image, verifies the image,
+Reads the store file, if one is given, then the image, verifies the image,
 judges the store file, sets globals, and runs the image until it halts or its
-budget is spent. Where it halts a line `NAME = NUMBER` is printed for each
-global, or written to a file, which may be the store file itself.
+budget is spent. If it halts, a line `NAME = NUMBER` is printed for each global,
+or written to a file, which may be the store file itself.
 
 Statuses: 0 halted, 1 refused, 2 usage, 3 out of budget, 4 file fault,
 5 out of memory.";
@@ -51,10 +51,10 @@ pub(crate) const VIEW: &str = "\
 Runs an image and prints what a class may see.
 
 Reads the lattice file, looks for the class in it, reads and verifies the image,
-reads the store file where there is one, sets globals, and runs the image. Where
-it halts within its budget a line `NAME = NUMBER` is printed for each global
-whose class is at or below the one that looks, or written to a file; else
-nothing is.
+reads the store file, if one is given, sets globals, and runs the image. If it
+halts within its budget, a line `NAME = NUMBER` is printed for each global whose
+class is at or below the observer's, or written to a file. Otherwise nothing is
+printed or written.
 
 Statuses: 0 halted, 1 refused, 2 usage or no such class, 3 out of budget,
 4 file fault, 5 out of memory.";
@@ -76,12 +76,12 @@ pub(crate) const DRIVE: &str = "\
 Runs an image once for each line of standard input.
 
 Reads the lattice file, looks for the class in it, reads and verifies the image,
-and reads the store file where there is one. Then each line of standard input
-sets globals at or below the class, the image runs, and what the class sees is
-written as one line of the same form; the store stays for the next line. A
-faulty line, or a run that is out of budget, is told in its place, and leaves
-the store as it was. Behind the last line the store is written to a file, where
-one is asked for.
+and reads the store file, if one is given. Then each line of standard input sets
+globals at or below the class, the image runs, and the globals that the class
+sees are written as one line of the same form. The final store of a run is the
+initial store of the next. A faulty line, or a run that is out of budget, is
+answered by a line that says so, and leaves the store as it was. After the last
+line the store is written to the file that --save gives, if any.
 
 Statuses: 0 standard input has ended, 1 refused, 2 usage or no such class,
 4 file fault, 5 out of memory.";
@@ -101,11 +101,11 @@ Runs an image from two stores and prints what a class sees of both.
 
 Reads the lattice file, looks for the class in it, reads and verifies the image,
 reads and judges both store files, and runs the image from each. Prints a row
-for each global whose class is at or below the one that looks, before the runs
-and, where both halt, after them, and one for how they end. Behind a star both
-sides of a row are told, the first run's first; else they are equal. The class
-sees the same where both runs halt and no row after them has a star, but for the
-one of how they end; and where neither halts.
+for each global whose class is at or below the observer's, before the runs and,
+if both halt, after them, and a row for how they end. A row with a star shows
+both sides, the first run's first; in a row without one they are equal. The
+class sees the same if both runs halt and no row after them has a star, except
+the row for how they end, or if neither run halts.
 
 Statuses: 0 the class sees the same after both runs, 1 it doesn't, or refused,
 2 usage or no such class, 4 file fault, 5 out of memory.";
@@ -129,11 +129,12 @@ pub(crate) const LEAK: &str = "\
 Searches a source text for a leak, and shows it.
 
 Reads the lattice file, looks for the class in it, reads the source text, and
-runs it, accepted or not, from pairs of stores that agree in each global whose
-class is at or below the one that looks. Where the ends of two runs differ in
-such a global, both stores and what the class sees of both ends are told on
-standard error. Else `no leak in N pairs of runs` is printed, which says nothing
-of other pairs. Equal words give equal answers.
+runs it, accepted or not, from pairs of stores that agree on each global whose
+class is at or below the observer's. If the final stores of two runs differ on
+such a global, both initial stores and what the class sees of both final stores
+are written to standard error. Otherwise `no leak in N pairs of runs` is
+printed, which says nothing about other pairs. The same arguments give the same
+answer.
 
 Statuses: 0 none found, 1 refused or a leak, 2 usage or no such class,
 4 file fault, 5 out of memory.";

@@ -11,13 +11,14 @@ const OWNERS: [(&str, &str); 24] = [
     ("'--class'", "try, view, drive, compare and leak"),
     (
         "'--color'",
-        "each subcommand but lattice and explain, which it follows",
+        "every subcommand except lattice and explain, and comes after the subcommand",
     ),
     ("'--count'", "run"),
     ("'--endings'", "leak"),
     (
         "'--explain'",
-        "each subcommand but lattice and explain, which it follows, as in `vsi try a.vsi --explain`",
+        "every subcommand except lattice and explain, and comes after the subcommand, as in \
+        `vsi try a.vsi --explain`",
     ),
     ("'--full-store'", "run and view"),
     ("'--header'", "emit-c"),
@@ -44,14 +45,14 @@ const OWNERS: [(&str, &str); 24] = [
 const TIPS: [(&str, &str); 3] = [
     (
         "  --class <C>",
-        "who looks: a class of the lattice file, as in `--class L`",
+        "the observer: a class of the lattice file, as in `--class L`",
     ),
     (
         "  --budget <N>",
-        "how many instructions may be done, as in `--budget 1000` or `--budget auto`",
+        "how many instructions may be executed, as in `--budget 1000` or `--budget auto`",
     ),
     (
-        ", by digits alone",
+        ", in digits alone",
         "write digits alone, as in 1000: no sign, no point and no `_`",
     ),
 ];

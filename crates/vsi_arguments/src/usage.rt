@@ -50,7 +50,7 @@ const SUBCOMMANDS: [Subcommand; 19] = [
     },
     Subcommand {
         name: "flows",
-        line: "Prints each two declared variables that a chain of flows joins",
+        line: "Lists every pair of declared variables joined by a chain of flows",
         whole: help::FLOWS,
         example: help::FLOWS_EXAMPLE,
         arguments: &[LATTICE, SOURCE, STRICT, WALKS],
@@ -85,7 +85,7 @@ const SUBCOMMANDS: [Subcommand; 19] = [
     },
     Subcommand {
         name: "source",
-        line: "Prints the source text that an image stands for",
+        line: "Prints an image as a source text",
         whole: help::IMAGE_SOURCE,
         example: help::IMAGE_SOURCE_EXAMPLE,
         arguments: &[IMAGE],
@@ -106,7 +106,7 @@ const SUBCOMMANDS: [Subcommand; 19] = [
     },
     Subcommand {
         name: "run",
-        line: "Runs an image and prints the store in which it halts",
+        line: "Runs an image and prints its final store",
         whole: run_help::RUN,
         example: run_help::RUN_EXAMPLE,
         arguments: &[IMAGE, BUDGET, STORE, SET, FULL_STORE, OUT, TRACE, COUNT],
@@ -127,7 +127,7 @@ const SUBCOMMANDS: [Subcommand; 19] = [
     },
     Subcommand {
         name: "compare",
-        line: "Runs an image from two stores and tells what a class sees of both",
+        line: "Runs an image from two stores and prints what a class sees of both",
         whole: run_help::COMPARE,
         example: run_help::COMPARE_EXAMPLE,
         arguments: &[LATTICE, IMAGE, CLASS, BUDGET, STORES],
@@ -143,7 +143,7 @@ const SUBCOMMANDS: [Subcommand; 19] = [
     },
     Subcommand {
         name: "report",
-        line: "Prints a page of a source text, its lattice and its flows",
+        line: "Prints a page on a source text, its lattice and its flows",
         whole: help::REPORT,
         example: help::REPORT_EXAMPLE,
         arguments: &[LATTICE, SOURCE, STRICT],
@@ -157,7 +157,7 @@ const SUBCOMMANDS: [Subcommand; 19] = [
     },
     Subcommand {
         name: "fmt",
-        line: "Prints the canonical text of a source text",
+        line: "Prints a source text in its canonical form",
         whole: help::FORMAT,
         example: help::FORMAT_EXAMPLE,
         arguments: &[SOURCE],
@@ -223,7 +223,7 @@ fn with_argument<'a>(
 /// The program with its subcommands.
 pub(crate) fn program<'a>(alloc: Global) -> Result<Command<'a>, AllocError> {
     let mut program = Command::new(alloc, "vsi")
-        .about("Compiles programs whose flows of information are typed, and runs them")
+        .about("Compiles programs whose information flows are typed, and runs them")
         .long_about(help::PROGRAM)
         .after_help(help::PROGRAM_EXAMPLE)
         .no_binary_name(true)

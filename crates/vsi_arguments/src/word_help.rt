@@ -29,36 +29,37 @@ are printed.";
 
 /// The budget of an attempt.
 pub(crate) const TRIED_BUDGET: &str = "\
-The most instructions that are done, the halt included: a whole number
-from 0 to 18446744073709551615, in digits alone. Without it 1000000.";
+The maximum number of instructions, the halt included: a whole number
+from 0 to 18446744073709551615, in digits alone. Default: 1000000.";
 
 /// A setting of an attempt.
 pub(crate) const TRIED_SET: &str = "\
-Sets a global, of whatever class, before the run: its name, `=` and a
-number from -9223372036854775808 to 9223372036854775807. Of two
-settings of one global the second counts.";
+Sets a global of any class before the run: its name, `=` and a number
+from -9223372036854775808 to 9223372036854775807. If a global is set
+twice, the second setting counts.";
 
 /// The shape of a lattice.
 pub(crate) const SHAPE: &str = "\
-One of two, levels, diamond and powerset, then the names that it
-takes: none, 1 to 64, 4, and 1 to 6. A name begins with a letter, has
-at most 32 letters, digits and underscores, and is no keyword.";
+One of two, levels, diamond and powerset, followed by its names: none
+for two, 1 to 64 for levels, 4 for diamond, 1 to 6 for powerset. A name
+begins with a letter, has at most 32 letters, digits and underscores,
+and isn't a keyword.";
 
 /// An image to read.
 pub(crate) const IMAGE: &str = "\
-The path of the image, the bytes that `vsi build` writes. Any bytes
-may be given: they are verified before they are used.";
+The path of the image, a file that `vsi build` writes. Any file may be
+given: its bytes are verified before they are used.";
 
 /// An image to write.
 pub(crate) const NEW_IMAGE: &str = "\
-The path that the image is written to. A file that stands there is
-replaced, and left as it is where the text is refused.";
+The path that the image is written to. A file that is already there is
+replaced, or left as it is if the text is refused.";
 
 /// The file that is printed as C.
 pub(crate) const EMITTED: &str = "\
-The path of the image, the bytes that `vsi build` writes, or with
---lattice the path of a source text. Any bytes may be given: they are
-verified before they are used.";
+The path of the image, a file that `vsi build` writes, or with
+--lattice the path of a source text. Any file may be given: its bytes
+are verified before they are used.";
 
 /// The file whose bound is printed.
 pub(crate) const BOUNDED: &str = "\
@@ -73,13 +74,13 @@ lattice file FILE. The image isn't written.";
 
 /// The name in C.
 pub(crate) const NAME: &str = "\
-A letter, then letters, digits and underscores, and no keyword of C or
-C++. Each name of the C begins with it. Without it the name of FILE
-serves, up to its first dot, and `image` where that is no such name.";
+A letter, then letters, digits and underscores, but not a keyword of C
+or C++. Each name in the C code begins with it. Default: the name of
+FILE up to its first dot, or `image` if that can't be used.";
 
 /// The header.
 pub(crate) const HEADER: &str = "\
-Prints the header of the file that is printed without --header: the
+Prints the header for the file that is printed without --header: the
 numbers of the globals, and the declaration of the function.";
 
 /// The function without a budget.
@@ -96,14 +97,14 @@ judged as `vsi build` judges it.";
 
 /// The operand of `explain`.
 pub(crate) const WHAT: &str = "\
-The number after `refused:`, by digits alone, or one of the subjects
+The number after `refused:`, in digits alone, or one of the subjects
 language, lattice, store, interface, classes and profiles.";
 
 /// The strict profile.
 pub(crate) const STRICT: &str = "\
 Judges by the strict profile: each variable that the guard of a
 `while` reads, or the guard of an `if` that contains one, must have
-the least class, so that whether a run ends tells nothing of the
+the least class, so that whether a run ends reveals nothing about the
 classes above it.";
 
 /// `--steady` for a source text.
@@ -111,16 +112,16 @@ pub(crate) const STEADY_SOURCE: &str = "\
 Judges by the strict profile as if each `if` were a `while`: each
 variable that a guard reads must have the least class. Then judges
 the image as `vsi audit --steady` does: two runs from stores that
-agree at and below a class do the same instructions and write the
-same there. With it --strict adds nothing.";
+agree at and below a class execute the same instructions and write the
+same values there. --strict adds nothing to it.";
 
 /// `--steady` for an image.
 pub(crate) const STEADY: &str = "\
 Accepts only an image whose jumps depend on nothing above the least
-class. Two runs from stores that agree at and below a class then do
-the same instructions, as many as any budget allows, and write the
-same there. These are instructions, not seconds. With it --strict
-adds nothing.";
+class. Two runs from stores that agree at and below a class then
+execute the same instructions within any budget, and write the same
+values there. Their times in seconds may differ. --strict adds nothing
+to it.";
 
 /// The short help of `--apply`.
 pub(crate) const APPLY: &str = "\
@@ -131,124 +132,124 @@ long is refused.";
 
 /// `--walks`.
 pub(crate) const WALKS: &str = "\
-Prints below each line the steps of a shortest chain, each as in the
-explanation of a refusal: where a name is read, where it flows to, by
-which rule, and where that is written. Of all shortest chains it is
-the first in the order of the program's steps.";
+Prints the steps of a shortest chain below each line, in the form that
+a refusal has: where a name is read, what it flows to, by which rule,
+and where that is written. Of all shortest chains it is the first in
+the order of the program's steps.";
 
 /// A trace.
 pub(crate) const TRACE: &str = "\
-Prints a line before each instruction that is done: its number, its
-text, and behind a bar the operands on the stack, the lowest first.";
+Prints a line before each instruction is executed: its number, its
+text, and after a bar the operands on the stack, the lowest first.";
 
 /// The class of an observer.
 pub(crate) const CLASS: &str = "\
-The name of the class that looks, one of LATTICE.";
+The name of the observer's class, one of the classes of LATTICE.";
 
 /// A budget.
 pub(crate) const BUDGET: &str = "\
-The most instructions that are done, the halt included: a whole number
+The maximum number of instructions, the halt included: a whole number
 from 0 to 18446744073709551615, in digits alone, or `auto`, which is the
-number that `vsi bound` prints for the image. No run spends that. If no
+number that `vsi bound` prints for the image. No run exceeds that. If no
 bound is found, `auto` runs nothing: the line of `vsi bound` is printed,
 with status 1.";
 
 /// A store file.
 pub(crate) const STORE: &str = "\
 The path of the store file, a TOML document of at most 1048576 bytes
-with a key `NAME = NUMBER` for each global that doesn't begin as 0, a
-number being one from -9223372036854775808 to 9223372036854775807.
-Without a file each global begins as 0.";
+with a line `NAME = NUMBER` for each global that doesn't begin as 0. A
+number is from -9223372036854775808 to 9223372036854775807. Without a
+file each global begins as 0.";
 
 /// A setting.
 pub(crate) const SET: &str = "\
-Sets a global, of whatever class, behind the store file: its name, `=`
-and a number from -9223372036854775808 to 9223372036854775807. It may
-be given again, and of two settings of one global the second stands.";
+Sets a global of any class after the store file is read: its name, `=`
+and a number from -9223372036854775808 to 9223372036854775807. It can
+be repeated; if a global is set twice, the second setting counts.";
 
 /// A full store.
 pub(crate) const FULL_STORE: &str = "\
-Refuses to begin where a global has no key in the store file and isn't
+Refuses to begin if a global has no key in the store file and isn't
 set, so that none begins as 0 by oversight.";
 
 /// The file that receives the store.
 pub(crate) const OUT: &str = "\
-The path of a file that gets the store in place of standard output. It
-is replaced as a whole where the run halts, and left as it is
-otherwise, so that it may be the store file that is read.";
+The path of a file that the store is written to, instead of standard
+output. The file is replaced as a whole if the run halts, and otherwise
+left as it is, so it may be the store file that is read.";
 
 /// The file that receives the last store.
 pub(crate) const SAVE: &str = "\
-The path of a file that gets the last store, where standard input has
-ended and no read and no write has failed. It is replaced as a whole,
-so that it may be the store file that is read.";
+The path of a file that the last store is written to once standard
+input has ended, if no read or write has failed. The file is replaced
+as a whole, so it may be the store file that is read.";
 
 /// The store files of a comparison.
 pub(crate) const STORES: &str = "\
-The path of a store file, as `vsi help run` tells of it, given twice:
-the first run begins from the first one, the second from the second.";
+The path of a store file, as `vsi help run` describes it, given twice:
+the first run begins from the first file, the second from the second.";
 
 /// The class of a search's observer.
 pub(crate) const LOOKING: &str = "\
-The name of the class that looks, one of LATTICE. Without it each
-class of LATTICE looks, each behind those below it.";
+The name of the observer's class, one of the classes of LATTICE.
+Without it each class is the observer's in turn, after those below it.";
 
 /// The budget of a search.
 pub(crate) const RUN_BUDGET: &str = "\
-The most instructions of each run, the halt included: a whole number
-from 0 to 18446744073709551615, in digits alone. Without it 10000.";
+The maximum number of instructions of each run, the halt included: a
+whole number from 0 to 18446744073709551615, in digits alone. Default:
+10000.";
 
 /// The tries of a search.
 pub(crate) const TRIES: &str = "\
-The most pairs of runs that are tried for a class, and again for
---endings and for --steps: a whole number from 0 to
-18446744073709551615, in digits alone. Without it 10000.";
+The maximum number of pairs of runs that are tried for a class, and
+again for --endings and for --steps: a whole number from 0 to
+18446744073709551615, in digits alone. Default: 10000.";
 
 /// The seed of a search.
 pub(crate) const SEED: &str = "\
-The seed of the stores that are drawn: a whole number from 0 to
-18446744073709551615, in digits alone. Without it 0.";
+The seed for the stores that are drawn: a whole number from 0 to
+18446744073709551615, in digits alone. Default: 0.";
 
 /// The search for leaks through endings.
 pub(crate) const ENDINGS: &str = "\
-Where no ends differ, looks for two stores of which the run from one
-halts within the budget, and the run from the other doesn't.";
+If no final stores differ, looks for two stores such that the run from
+one halts within the budget and the run from the other doesn't.";
 
 /// The search for leaks through steps.
 pub(crate) const STEPS: &str = "\
-Where nothing else is found, looks for two stores whose runs halt
-after different numbers of instructions.";
+If nothing else is found, looks for two stores whose runs halt after
+different numbers of instructions.";
 
 /// The interface file.
 pub(crate) const INTERFACE: &str = "\
-The path of the interface file: a TOML document with the path of a
-lattice file at `lattice`, or in its place the keys of one; `profile`,
-\"base\", \"strict\" or \"steady\"; `globals`, an array of pairs of a name
-and a class; `order`, \"exact\" or \"set\"; and `runs`, each with a
-`budget`, a `store`, and `expect` or `halts = true`.";
+The path of the interface file, a TOML document with these keys:
+`lattice`, the path of a lattice file, or the keys of one in its place;
+`profile`, \"base\", \"strict\" or \"steady\"; `globals`, an array of pairs
+of a name and a class; `order`, \"exact\" or \"set\"; and `runs`, each
+with a `budget`, a `store`, and `expect` or `halts = true`.";
 
 /// `--count`.
 pub(crate) const COUNT: &str = "\
-Tells on standard error, where the run halts, how many instructions
-were done, the halt included: the least budget within which it halts.
+If the run halts, prints on standard error how many instructions were
+executed, the halt included: the least budget within which it halts.
 The image is run again to count them.";
 
 /// `--explain`.
 pub(crate) const EXPLAINED: &str = "\
-Explains a refusal on standard error, behind its fixed text: the file
-and the place, the line with a mark below what stands there, what
-could stand there, and what to do. Where nothing is refused it changes
-nothing.";
+Explains a refusal on standard error, after its fixed text: the file
+and the place, the line with carets below the fault, what could be
+there instead, and what to do. If nothing is refused it has no effect.";
 
 /// `--color`.
 pub(crate) const COLOR: &str = "\
-Colours an explanation: `always`, `never`, or `auto`, as without it:
-where standard error is a terminal and NO_COLOR isn't set.";
+Colours an explanation: `always`, `never`, or `auto`, the default: if
+standard error is a terminal and NO_COLOR isn't set.";
 
 /// The answer of `check` as JSON.
 pub(crate) const CHECK_JSON: &str = "\
 Writes the answer as a line of JSON on standard output: an object with
-`accepted`, and of a refusal its number, its name, its place, its text
+`accepted`, and for a refusal its number, its name, its place, its text
 and the steps of its flow.";
 
 /// The answer as JSON.

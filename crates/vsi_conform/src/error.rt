@@ -14,41 +14,41 @@ use vsi_syntax::put_number;
 #[derive(Debug, Drop, Error)]
 pub enum InterfaceError {
     /// The text isn't a TOML document.
-    #[error("the interface is no TOML")]
+    #[error("the interface isn't TOML")]
     NotToml,
     /// An interface has no such key.
-    #[error("the interface has a key that is none")]
+    #[error("the interface has an unknown key")]
     UnknownKey(Vec<u8>),
     /// The interface has neither a text at `lattice` nor the keys of a lattice file, or it has
     /// both.
     #[error("the interface has no lattice, or two")]
     BadLattice,
     /// The value at `profile` is none of `base`, `strict` and `steady`.
-    #[error("the interface has no profile")]
+    #[error("the interface has no valid profile")]
     BadProfile,
     /// The value at `order` is neither `exact` nor `set`.
-    #[error("the order of the globals is none")]
+    #[error("the order of the globals isn't valid")]
     BadOrder,
     /// The value at `globals` isn't an array of pairs of texts.
     #[error("the interface has no array of globals")]
     BadGlobals,
     /// This name of a global isn't a name of the language.
-    #[error("the name of a global is none")]
+    #[error("the name of a global isn't valid")]
     BadName(Vec<u8>),
     /// Two globals have this name.
-    #[error("two globals have one name")]
+    #[error("two globals have the same name")]
     RepeatedGlobal(Vec<u8>),
     /// The class of the global with this name isn't a class of the lattice.
-    #[error("the class of a global is none")]
+    #[error("the class of a global isn't in the lattice")]
     UnknownClass(Vec<u8>),
     /// The value at `runs` isn't an array.
-    #[error("the runs are no array")]
+    #[error("the runs aren't an array")]
     BadRuns,
     /// The run isn't a table, or has a key that runs don't have.
-    #[error("run {0} is no run")]
+    #[error("run {0} isn't valid")]
     BadRun(usize),
     /// The store of the run isn't a table of numbers.
-    #[error("the store of run {0} is none")]
+    #[error("the store of run {0} isn't valid")]
     BadStore(usize),
     /// The run has no budget of at least 0.
     #[error("run {0} has no budget")]

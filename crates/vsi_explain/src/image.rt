@@ -34,23 +34,23 @@ pub(crate) fn image_page(number: u64) -> Option<&'static str>
 const UNENCODABLE: &str = "\
 26 Unencodable FIELD
 
-A caller of the library has put together an image that no file can hold: too
-many globals, slots, places for operands or instructions, or a global whose
-name or class is no name or repeated. The program never prints this, since the
-images that it reads come from files.
+A caller of the library has built an image that no file can hold: it has too
+many globals, slots, places for operands or instructions, or a global whose name
+or class isn't a valid name, or a name that is repeated. The program never
+prints this, since the images that it reads come from files.
 
 What to do: keep to 256 globals, 512 slots, 256 operands and 65535
-instructions, and to names by the language's rule.
+instructions, and to names that the language allows.
 ";
 
 /// The page of BadMagic.
 const BAD_MAGIC: &str = "\
 27 BadMagic
 
-The file doesn't begin with the three bytes `VSI`, and so is no image.
+The file doesn't begin with the three bytes `VSI`, so it isn't an image.
 
-What to do: make an image by `vsi build LATTICE SOURCE IMAGE`. Perhaps a source
-text stands in its place, or the files are in the wrong order.
+What to do: make an image with `vsi build LATTICE SOURCE IMAGE`. Perhaps a
+source text was given in its place, or the files are in the wrong order.
 
   $ printf 'var x : L; x := 1' > text.vsi
   $ vsi list text.vsi
@@ -62,7 +62,7 @@ text stands in its place, or the files are in the wrong order.
 const BAD_VERSION: &str = "\
 28 BadVersion
 
-The byte behind `VSI` is no version that this program knows, which are 1 and 2.
+The byte after `VSI` isn't a version that this program knows: 1 or 2.
 
 What to do: build the image again from its source text, or use the newer
 program that made it.
@@ -78,7 +78,7 @@ const BAD_FIELD: &str = "\
 29 BadField PLACE
 
 The field of the image at byte PLACE, counted from 0, has a value above its
-limit, or a global's name or class is none, or a name is repeated.
+limit, or isn't a valid name of a global or a class, or repeats a name.
 
 What to do: build the image again. Bytes were changed, or it was made by
 another program with other limits.
@@ -93,8 +93,8 @@ another program with other limits.
 const BAD_OPCODE: &str = "\
 30 BadOpcode PLACE
 
-The byte at PLACE, counted from 0, begins no instruction. The byte 11, MUL, is
-one in images of version 2 alone.
+No instruction begins with the byte at PLACE, counted from 0. The byte 11, MUL,
+begins one only in images of version 2.
 
 What to do: build the image again; bytes were changed.
 
@@ -123,7 +123,7 @@ What to do: copy the image again, or build it again; a part is missing.
 const TRAILING: &str = "\
 32 Trailing PLACE
 
-Bytes follow behind the last instruction, the first of them at PLACE, counted
+There are bytes after the last instruction, the first of them at PLACE, counted
 from 0.
 
 What to do: build the image again. Perhaps two files were joined, or a line feed
@@ -141,8 +141,8 @@ const BAD_SLOT: &str = "\
 33 BadSlot NUMBER
 
 The instruction with this number, counted from 0, reads or writes a slot that
-the image doesn't have. It could reach beyond its own memory, so nothing of the
-image is run.
+the image doesn't have. A run could reach beyond its own memory, so the image
+isn't run.
 
 What to do: build the image again. If it came from someone else, don't trust it.
 
@@ -157,8 +157,8 @@ What to do: build the image again. If it came from someone else, don't trust it.
 const BAD_TARGET: &str = "\
 34 BadTarget NUMBER
 
-The instruction with this number, counted from 0, jumps to a place where no
-instruction is.
+The instruction with this number, counted from 0, jumps to a place where there
+is no instruction.
 
 What to do: build the image again. If it came from someone else, don't trust it.
 
@@ -189,8 +189,8 @@ What to do: build the image again. If it came from someone else, don't trust it.
 const OVERFLOW: &str = "\
 36 Overflow NUMBER
 
-Behind the instruction with this number, counted from 0, more operands are
-there than the image says that it has places for.
+After the instruction with this number, counted from 0, there are more operands
+than the image has places for.
 
 What to do: build the image again. If it came from someone else, don't trust it.
 
@@ -206,8 +206,8 @@ What to do: build the image again. If it came from someone else, don't trust it.
 const NOT_EMPTY: &str = "\
 37 NotEmpty NUMBER
 
-Operands are left over at the jump or the end with this number, counted from 0,
-or are there where it jumps to.
+Operands are left on the stack at the jump or the HALT with this number, counted
+from 0, or at the place that it jumps to.
 
 What to do: build the image again. If it came from someone else, don't trust it.
 
@@ -223,8 +223,8 @@ What to do: build the image again. If it came from someone else, don't trust it.
 const RUNS_OFF: &str = "\
 38 RunsOff
 
-The image has no instruction, or a run could go on behind its last one, which
-is neither HALT nor JMP.
+The image has no instruction, or a run could go on past its last one, which is
+neither HALT nor JMP.
 
 What to do: build the image again. If it came from someone else, don't trust it.
 
@@ -243,7 +243,7 @@ code: the instruction with this number doesn't fit. So `vsi audit` and `vsi
 source` have nothing to judge or to print.
 
 What to do: ask for an image that a compiler of this language made, or for the
-source text. `vsi audit --steady` judges the code as it stands.
+source text. `vsi audit --steady` judges the code itself.
 
   $ printf 'VSI\\002\\000\\000\\000\\000\\000\\000' > loop.image
   $ printf '\\000\\000\\000\\001\\011\\000\\000\\000\\000' >> loop.image
@@ -256,9 +256,9 @@ source text. `vsi audit --steady` judges the code as it stands.
 const WRONG_FIELDS: &str = "\
 50 WrongFields
 
-The image is valid and its commands were read back, but it says that it has
-other slots or other places for operands than its commands need. `vsi source`
-prints its commands all the same.
+The image is valid and its commands were read back, but its number of slots or
+of places for operands isn't the one that its commands need. `vsi source` prints
+its commands all the same.
 
 What to do: ask for an image as a compiler of this language makes it.
 

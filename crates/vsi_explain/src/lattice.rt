@@ -28,12 +28,12 @@ pub(crate) fn lattice_page(number: u64) -> Option<&'static str>
 const NOT_TOML: &str = "\
 1 NotToml
 
-The lattice file is no TOML document: a quote or a bracket isn't closed, a key
-stands there twice, or it isn't a TOML file at all.
+The lattice file isn't a TOML document: a quote or a bracket isn't closed, a key
+is given twice, or it isn't a TOML file at all.
 
-What to do: compare it with the example below, which is a lattice file as it
-should be. Perhaps the files stand in the wrong order: the lattice file comes
-before the source text.
+What to do: compare it with the file that the last line of the example below
+writes. Perhaps the files are in the wrong order: the lattice file comes before
+the source text.
 
   $ printf 'classes = [\"L\", \"H\"\\nbelow = [[\"L\", \"H\"]]\\n' > open.toml
   $ vsi check open.toml text.vsi
@@ -46,12 +46,12 @@ before the source text.
 const BAD_SHAPE: &str = "\
 2 BadShape
 
-The lattice file is a TOML document, but not with exactly the two keys
+The lattice file is a TOML document, but it doesn't have exactly the two keys
 `classes`, an array of strings, and `below`, an array of pairs of strings.
 
-What to do: write both keys, also where no class is below another, and no
-third one. Each pair has two strings, the lower class first. A store file in
-the place of a lattice file is refused so too.
+What to do: write both keys, even if no class is below another, and no third
+one. Each pair has two strings, the lower class first. A store file in place of
+a lattice file is also refused with this number.
 
   $ printf 'classes = [\"L\"]\\n' > shape.toml
   $ vsi check shape.toml text.vsi
@@ -63,8 +63,8 @@ the place of a lattice file is refused so too.
 const NO_CLASS: &str = "\
 3 NoClass
 
-The list of classes is empty. Each variable has a class, so there is one at
-least.
+The list of classes is empty. Each variable has a class, so there must be at
+least one.
 
 What to do: name the classes of your policy in `classes`.
 
@@ -94,11 +94,11 @@ classes that the policy treats alike.
 const BAD_NAME: &str = "\
 5 BadName NUMBER
 
-A class has a name that is none. NUMBER counts the classes from 0.
+A class has a name that isn't valid. NUMBER counts the classes from 0.
 
-What to do: begin the name with a letter, go on with letters, digits and `_`,
-32 of them at most, and don't use a word of the language (var, letvar, in, if,
-then, else, while, do).
+What to do: begin the name with a letter, continue with letters, digits and `_`,
+at most 32 characters in all, and don't use a keyword of the language (var,
+letvar, in, if, then, else, while, do).
 
   $ printf 'classes = [\"L\", \"7up\"]\\nbelow = []\\n' > name.toml
   $ vsi check name.toml text.vsi
@@ -110,11 +110,11 @@ then, else, while, do).
 const DUPLICATE_NAME: &str = "\
 6 DuplicateName NUMBER
 
-A class has a name that stands earlier in the list. NUMBER is that of the
+A class has the name of an earlier class in the list. NUMBER is that of the
 second one, counted from 0.
 
-What to do: leave one of the two out, or give it a name of its own. Capital and
-small letters differ: `l` and `L` are two names.
+What to do: leave out one of the two, or give it a name of its own. Upper and
+lower case differ: `l` and `L` are two names.
 
   $ printf 'classes = [\"L\", \"L\"]\\nbelow = []\\n' > twice.toml
   $ vsi check twice.toml text.vsi
@@ -129,7 +129,7 @@ const UNKNOWN_NAME: &str = "\
 A pair of `below` names a class that isn't in `classes`. NUMBER counts the
 pairs from 0.
 
-What to do: add the class to `classes`, or mend its spelling in the pair.
+What to do: add the class to `classes`, or fix its spelling in the pair.
 
   $ printf 'classes = [\"L\", \"H\"]\\nbelow = [[\"L\", \"M\"]]\\n' > pair.toml
   $ vsi check pair.toml text.vsi
@@ -144,8 +144,9 @@ const CYCLE: &str = "\
 Two different classes are each below the other, by one pair or by several. The
 numbers count the classes from 0.
 
-What to do: decide which of the two is the lower one, and take the other way
-out of `below`. Where information may flow both ways they are one class.
+What to do: decide which of the two is the lower one, and remove the pairs that
+lead the other way from `below`. If information may flow both ways, declare one
+class in place of the two.
 
   $ printf 'classes = [\"L\", \"H\"]\\n' > round.toml
   $ printf 'below = [[\"L\", \"H\"], [\"H\", \"L\"]]\\n' >> round.toml
@@ -158,12 +159,12 @@ out of `below`. Where information may flow both ways they are one class.
 const NO_JOIN: &str = "\
 9 NoJoin NUMBER NUMBER
 
-Two classes have no least class above both, so that there is none for a value
-made of both. The numbers count the classes from 0.
+Two classes have no least class above both, so there is no class for a value
+made from both. The numbers count the classes from 0.
 
-What to do: declare a class above both. Where several classes are above both,
-one of them must be below all the others. A class `Top` above all classes
-serves often.
+What to do: declare a class above both. If several classes are above both, one
+of them must be below all the others. Often a class `Top` above all classes is
+enough.
 
   $ printf 'classes = [\"A\", \"B\"]\\nbelow = []\\n' > apart.toml
   $ vsi check apart.toml text.vsi
@@ -175,12 +176,12 @@ serves often.
 const NO_MEET: &str = "\
 10 NoMeet NUMBER NUMBER
 
-Two classes have no greatest class below both, so that there is none for a
+Two classes have no greatest class below both, so there is no class for a
 command that writes variables of both. The numbers count the classes from 0.
 
-What to do: declare a class below both. Where several classes are below both,
-one of them must be above all the others. A class `Bottom` below all classes
-serves often.
+What to do: declare a class below both. If several classes are below both, one
+of them must be above all the others. Often a class `Bottom` below all classes
+is enough.
 
   $ printf 'classes = [\"A\", \"B\", \"C\"]\\n' > roof.toml
   $ printf 'below = [[\"A\", \"C\"], [\"B\", \"C\"]]\\n' >> roof.toml

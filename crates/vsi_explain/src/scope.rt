@@ -25,10 +25,10 @@ pub(crate) fn scope_page(number: u64) -> Option<&'static str>
 const DUPLICATE: &str = "\
 17 Duplicate LINE:COLUMN
 
-The global at LINE:COLUMN has a name that an earlier global has.
+The global at LINE:COLUMN has the name of an earlier global.
 
-What to do: leave one out, or give it another name. A `letvar` may repeat a
-name; inside it the global isn't seen.
+What to do: leave one out, or give it another name. A `letvar` may repeat the
+name of a global, which isn't visible inside the `letvar`.
 
   $ printf 'var x : L; var x : H; x := 1' | vsi
   refused: 17 Duplicate 1:16
@@ -39,11 +39,11 @@ name; inside it the global isn't seen.
 const UNKNOWN_CLASS: &str = "\
 18 UnknownClass LINE:COLUMN
 
-The class at LINE:COLUMN isn't one of the lattice.
+The class at LINE:COLUMN isn't in the lattice.
 
 What to do: use a class of the lattice file, or add this one there. Without a
-lattice file, as in `vsi < text`, the classes are L and H. Capital and small
-letters differ.
+lattice file, as in `vsi < text`, the classes are L and H. Upper and lower case
+differ.
 
   $ printf 'var x : Low; x := 1' | vsi
   refused: 18 UnknownClass 1:9
@@ -56,10 +56,10 @@ const UNBOUND: &str = "\
 
 The name at LINE:COLUMN isn't declared there.
 
-What to do: declare it at the head, `var NAME : CLASS;`, or by a `letvar` round
-the place; or mend its spelling. A `letvar x := e in c` holds in `c` alone: not
-in `e`, and not behind a `;` that follows, where { } are wanted round the
-commands.
+What to do: declare it at the head, `var NAME : CLASS;`, or by a `letvar` around
+the place; or fix its spelling. A `letvar x := e in c` declares `x` in `c` only:
+not in `e`, and not after a `;` that follows. If `c` is several commands, write
+{ } around them.
 
   $ printf 'var x : L; letvar y := 1 in x := y; x := y' | vsi
   refused: 19 Unbound 1:42
@@ -72,7 +72,7 @@ const TOO_MANY_GLOBALS: &str = "\
 
 The global at LINE:COLUMN is the 257th.
 
-What to do: use `letvar` for what needn't last to the end of the run.
+What to do: use `letvar` for values that aren't needed at the end of the run.
 
   $ (seq -f 'var x%g : L;' 257; printf 'x1 := 1') | vsi
   refused: 20 TooManyGlobals 257:5
@@ -85,8 +85,7 @@ const TOO_MANY_DECLARATIONS: &str = "\
 
 The declaration at LINE:COLUMN is the 1025th, globals and `letvar`s together.
 
-What to do: use a local variable again where the earlier value isn't needed any
-more.
+What to do: reuse a local variable whose earlier value isn't needed any more.
 
   $ seq -f 'letvar v%g := 0 in x := 1;' 1024 > lines
   $ (printf 'var x : L;\\n'; cat lines; printf 'x := 1') | vsi
@@ -98,10 +97,10 @@ more.
 const TOO_LARGE: &str = "\
 22 TooLarge
 
-The program has a size of more than 65534. A number, a name that is read, an
+The size of the program is above 65534. A number, a name that is read, an
 operator, an assignment and a `letvar` count 1 each, an `if` or a `while` 2.
 
-What to do: put what is repeated into a loop, or make two programs of it.
+What to do: put repeated commands into a loop, or split the program in two.
 
   $ (printf 'var x : L;\\n'; seq -f 'x := %g;' 32767; printf 'x := 1') | vsi
   refused: 22 TooLarge
@@ -113,25 +112,25 @@ const REFUSED: &str = "\
 25 Refused
 
 Information could flow from a variable to one whose class isn't at or above
-its own. The lines below the first tell how, step by step: where a name is
-read, where its information goes to, by which rule, and where that is written.
-The last line names both ends. The rules:
+its own. The lines below the first show how, step by step: where a name is
+read, where its information goes, by which rule, and where that is written. The
+last line names both ends. The rules:
 
-- ASSIGN: the name stands in the value that is assigned.
-- LETVAR: the name stands in the initial value of a local variable.
-- IF: the name stands in a guard, and the assignment in one of its branches, so
-  that which branch is done tells of the guard.
+- ASSIGN: the name is in the value that is assigned.
+- LETVAR: the name is in the initial value of a local variable.
+- IF: the name is in a guard, and the assignment in one of its branches, so the
+  branch that runs reveals something about the guard.
 - WHILE: the same for the guard and the body of a loop.
-- LOOP, under --strict: the name stands in the guard of a loop, or in one round
-  a loop, so that whether the run ends tells of it.
+- LOOP, under --strict: the name is in the guard of a loop, or in a guard around
+  a loop, so whether the run ends reveals something about it.
 
 What to do: break one of the steps. Move the assignment out of the branch, or
-compute what is written from variables that may flow there; let the local
-variable at the middle of the chain have two names, one for each use; or raise
-the class of the variable at the end, where the policy allows that. Don't lower
-the class of the first one: it says what is to be kept secret. The text is
-judged, and not a run: a flow in a branch that is never done counts too, and so
-does one that another assignment writes over.
+compute its value from variables that may flow there; replace a local variable
+in the middle of the chain by two, one for each use; or raise the class of the
+variable at the end, if the policy allows that. Don't lower the class of the
+first one: it says what must stay secret. The text is judged, not a run: a flow
+in a branch that never runs counts too, and so does one that a later assignment
+overwrites.
 
   $ printf 'var h : H; var l : L; if h then l := 1 else l := 0' | vsi
   refused: 25 Refused

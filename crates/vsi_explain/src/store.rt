@@ -30,20 +30,20 @@ const WRONG_STORE: &str = "\
 39 WrongStore NUMBER
 
 A caller of the library has started an image with a store of NUMBER words, and
-the image hasn't as many globals. The program never prints this: a store file
+the image doesn't have that many globals. The program never prints this: it
 gives each global a word.
 
-What to do: hand in one word for each global, in the order of declarations.
+What to do: pass one word for each global, in the order of declarations.
 ";
 
 /// The page of NotToml.
 const NOT_TOML: &str = "\
 40 NotToml
 
-The store file is no TOML document.
+The store file isn't a TOML document.
 
 What to do: write a line `NAME = NUMBER` for each global that doesn't begin as
-0, as the program prints a store itself.
+0, in the form in which the program prints a store.
 
   $ printf 'classes = [\"L\", \"H\"]\\nbelow = [[\"L\", \"H\"]]\\n' > two.toml
   $ printf 'var x : L; var h : H; x := x + 2' > add.vsi
@@ -58,10 +58,10 @@ What to do: write a line `NAME = NUMBER` for each global that doesn't begin as
 const NOT_A_NUMBER: &str = "\
 41 NotANumber KEY
 
-The value of this key of the store file is no whole number.
+The value of this key of the store file isn't a whole number.
 
-What to do: write digits, behind a `-` where the number is below 0, without
-quotes and without a point.
+What to do: write digits, after a `-` if the number is below 0, without quotes
+and without a decimal point.
 
   $ printf 'classes = [\"L\", \"H\"]\\nbelow = [[\"L\", \"H\"]]\\n' > two.toml
   $ printf 'var x : L; var h : H; x := x + 2' > add.vsi
@@ -79,7 +79,7 @@ const UNKNOWN_GLOBAL: &str = "\
 The image has no global of this name.
 
 What to do: see `vsi list IMAGE` for its globals; local variables aren't among
-them. Capital and small letters differ.
+them. Upper and lower case differ.
 
   $ printf 'classes = [\"L\", \"H\"]\\nbelow = [[\"L\", \"H\"]]\\n' > two.toml
   $ printf 'var x : L; var h : H; x := x + 2' > add.vsi
@@ -97,7 +97,7 @@ const CLASS_NOT_IN_LATTICE: &str = "\
 A global of the image has a class that the lattice file lacks. NUMBER counts
 the globals from 0.
 
-What to do: name the lattice file with which the image was built; `vsi list
+What to do: give the lattice file with which the image was built; `vsi list
 IMAGE` shows each global with its class.
 
   $ printf 'classes = [\"L\", \"H\"]\\nbelow = [[\"L\", \"H\"]]\\n' > two.toml
@@ -113,8 +113,8 @@ IMAGE` shows each global with its class.
 const LINE_TOO_LONG: &str = "\
 44 LineTooLong
 
-A line of `vsi drive` has more than 65536 bytes. The cycle wasn't done, and the
-store is as it was.
+A line of `vsi drive` has more than 65536 bytes. The image wasn't run for it,
+and the store is as it was.
 
 What to do: end each cycle's settings with a line feed, and set each global
 once.
@@ -131,10 +131,10 @@ const BAD_SETTING: &str = "\
 45 BadSetting NUMBER
 
 A setting isn't of the form `NAME = NUMBER`. NUMBER counts the settings of the
-line, or the words behind --set, from 0.
+line, or those of --set, from 0.
 
-What to do: put a `=` between each name and its number; blanks round it don't
-count. Nothing stands between two settings but a blank.
+What to do: put a `=` between each name and its number; blanks around it don't
+matter. Separate two settings by a blank alone.
 
   $ printf 'classes = [\"L\", \"H\"]\\nbelow = [[\"L\", \"H\"]]\\n' > two.toml
   $ printf 'var x : L; var h : H; x := x + 2' > add.vsi
@@ -148,11 +148,10 @@ count. Nothing stands between two settings but a blank.
 const NO_GLOBAL: &str = "\
 46 NoGlobal NUMBER
 
-A setting names no global of the image. NUMBER counts the settings of the line,
-or the words behind --set, from 0.
+A setting doesn't name a global of the image. NUMBER counts the settings of the
+line, or those of --set, from 0.
 
-What to do: see `vsi list IMAGE` for its globals. Capital and small letters
-differ.
+What to do: see `vsi list IMAGE` for its globals. Upper and lower case differ.
 
   $ printf 'classes = [\"L\", \"H\"]\\nbelow = [[\"L\", \"H\"]]\\n' > two.toml
   $ printf 'var x : L; var h : H; x := x + 2' > add.vsi
@@ -166,8 +165,8 @@ differ.
 const ABOVE_CLASS: &str = "\
 47 AboveClass NUMBER
 
-A line of `vsi drive` sets a global that the class which drives can't see.
-NUMBER counts the settings of the line from 0. The cycle wasn't done.
+A line of `vsi drive` sets a global that the class of --class can't see. NUMBER
+counts the settings of the line from 0. The image wasn't run for the line.
 
 What to do: set only globals at or below the class of --class; put the others
 into the store file, once, before the drive begins.
@@ -184,10 +183,10 @@ into the store file, once, before the drive begins.
 const NO_NUMBER: &str = "\
 48 NoNumber NUMBER
 
-What stands behind the `=` of a setting is no number. NUMBER counts the settings
-of the line, or the words behind --set, from 0.
+The text after the `=` of a setting isn't a number. NUMBER counts the settings
+of the line, or those of --set, from 0.
 
-What to do: write digits, behind a `-` where the number is below 0. It is from
+What to do: write digits, after a `-` if the number is below 0. A number is from
 -9223372036854775808 to 9223372036854775807.
 
   $ printf 'classes = [\"L\", \"H\"]\\nbelow = [[\"L\", \"H\"]]\\n' > two.toml
@@ -202,8 +201,8 @@ What to do: write digits, behind a `-` where the number is below 0. It is from
 const GLOBAL_NOT_NAMED: &str = "\
 56 GlobalNotNamed NUMBER
 
-Under --full-store each global must be named, and the one with this number,
-counted from 0, is neither in the store file nor behind --set.
+Under --full-store each global needs a value, and the one with this number,
+counted from 0, is neither in the store file nor set by --set.
 
 What to do: add the global to the store file or set it. Without --full-store it
 begins as 0.

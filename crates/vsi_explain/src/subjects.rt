@@ -32,7 +32,7 @@ pub fn subject_page(name: &[u8]) -> Option<&'static str>
 
 /// The page of the language: a program that uses each part of it.
 const LANGUAGE: &str = "\
-The language, by a program that uses all of it
+The language, in a program that uses all of it
 
   var high : H; var low : L;        # globals come first, each with a class
   low := 1 + 2 * 3 - (4 - 5);       # no division; `0 - 1` in place of -1
@@ -107,7 +107,7 @@ lattice files of usual shapes, and `vsi draw` makes a picture of a lattice.
 
 /// The page of store files.
 const STORE: &str = "\
-Store files: the values with which globals begin
+Store files: the initial values of globals
 
 A declaration has no initial value. Each global begins as 0, or with the value
 that a store file or `--set` gives it. A store file is a TOML file with a line
@@ -116,9 +116,9 @@ for each global that doesn't begin as 0:
   x = 5
   y = -3
 
-A run prints the store at its end in the same form, so `--out FILE` makes a file
-that the next run can begin with. `--set x=7` sets one global, and counts more
-than the file. With `--full-store` no global may be left out.
+A run prints its final store in the same form, so `--out FILE` makes a file that
+the next run can begin with. `--set x=7` sets one global, and takes precedence
+over the file. With `--full-store` no global may be left out.
 
   $ printf 'classes = [\"L\", \"H\"]\\nbelow = [[\"L\", \"H\"]]\\n' > two.toml
   $ printf 'var x : L; var y : L; y := x + 1' > add.vsi
@@ -134,10 +134,10 @@ than the file. With `--full-store` no global may be left out.
 
 /// The page of interface files.
 const INTERFACE: &str = "\
-Interface files: what is asked of a text, for `vsi conform`
+Interface files: what `vsi conform` requires of a text
 
 An interface is a TOML file that says which globals a text must have, of which
-classes, under which profile it must be accepted, and what some runs must give:
+classes, under which profile it must be accepted, and how some runs must end:
 
   classes = [\"L\", \"H\"]
   below = [[\"L\", \"H\"]]
@@ -151,9 +151,9 @@ classes, under which profile it must be accepted, and what some runs must give:
 
 `lattice = \"two.toml\"` can take the place of `classes` and `below`. The profile
 is one of those of `vsi explain profiles`. With `order = \"set\"` the globals may
-come in any order. A run begins with the words of `store`, and must halt within
-`budget` instructions with the words of `expect`; `halts = true` in place of
-`expect` asks only that it halts.
+be in any order. A run begins with the values of `store`, and must halt within
+`budget` instructions with the values of `expect`; `halts = true` in place of
+`expect` requires only that it halts.
 
   $ vsi explain interface | sed -n '6,14s/^  //p' > asked.toml
   $ printf 'var key : H; var out : L; out := 1 + 2' > right.vsi
@@ -202,17 +202,18 @@ written after its name, or else the least one that fits, as `vsi classes` shows.
 
 /// The page of the profiles.
 const PROFILES: &str = "\
-Profiles: how much of a run must tell nothing
+Profiles: how much of a run must reveal nothing
 
-  base      the values of variables: the profile if none is named
-  strict    and whether the run ends: no loop depends on a variable above the
-            bottom class, nor is under a guard that does
-  steady    and how many instructions it takes: no branch depends on such a
+  base      the values of variables: the default profile
+  strict    also whether the run ends: no loop depends on a variable above the
+            bottom class, or is under a guard that does
+  steady    also how many instructions it takes: no branch depends on such a
             variable either, in the image as built
 
-`vsi check` judges by the base profile. `--strict` asks for the strict one, as
-for `classes`, `flows`, `build`, `audit`, `report` and `draw`. `--steady` asks
-for the steady one, as for `audit`. In an interface the key `profile` names one.
+`vsi check` judges by the base profile. `--strict` selects the strict one, also
+for `classes`, `flows`, `build`, `audit`, `report` and `draw`. `--steady`
+selects the steady one, also for `audit`. In an interface the key `profile`
+names one.
 
   $ printf 'classes = [\"L\", \"H\"]\\nbelow = [[\"L\", \"H\"]]\\n' > two.toml
   $ printf 'var h : H; while h do h := h - 1' > loop.vsi

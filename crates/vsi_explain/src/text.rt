@@ -24,7 +24,7 @@ pub(crate) fn text_page(number: u64) -> Option<&'static str>
 const TOO_LONG: &str = "\
 11 TooLong
 
-The source text has more than 1048576 bytes. Nothing else of it was looked at.
+The source text has more than 1048576 bytes. Nothing else in it was checked.
 
 What to do: check that the file is the one you meant. A long table of numbers
 can come in through globals of a store file.
@@ -38,12 +38,12 @@ can come in through globals of a store file.
 const BAD_BYTE: &str = "\
 12 BadByte LINE:COLUMN
 
-A byte stands at LINE:COLUMN that begins no word, symbol, blank or comment.
-Columns count bytes from 1.
+No token, blank or comment begins with the byte at LINE:COLUMN. Columns count
+bytes from 1.
 
 What to do: the language has the symbols := : ; + - * = < ( ) { } and no
 others. Write `1 - a` for not-a where a is 0 or 1, `b < a` for a > b,
-`1 - (b < a)` for a <= b, and `a * b` for a and b, of guards that are 0 or 1.
+`1 - (b < a)` for a <= b, and `a * b` for a and b where both are 0 or 1.
 There is no division. A comment begins with `#`. A quote, a letter with an
 accent or a byte order mark may have come in by copying.
 
@@ -56,9 +56,9 @@ accent or a byte order mark may have come in by copying.
 const BAD_WORD: &str = "\
 13 BadWord LINE:COLUMN
 
-A word stands at LINE:COLUMN that is no name, keyword or number.
+The token at LINE:COLUMN isn't a name, a keyword or a number.
 
-What to do: a name begins with a letter, goes on with letters, digits and `_`,
+What to do: a name begins with a letter, continues with letters, digits and `_`,
 and has at most 32 of them. A number is digits alone: no `1_000`, no `0x1F`.
 
   $ printf 'var x : L; x := 1_000' | vsi
@@ -70,9 +70,9 @@ and has at most 32 of them. A number is digits alone: no `1_000`, no `0x1F`.
 const BAD_NUMBER: &str = "\
 14 BadNumber LINE:COLUMN
 
-The number at LINE:COLUMN is above 9223372036854775807, the largest word.
+The number at LINE:COLUMN is above 9223372036854775807, the largest one.
 
-What to do: use a smaller number. Words are from -9223372036854775808 to
+What to do: use a smaller number. Numbers are from -9223372036854775808 to
 9223372036854775807; one below 0 is written as `0 - 5`.
 
   $ printf 'var x : L; x := 9223372036854775808' | vsi
@@ -84,15 +84,15 @@ What to do: use a smaller number. Words are from -9223372036854775808 to
 const UNEXPECTED: &str = "\
 15 Unexpected LINE:COLUMN
 
-At LINE:COLUMN stands a word or symbol with which no program goes on, or the
-text ends there before the program is whole.
+The token at LINE:COLUMN can't be there, or the text ends there before the
+program is complete.
 
-What to do: look at that place and at what stands before it. The commonest
-causes: a `;` behind the last command, or before `}` or `else` (it stands only
-between two commands); an `if` without `else`; no `;` behind a `var` line; `=`
-in place of `:=`; a minus sign before a number (write `0 - 1`); more than one
-command behind `then`, `else`, `do` or `in` without { } round them; a `var`
-behind the first command; an empty { }; a comparison of a comparison without
+What to do: look at that place and at what comes before it. The most common
+causes: a `;` after the last command, or before `}` or `else` (it goes between
+two commands only); an `if` without `else`; no `;` after a `var` line; `=` in
+place of `:=`; a minus sign before a number (write `0 - 1`); more than one
+command after `then`, `else`, `do` or `in` without { } around them; a `var`
+after the first command; an empty { }; a comparison of a comparison without
 brackets; a program without a command.
 
   $ printf 'var x : L; x := 1;' | vsi
@@ -114,11 +114,11 @@ const TOO_DEEP: &str = "\
 16 TooDeep LINE:COLUMN
 
 At LINE:COLUMN the program is nested more than 200 deep: in brackets, blocks,
-`if`, `while` and `letvar`, and in operators one behind the other.
+`if`, `while` and `letvar`, and in chains of operators.
 
-What to do: put a part into a variable of its own: `letvar part := .. in ..`
-behind a shorter chain of them, or assign it first. A sum of more than 200
-parts goes into two assignments.
+What to do: put a part into a variable of its own: by `letvar part := .. in ..`
+where the nesting is less deep, or by an assignment before it. A sum of more
+than 200 parts needs two assignments.
 
   $ printf 'var x : L; x := %s' $(printf '%0201d' 0 | tr 0 '(') | vsi
   refused: 16 TooDeep 1:217

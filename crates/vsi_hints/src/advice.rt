@@ -229,7 +229,7 @@ fn put_no_classes(
     if names.is_empty() {
         return Ok(());
     }
-    put_list(words, b"Also no class: ", &names, b"")?;
+    put_list(words, b"Also not classes: ", &names, b"")?;
     put_list(
         words,
         b": the lattice has ",
@@ -320,7 +320,7 @@ fn put_undeclared(
     piece: usize,
 ) -> Result<(), AllocError> {
     let names = undeclared(alloc, look, shapes, piece)?;
-    let last = b": declare each at the beginning, as `var x : L;`.\n";
+    let last = b": declare each at the beginning, as in `var x : L;`.\n";
     put_list(words, b"Also undeclared: ", &names, last)
 }
 

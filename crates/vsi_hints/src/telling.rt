@@ -315,14 +315,14 @@ fn put_reason(words: &mut Vec<u8>, look: &Look, shape: Shape) -> Result<(), Allo
             }
         },
         Shape::Assign(_) => b": `:=` assigns, and `=` compares.",
-        Shape::Compound(_) | Shape::Step(_) => b": a command assigns by `:=` alone.",
+        Shape::Compound(_) | Shape::Step(_) => b": a command assigns with `:=` only.",
         Shape::Swap => b": a command assigns to one variable.",
         Shape::Divide => b": subtract as often as you can, for a divisor above 0.",
-        Shape::Number => b": a number has digits alone.",
-        Shape::Hyphen => b": a name has letters, digits and `_` alone.",
-        Shape::Keyword => b": a keyword is no name.",
+        Shape::Number => b": a number has only digits.",
+        Shape::Hyphen => b": a name has only letters, digits and `_`.",
+        Shape::Keyword => b": a keyword can't be a name.",
         Shape::Listed => b": each `var` declares one variable.",
-        Shape::Initial => b": a global has its value from the store.",
+        Shape::Initial => b": a global gets its value from the store.",
         _ => b".",
     };
     words.extend_from_slice(reason)
@@ -351,15 +351,15 @@ fn put_comment(words: &mut Vec<u8>, text: &[u8]) -> Result<(), AllocError> {
     let mark: &[u8] = match text {
         [b'/', b'*', ..] => {
             return words.extend_from_slice(
-                b"begin each line of a comment with `#`, as `# count`: it ends with its line, and \
-                there is no `/*`.",
+                b"begin each line of a comment with `#`, as in `# count`: it ends with its line, \
+                and there is no `/*`.",
             );
         }
         [b'/', ..] => b"//",
         _ => b"--",
     };
     put_replacing(words, b"#", mark)?;
-    words.extend_from_slice(b": a comment ends with its line, as `# count`.")
+    words.extend_from_slice(b": a comment ends with its line, as in `# count`.")
 }
 
 /// Adds the sentence for an operator whose operands aren't offered, and returns whether there is
@@ -392,16 +392,16 @@ fn put_plain(words: &mut Vec<u8>, look: &Look, found: &Found) -> Result<bool, Al
         }
         Shape::Comment => put_comment(words, text)?,
         Shape::Value(cause) => return put_operator(words, look.text(cause)),
-        Shape::Assign(_) => words.extend_from_slice(b"write `:=` to assign, as `x := 1`.")?,
-        Shape::Compound(_) => words.extend_from_slice(b"assign by `:=`, as `x := x + 1`.")?,
+        Shape::Assign(_) => words.extend_from_slice(b"write `:=` to assign, as in `x := 1`.")?,
+        Shape::Compound(_) => words.extend_from_slice(b"assign with `:=`, as in `x := x + 1`.")?,
         Shape::Swap => words.extend_from_slice(
-            b"assign to one variable at a time, as `letvar t := x in { x := y; y := t }`.",
+            b"assign to one variable at a time, as in `letvar t := x in { x := y; y := t }`.",
         )?,
         Shape::Divide => words.extend_from_slice(
             b"divide in a loop, as `while 1 < r do { r := r - 2; q := q + 1 }` does for half of r.",
         )?,
         Shape::Initial => words.extend_from_slice(b"declare a global without a value.")?,
-        Shape::Listed => words.extend_from_slice(b"declare each variable by itself.")?,
+        Shape::Listed => words.extend_from_slice(b"declare each variable on its own.")?,
         _ => return Ok(false),
     }
     Ok(true)

@@ -221,9 +221,9 @@ impl Files for Disk<'_> {
                 Some("there is no file at this path.")
             }
             Err(error) if error.kind() == ErrorKind::PermissionDenied => {
-                Some("a folder on the way to this path may not be looked into.")
+                Some("a folder on this path may not be entered.")
             }
-            Err(_) => Some("this path leads nowhere."),
+            Err(_) => Some("this path doesn't lead to a file."),
         }
     }
 

@@ -32,7 +32,7 @@ fn main(rt: HostRuntime) -> ExitCode {
             return ExitCode::from(OUT_OF_MEMORY);
         }
         Err(_) => {
-            let _ = eprintln!(rt; "error: the words are no text");
+            let _ = eprintln!(rt; "error: the arguments aren't text");
             return ExitCode::from(USAGE);
         }
     };

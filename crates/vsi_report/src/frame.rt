@@ -66,8 +66,8 @@ fn put_front(page: &mut Page, is_accepted: bool, profile: Profile) -> Result<(),
 }
 
 /// The text for a source that has no program.
-const NO_PROGRAM: &[u8] = b"<section><h2>Why it is refused</h2>\n<p>The text is no program over \
-the lattice, and none of its flows is judged. The number and the name of the refusal, and the line \
+const NO_PROGRAM: &[u8] = b"<section><h2>Why it is refused</h2>\n<p>The text isn't a program \
+over the lattice, so its flows aren't judged. The number and the name of the refusal, and the line \
 and the column, if it has a place:</p>\n<pre class=\"leak\" tabindex=\"0\"><code>";
 
 /// The head of the page of a text that has no program, up to its source, with the reason for the
@@ -91,9 +91,9 @@ fn put_refusal(page: &mut Page, profile: Profile, text: &[u8]) -> Result<(), All
 }
 
 /// The text about the classes in the panel of the source text.
-const HINT: &[u8] = b"\n<p class=\"hint\">After each name is its class. A star marks a class \
-that was inferred, a question mark a class that wasn't: none is inferred for a refused text.</p>\n\
-</section>\n";
+const HINT: &[u8] = b"\n<p class=\"hint\">Each name is followed by its class. A star marks an \
+inferred class, a question mark a class that isn't known: none is inferred for a refused text.\
+</p>\n</section>\n";
 
 /// Adds the markup after the panel of the source text.
 pub(crate) fn put_behind_source(page: &mut Page, has_classes: bool) -> Result<(), AllocError> {

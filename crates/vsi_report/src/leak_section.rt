@@ -71,9 +71,9 @@ fn put_found(
 }
 
 /// The text about a leak.
-const LEAK: &[u8] = b"<section><h2>A leak</h2>\n<p>Run regardless, from two stores that agree in \
-all that the class sees, the text ends in a difference that it sees. A star stands before each row \
-whose sides differ.</p>\n<pre class=\"leak\" tabindex=\"0\"><code>";
+const LEAK: &[u8] = b"<section><h2>A leak</h2>\n<p>When the text is run all the same, from two \
+stores that agree on everything that the class sees, the final stores differ in something that it \
+sees. A star marks each row whose sides differ.</p>\n<pre class=\"leak\" tabindex=\"0\"><code>";
 
 /// Adds a leak.
 fn put_shown(page: &mut Page, text: &[u8]) -> Result<(), AllocError> {
@@ -85,14 +85,14 @@ fn put_shown(page: &mut Page, text: &[u8]) -> Result<(), AllocError> {
 }
 
 /// The text for pairs of runs that show no leak; it follows their number.
-const NO_LEAK: &[u8] = b" pairs of runs from stores that agree in what a class sees none ended in \
-a difference that it sees. That says nothing of other pairs: the judgement is on the text, and may \
-refuse one that tells nothing.</p></section>\n";
+const NO_LEAK: &[u8] = b" pairs of runs from stores that agree on everything that a class sees, no \
+final stores differed in something that it sees. This says nothing about other pairs: the text is \
+judged, not a run, and a text that reveals nothing may be refused.</p></section>\n";
 
 /// Adds that no leak was found.
 fn put_none(page: &mut Page, pairs: u64) -> Result<(), AllocError> {
     page.put_parts(&[
-        Part::Markup(b"<section><h2>No leak was met</h2>\n<p>In "),
+        Part::Markup(b"<section><h2>No leak was found</h2>\n<p>In "),
         Part::Number(pairs as usize),
         Part::Markup(NO_LEAK),
     ])

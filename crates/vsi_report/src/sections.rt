@@ -61,31 +61,31 @@ fn put_pieces(page: &mut Page, pieces: &[&'static [u8]]) -> Result<(), AllocErro
 const LEGEND: &[u8] = b"<ul class=\"legend\">\
 <li><svg width=\"44\" height=\"12\" aria-hidden=\"true\">\
 <path class=\"flow r1\" d=\"M2 6H42\"/></svg> \
-ASSIGN: a value into what is assigned</li>\
+ASSIGN: from a value to the variable that is assigned</li>\
 <li><svg width=\"44\" height=\"12\" aria-hidden=\"true\">\
 <path class=\"flow r2\" d=\"M2 6H42\"/></svg> \
-IF: a guard into what its branches assign</li>\
+IF: from a guard to the variables that its branches assign</li>\
 <li><svg width=\"44\" height=\"12\" aria-hidden=\"true\">\
 <path class=\"flow r4\" d=\"M2 6H42\"/></svg> \
-WHILE: a guard into what its body assigns</li>\
+WHILE: from a guard to the variables that its body assigns</li>\
 <li><svg width=\"44\" height=\"12\" aria-hidden=\"true\">\
 <path class=\"flow r8\" d=\"M2 6H42\"/></svg> \
-LETVAR: an initial value into its variable</li>\
+LETVAR: from an initial value to its variable</li>\
 <li><svg width=\"44\" height=\"12\" aria-hidden=\"true\">\
 <path class=\"flow r16\" d=\"M2 6H42\"/></svg> \
-LOOP: a guard into the ending of a loop</li></ul>\n";
+LOOP: from a guard to the ending of a loop</li></ul>\n";
 
 /// The text about the arrows in the picture of the flows.
-const ARROWS: &[u8] = b"<figcaption>Each arrow is a flow of one step; what flows upwards or stays \
-in its band is allowed where the lattice has it so. A flow of a variable into itself isn't drawn. \
-A dashed box is a variable whose class was inferred.";
+const ARROWS: &[u8] = b"<figcaption>Each arrow is a flow of one step; a flow that goes upwards or \
+stays in its band is allowed if the lattice allows it. A flow of a variable into itself isn't \
+drawn. A dashed box is a variable whose class was inferred.";
 
 /// The text about a picture of the flows without arrows.
 const NO_ARROWS: &[u8] = b"<figcaption>There are more than 2,000 flows of one step, and their \
 arrows aren't drawn. A dashed box is a variable whose class was inferred.";
 
 /// The text about the arrows of a walk.
-const THICK: &[u8] = b" The thick arrows with numbers are the chain for which it is refused.";
+const THICK: &[u8] = b" The thick arrows with numbers are the chain for which the text is refused.";
 
 /// Adds the text about the picture of the flows.
 fn put_caption(page: &mut Page, has_arrows: bool, has_walk: bool) -> Result<(), AllocError> {
@@ -135,7 +135,7 @@ fn put_figure(
 }
 
 /// The text for a program with too many variables for a picture.
-const NOT_DRAWN: &[u8] = b"<p>There are more than 200 variables: the table has all flows, and no \
+const NOT_DRAWN: &[u8] = b"<p>There are more than 200 variables: the table has all flows, but no \
 picture is drawn.</p>\n";
 
 /// The number of variables that are shown; the ending of loops is among them under the strict
@@ -180,14 +180,14 @@ pub(crate) fn put_listing(page: &mut Page, lines: &[u8]) -> Result<(), AllocErro
 
 /// The promises about an accepted text.
 const PROMISE: &[u8] = b"<section><h2>What is promised</h2>\n<p>The image does what the text says. \
-Take any class, and two stores that agree in each global whose class is at or below it: where the \
-runs of the image from both halt, their ends agree in these globals too. So nothing that an \
-observer at the class reads at the end of a run depends on what it may not see. How many \
-instructions a run takes is not promised";
+Take any class, and two stores that agree on each global whose class is at or below it: if the \
+runs of the image from both halt, their final stores agree on these globals too. So nothing that \
+an observer at the class reads at the end of a run depends on what the observer may not see. The \
+number of instructions that a run takes is not promised";
 
 /// The promise about the ending of runs under the strict profile.
 const ENDINGS: &[u8] =
-    b". Whether a run halts is: from two stores that agree in each global of the \
+    b". Whether a run halts is: from two stores that agree on each global of the \
 least class, either both runs halt or neither does.";
 
 /// The remark about the ending of runs under the base profile.
@@ -195,7 +195,7 @@ const NO_ENDINGS: &[u8] = b", and under the base profile neither is whether it h
 
 /// The scope of the promises.
 const PROVED: &[u8] =
-    b" This is proved of the compiler, for every text that it accepts.</p></section>\n";
+    b" This is proved about the compiler, for every text that it accepts.</p></section>\n";
 
 /// Adds the promises.
 pub(crate) fn put_promise(page: &mut Page, profile: Profile) -> Result<(), AllocError> {

@@ -111,31 +111,31 @@ fn before_read(rule: Rule) -> &'static [u8] {
 /// The text between the position where the source is read and the name of the target.
 fn before_target(rule: Rule) -> &'static [u8] {
     match rule {
-        Rule::Assign => b", is put, with what else is computed there, into ",
-        Rule::If => b". Which branch is done depends on it, and a branch assigns ",
-        Rule::While => b". How often the body is done depends on it, and the body assigns ",
-        Rule::Letvar => b", is put, with what else is computed there, into the new ",
-        Rule::Loop => b". Whether a run ends is seen at every class: ",
+        Rule::Assign => b", goes into the value that is assigned to ",
+        Rule::If => b". Which branch runs depends on it, and a branch assigns ",
+        Rule::While => b". How often the body runs depends on it, and the body assigns ",
+        Rule::Letvar => b", goes into the initial value of ",
+        Rule::Loop => b". Whether a run ends is visible at every class: ",
     }
 }
 
 /// The text after the position where the target is written, before the name of the target.
 fn before_again(rule: Rule) -> &'static [u8] {
     match rule {
-        Rule::Assign | Rule::Letvar => b". Who sees ",
-        Rule::If => b". No value is copied, and yet who sees ",
-        Rule::While => b". No value is copied, and yet who sees ",
-        Rule::Loop => b" tells by ending, or by going on; so who waits for ",
+        Rule::Assign | Rule::Letvar => b". Whoever sees ",
+        Rule::If => b". No value is copied, but whoever sees ",
+        Rule::While => b". No value is copied, but whoever sees ",
+        Rule::Loop => b" ends or goes on, so whoever waits for ",
     }
 }
 
 /// The text after the name of the target, before the name of the source.
 fn before_source(rule: Rule) -> &'static [u8] {
     match rule {
-        Rule::Assign | Rule::Letvar => b" sees something of ",
-        Rule::If => b" learns which branch was done, and so something of ",
-        Rule::While => b" learns whether the body was done, and so something of ",
-        Rule::Loop => b" learns something of ",
+        Rule::Assign | Rule::Letvar => b" learns something about ",
+        Rule::If => b" learns which branch ran, and so something about ",
+        Rule::While => b" learns whether the body ran, and so something about ",
+        Rule::Loop => b" learns something about ",
     }
 }
 
@@ -233,9 +233,8 @@ fn put_step(page: &mut Page, subject: &Subject<'_>, step: &Step) -> Result<(), A
 }
 
 /// The text after the classes of both ends of a walk.
-const JUDGED: &[u8] = b", and the lattice does not have the first at or below the second. The text \
-is judged by what is written, and not by what a run does: a branch that is never taken counts too.\
-</p>\n";
+const JUDGED: &[u8] = b", and in the lattice the first isn't at or below the second. The text is \
+judged, not a run: a branch that is never taken counts too.</p>\n";
 
 /// Adds why the walk is bad.
 fn put_verdict(
@@ -248,9 +247,9 @@ fn put_verdict(
         page,
         subject,
         &[
-            Word::Plain(b"<p class=\"end\">So something of "),
+            Word::Plain(b"<p class=\"end\">So information about "),
             Word::Name(first),
-            Word::Plain(b" comes to "),
+            Word::Plain(b" reaches "),
             Word::Name(last),
             Word::Plain(b". But "),
             Word::Name(first),

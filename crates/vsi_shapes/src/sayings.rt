@@ -18,7 +18,7 @@ const CALLS: [Saying; 9] = [
         ],
         NONE,
         ": nothing makes a secret public, so compute what you publish from public variables alone, \
-        as `l := l + 1`.",
+        as in `l := l + 1`.",
     ),
     (
         &[
@@ -34,7 +34,7 @@ const CALLS: [Saying; 9] = [
             b"argv",
         ],
         NONE,
-        ": declare `var x : L;` and give `x` its value in the store, by a line `x = 5`.",
+        ": declare `var x : L;` and give `x` its value in the store, with a line `x = 5`.",
     ),
     (
         &[
@@ -42,8 +42,8 @@ const CALLS: [Saying; 9] = [
             b"putchar", b"log", b"console", b"display", b"show",
         ],
         NONE,
-        ": assign what you want to see to a global, as `y := x`, since a run ends by writing its \
-        globals.",
+        ": assign what you want to see to a global, as in `y := x`, since a run ends by printing \
+        its globals.",
     ),
     (
         &[b"abs", b"fabs"],
@@ -63,18 +63,19 @@ const CALLS: [Saying; 9] = [
     (
         &[b"random", b"rand", b"randint", b"time"],
         NONE,
-        ": give a global its value in the store, by a line `x = 5`, since a run computes the same \
-        each time.",
+        ": give a global its value in the store, with a line `x = 5`, since a run computes the \
+        same each time.",
     ),
     (
         &[b"sqrt", b"isqrt"],
         NONE,
-        ": search for the root, as `letvar r := 0 in { while r * r < x do r := r + 1; y := r }`.",
+        ": search for the root, as in `letvar r := 0 in { while r * r < x do r := r + 1; y := r \
+        }`.",
     ),
     (
         &[b"int", b"float", b"str", b"bool"],
         NONE,
-        ": each variable holds a whole number, so write the number itself, as `x := 5`.",
+        ": each variable holds a whole number, so write the number itself, as in `x := 5`.",
     ),
 ];
 
@@ -92,13 +93,13 @@ const COMMANDS: [Saying; 12] = [
             b"procedure",
             b"sub",
         ],
-        "you can't define a function by ",
-        ": write its commands where you need them, as `x := x + 1`.",
+        "you can't define a function with ",
+        ": write its commands where you need them, as in `x := x + 1`.",
     ),
     (
         &[b"return", b"yield"],
         NONE,
-        ": assign the result to a global, as `y := x`.",
+        ": assign the result to a global, as in `y := x`.",
     ),
     (
         &[
@@ -111,7 +112,7 @@ const COMMANDS: [Saying; 12] = [
             b"halt",
         ],
         NONE,
-        ": end a loop by its guard, as `while (x < 9) * (found = 0) do x := x + 1`.",
+        ": end a loop with its guard, as in `while (x < 9) * (found = 0) do x := x + 1`.",
     ),
     (
         &[
@@ -127,45 +128,45 @@ const COMMANDS: [Saying; 12] = [
             b"esac",
             b"END",
         ],
-        "leave ",
-        " out: a branch or a loop is one command, and { } make one of several, as `{ x := 1; y := \
-        2 }`.",
+        "remove ",
+        ": a branch or a loop is one command, and { } make one of several, as in `{ x := 1; y := 2 \
+        }`.",
     ),
     (
         &[b"for", b"foreach", b"FOR"],
         NONE,
-        ": count by `letvar i := 0 in while i < 9 do { x := x + i; i := i + 1 }`.",
+        ": count with `letvar i := 0 in while i < 9 do { x := x + i; i := i + 1 }`.",
     ),
     (
         &[b"repeat", b"until", b"loop"],
         NONE,
-        ": write the body before the loop too, as `{ x := x + 1; while x < 9 do x := x + 1 }`.",
+        ": write the body before the loop too, as in `{ x := x + 1; while x < 9 do x := x + 1 }`.",
     ),
     (
         &[b"switch", b"case", b"match", b"when", b"select", b"default"],
         NONE,
-        ": choose by `if x = 1 then y := 1 else if x = 2 then y := 2 else y := 3`.",
+        ": choose with `if x = 1 then y := 1 else if x = 2 then y := 2 else y := 3`.",
     ),
     (
         &[
             b"try", b"catch", b"except", b"finally", b"throw", b"raise", b"assert",
         ],
         NONE,
-        ": nothing fails in a run, so test first, as `if x < 9 then y := x else y := 9`.",
+        ": nothing fails in a run, so test first, as in `if x < 9 then y := x else y := 9`.",
     ),
     (
         &[
             b"import", b"include", b"using", b"from", b"package", b"module", b"require", b"extern",
         ],
         NONE,
-        ": a program is one text and uses no other, as `var x : L; x := 1`.",
+        ": a program is one text and uses no other, as in `var x : L; x := 1`.",
     ),
     (
         &[
             b"class", b"struct", b"record", b"object", b"new", b"enum", b"typedef",
         ],
         NONE,
-        ": declare a variable for each field, as `var p_x : L; var p_y : L;`.",
+        ": declare a variable for each field, as in `var p_x : L; var p_y : L;`.",
     ),
     (
         &[b"unless"],
@@ -175,7 +176,7 @@ const COMMANDS: [Saying; 12] = [
     (
         &[b"assume", b"require", b"ensure", b"invariant"],
         NONE,
-        ": a program has commands and no claims about them, as `x := x + 1`.",
+        ": a program has commands and no claims about them, as in `x := x + 1`.",
     ),
 ];
 
@@ -196,39 +197,39 @@ const SIGNS: [Saying; 10] = [
     (
         &[b"?"],
         NONE,
-        ": choose by `if a < b then x := a else x := b`.",
+        ": choose with `if a < b then x := a else x := b`.",
     ),
     (
         &[b"[", b"]"],
         NONE,
-        ": each variable holds one number, so declare one for each element, as `var x_0 : L; var \
-        x_1 : L;`.",
+        ": each variable holds one number, so declare one for each element, as in `var x_0 : L; \
+        var x_1 : L;`.",
     ),
     (
         &[b".", b"->", b"=>"],
         NONE,
-        ": each variable is one number with a name of its own, as `p_x`.",
+        ": each variable is one number with a name of its own, such as `p_x`.",
     ),
     (
         &[b"$", b"@"],
-        "leave ",
-        " out: a name has letters, digits and `_` alone, as `x_1`.",
+        "remove ",
+        ": a name has only letters, digits and `_`, as in `x_1`.",
     ),
     (
         &[b"\\"],
-        "leave ",
-        " out: a command may go on in the next line.",
+        "remove ",
+        ": a command may continue on the next line.",
     ),
     (
         &[b"~"],
         NONE,
-        ": write `0 - 1 - x` for the number with each bit of `x` turned.",
+        ": write `0 - 1 - x` for the number with each bit of `x` inverted.",
     ),
-    (&[b"**=", b"^", b"**"], NONE, ": multiply, as `x * x`."),
+    (&[b"**=", b"^", b"**"], NONE, ": multiply, as in `x * x`."),
     (
         &[b"xor", b"XOR"],
         NONE,
-        ": write `1 - (a = b)` where each is 0 or 1.",
+        ": write `1 - (a = b)` where both are 0 or 1.",
     ),
 ];
 

@@ -133,12 +133,12 @@ fn declaring_word(look: &Look, at: usize) -> Option<Found> {
         return Some(make_found(at, look.value_stop(after), Shape::Initial));
     }
     if TYPES.contains(&word) && look.is_name(at.saturating_add(1)) {
-        let rest = ": declare a variable by `var x : L;` at the beginning, where L is a class of \
+        let rest = ": declare a variable with `var x : L;` at the beginning, where L is a class of \
             the lattice file, and set its value in the store.";
         return Some(make_found(at, look.command_stop(at), Shape::Say("there is no ", rest)));
     }
     if IDLE.contains(&word) {
-        let rest = ": assign a variable to itself to do nothing, as `x := x`.";
+        let rest = ": assign a variable to itself to do nothing, as in `x := x`.";
         return Some(make_found(at, at.saturating_add(1), Shape::Say("there is no ", rest)));
     }
     None
@@ -269,8 +269,8 @@ fn declaration(look: &Look, at: usize) -> Option<Found> {
             Some(make_found(at, look.command_stop(after), Shape::Say("", rest)))
         }
         _ => {
-            let rest = " wants a `;` after the class, as in `var x : L;`.";
-            Some(make_found(at, after, Shape::Say("a declaration by ", rest)))
+            let rest = " needs a `;` after the class, as in `var x : L;`.";
+            Some(make_found(at, after, Shape::Say("a declaration with ", rest)))
         }
     }
 }
@@ -352,7 +352,7 @@ fn assignment(look: &Look, at: usize) -> Option<Found> {
             assigned(look, at, value.saturating_add(1), Shape::Assign(2))
         }
         [b':'] => {
-            let rest = " by `var`, as `var x : L;`, at the beginning of the text.";
+            let rest = " with `var`, as in `var x : L;`, at the beginning of the text.";
             Some(make_found(at, look.command_stop(sign), Shape::Say("declare ", rest)))
         }
         [b'+', b'='] => assigned(look, at, value, Shape::Compound(" + ")),
@@ -397,17 +397,18 @@ fn is_foreign_operator(look: &Look, at: usize) -> bool {
 fn strange(text: &[u8]) -> Option<Shape> {
     let sentence = match text {
         [0xE2, 0x80, 0x90..=0x95] | [0xE2, 0x88, 0x92] => {
-            "write `-` for this dash, as in `x - 1`: outside of comments a text is ASCII."
+            "write `-` for this dash, as in `x - 1`: outside comments a text is ASCII."
         }
         [0xE2, 0x80, 0x98..=0x9F] => {
-            "leave this typographic quote out: each variable holds a whole number, as `x := 1`."
+            "remove this typographic quote: each variable holds a whole number, as in `x := 1`."
         }
         [0xC2, 0xA0] | [0xE2, 0x80, 0x80..=0x8F] | [0xE2, 0x80, 0xAF] | [0xE3, 0x80, 0x80] => {
-            "write a common blank for this one, which is a character of its own, as in `x := 1`."
+            "write an ordinary blank in place of this one, which is another character, as in \
+            `x := 1`."
         }
-        [0xE2, 0x89, 0xA4] => "write `1 - (b < a)` where `a` is to be `b` at most.",
-        [0xE2, 0x89, 0xA5] => "write `1 - (a < b)` where `a` is to be `b` at least.",
-        [0xE2, 0x89, 0xA0] => "write `1 - (a = b)` where `a` and `b` are to differ.",
+        [0xE2, 0x89, 0xA4] => "write `1 - (b < a)` where `a` should be at most `b`.",
+        [0xE2, 0x89, 0xA5] => "write `1 - (a < b)` where `a` should be at least `b`.",
+        [0xE2, 0x89, 0xA0] => "write `1 - (a = b)` where `a` and `b` should differ.",
         [0xC3, 0x97] | [0xC2, 0xB7] => "write `*` for the product, as in `2 * x`.",
         _ => return None,
     };
@@ -422,14 +423,14 @@ fn sign(look: &Look, at: usize) -> Option<Found> {
         Sort::Comment => Some(make_found(at, next, Shape::Comment)),
         Sort::Strange => Some(make_found(at, next, strange(piece.text)?)),
         Sort::Quoted => {
-            let rest = ": each variable holds a whole number, as `x := 1`.";
-            Some(make_found(at, next, Shape::Say("there are no texts as ", rest)))
+            let rest = ": each variable holds a whole number, as in `x := 1`.";
+            Some(make_found(at, next, Shape::Say("there are no strings such as ", rest)))
         }
         Sort::Number => number(piece.text, at),
         _ => {
             if look.is(at, b".") && look.has_sort(next, Sort::Number) {
                 let sentence =
-                    "numbers are whole, so count in a smaller unit, as 50 cents for .50.";
+                    "numbers are whole, so count in a smaller unit, such as 50 cents for .50.";
                 return Some(make_found(at, next, Shape::Tell(sentence)));
             }
             if is_foreign_operator(look, at) {
@@ -447,7 +448,11 @@ fn number(text: &[u8], at: usize) -> Option<Found> {
     let next = at.saturating_add(1);
     if text.contains(&b'.') {
         let before = "numbers are whole, so count in a smaller unit than ";
-        return Some(make_found(at, next, Shape::Say(before, ", as 150 cents for 1.50.")));
+        return Some(make_found(
+            at,
+            next,
+            Shape::Say(before, ", such as 150 cents for 1.50."),
+        ));
     }
     for byte in text {
         if !byte.is_ascii_digit() && number_of(text).is_some() {

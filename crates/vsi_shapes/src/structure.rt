@@ -11,8 +11,8 @@ fn superfluous(look: &Look, at: usize) -> Option<Found> {
     let next = at.saturating_add(1);
     let is_last = next >= look.pieces.len();
     if look.is(next, b"else") {
-        let rest = " before `else` out, as in `if x then y := 1 else y := 2`.";
-        return Some(make_found(at, next, Shape::Say("leave the ", rest)));
+        let rest = " before `else`, as in `if x then y := 1 else y := 2`.";
+        return Some(make_found(at, next, Shape::Say("remove the ", rest)));
     }
     if !is_last && !look.is(next, b"}") {
         return None;
@@ -22,8 +22,8 @@ fn superfluous(look: &Look, at: usize) -> Option<Found> {
             return None;
         }
     }
-    let rest = " after a last command out: it separates two commands, as in `{ x := 1; y := 2 }`.";
-    Some(make_found(at, next, Shape::Say("leave the ", rest)))
+    let rest = " after a last command: it separates two commands, as in `{ x := 1; y := 2 }`.";
+    Some(make_found(at, next, Shape::Say("remove the ", rest)))
 }
 
 /// Whether a piece seems to begin a command.
@@ -77,7 +77,7 @@ fn unended(look: &Look, at: usize) -> Option<Found> {
     if is_after_guard(look, at) {
         return None;
     }
-    let rest = " by a `;`: it separates two commands, as in `x := 1; y := 2`.";
+    let rest = " with a `;`: it separates two commands, as in `x := 1; y := 2`.";
     let shape = Shape::Say("end the command before this ", rest);
     Some(make_found(at, at.saturating_add(1), shape))
 }

@@ -15,14 +15,14 @@ fn begins_with(text: &[u8], word: &[u8], symbol: u8) -> bool {
 pub(crate) fn file_hint(text: &[u8]) -> Option<&'static str> {
     if let [b'V', b'S', b'I', 0..=31, ..] = text {
         return Some(
-            "Hint: this is an image and no source text: do it by `vsi run IMAGE`, and name the \
+            "Hint: this is an image, not a source text: run it with `vsi run IMAGE`, or give the \
             text that it was built from here.\n",
         );
     }
     if begins_with(text, b"classes", b'=') || begins_with(text, b"below", b'=') {
         return Some(
-            "Hint: this looks like a lattice file. The lattice file is named first, and the source \
-            text behind it: `vsi check LATTICE SOURCE`.\n",
+            "Hint: this looks like a lattice file. The lattice file comes first, and the source \
+            text after it: `vsi check LATTICE SOURCE`.\n",
         );
     }
     None
@@ -75,7 +75,7 @@ fn value_hint(word: &[u8]) -> Option<&'static str> {
         return Some("Hint: there is no `false`: write `0`.\n");
     }
     if BLOCK.contains(&word) {
-        return Some("Hint: several commands stand between `{` and `}`: `{ x := 1; y := 2 }`.\n");
+        return Some("Hint: several commands go between `{` and `}`: `{ x := 1; y := 2 }`.\n");
     }
     None
 }
@@ -90,7 +90,7 @@ pub(crate) fn word_hint(word: &[u8]) -> Option<&'static str> {
     }
     if ANSWER.contains(&word) {
         return Some(
-            "Hint: a program ends with its last command, and its globals are its answer.\n",
+            "Hint: a program ends with its last command, and its globals are its result.\n",
         );
     }
     value_hint(word)
@@ -120,8 +120,10 @@ fn target_hint(spot: &Spot) -> Option<&'static str> {
         Some(Kind::Plus | Kind::Minus | Kind::Star) => {
             Some("Hint: a command assigns, as `x := x + 1` does.\n")
         }
-        Some(Kind::Open) => Some("Hint: there are no functions: a command assigns, as `x := 1`.\n"),
-        _ => Some("Hint: a command that begins with a name assigns to it, as `x := 1`.\n"),
+        Some(Kind::Open) => Some(
+            "Hint: there are no functions: a command assigns, as in `x := 1`.\n",
+        ),
+        _ => Some("Hint: a command that begins with a name assigns to it, as in `x := 1`.\n"),
     }
 }
 
@@ -134,13 +136,13 @@ fn declaration_hint(spot: &Spot) -> Option<&'static str> {
         );
     }
     if spot.kind_before(2) == Some(Kind::Letvar) && spot.kind() == Some(Kind::Equal) {
-        return Some("Hint: the initial value stands behind `:=`.\n");
+        return Some("Hint: the initial value comes after `:=`.\n");
     }
     if spot.kind_before(2) == Some(Kind::Colon) && spot.kind_before(4) == Some(Kind::Var) {
-        return Some("Hint: a `;` stands behind each declaration.\n");
+        return Some("Hint: a `;` comes after each declaration.\n");
     }
     if spot.kind() == Some(Kind::Var) {
-        return Some("Hint: all declarations stand at the head, before the first command.\n");
+        return Some("Hint: all declarations come before the first command.\n");
     }
     None
 }
@@ -166,22 +168,22 @@ fn operand_hint(spot: &Spot) -> Option<&'static str> {
 fn separator_hint(spot: &Spot) -> Option<&'static str> {
     match (spot.kind_before(1), spot.kind()) {
         (None, None) => {
-            Some("Hint: a program has one command at least, as `var x : L; x := 1`.\n")
+            Some("Hint: a program has at least one command, as in `var x : L; x := 1`.\n")
         }
         (Some(Kind::Semicolon), None) => {
             if spot.kind_before(5) == Some(Kind::Var) && spot.kind_before(3) == Some(Kind::Colon) {
                 return Some(
-                    "Hint: behind the declarations stands one command at least, as `x := 1`.\n",
+                    "Hint: at least one command follows the declarations, as in `x := 1`.\n",
                 );
             }
             None
         }
         (Some(Kind::Semicolon), Some(Kind::Semicolon)) => {
-            Some("Hint: one `;` stands between two commands: this one is too many.\n")
+            Some("Hint: only one `;` goes between two commands: remove this one.\n")
         }
         (_, Some(Kind::Semicolon)) => {
             if spot.kind_behind() == Some(Kind::Else) {
-                return Some("Hint: this `;` is one too many: none stands before `else`.\n");
+                return Some("Hint: remove this `;`: there is none before `else`.\n");
             }
             None
         }
@@ -195,11 +197,11 @@ fn guard_hint(spot: &Spot) -> Option<&'static str> {
         return None;
     }
     match spot.last_word() {
-        Some(Kind::If) => Some("Hint: behind the guard of an `if` stands `then`.\n"),
-        Some(Kind::While) => Some("Hint: behind the guard of a `while` stands `do`.\n"),
+        Some(Kind::If) => Some("Hint: `then` comes after the guard of an `if`.\n"),
+        Some(Kind::While) => Some("Hint: `do` comes after the guard of a `while`.\n"),
         Some(Kind::Letvar) => Some(
-            "Hint: behind the initial value of a `letvar` stands `in`, and the command in which \
-            the variable holds.\n",
+            "Hint: `in` comes after the initial value of a `letvar`, and then the command that \
+            can use the variable.\n",
         ),
         _ => None,
     }
@@ -209,9 +211,9 @@ fn guard_hint(spot: &Spot) -> Option<&'static str> {
 fn comparison_hint(spot: &Spot) -> Option<&'static str> {
     match spot.kind() {
         Some(Kind::Equal | Kind::Less) => Some(
-            "Hint: each comparison wants brackets of its own, as in `(P < Q) * (Q < R)`.\n",
+            "Hint: each comparison needs brackets of its own, as in `(P < Q) * (Q < R)`.\n",
         ),
-        Some(Kind::Assign) => Some("Hint: `:=` assigns. Two numbers are compared by `=`.\n"),
+        Some(Kind::Assign) => Some("Hint: `:=` assigns. Two numbers are compared with `=`.\n"),
         _ => None,
     }
 }
@@ -220,10 +222,10 @@ fn comparison_hint(spot: &Spot) -> Option<&'static str> {
 fn command_hint(spot: &Spot) -> Option<&'static str> {
     match spot.kind() {
         Some(Kind::Name | Kind::If | Kind::While | Kind::Letvar | Kind::OpenBrace) => {
-            Some("Hint: a `;` stands between two commands.\n")
+            Some("Hint: a `;` goes between two commands.\n")
         }
         Some(Kind::Number(_) | Kind::Open) => {
-            Some("Hint: an operator stands between two operands: `2 * x`, not `2 x`.\n")
+            Some("Hint: an operator goes between two operands: `2 * x`, not `2 x`.\n")
         }
         _ => None,
     }
@@ -251,7 +253,7 @@ pub(crate) fn place_hint(spot: &Spot, lacks_else: bool) -> Option<&'static str> 
         return Some(hint);
     }
     if spot.has_open_bracket() {
-        return Some("Hint: a `(` in front of this place has no `)` yet.\n");
+        return Some("Hint: a `(` before this place has no `)` yet.\n");
     }
     if let Some(hint) = guard_hint(spot) {
         return Some(hint);

@@ -7,12 +7,12 @@ use vsi_store::ViewError;
 use vsi_syntax::Span;
 
 /// The advice for an image whose bytes aren't as they were.
-const BUILD_AGAIN: &str = "The image was changed or cut, or another program made it. Hint: build \
-    it again from its source text by `vsi build LATTICE SOURCE IMAGE`.\n";
+const BUILD_AGAIN: &str = "The image was changed or cut off, or another program made it. Hint: \
+    build it again from its source text with `vsi build LATTICE SOURCE IMAGE`.\n";
 
 /// The advice for an image that isn't valid.
-const DO_NOT_TRUST: &str = "The image was changed, or was made by hand, and nothing of it is run. \
-    Hint: build it again from its source text; if it came from someone else, don't trust it.\n";
+const DO_NOT_TRUST: &str = "The image was changed, or was made by hand, and isn't run. Hint: \
+    build it again from its source text; if it came from someone else, don't trust it.\n";
 
 /// Adds words, and answers no place.
 fn put_plainly(words: &mut Vec<u8>, text: &str) -> Result<Option<Span>, AllocError> {
@@ -26,7 +26,7 @@ fn put_text_hint(words: &mut Vec<u8>, path: &[u8]) -> Result<Option<Span>, Alloc
     put_parts(
         words,
         &[
-            Part::Text(b"The file looks like a source text, and is no image. Hint: first "),
+            Part::Text(b"The file looks like a source text, not an image. Hint: first "),
             Part::Pattern("`vsi build LATTICE P Q.image`", path, stem),
             Part::Pattern(
                 ", then name P.image here, as in `vsi run P.image ",
@@ -52,14 +52,14 @@ fn put_other_file(
     if start.starts_with(b"classes") || start.starts_with(b"below") {
         return put_plainly(
             words,
-            "The file is no image, and looks like a lattice file. Hint: see `vsi help` for the \
+            "The file looks like a lattice file, not an image. Hint: see `vsi help` for the \
             order of the files.\n",
         );
     }
     put_plainly(
         words,
-        "The file is no image: it doesn't begin with `VSI`. Hint: make one by `vsi build LATTICE \
-        SOURCE IMAGE`, and see `vsi help` for the order of the files.\n",
+        "The file isn't an image: it doesn't begin with `VSI`. Hint: make one with `vsi build \
+        LATTICE SOURCE IMAGE`, and see `vsi help` for the order of the files.\n",
     )
 }
 
@@ -94,7 +94,7 @@ pub(crate) fn put_image(
         VerifyError::Unencodable(_) => put_plainly(
             words,
             "No file can hold this image. Hint: keep to 256 globals, 512 slots, 256 operands and \
-            65535 instructions, and to names by the rule of the language.\n",
+            65535 instructions, and to names that the language allows.\n",
         ),
         _ => put_plainly(words, DO_NOT_TRUST),
     }
@@ -106,13 +106,13 @@ pub(crate) fn put_view(words: &mut Vec<u8>, error: &ViewError) -> Result<Option<
         ViewError::Memory => Err(AllocError),
         ViewError::ClassNotInLattice(_) => put_plainly(
             words,
-            "A global of the image has a class that the lattice file lacks. Hint: name the lattice \
+            "A global of the image has a class that the lattice file lacks. Hint: give the lattice \
             file with which the image was built; `vsi list IMAGE` shows each global with its \
             class.\n",
         ),
         ViewError::WrongStore(_) => put_plainly(
             words,
-            "The store has not one number for each global of the image. Hint: hand in one for \
+            "The store doesn't have one number for each global of the image. Hint: pass one for \
             each, in the order of the declarations.\n",
         ),
     }

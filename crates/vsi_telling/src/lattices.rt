@@ -128,7 +128,7 @@ fn put_file_hint(
     let start = bytes.trim_ascii_start();
     if start.starts_with(b"VSI") {
         words.extend_from_slice(
-            b"Hint: this is an image. The lattice file stands in another place of the line.\n",
+            b"Hint: this is an image. The lattice file has another place on the command line.\n",
         )?;
         return Ok(None);
     }
@@ -137,8 +137,8 @@ fn put_file_hint(
             words,
             &[
                 Part::Text(
-                    b"Hint: this looks like a source text. The lattice file is named first, and \
-                    the source text behind it: `vsi check LATTICE ",
+                    b"Hint: this looks like a source text. The lattice file comes first, and \
+                    the source text after it: `vsi check LATTICE ",
                 ),
                 Part::Text(path),
                 Part::Text(b"`.\n"),
@@ -149,7 +149,7 @@ fn put_file_hint(
     let Some(span) = bare_place(bytes) else {
         return Ok(None);
     };
-    words.extend_from_slice(b"Hint: the names of classes stand between quotes.\n")?;
+    words.extend_from_slice(b"Hint: the names of classes go between quotes.\n")?;
     Ok(Some(span))
 }
 
@@ -159,7 +159,7 @@ fn put_not_toml(
     path: &[u8],
     bytes: &[u8],
 ) -> Result<Option<Span>, AllocError> {
-    words.extend_from_slice(b"The file is no TOML document.\n")?;
+    words.extend_from_slice(b"The file isn't a TOML document.\n")?;
     let place = put_file_hint(words, path, bytes)?;
     words.extend_from_slice(SHAPE)?;
     Ok(place)
@@ -171,11 +171,11 @@ fn key_words(table: &Table) -> &'static [u8] {
         return b"The key `classes` is missing.\n";
     }
     if table.get("below").is_none() {
-        return b"The key `below` is missing. Hint: write `below = []` where no class is below \
+        return b"The key `below` is missing. Hint: write `below = []` if no class is below \
             another one.\n";
     }
-    b"The value of `classes` is an array of names between quotes, and that of `below` an array of \
-    pairs of them.\n"
+    b"The value of `classes` must be an array of names between quotes, and that of `below` an \
+    array of pairs of them.\n"
 }
 
 /// Adds which keys or values of a table are wrong, and answers where.
@@ -193,7 +193,7 @@ fn put_bad_keys(
         &[
             Part::Text(b"A lattice file has no key "),
             Part::Quoted(key),
-            Part::Text(b", but `classes` and `below` alone.\n"),
+            Part::Text(b", only `classes` and `below`.\n"),
         ],
     )?;
     Ok(key_place(bytes, key))
@@ -228,22 +228,22 @@ fn put_name_fault(
             bytes,
             class_in(table, place),
             0,
-            " is no name. Hint: a name begins with a letter, goes on with letters, digits and `_`, \
-            has at most 32 of them, and is no keyword.\n",
+            " isn't a valid name. Hint: a name begins with a letter, continues with letters, \
+            digits and `_`, has at most 32 of them, and isn't a keyword.\n",
         ),
         LatticeError::DuplicateName(place) => put_name(
             words,
             bytes,
             class_in(table, place),
             1,
-            " stands twice in `classes`. Hint: leave one out.\n",
+            " is in `classes` twice. Hint: leave one out.\n",
         ),
         LatticeError::UnknownName(place) => put_name(
             words,
             bytes,
             unknown_in(table, place),
             0,
-            " stands in `below` and is no class. Hint: add it to `classes`, or mend its \
+            " is in `below` but isn't a class. Hint: add it to `classes`, or fix its \
             spelling.\n",
         ),
         _ => Ok(None),
@@ -330,7 +330,7 @@ pub(crate) fn put_lattice(
         LatticeError::NotToml => put_not_toml(words, path, bytes),
         LatticeError::NoClass => {
             let parts = [
-                Part::Text(b"The list of classes is empty. Hint: name one at least.\n"),
+                Part::Text(b"The list of classes is empty. Hint: name at least one.\n"),
                 Part::Text(SHAPE),
             ];
             put_parts(words, &parts)?;

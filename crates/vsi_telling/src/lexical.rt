@@ -14,18 +14,16 @@ const LONGEST_NAME: usize = 32;
 fn strange_hint(byte: u8, next: Option<u8>) -> &'static str {
     match (byte, next) {
         (0xEF, Some(0xBB)) => {
-            "Hint: a byte order mark stands there: save the text without one, as plain UTF-8 or \
+            "Hint: there is a byte order mark here: save the text without one, as plain UTF-8 or \
             ASCII.\n"
         }
-        (0xC2, Some(0xA0)) => {
-            "Hint: a blank that doesn't break a line stands there: write a common blank.\n"
-        }
+        (0xC2, Some(0xA0)) => { "Hint: there is a no-break space here: write an ordinary blank.\n" }
         (0xE2, Some(0x80)) => {
-            "Hint: a quote, a dash or a blank of another program stands there: write it anew. The \
+            "Hint: there is a quote, a dash or a blank of another program here: type it again. The \
             minus sign is `-`.\n"
         }
         (128..=255, _) => {
-            "Hint: outside of comments only ASCII is read: no letters with accents, and no \
+            "Hint: outside comments only ASCII is allowed: no letters with accents, and no \
             symbols that aren't on every keyboard.\n"
         }
         _ => {
@@ -56,9 +54,9 @@ fn byte_hint(byte: u8, next: Option<u8>) -> &'static str {
         (b'/', Some(b'/' | b'*')) => {
             "Hint: a comment begins with `#`, and ends with its line.\n"
         }
-        (b'"' | b'\'', _) => "Hint: there are no texts: each variable holds a whole number.\n",
-        (b',', _) => "Hint: each variable is declared by itself: `var a : L; var b : L;`.\n",
-        (b'.', _) => "Hint: numbers are whole ones: write cents in place of 1.50.\n",
+        (b'"' | b'\'', _) => "Hint: there are no strings: each variable holds a whole number.\n",
+        (b',', _) => "Hint: each variable is declared on its own: `var a : L; var b : L;`.\n",
+        (b'.', _) => "Hint: numbers are whole: write 150 cents in place of 1.50.\n",
         (b'[' | b']', _) => "Hint: there are no arrays: each variable holds one number.\n",
         (b'^', _) => "Hint: there are no powers: write `a * a`.\n",
         _ => strange_hint(byte, next),
@@ -78,7 +76,7 @@ fn put_byte(
     let next = source.get(at.saturating_add(1)).copied();
     let parts = [
         Part::Quoted(&[byte]),
-        Part::Text(b" is no sign of this language.\n"),
+        Part::Text(b" isn't a symbol of this language.\n"),
     ];
     put_parts(words, &parts)?;
     if let Some(hint) = file_hint(source) {
@@ -108,7 +106,7 @@ fn put_word(
     let word = part_of(source, span);
     let parts = [
         Part::Quoted(word),
-        Part::Text(b" is no name, keyword or number.\n"),
+        Part::Text(b" isn't a name, a keyword or a number.\n"),
     ];
     put_parts(words, &parts)?;
     if put_hint(alloc, words, source, span.start)? {
@@ -116,7 +114,7 @@ fn put_word(
     }
     match word.first() {
         Some(b'0'..=b'9') => words.extend_from_slice(
-            b"Hint: a number is digits alone, without `_` and letters, and a name begins with a \
+            b"Hint: a number has only digits, no `_` and no letters, and a name begins with a \
             letter.\n",
         ),
         Some(b'_') => words.extend_from_slice(b"Hint: a name begins with a letter.\n"),

@@ -8,27 +8,26 @@ use vsi_syntax::Span;
 const LONGEST: usize = 40;
 
 /// The remark if a comparison is turned into its opposite.
-const OPPOSITE: &str = ": the brackets stay. A comparison is 1 where it holds, and else 0";
+const OPPOSITE: &str = ": keep the brackets. A comparison is 1 if it holds, and 0 otherwise";
 
 /// The remark if the sides also change places.
 const SWAPPED: &str =
-    ": the sides change places, and the brackets stay. A comparison is 1 where it holds, and else \
-    0";
+    ": the sides are swapped; keep the brackets. A comparison is 1 if it holds, and 0 otherwise";
 
 /// The remark about signs that join two guards.
-const JOINED: &str = ", where each is 0 or 1: the brackets stay";
+const JOINED: &str = ", where both are 0 or 1: keep the brackets";
 
 /// The loop that divides, and what it does.
 const DIVISION: &str = "Hint: there is no division. `letvar r := P in while Q - 1 < r do \
-    { r := r - Q; N := N + 1 }` adds to N how often Q is in P.\n";
+    { r := r - Q; N := N + 1 }` adds to N how often Q goes into P.\n";
 
 /// The loop that leaves a remainder, and what it does.
 const REMAINDER: &str = "Hint: there is no remainder. `letvar r := P in { while Q - 1 < r do \
-    r := r - Q; N := r }` puts into N what is left of P when Q is taken away as often as it can \
-    be.\n";
+    r := r - Q; N := r }` puts into N what is left of P after Q is subtracted as often as \
+    possible.\n";
 
 /// The remark about a sign that negates a guard.
-const NEGATED: &str = ", where P is 0 or 1: the brackets stay";
+const NEGATED: &str = ", where P is 0 or 1: keep the brackets";
 
 /// A sign or a word of other languages, its form between P and Q, the form here, and the remark
 /// about it.
@@ -37,7 +36,7 @@ type Form = (&'static [u8], &'static str, &'static str, &'static str);
 /// The signs and words of other languages.
 const FORMS: [Form; 16] = [
     (b"==", "P == Q", "P = Q", ""),
-    (b">", "P > Q", "Q < P", ": the sides change places"),
+    (b">", "P > Q", "Q < P", ": the sides are swapped"),
     (b"<=", "P <= Q", "1 - (Q < P)", SWAPPED),
     (b">=", "P >= Q", "1 - (P < Q)", OPPOSITE),
     (b"!=", "P != Q", "1 - (P = Q)", OPPOSITE),

@@ -209,7 +209,7 @@ fn put_wrong(
     wrong: Option<usize>,
 ) -> Result<Option<Span>, AllocError> {
     let Some(number) = wrong else {
-        words.extend_from_slice(b"take out the pair that is the wrong way round.")?;
+        words.extend_from_slice(b"remove the pair that is the wrong way round.")?;
         return Ok(None);
     };
     let (low, high) = order.pair(number);
@@ -219,8 +219,8 @@ fn put_wrong(
             Part::Text(b"`"),
             Part::Pair(order.name(low), order.name(high)),
             Part::Text(
-                b"` goes against the order of `classes`: perhaps it is the wrong way round, or one \
-                too many.",
+                b"` goes against the order of `classes`: perhaps it is the wrong way round, or \
+                superfluous.",
             ),
         ],
     )?;
@@ -243,9 +243,9 @@ fn put_links(
             done == 0,
         )?;
     }
-    words.extend_from_slice(b": that goes round in a ring.\nHint: ")?;
+    words.extend_from_slice(b": that is a cycle.\nHint: ")?;
     let place = put_wrong(words, bytes, order, wrong_in(order, ring))?;
-    words.extend_from_slice(b" Taking out another one changes who may see what.\n")?;
+    words.extend_from_slice(b" Removing another pair changes who may see what.\n")?;
     Ok(place)
 }
 
@@ -300,11 +300,11 @@ fn put_unplaced(
         words,
         &[
             Part::Quoted(order.name(class)),
-            Part::Text(b" stands in no pair of `below`. Hint: where it is above all others add `"),
+            Part::Text(b" isn't in any pair of `below`. Hint: if it is above all others, add `"),
         ],
     )?;
     put_placing(words, order, class, true)?;
-    words.extend_from_slice(b"` to `below`; where it is below all others `")?;
+    words.extend_from_slice(b"` to `below`; if it is below all others, `")?;
     put_placing(words, order, class, false)?;
     words.extend_from_slice(b"`.\n")?;
     Ok(true)
@@ -353,20 +353,24 @@ fn put_common(
     }
     let side: &[u8] = if is_up { b"above" } else { b"below" };
     let other_side: &[u8] = if is_up { b"below" } else { b"above" };
-    let begin: &[u8] = if is_up { b"Above " } else { b"Below " };
+    let begin: &[u8] = if is_up {
+        b"The classes above "
+    } else {
+        b"The classes below "
+    };
     put_word_between(words, begin, one, b" and ")?;
-    put_word_between(words, b"", other, b" stand ")?;
+    put_word_between(words, b"", other, b" are ")?;
     put_names(words, names)?;
     put_parts(
         words,
         &[
-            Part::Text(b", and none of these is "),
+            Part::Text(b", and none of them is "),
             Part::Text(other_side),
-            Part::Text(b" all others. Hint: add a class that is "),
+            Part::Text(b" all the others. Hint: add a class that is "),
             Part::Text(side),
             Part::Text(b" both and "),
             Part::Text(other_side),
-            Part::Text(b" all of these, by its pairs in `below`.\n"),
+            Part::Text(b" all of them, with its pairs in `below`.\n"),
         ],
     )?;
     Ok(true)
@@ -394,15 +398,15 @@ fn put_need<'a>(
     is_up: bool,
 ) -> Result<(), AllocError> {
     let need = if is_up {
-        "What is made from both `P`'s and `Q`'s data needs a class above both, and there is none."
+        "A value made from data of both `P` and `Q` needs a class above both, and there is none."
     } else {
-        "What both `P` and `Q` may see needs a class below both, and there is none."
+        "Data that both `P` and `Q` may see needs a class below both, and there is none."
     };
     put_parts(
         words,
         &[
             Part::Pattern(need, one, other),
-            Part::Text(b" Hint: add one, say `"),
+            Part::Text(b" Hint: add one, such as `"),
             Part::Text(fresh),
             Part::Text(b"`, to `classes`, and `"),
             if is_up {
@@ -417,8 +421,8 @@ fn put_need<'a>(
                 Part::Pair(fresh, other)
             },
             Part::Text(
-                b"` to `below`. Placing one of the two below the other instead lets its data go \
-                there.\n",
+                b"` to `below`. If you put one of the two below the other instead, its data can \
+                flow there.\n",
             ),
         ],
     )

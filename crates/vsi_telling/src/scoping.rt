@@ -26,14 +26,7 @@ fn put_duplicate(
     words.extend_from_slice(b" is declared a second time here")?;
     if let Some(first) = declaration(tokens, Kind::Var, name) {
         let place = Part::Place(source, first.span.start);
-        put_parts(
-            words,
-            &[
-                Part::Text(b"; it is declared at "),
-                place,
-                Part::Text(b" already"),
-            ],
-        )?;
+        put_parts(words, &[Part::Text(b"; it is already declared at "), place])?;
     }
     words.extend_from_slice(b".\nHint: leave one out, or give it another name.\n")
 }
@@ -146,7 +139,7 @@ fn put_these(
     name: &[u8],
 ) -> Result<bool, AllocError> {
     if !names.is_empty() {
-        put_names_between(words, b"Declared for the whole text: ", names, b".\n")?;
+        put_names_between(words, b"The globals of the text are ", names, b".\n")?;
     }
     put_nearest(alloc, words, name, names)
 }
@@ -192,7 +185,7 @@ fn put_choices(
     put_parts(
         words,
         &[
-            Part::Text(b"Hint: declare it at the beginning of the text, by `var "),
+            Part::Text(b"Hint: declare it at the beginning of the text, with `var "),
             Part::Text(name),
             Part::Text(b" : L;`, where L is a class of the lattice file.\n"),
         ],
@@ -221,8 +214,8 @@ fn put_unbound(
             Part::Text(b"Hint: the `letvar` at "),
             Part::Place(source, local.span.start),
             Part::Text(
-                b" declares it for the one command behind its `in` alone: put { } round all the \
-                commands in which it is to hold.\n",
+                b" declares it only for the one command after its `in`: put { } around all the \
+                commands that use it.\n",
             ),
         ],
     )
@@ -246,17 +239,17 @@ pub(crate) fn place_of(error: ScopeError) -> Option<Span>
 fn size_words(error: ScopeError) -> &'static str {
     match error {
         ScopeError::TooManyGlobals(_) => {
-            "This is the 257th global, and a program has at most 256.\nHint: use `letvar` for what \
-            needn't last to the end of the run.\n"
+            "This is the 257th global, and a program has at most 256.\nHint: use `letvar` for \
+            values that aren't needed at the end of the run.\n"
         }
         ScopeError::TooManyDeclarations(_) => {
             "This is the 1025th declaration, and a program has at most 1024, globals and `letvar`s \
-            together.\nHint: use a variable again whose value isn't needed any more.\n"
+            together.\nHint: reuse a local variable whose value isn't needed any more.\n"
         }
         _ => {
-            "The program has a size of more than 65534: a number, a name that is read, an \
-            operator, an assignment and a `letvar` count 1 each, an `if` or a `while` 2.\nHint: \
-            put what is repeated into a loop, or make two programs of it.\n"
+            "The size of the program is above 65534: a number, a name that is read, an operator, \
+            an assignment and a `letvar` count 1 each, an `if` or a `while` 2.\nHint: put \
+            repeated commands into a loop, or split the program in two.\n"
         }
     }
 }

@@ -40,7 +40,7 @@ fn put_other_key(
     key: &[u8],
 ) -> Result<(), AllocError> {
     put_no_global(words, key, names)?;
-    put_nearest_or(alloc, words, key, names, b"Hint: take the line away.\n")
+    put_nearest_or(alloc, words, key, names, b"Hint: remove the line.\n")
 }
 
 /// Adds the explanation of a key that is no global.
@@ -57,9 +57,9 @@ fn put_unknown(
 /// The hint for another sort of file in the place of a store file.
 fn file_hint(bytes: &[u8]) -> &'static [u8] {
     if bytes.starts_with(b"VSI") {
-        b"Hint: this is an image. The store file is named behind --store.\n"
+        b"Hint: this is an image. Give a store file with --store.\n"
     } else if bytes.trim_ascii_start().starts_with(b"var") {
-        b"Hint: this looks like a source text and no store file.\n"
+        b"Hint: this looks like a source text, not a store file.\n"
     } else {
         b""
     }
@@ -71,7 +71,7 @@ fn put_not_toml(words: &mut Vec<u8>, bytes: &[u8]) -> Result<(), AllocError> {
         words,
         &[
             Part::Text(
-                b"The file is no TOML document, a key stands twice in it, or a number is beyond 64 \
+                b"The file isn't a TOML document, a key is in it twice, or a number doesn't fit 64 \
                 bits.\n",
             ),
             Part::Text(file_hint(bytes)),
@@ -88,8 +88,8 @@ fn put_no_number(words: &mut Vec<u8>, key: &[u8]) -> Result<(), AllocError> {
             Part::Text(b"The value of "),
             Part::Quoted(key),
             Part::Text(
-                b" is no whole number. Hint: write it without quotes and without a point, as 4 \
-                or -4.\n",
+                b" isn't a whole number. Hint: write it without quotes and without a decimal \
+                point, as in 4 or -4.\n",
             ),
             Part::Text(SHAPE),
         ],

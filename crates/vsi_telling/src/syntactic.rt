@@ -45,7 +45,7 @@ fn put_list(words: &mut Vec<u8>, list: &[u8]) -> Result<(), AllocError> {
     put_parts(
         words,
         &[
-            Part::Text(b"Here could stand: "),
+            Part::Text(b"Expected here: "),
             Part::Text(list),
             Part::Text(b".\n"),
         ],
@@ -63,9 +63,9 @@ fn put_standing(words: &mut Vec<u8>, spot: &Spot) -> Result<(), AllocError> {
     match spot.here() {
         Some(token) => {
             put_quoted(words, token.text)?;
-            words.extend_from_slice(b" can't stand here.\n")
+            words.extend_from_slice(b" can't be here.\n")
         }
-        None => words.extend_from_slice(b"The text ends here, before the program is whole.\n"),
+        None => words.extend_from_slice(b"The text ends here, before the program is complete.\n"),
     }
 }
 
@@ -80,7 +80,7 @@ fn strange<'a>(spot: &Spot<'a, '_>, token: Option<Token<'a>>) -> Option<Token<'a
 
 /// Adds how a variable is declared, in place of a word of other languages.
 fn put_declaration(words: &mut Vec<u8>, word: &[u8], name: &[u8]) -> Result<(), AllocError> {
-    let declared = b". Each variable holds a whole number, and is declared by `var ";
+    let declared = b". Each variable holds a whole number, and is declared with `var ";
     put_word_between(words, b"Hint: there is no ", word, declared)?;
     put_parts(
         words,
@@ -96,7 +96,7 @@ fn put_declaration(words: &mut Vec<u8>, word: &[u8], name: &[u8]) -> Result<(), 
 /// Adds what does nothing.
 fn put_idle(words: &mut Vec<u8>, spot: &Spot, before: &[u8]) -> Result<(), AllocError> {
     let name = spot.last_target().unwrap_or(b"x");
-    words.extend_from_slice(b" To do nothing there write `")?;
+    words.extend_from_slice(b" To do nothing there, write `")?;
     words.extend_from_slice(before)?;
     put_pattern(words, "P := P`.\n", name, b"", b"")
 }
@@ -182,7 +182,7 @@ fn put_superfluous(words: &mut Vec<u8>, source: &[u8], spot: &Spot) -> Result<bo
             Part::Text(b"Hint: the `;` before it, at "),
             Part::Place(source, last.span.start),
             Part::Text(
-                b", is one too many: a `;` stands between two commands, not behind the last one.\n",
+                b", is one too many: a `;` goes between two commands, not after the last one.\n",
             ),
         ],
     )?;
@@ -194,12 +194,12 @@ fn put_empty(words: &mut Vec<u8>, spot: &Spot) -> Result<bool, AllocError> {
     let is_block_end = spot.kind() == Some(Kind::CloseBrace);
     match spot.kind_before(1) {
         Some(Kind::Else) => {
-            words.extend_from_slice(b"Hint: behind `else` stands a command.")?;
+            words.extend_from_slice(b"Hint: a command comes after `else`.")?;
             put_idle(words, spot, b"")?;
             Ok(true)
         }
         Some(Kind::OpenBrace) if is_block_end => {
-            words.extend_from_slice(b"Hint: a block has one command at least.")?;
+            words.extend_from_slice(b"Hint: a block has at least one command.")?;
             put_idle(words, spot, b"")?;
             Ok(true)
         }
@@ -211,7 +211,7 @@ fn put_empty(words: &mut Vec<u8>, spot: &Spot) -> Result<bool, AllocError> {
 fn put_missing_else(words: &mut Vec<u8>, spot: &Spot) -> Result<(), AllocError> {
     words.extend_from_slice(b"Hint: every `if` has an `else`.")?;
     if spot.kind() == Some(Kind::Semicolon) {
-        words.extend_from_slice(b" Put { } round several commands of a branch.")?;
+        words.extend_from_slice(b" Put { } around several commands of a branch.")?;
     }
     put_idle(words, spot, b"else ")
 }
@@ -297,9 +297,9 @@ fn put_too_deep(words: &mut Vec<u8>, source: &[u8], span: Span) -> Result<(), Al
         &[
             Part::Quoted(part_of(source, span)),
             Part::Text(
-                b" stands here more than 200 levels deep: in brackets, blocks, `if`, `while` and \
-                `letvar`, and in operators one behind the other.\nHint: compute a part of it \
-                before, into a variable of its own.\n",
+                b" is nested more than 200 levels deep here: in brackets, blocks, `if`, `while` \
+                and `letvar`, and in chains of operators.\nHint: compute a part of it first, into \
+                a variable of its own.\n",
             ),
         ],
     )

@@ -31,7 +31,7 @@ pub fn put_syntax(
     put_parts(
         words,
         &[
-            Part::Text(b"The file is no TOML document: "),
+            Part::Text(b"The file isn't a TOML document: "),
             Part::Text(error.message().as_bytes()),
             Part::Text(b".\n"),
         ],
