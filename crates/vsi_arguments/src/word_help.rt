@@ -41,9 +41,9 @@ twice, the second setting counts.";
 /// The shape of a lattice.
 pub(crate) const SHAPE: &str = "\
 One of two, levels, diamond and powerset, followed by its names: none
-for two, 1 to 64 for levels, 4 for diamond, 1 to 6 for powerset. A name
-begins with a letter, has at most 32 letters, digits and underscores,
-and isn't a keyword.";
+for two, 1 to 64 for levels, 4 for diamond, 1 to 6 for powerset. A
+name begins with a letter, has at most 32 letters, digits and
+underscores, and isn't a keyword.";
 
 /// An image to read.
 pub(crate) const IMAGE: &str = "\
@@ -175,8 +175,8 @@ set, so that none begins as 0 by oversight.";
 /// The file that receives the store.
 pub(crate) const OUT: &str = "\
 The path of a file that the store is written to, instead of standard
-output. The file is replaced as a whole if the run halts, and otherwise
-left as it is, so it may be the store file that is read.";
+output. The file is replaced as a whole if the run halts, and is left
+as it is otherwise, so it may be the store file that is read.";
 
 /// The file that receives the last store.
 pub(crate) const SAVE: &str = "\
@@ -224,7 +224,7 @@ different numbers of instructions.";
 /// The interface file.
 pub(crate) const INTERFACE: &str = "\
 The path of the interface file, a TOML document with these keys:
-`lattice`, the path of a lattice file, or the keys of one in its place;
+`lattice`, the path of a lattice file, or the keys of one instead;
 `profile`, \"base\", \"strict\" or \"steady\"; `globals`, an array of pairs
 of a name and a class; `order`, \"exact\" or \"set\"; and `runs`, each
 with a `budget`, a `store`, and `expect` or `halts = true`.";
@@ -249,8 +249,8 @@ standard error is a terminal and NO_COLOR isn't set.";
 /// The answer of `check` as JSON.
 pub(crate) const CHECK_JSON: &str = "\
 Writes the answer as a line of JSON on standard output: an object with
-`accepted`, and for a refusal its number, its name, its place, its text
-and the steps of its flow.";
+`accepted`, and for a refusal its number, its name, its place, its
+text and the steps of its flow.";
 
 /// The answer as JSON.
 pub(crate) const JSON: &str = "\

@@ -158,8 +158,8 @@ fn call(look: &Look, at: usize) -> Option<Found> {
         }
     }
     if is_called && look.is_name(at) {
-        let rest = ": you can't call functions, so write its commands in its place, as `y := x * \
-            x`.";
+        let rest = ": you can't call functions, so write its commands in its place, as in `y := \
+            x * x`.";
         let shape = Shape::Say("there is no ", rest);
         return Some(make_found(at, look.after_brackets(next), shape));
     }
@@ -471,8 +471,8 @@ pub fn shape_at(look: &Look, at: usize) -> Option<Found> {
         return local(look, at);
     }
     if look.is(at, b"do") && look.is_command_start(at) {
-        let rest = ": write the body before the loop too, as `{ x := x + 1; while x < 9 do x := x \
-            + 1 }`.";
+        let rest = ": write the body before the loop too, as in `{ x := x + 1; while x < 9 do x := \
+            x + 1 }`.";
         let shape = Shape::Say("no loop begins with ", rest);
         return Some(make_found(at, at.saturating_add(1), shape));
     }
