@@ -3,7 +3,9 @@
 ghost use Rattle.std.specs.Prelude.{◌≡◌, IfOk};
 ghost use Rattle.vsi_answers.specs.Answers.{Because};
 ghost use Rattle.vsi_answers.specs.Judged.{IsRaisedRefusal, TellsRaised};
-ghost use Rattle.vsi_answers.specs.Requests.{AppliesTo, MendsTo};
+ghost use Rattle.vsi_answers.specs.Requests.{AppliesTo, MendsTo, TellsUnraised};
+ghost use Rattle.vsi_raised.specs.Answers.{RefusesRaisedText};
+ghost use Rattle.vsi_types.specs.declared.rules.Profile.{Profile};
 
 use crate::refusing::refused_source;
 use crate::unanswered::{Cause, Unanswered};
@@ -48,6 +50,18 @@ fn refused_raised(
     }
 }
 
+/// Why a request has no answer where a text with raised classes has this error.
+fn unraised(alloc: Global, lattice: &Lattice, source: &[u8], error: RaisedError) -> Unanswered
+    ensures { (P : Profile) → RefusesRaisedText lattice.now P source.now error
+        → Because (TellsUnraised lattice.now P source.now) ⊥ result }
+{
+    match error {
+        RaisedError::Source(error) => refused_source(alloc, lattice, source, error),
+        RaisedError::Raised(text, error) => refused_raised(alloc, lattice, &text, error),
+        RaisedError::Memory => Unanswered::Memory,
+    }
+}
+
 /// A line for each declaration of the text whose class has to rise.
 pub fn mend(
     alloc: Global,
@@ -74,10 +88,6 @@ pub fn apply(
 {
     match raised_text_in(alloc, profile, lattice, source) {
         Ok(text) => Ok(text),
-        Err(RaisedError::Source(error)) => Err(refused_source(alloc, lattice, source, error)),
-        Err(RaisedError::Raised(text, error)) => {
-            Err(refused_raised(alloc, lattice, text.as_slice(), error))
-        }
-        Err(RaisedError::Memory) => Err(Unanswered::Memory),
+        Err(error) => Err(unraised(alloc, lattice, source, error)),
     }
 }
