@@ -1,5 +1,5 @@
 -- A refusal for one error is a refusal for each kind to which the error belongs.
-use Rattle.std.proofs.Common.{◌≡◌, ◌≢◌, ℕ, List, Ok, Err, sym, subst, ◌∙◌}
+use Rattle.std.proofs.Common.{◌≡◌, ◌≢◌, ◌⊎◌, ℕ, List, Ok, Err, inl, inr, sym, subst, ◌∙◌}
 use Rattle.vsi_lattice.specs.declared.lattice.Lattice.{Lattice}
 use Rattle.vsi_compiler.specs.declared.error.CompileError.{CompileError}
 use Rattle.vsi_compiler.specs.declared.error.CompileError.TheVariants as compiler
@@ -8,12 +8,12 @@ use Rattle.vsi_drive.specs.declared.starts.StartFault.{StartFault}
 use Rattle.vsi_answers.specs.declared.unanswered.Unanswered.{Unanswered}
 use Rattle.vsi_answers.specs.declared.unanswered.Unanswered.TheVariants.{Refused, OutOfBudget, Memory}
 use Rattle.vsi_answers.specs.declared.unanswered.Cause.TheVariants.{Source, File, Start, Steady, Raised}
-use Rattle.vsi_answers.specs.Answers.{Because}
+use Rattle.vsi_answers.specs.Answers.{Because, Telling}
 use Rattle.vsi_lattice.specs.LatticeView.{class_named, order}
 use Rattle.vsi_types.specs.declared.rules.Profile.TheVariants.{Base}
 use Rattle.vsi_image.specs.declared.instr.Image.{Image}
 use Rattle.vsi_compiler.specs.Headline.{IsCompiled}
-use Rattle.vsi_answers.specs.Judged.{TellsFault, TellsSource}
+use Rattle.vsi_answers.specs.Judged.{TellsFault, TellsRaised, TellsSource}
 use Rattle.vsi_answers.specs.Requests.{Answer, RunsSourceTo, RunsTo, zeros}
 
 -- The refusal of a source text for an error is a refusal for each kind to which the error belongs.
@@ -48,3 +48,28 @@ run_told l source im budget compiled (Ok text) ran = (im, compiled, ran)
 run_told l source im budget compiled (Err (Refused text cause)) ran = absurd ran
 run_told l source im budget compiled (Err OutOfBudget) ran = (im, compiled, ran)
 run_told l source im budget compiled (Err Memory) ran = tt
+
+-- A refusal of the first of two kinds is of either kind.
+pub told_first : (A B : Telling) (u : Unanswered) → Because A ⊥ u → Because (λ text cause. A text cause ⊎ B text cause) ⊥ u
+told_first A B (Refused text cause) told = inl told
+told_first A B OutOfBudget told = absurd told
+told_first A B Memory told = tt
+
+-- A refusal of the second of two kinds is of either kind.
+pub told_second : (A B : Telling) (u : Unanswered) → Because B ⊥ u → Because (λ text cause. A text cause ⊎ B text cause) ⊥ u
+told_second A B (Refused text cause) told = inr told
+told_second A B OutOfBudget told = absurd told
+told_second A B Memory told = tt
+
+-- The refusal of a text with raised classes for one error is a refusal for an error of its kind.
+pub raised_told : (Kind : List ℕ → CompileError → Type 0) (l : Lattice) (raised : List ℕ) (error : CompileError) →
+    Kind raised error → (u : Unanswered) → Because (TellsRaised (λ t e. (t ≡ raised) × (e ≡ error)) l) ⊥ u →
+    Because (TellsRaised Kind l) ⊥ u
+raised_told Kind l raised error kind (Refused text (Source e)) told = absurd told
+raised_told Kind l raised error kind (Refused text (File f)) told = absurd told
+raised_told Kind l raised error kind (Refused text (Start f)) told = absurd told
+raised_told Kind l raised error kind (Refused text (Steady e)) told = absurd told
+raised_told Kind l raised error kind (Refused text (Raised e)) told =
+    (told.0, subst (λ t. Kind t e) (sym told.1.0.0) (subst (Kind raised) (sym told.1.0.1) kind), told.1.1)
+raised_told Kind l raised error kind OutOfBudget told = absurd told
+raised_told Kind l raised error kind Memory told = tt

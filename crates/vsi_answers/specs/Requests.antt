@@ -26,7 +26,7 @@ use Rattle.vsi_devices.specs.Building.{IsBuilt}
 use Rattle.vsi_flows.specs.Text.{IsTableText, IsWalksText}
 use Rattle.vsi_raised.specs.Answers.{IsRaiseText, IsRaisedText, RefusesRaise, RefusesRaised}
 use Rattle.vsi_answers.specs.declared.unanswered.Unanswered.{Unanswered}
-use Rattle.vsi_answers.specs.Answers.{Judges, Nothing, Runs}
+use Rattle.vsi_answers.specs.Answers.{Judges, Nothing, Runs, Telling}
 use Rattle.vsi_answers.specs.Judged.{AreImage, Declares, IsCompileFault, IsImageFault, IsLatticeFault, IsProgramFault, IsTreeFault, IsViewFault, TellsFault, TellsRaised, TellsSource, TellsStart, TellsSteady}
 
 -- A text, or the reason why there is none.
@@ -93,12 +93,17 @@ abbrev pub MendsTo : Lattice → Profile → List ℕ → Answer → Type 0
 MendsTo l P source =
     Judges (λ text. IsRaiseText l P source text.items) (TellsSource (RefusesRaise l P source) l source)
 
+-- The refusal of a text that no raise makes accepted, or of the text with the raises.
+abbrev pub TellsUnraised : Lattice → Profile → List ℕ → Telling
+TellsUnraised l P source text cause =
+    TellsSource (RefusesRaise l P source) l source text cause
+    ⊎ TellsRaised (RefusesRaised l P source) l text cause
+
 -- `mend --apply`: the text with these raises, which is accepted, or why none serves, or why that text is refused.
 abbrev pub AppliesTo : Lattice → Profile → List ℕ → Answer → Type 0
 AppliesTo l P source =
     Judges (λ text. IsRaisedText l P source text.items × IsAccepted (class_named l) (order l) P text.items)
-    (λ text cause. TellsSource (RefusesRaise l P source) l source text cause
-    ⊎ TellsRaised (RefusesRaised l P source) l text cause)
+    (TellsUnraised l P source)
 
 -- `build`: the bytes of the image that the text is compiled to, or the reason why it is refused.
 abbrev pub BuildsTo : Lattice → Profile → List ℕ → Answer → Type 0

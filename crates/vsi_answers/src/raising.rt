@@ -3,7 +3,9 @@
 ghost use Rattle.std.specs.Prelude.{◌≡◌, IfOk};
 ghost use Rattle.vsi_answers.specs.Answers.{Because};
 ghost use Rattle.vsi_answers.specs.Judged.{IsRaisedRefusal, TellsRaised};
-ghost use Rattle.vsi_answers.specs.Requests.{AppliesTo, MendsTo};
+ghost use Rattle.vsi_answers.specs.Requests.{AppliesTo, MendsTo, TellsUnraised};
+ghost use Rattle.vsi_raised.specs.Answers.{RefusesRaisedText};
+ghost use Rattle.vsi_types.specs.declared.rules.Profile.{Profile};
 
 use crate::refusing::refused_source;
 use crate::unanswered::{Cause, Unanswered};
@@ -32,7 +34,8 @@ fn raised_refusal(
     Ok(text)
 }
 
-/// Why a request has no answer where the text with the raised classes is refused with this error.
+/// The reason that a request has no answer if the text with the raised classes is refused with this
+/// error.
 fn refused_raised(
     alloc: Global,
     lattice: &Lattice,
@@ -45,6 +48,18 @@ fn refused_raised(
     match raised_refusal(alloc, lattice, raised, &error) {
         Ok(text) => Unanswered::Refused(text, Cause::Raised(error)),
         Err(_) => Unanswered::Memory,
+    }
+}
+
+/// The reason that a request has no answer, for this error of a text with raised classes.
+fn unraised(alloc: Global, lattice: &Lattice, source: &[u8], error: RaisedError) -> Unanswered
+    ensures { (P : Profile) → RefusesRaisedText lattice.now P source.now error
+        → Because (TellsUnraised lattice.now P source.now) ⊥ result }
+{
+    match error {
+        RaisedError::Source(error) => refused_source(alloc, lattice, source, error),
+        RaisedError::Raised(text, error) => refused_raised(alloc, lattice, &text, error),
+        RaisedError::Memory => Unanswered::Memory,
     }
 }
 
@@ -74,10 +89,6 @@ pub fn apply(
 {
     match raised_text_in(alloc, profile, lattice, source) {
         Ok(text) => Ok(text),
-        Err(RaisedError::Source(error)) => Err(refused_source(alloc, lattice, source, error)),
-        Err(RaisedError::Raised(text, error)) => {
-            Err(refused_raised(alloc, lattice, text.as_slice(), error))
-        }
-        Err(RaisedError::Memory) => Err(Unanswered::Memory),
+        Err(error) => Err(unraised(alloc, lattice, source, error)),
     }
 }
