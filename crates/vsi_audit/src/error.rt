@@ -16,10 +16,10 @@ pub enum AuditError {
     UnknownClass(usize),
     /// The code isn't the code of commands; the number is that of the first instruction that
     /// doesn't fit, or the number of instructions.
-    #[error("no commands can be read back from the code at instruction {0}")]
+    #[error("the code has no commands that can be judged, at instruction {0}")]
     Unstructured(usize),
     /// The number of slots or the stack field differs from what the code needs.
-    #[error("the number of slots or the size of the stack isn't what the code needs")]
+    #[error("the slots or the stack is not what the code needs")]
     WrongFields,
     /// The commands of the code have no text within the limits on texts.
     #[error("the commands have no text within the limits")]

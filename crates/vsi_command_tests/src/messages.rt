@@ -28,12 +28,12 @@ fn errors_say_why(rt: HostRuntime) -> Result<(), Fail> {
         says(
             alloc,
             &LexError::BadWord(span),
-            "the token at byte 7 isn't a keyword, a name or a number",
+            "the word at byte 7 is no keyword, no name and no number",
         )?,
         says(
             alloc,
             &ParseError::Unexpected(span),
-            "the text isn't a program from byte 7 on",
+            "no program goes on as the text does at byte 7",
         )?,
         says(
             alloc,
@@ -48,12 +48,12 @@ fn errors_say_why(rt: HostRuntime) -> Result<(), Fail> {
         says(
             alloc,
             &EncodeError::Unencodable(limit),
-            "the image exceeds a limit: the operand stack has room for more than 256",
+            "the image is past a limit: the operand stack has room for more than 256",
         )?,
         says(
             alloc,
             &Fault::Decode(DecodeError::BadField(4)),
-            "the bytes aren't an image: the field at byte 4 is not allowed",
+            "the bytes are no image: the field at byte 4 is not allowed",
         )?,
         says(
             alloc,
@@ -63,7 +63,7 @@ fn errors_say_why(rt: HostRuntime) -> Result<(), Fail> {
         says(
             alloc,
             &StartError::WrongStore(2),
-            "the store has 2 words, not one for each global",
+            "the store has 2 words, and not one for each global",
         )?,
     ];
     for (row, holds) in rows.iter().enumerate() {

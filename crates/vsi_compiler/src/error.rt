@@ -13,11 +13,11 @@ use vsi_syntax::{LexError, ParseError};
 /// error.
 #[derive(Debug, Drop, Error)]
 pub enum CompileError {
-    #[error("the text doesn't consist of tokens")]
+    #[error("the text has no tokens")]
     Lex(LexError),
-    #[error("the tokens aren't a program")]
+    #[error("the tokens are no program")]
     Parse(ParseError),
-    #[error("the program exceeds a limit, or a name in it is wrong")]
+    #[error("the program is out of its limits, or a name stands for nothing")]
     Scope(ScopeError),
     #[error("a flow breaks the policy")]
     Flow(Walk),

@@ -14,41 +14,41 @@ use vsi_syntax::put_number;
 #[derive(Debug, Drop, Error)]
 pub enum InterfaceError {
     /// The text isn't a TOML document.
-    #[error("the interface isn't TOML")]
+    #[error("the interface is no TOML")]
     NotToml,
     /// An interface has no such key.
-    #[error("the interface has an unknown key")]
+    #[error("the interface has a key that is none")]
     UnknownKey(Vec<u8>),
     /// The interface has neither a text at `lattice` nor the keys of a lattice file, or it has
     /// both.
     #[error("the interface has no lattice, or two")]
     BadLattice,
     /// The value at `profile` is none of `base`, `strict` and `steady`.
-    #[error("the interface has no valid profile")]
+    #[error("the interface has no profile")]
     BadProfile,
     /// The value at `order` is neither `exact` nor `set`.
-    #[error("the order of the globals isn't valid")]
+    #[error("the order of the globals is none")]
     BadOrder,
     /// The value at `globals` isn't an array of pairs of texts.
     #[error("the interface has no array of globals")]
     BadGlobals,
     /// This name of a global isn't a name of the language.
-    #[error("the name of a global isn't valid")]
+    #[error("the name of a global is none")]
     BadName(Vec<u8>),
     /// Two globals have this name.
-    #[error("two globals have the same name")]
+    #[error("two globals have one name")]
     RepeatedGlobal(Vec<u8>),
     /// The class of the global with this name isn't a class of the lattice.
-    #[error("the class of a global isn't in the lattice")]
+    #[error("the class of a global is none")]
     UnknownClass(Vec<u8>),
     /// The value at `runs` isn't an array.
-    #[error("the runs aren't an array")]
+    #[error("the runs are no array")]
     BadRuns,
     /// The run isn't a table, or has a key that runs don't have.
-    #[error("run {0} isn't valid")]
+    #[error("run {0} is no run")]
     BadRun(usize),
     /// The store of the run isn't a table of numbers.
-    #[error("the store of run {0} isn't valid")]
+    #[error("the store of run {0} is none")]
     BadStore(usize),
     /// The run has no budget of at least 0.
     #[error("run {0} has no budget")]

@@ -23,7 +23,7 @@ pub enum EngineError {
     #[error("the text is refused")]
     Compile(CompileError),
     /// The bytes aren't an image.
-    #[error("the bytes aren't an image")]
+    #[error("the bytes are no image")]
     Decode(DecodeError),
     /// The image isn't valid.
     #[error("the image is not valid")]

@@ -12,7 +12,7 @@ pub enum Fault {
     #[error("the lattice file is refused: {0}")]
     Lattice(LatticeError),
     /// The bytes of the file aren't an image.
-    #[error("the bytes aren't an image: {0}")]
+    #[error("the bytes are no image: {0}")]
     Decode(DecodeError),
     /// The image isn't valid.
     #[error("the image is not valid: {0}")]
@@ -21,6 +21,6 @@ pub enum Fault {
     #[error("the store file is refused: {0}")]
     Store(StoreError),
     /// The class has no view of a run.
-    #[error("the view of the run is refused: {0}")]
+    #[error("the class sees nothing of the run: {0}")]
     View(ViewError),
 }

@@ -17,7 +17,7 @@ pub enum LineFault {
     #[error("setting {0} is not of the form NAME = NUMBER")]
     BadSetting(usize),
     /// The image has no global of this name.
-    #[error("setting {0} doesn't name a global")]
+    #[error("setting {0} names no global")]
     UnknownGlobal(usize),
     /// The global isn't at or below the class that sets it.
     #[error("setting {0} names a global that is not at or below the class")]

@@ -13,7 +13,7 @@ pub enum EmitError {
     #[error("out of memory")]
     Memory,
     /// The name isn't an identifier of C, begins with an underscore, or is a keyword of C or C++.
-    #[error("the name isn't an identifier, or it is a keyword")]
+    #[error("the name is no identifier, or it is a keyword")]
     BadName,
 }
 

@@ -33,13 +33,13 @@ pub enum DecodeError {
     #[error("the field at byte {0} is not allowed")]
     BadField(usize),
     /// The byte is not an opcode of the version.
-    #[error("the byte at {0} isn't an opcode of the version")]
+    #[error("the byte at {0} is no opcode of the version")]
     BadOpcode(usize),
     /// Fewer bytes are left than the width of the field.
     #[error("the field at byte {0} is cut short")]
     Truncated(usize),
     /// Bytes are left after the last field, from this one on.
-    #[error("there are bytes after the last field, from byte {0} on")]
+    #[error("bytes are left behind the last field, from byte {0} on")]
     Trailing(usize),
 }
 

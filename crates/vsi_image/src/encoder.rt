@@ -157,7 +157,7 @@ pub enum EncodeError {
     #[error("out of memory")]
     Memory,
     /// The image exceeds this limit, the first one that it exceeds.
-    #[error("the image exceeds a limit: {0}")]
+    #[error("the image is past a limit: {0}")]
     Unencodable(Limit),
 }
 

@@ -40,10 +40,10 @@ pub enum Limit {
     #[error("there are more than {limit} instructions", limit = MAX_INSTRUCTIONS)]
     Count,
     /// The global's name is invalid, or is that of a global before it.
-    #[error("the name of global {0} isn't valid, or is that of an earlier global")]
+    #[error("the name of global {0} is none, or that of a global before it")]
     Name(usize),
     /// The name of the global's class is invalid.
-    #[error("the class name of global {0} isn't valid")]
+    #[error("the class name of global {0} is none")]
     Class(usize),
 }
 

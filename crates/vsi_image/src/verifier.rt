@@ -20,13 +20,13 @@ use thiserror::Error;
 #[derive(Clone, Copy, PartialEq, Eq, Debug, Error)]
 pub enum VerifyError {
     /// The image exceeds a limit, the same one that `encode` reports.
-    #[error("the image exceeds a limit: {0}")]
+    #[error("the image is past a limit: {0}")]
     Unencodable(Limit),
     /// The instruction names a slot that the image doesn't have.
     #[error("instruction {0} names a slot that the image lacks")]
     BadSlot(usize),
     /// The instruction names a target that isn't below the number of instructions.
-    #[error("instruction {0} jumps to a place that has no instruction")]
+    #[error("instruction {0} names a target that is no instruction")]
     BadTarget(usize),
     /// The instruction takes more operands than are on the stack.
     #[error("instruction {0} takes more operands than there are")]
@@ -35,10 +35,10 @@ pub enum VerifyError {
     #[error("instruction {0} leaves more operands than the stack has room for")]
     Overflow(usize),
     /// A jump or a halt leaves operands, or a jump's target is reached with operands.
-    #[error("instruction {0} leaves operands, or its target is reached with operands")]
+    #[error("instruction {0} leaves operands, or its target is met with operands")]
     NotEmpty(usize),
     /// There is no instruction, or the last one continues to the next.
-    #[error("there is no instruction, or a run can go on past the last one")]
+    #[error("there is no instruction, or the last one goes on to the next")]
     RunsOff,
 }
 

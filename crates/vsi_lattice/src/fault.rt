@@ -14,10 +14,10 @@ pub enum LatticeError {
     #[error("out of memory")]
     Memory,
     /// The text is not a TOML document.
-    #[error("the lattice file isn't TOML")]
+    #[error("the lattice file is no TOML")]
     NotToml,
     /// The document has keys other than `classes` and `below`, or values of other types there.
-    #[error("the keys of the lattice file aren't `classes` and `below`, or have wrong types")]
+    #[error("the lattice file has other keys than `classes` and `below`, or other types there")]
     BadShape,
     /// There is no class.
     #[error("there is no class")]
@@ -26,13 +26,13 @@ pub enum LatticeError {
     #[error("there are more than 64 classes")]
     TooManyClasses,
     /// The class at this position in `classes` has no name.
-    #[error("the class at place {0} has no valid name")]
+    #[error("the class at place {0} has no name")]
     BadName(usize),
     /// The class at this position in `classes` has the name of an earlier one.
     #[error("the class at place {0} has the name of an earlier one")]
     DuplicateName(usize),
     /// The pair at this position in `below` has a name that is not a class.
-    #[error("the pair at place {0} names an unknown class")]
+    #[error("the pair at place {0} names no class")]
     UnknownName(usize),
     /// Two classes that are below each other.
     #[error("classes {low} and {high} are below each other", low = .0.index(), high = .1.index())]

@@ -14,13 +14,13 @@ pub enum ShapeError {
     #[error("no shape has this name")]
     NoShape,
     /// The shape doesn't take this number of names.
-    #[error("the number of names isn't the one that the shape takes")]
+    #[error("the shape takes another number of names")]
     WrongCount(Shape),
     /// A class would have this name, which isn't a valid name.
-    #[error("a class would have an invalid name")]
+    #[error("a class would have a name that isn't one")]
     NoName(Vec<u8>),
     /// Two classes would have this name.
-    #[error("two classes would have the same name")]
+    #[error("two classes would have one name")]
     Twice(Vec<u8>),
     /// There was too little memory.
     #[error("out of memory")]

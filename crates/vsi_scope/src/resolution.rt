@@ -31,7 +31,7 @@ pub enum ScopeError {
     #[error("out of memory")]
     Memory,
     /// The name of a global that is declared above.
-    #[error("the global at byte {start} is already declared", start = .0.start)]
+    #[error("the global at byte {start} is declared above", start = .0.start)]
     Duplicate(Span),
     /// The name of a class that is not in the lattice.
     #[error("the class at byte {start} is not in the lattice", start = .0.start)]

@@ -15,7 +15,7 @@ pub enum SteadyError {
     UnknownClass(usize),
     /// The instruction with this number brings something above the bottom class into a jump, or
     /// brings something into a global whose class it isn't at or below.
-    #[error("instruction {0} has a flow into a jump or a global that isn't allowed")]
+    #[error("instruction {0} brings something into a jump or a global where it may not flow")]
     Flow(usize),
     #[error("out of memory")]
     Memory,

@@ -11,13 +11,13 @@ use thiserror::Error;
 #[derive(Debug, Drop, Error)]
 pub enum StoreError {
     /// The text isn't a TOML document.
-    #[error("the store file isn't TOML")]
+    #[error("the store file is no TOML")]
     NotToml,
     /// The value of this key isn't an integer.
-    #[error("the value of a key isn't a number")]
+    #[error("the value of a key is no number")]
     NotANumber(Vec<u8>),
     /// The image has no global of this name.
-    #[error("a key isn't a global")]
+    #[error("a key is no global")]
     UnknownGlobal(Vec<u8>),
     /// An allocation failed.
     #[error("out of memory")]

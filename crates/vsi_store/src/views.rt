@@ -23,7 +23,7 @@ pub enum ViewError {
     #[error("a global has a class that the lattice lacks")]
     ClassNotInLattice(usize),
     /// The store has this many words, which isn't one for each global.
-    #[error("the store doesn't have one word for each global")]
+    #[error("the store has not one word per global")]
     WrongStore(usize),
     /// An allocation failed.
     #[error("out of memory")]

@@ -22,10 +22,10 @@ pub enum ParseError {
     Memory,
     /// No program of any depth begins with the tokens up to and including this one. If the tokens
     /// end too early, this is the empty span after the last token, at 0 if there is none.
-    #[error("the text isn't a program from byte {start} on", start = .0.start)]
+    #[error("no program goes on as the text does at byte {start}", start = .0.start)]
     Unexpected(Span),
     /// Only programs deeper than `MAX_DEPTH` begin with the tokens up to and including this one.
-    #[error("the program is nested too deep at byte {start}", start = .0.start)]
+    #[error("the program is too deep at byte {start}", start = .0.start)]
     TooDeep(Span),
 }
 

@@ -14,10 +14,10 @@ pub enum CheckError {
     #[error("out of memory")]
     Memory,
     /// The choice doesn't have one class for each `letvar`, or changes a declared one.
-    #[error("the choice doesn't have one class for each letvar, or changes a declared one")]
+    #[error("the choice has not one class for each letvar, or changes a declared one")]
     WrongChoice,
     /// The first flow step that isn't in order.
-    #[error("the flow from byte {start} isn't allowed", start = .0.span.start)]
+    #[error("the flow from byte {start} is not in order", start = .0.span.start)]
     Flow(FlowFault),
 }
 
