@@ -94,11 +94,11 @@ pub(crate) const EMITTED: Argument = Argument {
     whole: word_help::EMITTED,
 };
 
-pub(crate) const BOUNDED: Argument = Argument {
+pub(crate) const BOUNDED_FILE: Argument = Argument {
     name: "FILE",
     form: Form::Place,
     line: "The image file, or the lattice file of SOURCE",
-    whole: word_help::BOUNDED,
+    whole: word_help::BOUNDED_FILE,
 };
 
 pub(crate) const BOUNDED_SOURCE: Argument = Argument {

@@ -19,7 +19,7 @@ struct Subcommand {
 }
 
 /// The subcommands whose refusals can be explained, in the order of the help.
-const SUBCOMMANDS: [Subcommand; 19] = [
+const SUBCOMMANDS: [Subcommand; 20] = [
     Subcommand {
         name: "try",
         line: "Judges a source text and runs it",
@@ -102,7 +102,7 @@ const SUBCOMMANDS: [Subcommand; 19] = [
         line: "Prints a number of instructions within which every run halts",
         whole: help::BOUND,
         example: help::BOUND_EXAMPLE,
-        arguments: &[BOUNDED, BOUNDED_SOURCE],
+        arguments: &[BOUNDED_FILE, BOUNDED_SOURCE],
     },
     Subcommand {
         name: "run",

@@ -62,7 +62,7 @@ The path of the image, a file that `vsi build` writes, or with
 are verified before they are used.";
 
 /// The file whose bound is printed.
-pub(crate) const BOUNDED: &str = "\
+pub(crate) const BOUNDED_FILE: &str = "\
 The path of the image, the bytes that `vsi build` writes, or with SOURCE
 the path of the lattice file. Any bytes may be given: they are verified
 before they are used.";
