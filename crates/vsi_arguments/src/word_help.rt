@@ -62,9 +62,9 @@ verified before they are used.";
 
 /// The file whose bound is printed.
 pub(crate) const BOUNDED: &str = "\
-The path of the image, the bytes that `vsi build` writes, or with SOURCE
-the path of the lattice file. Any bytes may be given: they are verified
-before they are used.";
+The path of the image, the bytes that `vsi build` writes, or with
+SOURCE that of the lattice file. Any bytes may be given: they are
+verified before they are used.";
 
 /// The source text whose bound is printed.
 pub(crate) const BOUNDED_SOURCE: &str = "\
@@ -134,10 +134,10 @@ The name of the class that looks, one of LATTICE.";
 /// What a budget is.
 pub(crate) const BUDGET: &str = "\
 The most instructions that are done, the halt included: a whole number
-from 0 to 18446744073709551615, in digits alone, or `auto`, which is the
-number that `vsi bound` prints for the image. No run spends that. If no
-bound is found, `auto` runs nothing: the line of `vsi bound` is printed,
-with status 1.";
+from 0 to 18446744073709551615, in digits alone; or `auto`, the number
+that `vsi bound` prints for the image, within which each run halts. If
+no bound is found, `auto` runs nothing: standard error gets the line
+of `vsi bound`, and the status is 1.";
 
 /// What a store file is.
 pub(crate) const STORE: &str = "\
