@@ -63,9 +63,9 @@ are verified before they are used.";
 
 /// The file whose bound is printed.
 pub(crate) const BOUNDED_FILE: &str = "\
-The path of the image, the bytes that `vsi build` writes, or with SOURCE
-the path of the lattice file. Any bytes may be given: they are verified
-before they are used.";
+The path of the image, the bytes that `vsi build` writes, or with
+SOURCE the path of the lattice file. Any bytes may be given: they are
+verified before they are used.";
 
 /// The source text whose bound is printed.
 pub(crate) const BOUNDED_SOURCE: &str = "\
@@ -149,10 +149,10 @@ The name of the observer's class, one of the classes of LATTICE.";
 /// A budget.
 pub(crate) const BUDGET: &str = "\
 The maximum number of instructions, the halt included: a whole number
-from 0 to 18446744073709551615, in digits alone, or `auto`, which is the
-number that `vsi bound` prints for the image. No run exceeds that. If no
-bound is found, `auto` runs nothing: the line of `vsi bound` is printed,
-with status 1.";
+from 0 to 18446744073709551615, in digits alone; or `auto`, the number
+that `vsi bound` prints for the image, within which every run halts. If
+no bound is found, `auto` runs nothing: the line of `vsi bound` goes to
+standard error, and the status is 1.";
 
 /// A store file.
 pub(crate) const STORE: &str = "\
