@@ -120,7 +120,7 @@ def many_classes(nests=5, links=NEST - 20, ring="", is_refused=True):
 
 RING = "while {} do {{ {} }}; "
 
-# Each shape by its name, with the lattice that its classes are of.
+# Each shape by its name, with the lattice of its classes.
 SHAPES = {
     "guard_before_chain": (guard_before_chain, "two"),
     "guard_round_chain": (guard_round_chain, "two"),

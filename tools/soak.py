@@ -47,6 +47,7 @@ REFUSALS = {"": COMPILER_REFUSALS, "fmt": set(range(11, 17)), "list": IMAGE_REFU
             "compare": LATTICE_REFUSALS | IMAGE_REFUSALS | STORE_REFUSALS | {43},
             "drive": LATTICE_REFUSALS | IMAGE_REFUSALS | STORE_REFUSALS | {43},
             "audit": LATTICE_REFUSALS | IMAGE_REFUSALS | {25, 43, 49, 50}, "source": IMAGE_REFUSALS | {49, 51},
+            "mend": LATTICE_REFUSALS | COMPILER_REFUSALS,
             "flows": LATTICE_REFUSALS | TEXT_REFUSALS, "leak": LATTICE_REFUSALS | TEXT_REFUSALS,
             "draw": LATTICE_REFUSALS | TEXT_REFUSALS, "report": LATTICE_REFUSALS, "conform": LATTICE_REFUSALS}
 
@@ -63,7 +64,7 @@ CODE_WALK = rb"(?:\d+ (?:slot )?\w+ flows to (?:(?:slot )?\w+|\(loop\)|\(jump\))
 REFUSAL = re.compile(
     rb"refused: (?:(?:" + ALONE + rb")\n|(?:" + NUMBERS + rb") \d+\n|(?:8 Cycle|9 NoJoin|10 NoMeet) \d+ \d+\n|(?:"
     + PLACES + rb") \d+:\d+\n|(?s:(?:41 NotANumber|42 UnknownGlobal) .*\n)|25 Refused\n(?:" + WALK
-    + rb"|" + CODE_WALK + rb"))")
+    + rb"|" + CODE_WALK + rb"))(?:in the text with the raised classes\n)?")
 
 STORE_TEXT = rb"(?:\w+ = -?\d+\n)*"
 ROWS = rb"(?:(?:  |\* ).*\n)*"
@@ -78,6 +79,7 @@ DONE = {command: re.compile(form) for command, form in {
     "": STORE_TEXT, "view": STORE_TEXT, "run": TRACE + STORE_TEXT, "check": rb"accepted\n", "build": rb"",
     "classes": rb"(?:\d+:\d+ \w+ : \w+\n)+", "fmt": rb"[ -~\n]+\n", "?": rb"(?s:.*)",
     "flows": rb"(?:\w+ : \w+ flows to (?:\w+|\(loop\)) : \w+ (?:allowed|refused) \d+\n(?:" + STEP + rb")*)*",
+    "mend": rb"(?:\d+:\d+ \w+ : \w+ -> \w+, since \w+ reaches it\n)*",
     "leak": rb"no leak in \d+ pairs of runs\n", "source": rb"[ -~\n]+\n", "compare": COMPARED,
     "drive": rb"(?:(?:\w+ = -?\d+(?: \w+ = -?\d+)*)?\n|refused: 4[4-8] \w+(?: \d+)?\n|out of budget\n)*",
     "conform": rb'conforms\n|\{"conforms":true,"points":\[\]\}\n', "audit": rb"accepted\n",
@@ -183,6 +185,8 @@ def faults_of(given, answer):
     if answer.status == 1 and not answer.error:
         form = TOLD.get(given.command, form)
     if given.command == "?":
+        form = DONE["?"]
+    if form and "--apply" in given.words:
         form = DONE["?"]
     if answer.status == 3 and "--trace" in given.words:
         form = UNFINISHED

@@ -331,13 +331,13 @@ INTERFACES = [text.encode() for text in (
 
 # The subcommands of the second implementation; and all of them, with those more often.
 COMPILING = ("", "", "check", "check", "classes", "fmt", "build", "list", "run", "run", "view")
-ALL = COMPILING * 2 + ("flows", "flows", "leak", "audit", "audit", "source", "compare", "drive", "conform", "conform",
-                       "report", "draw", "explain")
+ALL = COMPILING * 2 + ("flows", "flows", "mend", "leak", "audit", "audit", "source", "compare", "drive", "conform",
+                       "conform", "report", "draw", "explain")
 
 # How the arguments after a subcommand are made, if not by its own name.
 FORMS = {"": "source_alone", "fmt": "source_alone", "list": "image_alone", "source": "image_alone",
          "check": "compilation", "classes": "compilation", "build": "compilation", "flows": "compilation",
-         "report": "compilation"}
+         "mend": "compilation", "report": "compilation"}
 
 
 def a_class(rng):
@@ -353,7 +353,7 @@ class Input:
 
     def __init__(self, rng, subcommands):
         self.command = rng.choice(subcommands)
-        self.options = {"check": ["--steady"], "flows": ["--walks"]} if subcommands is ALL else {}
+        self.options = {"check": ["--steady"], "flows": ["--walks"], "mend": ["--apply"]} if subcommands is ALL else {}
         self.files = {"source": b"", "lattice": b"", "image": b"", "store": b"", "other": b""}
         self.words = [self.command] if self.command else []
         getattr(self, "with_" + FORMS.get(self.command, self.command))(rng)

@@ -87,7 +87,7 @@ input_cut c m bytes (Some all) (Some left) old new read part =
           (more_lines c m (whole_lines [] bytes) more old new part),
     )
 
--- The same, with a part of what the lines of one more piece write.
+-- The same, with a part of the output of one more piece's lines.
 pub piece_cut : (c : Control) (m mid : List ℤ) (bytes piece cur : List ℕ) (first rest last old between new : Option
     (List ℕ)) → Consumes first rest bytes → Consumes rest last piece → cur ≡ begun [] bytes →
     Drives c m mid (whole_lines [] bytes) old between → WritesPart (text_of c mid (whole_lines cur piece)) between new →
@@ -98,7 +98,7 @@ piece_cut c m mid bytes piece cur first rest last old between new before more is
     (ap (λ l. whole_lines [] bytes ++ whole_lines l piece) is ∙ sym (whole_lines-append [] bytes piece))
     (then_lines c m mid (whole_lines [] bytes) (whole_lines cur piece) old between new driven part))
 
--- The same, with a part of what the last line writes, which no line feed ends.
+-- The same, with a part of the output of the last line, which no line feed ends.
 pub end_cut : (c : Control) (m mid : List ℤ) (bytes cur line : List ℕ) (first rest last old between new : Option
     (List ℕ)) → Consumes first rest bytes → Consumes rest last [] → IsAtEnd last → cur ≡ begun [] bytes →
     Drives c m mid (whole_lines [] bytes) old between → line ≡ cur →

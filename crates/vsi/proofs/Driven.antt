@@ -155,6 +155,6 @@ pub control_is : (k : Control) (l : Lattice) (class : ℕ) (im : Image) (budget 
 control_is k l class im budget known ordered seen is within =
     λ i. record { known = known i; order = ordered i; class = seen i; image = is i; budget = within i }
 
--- A vector becomes what the slice of the whole vector becomes.
+-- The first part of a concatenation, taken by its length, is that part.
 pub written_back : (n : ℕ) (xs ys : List ℤ) → length xs ≡ n → take n (xs ++ ys) ≡ xs
 written_back n xs ys is = subst (λ k. take k (xs ++ ys) ≡ xs) is (take-append_seam xs ys)

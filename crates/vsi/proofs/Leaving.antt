@@ -24,7 +24,7 @@ use Rattle.vsi.specs.declared.stop.Stop.{Stop}
 use Rattle.vsi.specs.declared.stop.Stop.TheVariants.{Memory}
 use Rattle.vsi.specs.Holding.{Holding, IsImageAt}
 use Rattle.vsi.specs.Partly.{AnswersCheck, AnswersDrive, AnswersRun, DrivenText, Leaves, Partly, WritesPart, cut_from}
-use Rattle.vsi.specs.Performed.{BeginsAt, IsStoredAt, LooksAt, OfFiles, ToldJson, control_of, judgement_of, shown}
+use Rattle.vsi.specs.Performed.{BeginsAt, IsBudgetOf, IsStoredAt, LooksAt, OfFiles, ToldJson, control_of, judgement_of, shown}
 use Rattle.vsi.specs.Reasons.{ToldRefusal}
 use Rattle.vsi.specs.Stops.{status_of}
 use Rattle.vsi.proofs.Partly.{Partly-weaker, spent_leaf, whole_part}
@@ -43,11 +43,13 @@ cut_within (request.Check asked) = omega arith
 cut_within (request.Conform asked) = omega arith
 cut_within (request.Classes c) = omega arith
 cut_within (request.Flows c has_walks) = omega arith
+cut_within (request.Mend asked) = omega arith
 cut_within (request.Build c image) = omega arith
 cut_within (request.List image) = omega arith
 cut_within (request.Audit asked) = omega arith
 cut_within (request.Source image) = omega arith
 cut_within (request.EmitC asked) = omega arith
+cut_within (request.Bound asked) = omega arith
 cut_within (request.Run e o has_trace has_count) = omega arith
 cut_within (request.View lattice class e o) = omega arith
 cut_within (request.Drive driving) = omega arith
@@ -91,16 +93,19 @@ steps_part false code budget s old new (k, within, written) = whole_part [] old 
 
 -- A run that has ended has written its trace.
 pub traced_part : (holds : Holding) (e : Execution) (o : Outset) (traced : Bool) (image : Image) (words given : List ℤ)
-    (told : Option (List ℕ)) (trace : List ℕ) (old new : Option (List ℕ)) → BeginsAt holds e o image given →
-    words ≡ given → RunsApart traced image words e.budget told trace → Appends old new trace →
+    (budget : ℕ) (told : Option (List ℕ)) (trace : List ℕ) (old new : Option (List ℕ)) →
+    IsBudgetOf e.budget image budget → BeginsAt holds e o image given → words ≡ given →
+    RunsApart traced image words budget told trace → Appends old new trace →
     Partly (AnswersRun holds e o traced) old new
-traced_part holds e o traced image words given told trace old new begins same ran written =
+traced_part holds e o traced image words given budget told trace old new within begins same ran written =
     inr (
       trace,
       inl (record {
         image = image;
         words = words;
         begins = subst (BeginsAt holds e o image) (sym same) begins;
+        budget = budget;
+        within = within;
         is = ran.written;
       }),
       whole_part trace old new written,
@@ -108,10 +113,12 @@ traced_part holds e o traced image words given told trace old new begins same ra
 
 -- Where it has halted, a part of the text of the store has been written after it.
 pub shown_part : (holds : Holding) (e : Execution) (o : Outset) (traced : Bool) (image : Image) (words given : List ℤ)
-    (text delivered trace : List ℕ) (old mid new : Option (List ℕ)) → BeginsAt holds e o image given →
-    words ≡ given → RunsApart traced image words e.budget (Some text) trace → Appends old mid trace →
-    delivered ≡ text → WritesPart (shown o.out delivered) mid new → Partly (AnswersRun holds e o traced) old new
-shown_part holds e o traced image words given text delivered trace old mid new begins same ran written is part =
+    (budget : ℕ) (text delivered trace : List ℕ) (old mid new : Option (List ℕ)) →
+    IsBudgetOf e.budget image budget → BeginsAt holds e o image given → words ≡ given →
+    RunsApart traced image words budget (Some text) trace → Appends old mid trace → delivered ≡ text →
+    WritesPart (shown o.out delivered) mid new → Partly (AnswersRun holds e o traced) old new
+shown_part holds e o traced image words given budget text delivered trace old mid new within begins same ran written
+    is part =
     inr (
       trace ++ shown o.out text,
       inr (record {
@@ -121,6 +128,8 @@ shown_part holds e o traced image words given text delivered trace old mid new b
           image = image;
           words = words;
           begins = subst (BeginsAt holds e o image) (sym same) begins;
+          budget = budget;
+          within = within;
           ran = ran;
         };
         is = refl;
@@ -143,24 +152,26 @@ written_part text old new Steps engine.Memory only write memory f = f (memory re
 
 -- A run that is cut short has written a part of its trace.
 pub cut_part : (holds : Holding) (e : Execution) (o : Outset) (traced : Bool) (image : Image) (words given : List ℤ)
-    (error : EngineError) (old new : Option (List ℕ)) → BeginsAt holds e o image given → words ≡ given →
-    IsOfWriting error →
-    (error ≡ engine.WriteFault → WritesPart (trace_of traced image.code.items e.budget (start image words)) old new) →
+    (budget : ℕ) (error : EngineError) (old new : Option (List ℕ)) → IsBudgetOf e.budget image budget →
+    BeginsAt holds e o image given → words ≡ given → IsOfWriting error →
+    (error ≡ engine.WriteFault → WritesPart (trace_of traced image.code.items budget (start image words)) old new) →
     (error ≡ engine.Memory →
-    WrittenSteps (λ k. trace_of traced image.code.items k (start image words)) e.budget old new) →
+    WrittenSteps (λ k. trace_of traced image.code.items k (start image words)) budget old new) →
     Partly (AnswersRun holds e o traced) old new
-cut_part holds e o traced image words given error old new begins same only write memory =
+cut_part holds e o traced image words given budget error old new within begins same only write memory =
     inr (
-      trace_of traced image.code.items e.budget (start image words),
+      trace_of traced image.code.items budget (start image words),
       inl (record {
         image = image;
         words = words;
         begins = subst (BeginsAt holds e o image) (sym same) begins;
+        budget = budget;
+        within = within;
         is = refl;
       }),
-      written_part (trace_of traced image.code.items e.budget (start image words)) old new
-          (WrittenSteps (λ k. trace_of traced image.code.items k (start image words)) e.budget old new) error only write
-          memory (steps_part traced image.code.items e.budget (start image words) old new),
+      written_part (trace_of traced image.code.items budget (start image words)) old new
+          (WrittenSteps (λ k. trace_of traced image.code.items k (start image words)) budget old new) error only write
+          memory (steps_part traced image.code.items budget (start image words) old new),
     )
 
 -- A call that only writes stops no earlier than with a fault.
@@ -181,11 +192,12 @@ device_leaf Kind engine.Memory old new stop only write memory part =
 
 -- The text that a controller has written for its input is a part of the answer of `drive`.
 pub driven_answers : (holds : Holding) (d : Driving) (given old new : Option (List ℕ)) (l : Lattice) (driver : ℕ)
-    (image : Image) (first : List ℤ) (k : Control) → LooksAt holds d.lattice.now d.class.now l driver →
+    (image : Image) (first : List ℤ) (budget : ℕ) (k : Control) → IsBudgetOf d.execution.budget image budget →
+    LooksAt holds d.lattice.now d.class.now l driver →
     IsImageAt holds d.execution.image.now image → IsStoredAt holds d.execution.store image first →
-    k ≡ control_of l driver image d.execution.budget → Partly (DrivenText k first given) old new →
+    k ≡ control_of l driver image budget → Partly (DrivenText k first given) old new →
     Partly (AnswersDrive holds d given) old new
-driven_answers holds d given old new l driver image first k looks held stored same =
+driven_answers holds d given old new l driver image first budget k within looks held stored same =
     Partly-weaker (DrivenText k first given) (AnswersDrive holds d given) old new
     (λ text is. record {
       lattice = l;
@@ -195,5 +207,7 @@ driven_answers holds d given old new l driver image first k looks held stored sa
       held = held;
       first = first;
       stored = stored;
+      budget = budget;
+      within = within;
       driven = subst (λ c. DrivenText c first given text) same is;
     })

@@ -38,7 +38,7 @@ use Rattle.vsi.proofs.Declared.{AreAlike, declared_alike}
 use Rattle.vsi.proofs.Once.{SameBuild, SameView, one_build, one_view}
 use Rattle.vsi.proofs.Short.{built_short, read_again, read_whole}
 
--- ---- what is left, and what is seen of it.
+-- ---- the files left, and the views of them.
 
 -- An image has been built under the lattice of one file, and is in another.
 record Leaves (holds : Holding) (path image : List ℕ) (left : Holding) : Type 0 where
@@ -114,7 +114,7 @@ alike_at holds path policy l m tells first second =
     (subst (λ p. Declares p m) (read_again holds path policy second.policy first.policy tells second.read first.read)
     second.declared)
 
--- A lattice file that is no other than it was declares what it did.
+-- A lattice file that hasn't changed declares the same lattice.
 lattice_left : (old new : Holding) (path : List ℕ) (l : Lattice) → new path ≡ old path → IsLatticeAt old path l →
     IsLatticeAt new path l
 lattice_left old new path l same at = record {
@@ -134,7 +134,7 @@ image_left holds left path image held asked leaves im tells same at =
     leaves.built))
     at.are
 
--- Two texts that a class has been shown of what was left are the same, where the stores agree.
+-- If the stores agree, two texts of the left files that a class has been shown are equal.
 left_alike : (holds left : Holding) (path image class policy held : List ℕ) (e₁ e₂ : Execution) (o₁ o₂ : Outset)
     (t₁ t₂ : Vec ℕ) → Leaves holds path image left → path ≢ image → left path ≡ Some policy →
     left image ≡ Some held → e₁.image.now ≡ image → e₂.image.now ≡ image →
@@ -237,7 +237,7 @@ shown_of holds l m x y e f o p left old new same done =
         image = is.image;
         words = is.words;
         begins = begins_of holds l m x y e f o p is.image is.words same is.begins;
-        budget = f.budget;
+        budget = is.budget;
         views = is.views;
       };
       shows = record {

@@ -70,7 +70,7 @@ one_build words c i asks request asked =
     absurd (other_name (texts words) (codes "build") (name_of request) asks.spelled.rest asked.spelled.rest
     asks.spelled.named asked.spelled.named refl refl)
 
--- The paths, the class and what is set of two views.
+-- The paths, the class and the settings of two views.
 pub record SameView (l m x y : Bor (List ℕ)) (e f : Execution) (o p : Outset) : Type 0 where
   pub lattice : m.now ≡ l.now
   pub class : y.now ≡ x.now

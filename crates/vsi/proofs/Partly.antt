@@ -40,7 +40,7 @@ pub kept_leaf : (Kind : List ℕ → Type 0) (from : ℕ) (old : Option (List �
     Leaves Kind from old old stop
 kept_leaf Kind from old stop = record { partly = inl (Keeps-refl old); silent = λ other below. Keeps-refl old }
 
--- So does the answer that such a stop is.
+-- An answer that is such a stop leaves the output too.
 pub kept_leaves : {T : Type 0} (Kind : List ℕ → Type 0) (from : ℕ) (old : Option (List ℕ)) (result : Result T Stop) →
     IfErr result (Leaves Kind from old old)
 kept_leaves Kind from old (Ok x) = tt
@@ -51,7 +51,7 @@ pub late_leaf : (Kind : List ℕ → Type 0) (old new : Option (List ℕ)) (stop
     Partly Kind old new → Leaves Kind 4 old new stop
 late_leaf Kind old new stop late part = record { partly = part; silent = λ other below. absurd (omega arith) }
 
--- So does the answer that it is.
+-- An answer that is such a stop leaves the same.
 pub late_leaves : {T : Type 0} (Kind : List ℕ → Type 0) (old new : Option (List ℕ)) (result : Result T Stop) →
     IfErr result (λ stop. 3 < status_of stop) → Partly Kind old new → IfErr result (Leaves Kind 4 old new)
 late_leaves Kind old new (Ok x) late part = tt
@@ -69,7 +69,7 @@ pub spent_leaf : (Kind : List ℕ → Type 0) (old new : Option (List ℕ)) (sto
     Partly Kind old new → Leaves Kind 3 old new stop
 spent_leaf Kind old new stop late part = record { partly = part; silent = λ other below. absurd (omega arith) }
 
--- So does the answer that it is.
+-- An answer that is such a stop leaves the same.
 pub spent_leaves : {T : Type 0} (Kind : List ℕ → Type 0) (old new : Option (List ℕ)) (result : Result T Stop) →
     IfErr result (λ stop. 3 < status_of stop) → Partly Kind old new → IfErr result (Leaves Kind 3 old new)
 spent_leaves Kind old new (Ok x) late part = tt
@@ -114,7 +114,7 @@ put_leaves Kind old new (Ok text) (Err stop) is (inr (four, part)) =
     late_leaf (BytesOf Kind) old new stop (omega (arith, four)) (inr (text.items, (text, is, refl), part))
 put_leaves Kind old new (Err other) (Err stop) is (inr (four, part)) = absurd part
 
--- The same of one text, which is written where something is so.
+-- The same for one text, which is written under a condition.
 pub accept_leaves : {T U : Type 0} (A : Type 0) (word : List ℕ) (old new : Option (List ℕ)) (answer : Result U Stop)
     (result : Result T Stop) → OnOk answer A →
     IfErr result (λ stop. Keeps old new
@@ -134,7 +134,7 @@ pub put_left : {T U : Type 0} (answer : Result U Stop) (part : U → Type 0) (ke
 put_left answer part kept x (Ok y) is fault so = tt
 put_left answer part kept x (Err stop) is fault so = inr (fault, subst (λ a. IsOkAnd a part) (sym is) so)
 
--- Where there is none, the output is as it was.
+-- If there is no text, the output is unchanged.
 pub put_kept : {T : Type 0} (late : Stop → Type 0) (old : Option (List ℕ)) (result : Result T Stop) →
     IfErr result (λ stop. Keeps old old ⊎ late stop)
 put_kept late old (Ok x) = tt

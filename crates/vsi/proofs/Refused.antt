@@ -122,7 +122,7 @@ pub draw_lattice : (holds : Holding) (lattice : List ℕ) (source : Option (Bor 
 draw_lattice holds lattice None reason is = is
 draw_lattice holds lattice (Some path) reason is = inl is
 
--- So is a source text without a program.
+-- A source text without a program is a reason too.
 pub draw_source : (holds : Holding) (lattice : List ℕ) (source : Option (Bor (List ℕ))) (l : Lattice)
     (reason : Unanswered) → IsLatticeAt holds lattice l →
     IsSomeAnd source (λ path. RefusesProgramAt holds l path.now reason) → WhyDraw holds lattice source reason

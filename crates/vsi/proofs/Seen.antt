@@ -33,6 +33,6 @@ same_seen l m₁ m₂ strict source bytes i₁ i₂ a₁ a₂ class w₁ w₂ b�
 pub built_is_seen_alike : BuiltIsSeenAlike
 built_is_seen_alike built holds c bytes build path class e₁ e₂ o₁ o₂ t₁ t₂ first second is₁ is₂ are same agree =
     same_seen build.lattice first.lattice second.lattice c.is_strict build.source bytes first.image second.image
-    first.viewer second.viewer class first.words second.words e₁.budget e₂.budget t₁ t₂ is₁ is₂ same build.is are
+    first.viewer second.viewer class first.words second.words first.budget second.budget t₁ t₂ is₁ is₂ same build.is are
     first.looks.named second.looks.named first.looks.is first.begins.whole second.begins.whole agree first.views
     second.views

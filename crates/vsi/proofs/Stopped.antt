@@ -30,7 +30,7 @@ answered_stopped P (Err reason) result is told =
     subst (λ r. IfErr r (StopsFor (λ reason. P (Err reason)) (λ path. ⊥))) (sym is)
     (stop_of_why (λ reason. P (Err reason)) reason told)
 
--- A stop means what follows of what it means.
+-- The meaning of a stop implies every weaker meaning.
 pub StopsFor-weaker : (V W : Unanswered → Type 0) (F G : List ℕ → Type 0) →
     ((reason : Unanswered) → V reason → W reason) → ((path : List ℕ) → F path → G path) →
     (stop : Stop) → StopsFor V F stop → StopsFor W G stop

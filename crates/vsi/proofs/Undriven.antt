@@ -14,7 +14,7 @@ use Rattle.vsi_arguments.specs.declared.request.Driving.{Driving}
 use Rattle.vsi.specs.declared.stop.Stop.{Stop}
 use Rattle.vsi.specs.Holding.{Holding, IsImageAt}
 use Rattle.vsi.specs.Performed.{LooksAt}
-use Rattle.vsi.specs.Reasons.{IsNoMemory, LacksClassAt, NoOther, StopsBy, WhyDrive}
+use Rattle.vsi.specs.Reasons.{IsNoMemory, LacksDrive, NoOther, StopsBy, WhyDrive}
 use Rattle.vsi.proofs.Reasons.{stops_by}
 use Rattle.vsi.proofs.Unrun.{kind_told}
 
@@ -34,10 +34,10 @@ pub controller_stops : (holds : Holding) (d : Driving) (l : Lattice) (driver : �
     (stop : Stop) → LooksAt holds d.lattice.now d.class.now l driver →
     IsImageAt holds d.execution.image.now image → LacksController l image error →
     StopsBy (Because (TellsFault (λ f. (f ≡ fault.View error) × IsNoMemory f)) ⊥) NoOther stop →
-    StopsBy (WhyDrive holds d) (LacksClassAt holds d.lattice.now d.class.now) stop
+    StopsBy (WhyDrive holds d) (LacksDrive holds d) stop
 controller_stops holds d l driver image error stop looks held lacks told =
     stops_by (Because (TellsFault (λ f. (f ≡ fault.View error) × IsNoMemory f)) ⊥) (WhyDrive holds d)
-    (LacksClassAt holds d.lattice.now d.class.now)
+    (LacksDrive holds d)
     (λ reason is. inr (inr (inr (record {
       lattice = l;
       driver = driver;

@@ -24,6 +24,7 @@ use Rattle.vsi_diagnostics.specs.declared.fault.Fault.TheVariants as fault
 use Rattle.vsi_devices.specs.Engine.{IsOfWriting}
 use Rattle.vsi_devices.specs.declared.error.EngineError.{EngineError}
 use Rattle.vsi_devices.specs.declared.error.EngineError.TheVariants as engine
+use Rattle.vsi_arguments.specs.declared.request.Budget.{Budget}
 use Rattle.vsi_arguments.specs.declared.request.Execution.{Execution}
 use Rattle.vsi_arguments.specs.declared.request.Outset.{Outset}
 use Rattle.vsi.specs.declared.stop.Stop.{Stop}
@@ -31,7 +32,7 @@ use Rattle.vsi.specs.declared.stop.Stop.TheVariants as stops
 use Rattle.vsi.specs.Holding.{Holding, IsImageAt, IsLatticeAt, IsStoreAt}
 use Rattle.vsi.specs.Input.{two_classes}
 use Rattle.vsi.specs.Performed.{BeginsAt}
-use Rattle.vsi.specs.Reasons.{HasNoText, IsNoMemory, IsUnusable, LacksClass, LacksClassAt, NoOther, RefusesImage, RefusesLattice, RefusesStart, RefusesStore, StopsBy}
+use Rattle.vsi.specs.Reasons.{HasNoText, IsNoMemory, IsUnusable, LacksBound, LacksBoundAt, LacksClass, LacksClassAt, NoOther, RefusesImage, RefusesLattice, RefusesStart, RefusesStore, StopsBy}
 use Rattle.vsi.specs.Stops.{status_of}
 use Rattle.vsi.proofs.Reasons.{StopsBy-weaker, handed, late_stops, stopped_by, stops_by}
 
@@ -103,7 +104,25 @@ unseen_stopped holds lattice image so other result stop of_lattice of_image is t
     ])
     (λ s lacks. lacks) stop told)
 
--- An image and words that it begins with, of what the files hold.
+-- A stop at something missing is one at something missing of a wider kind.
+pub more_stopped : {T : Type 0} (why : Unanswered → Type 0) (other more : Stop → Type 0) (result : Result T Stop) →
+    ((stop : Stop) → other stop → more stop) → IfErr result (StopsBy why other) → IfErr result (StopsBy why more)
+more_stopped why other more result f is =
+    IfErr-weaker result (StopsBy why other) (StopsBy why more)
+    (StopsBy-weaker why why other more (λ reason so. so) f) is
+
+-- If no bound was found for the image of a file, the caller that passes the stop on lacks that bound.
+pub unbounded_stopped : {T : Type 0} (holds : Holding) (path : List ℕ) (budget : Budget) (image : Image)
+    (why : Unanswered → Type 0) (other : Stop → Type 0) (result : Result T Stop) (stop : Stop) →
+    IsImageAt holds path image → ((s : Stop) → LacksBoundAt holds path budget s → other s) →
+    IsErrAnd result (λ s. s ≡ stop) → StopsBy (λ reason. ⊥) (LacksBound budget image) stop →
+    IfErr result (StopsBy why other)
+unbounded_stopped holds path budget image why other result stop held f is told =
+    handed (StopsBy why other) stop result is
+    (StopsBy-weaker (λ reason. ⊥) why (LacksBound budget image) other (λ reason none. absurd none)
+    (λ s lacks. f s (image, held, lacks)) stop told)
+
+-- An image and the words with which it begins, from the contents of the files.
 pub begins_at : (holds : Holding) (e : Execution) (o : Outset) (image : Image) (file given : List ℕ)
     (words : List ℤ) → IsImageAt holds e.image.now image → IsStoreAt holds e.store file → given ≡ file →
     Begins image given (texts o.settings.items) o.is_full words → length words ≡ length image.globals.items →
@@ -116,7 +135,7 @@ begins_at holds e o image file given words held read same begins whole = record 
   whole = whole;
 }
 
--- The words that a run begins with are refused of what the files hold.
+-- The words with which a run would begin are refused for the contents of the files.
 pub start_stopped : {T : Type 0} (holds : Holding) (e : Execution) (o : Outset) (so : Unanswered → Type 0)
     (other : Stop → Type 0) (image : Image) (file given : List ℕ) (result : Result T Stop) (stop : Stop) →
     IsImageAt holds e.image.now image → IsStoreAt holds e.store file → given ≡ file →
@@ -147,6 +166,7 @@ kind_told Kind fault kind (unanswered.Refused text (cause.File f)) told =
     (subst Kind (sym told.0.0) (kind (subst IsNoMemory told.0.0 told.0.1)), told.1)
 kind_told Kind fault kind (unanswered.Refused text (cause.Start f)) told = absurd told
 kind_told Kind fault kind (unanswered.Refused text (cause.Steady e)) told = absurd told
+kind_told Kind fault kind (unanswered.Refused text (cause.Raised e)) told = absurd told
 kind_told Kind fault kind unanswered.OutOfBudget told = absurd told
 kind_told Kind fault kind unanswered.Memory told = tt
 

@@ -14,8 +14,8 @@ use Rattle.vsi_arguments.specs.declared.request.Audit.{Audit}
 use Rattle.vsi_arguments.specs.declared.request.Compilation.{Compilation}
 use Rattle.vsi.specs.declared.stop.Stop.{Stop}
 use Rattle.vsi.specs.Holding.{Holding}
-use Rattle.vsi.specs.Performed.{AreFiles, AuditsFiles, BuildsFile, OfFiles, PerformsAudit, PerformsBuild, ToldAccepted, ToldFlows, Writes, profile_of}
-use Rattle.vsi.specs.Reasons.{AsksCheck, AsksFlows}
+use Rattle.vsi.specs.Performed.{AreFiles, AuditsFiles, BuildsFile, OfFiles, PerformsAudit, PerformsBuild, ToldAccepted, ToldFlows, ToldRaises, Writes, profile_of}
+use Rattle.vsi.specs.Reasons.{AsksCheck, AsksFlows, AsksMend}
 use Rattle.vsi.specs.Stops.{status_of, stop_of}
 use Rattle.vsi.proofs.Answered.{answered_told}
 
@@ -104,6 +104,12 @@ pub told_flows : (has_walks is_strict : Bool) (l : Lattice) (source : List ℕ) 
     AsksFlows has_walks is_strict l source (Ok text) → ToldFlows has_walks is_strict l source text
 told_flows true is_strict l source text told = told
 told_flows false is_strict l source text told = told
+
+-- The answer to the request of `mend` is the text that it writes.
+pub told_raises : (is_applied is_strict : Bool) (l : Lattice) (source : List ℕ) (text : Vec ℕ) →
+    AsksMend is_applied is_strict l source (Ok text) → ToldRaises is_applied is_strict l source text
+told_raises true is_strict l source text told = told
+told_raises false is_strict l source text told = told
 
 -- A fact that always holds also holds if an answer is given.
 pub on_ok_of : {T A : Type 0} (result : Result T Stop) → A → OnOk result A

@@ -37,7 +37,7 @@ IsStoreAt holds (Some path) bytes = IsReadAt holds path.now bytes
 abbrev pub HoldsAt : Holding → List ℕ → List ℕ → Type 0
 HoldsAt holds path bytes = IfSome (holds path) (λ held. held ≡ bytes)
 
--- Each file but the one at the path holds what it held.
+-- Each file but the one at the path is unchanged.
 abbrev pub KeepsOthers : List ℕ → Holding → Holding → Type 0
 KeepsOthers path old new = (other : List ℕ) → other ≢ path → new other ≡ old other
 

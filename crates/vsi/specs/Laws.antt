@@ -74,7 +74,7 @@ BeginAlike holds path class e₁ o₁ e₂ o₂ =
 
 -- `build` has been done, and `view` shows a class two runs of the image in the file that was filled, under the lattice
 -- of the file that was read, with the files as `build` has left them: if the contents of these two are known, and the
--- runs begin with words that agree at and below the class, both runs have shown the same text.
+-- first words of the runs agree at and below the class, both runs have shown the same text.
 abbrev pub LeftIsSeenAlike : Type 0
 LeftIsSeenAlike =
     (holds left left₁ left₂ : Holding) (input input₁ input₂ old old₁ old₂ new new₁ new₂ : Option (List ℕ))

@@ -9,6 +9,8 @@ use Rattle.vsi_store.specs.declared.comparison.Comparison as found
 use Rattle.vsi_drive.specs.Control.{Control}
 use Rattle.vsi_drive.specs.Cycles.{text_of}
 use Rattle.vsi_devices.specs.Running.{trace_of}
+use Rattle.vsi_answers.specs.declared.bounds.BoundAnswer.{BoundAnswer}
+use Rattle.vsi_arguments.specs.declared.request.Bounding.{Bounding}
 use Rattle.vsi_arguments.specs.declared.request.Comparison.{Comparison}
 use Rattle.vsi_arguments.specs.declared.request.Driving.{Driving}
 use Rattle.vsi_arguments.specs.declared.request.Execution.{Execution}
@@ -20,7 +22,7 @@ use Rattle.vsi.specs.declared.stop.Stop.{Stop}
 use Rattle.vsi.specs.declared.stop.Stop.TheVariants.{Differs}
 use Rattle.vsi.specs.Driven.{lines_of}
 use Rattle.vsi.specs.Holding.{Holding, IsImageAt}
-use Rattle.vsi.specs.Performed.{AuditsFiles, BeginsAt, ComparesFiles, ConformsFiles, DrawsFiles, EmitsFile, IsStoredAt, LooksAt, OfFile, OfFiles, RunsFiles, SearchesFiles, SourceOfFile, ToldAccepted, ToldCanonical, ToldClasses, ToldFlows, ToldJson, ToldListing, ToldPage, ViewsFiles, control_of, judgement_of, shown}
+use Rattle.vsi.specs.Performed.{AuditsFiles, BeginsAt, BoundsFile, ComparesFiles, ConformsFiles, DrawsFiles, EmitsFile, IsBudgetOf, IsStoredAt, LooksAt, OfFile, OfFiles, RunsFiles, SearchesFiles, SourceOfFile, ToldAccepted, ToldCanonical, ToldClasses, ToldFlows, ToldJson, ToldListing, ToldPage, ToldRaises, ViewsFiles, control_of, judgement_of, shown}
 use Rattle.vsi.specs.Reasons.{ToldRefusal}
 use Rattle.vsi.specs.Shaping.{ShapedText}
 use Rattle.vsi.specs.Stops.{status_of}
@@ -55,7 +57,9 @@ pub record TracesRun (holds : Holding) (e : Execution) (o : Outset) (traced : Bo
   pub image : Image
   pub words : List ℤ
   pub begins : BeginsAt holds e o image words
-  pub is : bytes ≡ trace_of traced image.code.items e.budget (start image words)
+  pub budget : ℕ
+  pub within : IsBudgetOf e.budget image budget
+  pub is : bytes ≡ trace_of traced image.code.items budget (start image words)
 
 -- `run`: the trace of a run that halts, and after it the text of the store.
 pub record ShowsRun (holds : Holding) (e : Execution) (o : Outset) (traced : Bool) (bytes : List ℕ) : Type 0 where
@@ -88,11 +92,17 @@ pub record AnswersDrive (holds : Holding) (d : Driving) (given : Option (List �
   pub held : IsImageAt holds d.execution.image.now image
   pub first : List ℤ
   pub stored : IsStoredAt holds d.execution.store image first
-  pub driven : DrivenText (control_of lattice driver image d.execution.budget) first given text
+  pub budget : ℕ
+  pub within : IsBudgetOf d.execution.budget image budget
+  pub driven : DrivenText (control_of lattice driver image budget) first given text
 
 -- `compare`: what the class sees of both runs, the same or not.
 abbrev pub AnswersCompare : Holding → Comparison → List ℕ → Type 0
 AnswersCompare holds c bytes = (told : found.Comparison) × ComparesFiles holds c told × (bytes ≡ told.text.items)
+
+-- `bound`: the line of the answer, which has a bound or not.
+abbrev pub AnswersBound : Holding → Bounding → List ℕ → Type 0
+AnswersBound holds asked bytes = (told : BoundAnswer) × BoundsFile holds asked told × (bytes ≡ told.text.items)
 
 -- The answers of a request; `build` writes nothing to the output.
 abbrev pub Answers : Holding → Option (List ℕ) → Request → List ℕ → Type 0
@@ -102,11 +112,14 @@ Answers holds given (request.Conform asked) =
     BytesOf (λ text. (conforms : Bool) × ConformsFiles holds asked conforms text)
 Answers holds given (request.Classes c) = BytesOf (OfFiles holds c (ToldClasses c.is_strict))
 Answers holds given (request.Flows c has_walks) = BytesOf (OfFiles holds c (ToldFlows has_walks c.is_strict))
+Answers holds given (request.Mend asked) =
+    BytesOf (OfFiles holds asked.compilation (ToldRaises asked.is_applied asked.compilation.is_strict))
 Answers holds given (request.Build c image) = λ bytes. ⊥
 Answers holds given (request.List image) = BytesOf (OfFile holds image.now ToldListing)
 Answers holds given (request.Audit asked) = λ bytes. AuditsFiles holds asked × (bytes ≡ codes "accepted\n")
 Answers holds given (request.Source image) = BytesOf (SourceOfFile holds image.now)
 Answers holds given (request.EmitC asked) = BytesOf (EmitsFile holds asked)
+Answers holds given (request.Bound asked) = AnswersBound holds asked
 Answers holds given (request.Run e o has_trace has_count) = AnswersRun holds e o has_trace
 Answers holds given (request.View lattice class e o) = AnswersView holds lattice.now class.now e o
 Answers holds given (request.Drive driving) = AnswersDrive holds driving given

@@ -12,6 +12,8 @@ use Rattle.vsi_types.specs.declared.rules.Profile.{Profile}
 use Rattle.vsi_types.specs.declared.rules.Profile.TheVariants.{Base, Strict}
 use Rattle.vsi_image.specs.declared.instr.Image.{Image}
 use Rattle.vsi_image.specs.Fields.{globals}
+use Rattle.vsi_emit.specs.Bounded.{HaltsWithin, IsEmittedBounded}
+use Rattle.vsi_emit.specs.BoundedWriting.{bounded_header_text}
 use Rattle.vsi_emit.specs.Emitted.{IsEmitted}
 use Rattle.vsi_emit.specs.Writing.{header_text}
 use Rattle.vsi_store.specs.File.{Tells}
@@ -44,9 +46,14 @@ use Rattle.vsi_conform.specs.declared.interface.Interface.{Interface}
 use Rattle.vsi_conform.specs.declared.interface.Judgement.{Judgement}
 use Rattle.vsi_conform.specs.declared.interface.Judgement.TheVariants as judgement
 use Rattle.vsi_conform.specs.Checking.{TellsAccepted}
+use Rattle.vsi_answers.specs.Bounds.{IsBound, TellsBound}
 use Rattle.vsi_answers.specs.Judged.{AreImage, Declares}
-use Rattle.vsi_answers.specs.Requests.{BuildsTo, ChecksSteadyTo, ChecksTo, ClassesTo, ComparesTo, FlowsTo, ListsTo, ViewsTo, WalksTo}
+use Rattle.vsi_answers.specs.Requests.{AppliesTo, BuildsTo, ChecksSteadyTo, ChecksTo, ClassesTo, ComparesTo, FlowsTo, ListsTo, MendsTo, ViewsTo, WalksTo}
+use Rattle.vsi_answers.specs.declared.bounds.BoundAnswer.{BoundAnswer}
 use Rattle.vsi_arguments.specs.declared.request.Audit.{Audit}
+use Rattle.vsi_arguments.specs.declared.request.Bounding.{Bounding}
+use Rattle.vsi_arguments.specs.declared.request.Budget.{Budget}
+use Rattle.vsi_arguments.specs.declared.request.Budget.TheVariants.{Number, Auto}
 use Rattle.vsi_arguments.specs.declared.request.Comparison.{Comparison}
 use Rattle.vsi_arguments.specs.declared.request.Compilation.{Compilation}
 use Rattle.vsi_arguments.specs.declared.request.Conformance.{Conformance}
@@ -119,7 +126,13 @@ pub record LooksAt (holds : Holding) (path name : List ℕ) (l : Lattice) (class
   pub named : class_named l name ≡ Some class
   pub is : IsClass (order l) class
 
--- ---- what is told.
+-- The number of instructions of a budget: the given one, or with `auto` one within which the image halts from every
+-- store.
+abbrev pub IsBudgetOf : Budget → Image → ℕ → Type 0
+IsBudgetOf (Number given) image number = number ≡ given
+IsBudgetOf Auto image number = IsBound image number
+
+-- ---- the output.
 
 -- The profile that judges.
 abbrev pub profile_of : Bool → Profile
@@ -149,6 +162,11 @@ abbrev pub ToldFlows : Bool → Bool → Lattice → List ℕ → Vec ℕ → Ty
 ToldFlows true is_strict l source text = WalksTo l (profile_of is_strict) source (Ok text)
 ToldFlows false is_strict l source text = FlowsTo l (profile_of is_strict) source (Ok text)
 
+-- The lines of the least raises of a text, and with `--apply` the accepted text with these raises.
+abbrev pub ToldRaises : Bool → Bool → Lattice → List ℕ → Vec ℕ → Type 0
+ToldRaises true is_strict l source text = AppliesTo l (profile_of is_strict) source (Ok text)
+ToldRaises false is_strict l source text = MendsTo l (profile_of is_strict) source (Ok text)
+
 -- The bytes of the image of an accepted text.
 abbrev pub ToldImage : Bool → Lattice → List ℕ → Vec ℕ → Type 0
 ToldImage is_strict l source bytes = BuildsTo l (profile_of is_strict) source (Ok bytes)
@@ -171,7 +189,9 @@ pub record RunsFiles (holds : Holding) (e : Execution) (o : Outset) (traced : Bo
   pub image : Image
   pub words : List ℤ
   pub begins : BeginsAt holds e o image words
-  pub ran : RunsApart traced image words e.budget (Some text) trace
+  pub budget : ℕ
+  pub within : IsBudgetOf e.budget image budget
+  pub ran : RunsApart traced image words budget (Some text) trace
 
 -- The lines of the final store of a halting run that a class sees.
 pub record ViewsFiles (holds : Holding) (path class : List ℕ) (e : Execution) (o : Outset) (text : Vec ℕ)
@@ -182,7 +202,9 @@ pub record ViewsFiles (holds : Holding) (path class : List ℕ) (e : Execution) 
   pub image : Image
   pub words : List ℤ
   pub begins : BeginsAt holds e o image words
-  pub views : ViewsTo lattice viewer image words e.budget (Ok text)
+  pub budget : ℕ
+  pub within : IsBudgetOf e.budget image budget
+  pub views : ViewsTo lattice viewer image words budget (Ok text)
 
 -- The comparison that a class makes of the runs of an image from two store files.
 pub record ComparesFiles (holds : Holding) (c : Comparison) (told : found.Comparison) : Type 0 where
@@ -195,7 +217,9 @@ pub record ComparesFiles (holds : Holding) (c : Comparison) (told : found.Compar
   pub from_first : IsStoredAt holds (Some c.stores.0) image first
   pub second : List ℤ
   pub from_second : IsStoredAt holds (Some c.stores.1) image second
-  pub compares : ComparesTo lattice viewer image first second c.budget (Ok told)
+  pub budget : ℕ
+  pub within : IsBudgetOf c.budget image budget
+  pub compares : ComparesTo lattice viewer image first second budget (Ok told)
 
 -- The text of the image of a file: the canonical text of a program whose commands are those of the image's code.
 pub record SourceOfFile (holds : Holding) (path : List ℕ) (text : Vec ℕ) : Type 0 where
@@ -243,7 +267,7 @@ abbrev pub LooksFor : Lattice → Option (Bor (List ℕ)) → Option ℕ → Typ
 LooksFor l None viewer = viewer ≡ None
 LooksFor l (Some name) viewer = IsSomeAnd viewer (λ a. class_named l name.now ≡ Some a)
 
--- What a text is searched for at this class, or at each.
+-- A search at this class, or at each.
 abbrev pub wanted_of : Search → Option ℕ → Wanted
 wanted_of s viewer = record {
   class = viewer;
@@ -297,11 +321,37 @@ abbrev pub IsWrittenInC : Bool → Image → List ℕ → List ℕ → Type 0
 IsWrittenInC true im name text = text ≡ header_text name (globals im.globals.items)
 IsWrittenInC false im name text = IsEmitted im name text
 
+-- The header of an image's C without a budget, or that C, with the most instructions of a run.
+abbrev pub IsWrittenBounded : Bool → Image → ℕ → List ℕ → List ℕ → Type 0
+IsWrittenBounded true im most name text = text ≡ bounded_header_text name (globals im.globals.items) most
+IsWrittenBounded false im most name text = IsEmittedBounded im name most text
+
+-- The image has a bound, and this is the header of its C without a budget, or that C.
+pub record IsBoundedC (is_header : Bool) (im : Image) (name text : List ℕ) : Type 0 where
+  pub most : ℕ
+  pub halts : HaltsWithin im most
+  pub is : IsWrittenBounded is_header im most name text
+
+-- An image's C or its header, without a budget or with one.
+abbrev pub IsRequestedC : Bool → Bool → Image → List ℕ → List ℕ → Type 0
+IsRequestedC true = IsBoundedC
+IsRequestedC false = IsWrittenInC
+
 -- The C of the requested image, or its header.
 pub record EmitsFile (holds : Holding) (asked : Emission) (text : Vec ℕ) : Type 0 where
   pub image : Image
   pub held : IsEmittedFrom holds asked.lattice asked.file image
-  pub is : IsWrittenInC asked.is_header image (function_name asked.name asked.file.now) text.items
+  pub is : IsRequestedC asked.is_bounded asked.is_header image (function_name asked.name asked.file.now) text.items
+
+-- The answer about the bound of an image of this kind.
+pub record BoundsImage (Kind : Image → Type 0) (told : BoundAnswer) : Type 0 where
+  pub image : Image
+  pub held : Kind image
+  pub is : TellsBound image told
+
+-- The answer about the bound of the requested image.
+abbrev pub BoundsFile : Holding → Bounding → BoundAnswer → Type 0
+BoundsFile holds asked = BoundsImage (IsEmittedFrom holds asked.lattice asked.file)
 
 -- The request of an interface, its lattice and a source text, as the files hold them.
 pub record AreAsked (holds : Holding) (c : Conformance) (asked : Asked) (l : Lattice) (source : List ℕ) : Type 0 where
@@ -362,6 +412,13 @@ pub record PerformsAudit (holds : Holding) (a : Audit) (old new : Option (List �
   pub audits : AuditsFiles holds a
   pub written : Appends old new (codes "accepted\n")
 
+-- `bound`: the image has a bound, and the line that says so has been written.
+pub record PerformsBound (holds : Holding) (asked : Bounding) (old new : Option (List ℕ)) : Type 0 where
+  pub told : BoundAnswer
+  pub bounds : BoundsFile holds asked told
+  pub bounded : told.is_bounded ≡ true
+  pub written : Appends old new told.text.items
+
 -- `run`: the trace, followed by the text of the store, which goes to a file if one is given.
 pub record PerformsRun (holds : Holding) (e : Execution) (o : Outset) (traced : Bool) (left : Holding)
     (old new : Option (List ℕ)) : Type 0 where
@@ -396,7 +453,9 @@ pub record PerformsDrive (holds : Holding) (d : Driving) (given : Option (List �
   pub first : List ℤ
   pub stored : IsStoredAt holds d.execution.store image first
   pub words : List ℤ
-  pub drives : DrivesInput (control_of lattice driver image d.execution.budget) first words given old new
+  pub budget : ℕ
+  pub within : IsBudgetOf d.execution.budget image budget
+  pub drives : DrivesInput (control_of lattice driver image budget) first words given old new
   pub saved : Delivers d.save (store_text_of (globals image.globals.items) words) holds left
 
 -- `compare`: the class sees no difference, and what it sees has been written.
@@ -420,11 +479,14 @@ Performs holds given (request.Conform asked) left = Alone (Writes (ConformsFiles
 Performs holds given (request.Classes c) left = Alone (Writes (OfFiles holds c (ToldClasses c.is_strict))) holds left
 Performs holds given (request.Flows c has_walks) left =
     Alone (Writes (OfFiles holds c (ToldFlows has_walks c.is_strict))) holds left
+Performs holds given (request.Mend asked) left =
+    Alone (Writes (OfFiles holds asked.compilation (ToldRaises asked.is_applied asked.compilation.is_strict))) holds left
 Performs holds given (request.Build c image) left = PerformsBuild holds c image.now left
 Performs holds given (request.List image) left = Alone (Writes (OfFile holds image.now ToldListing)) holds left
 Performs holds given (request.Audit asked) left = Alone (PerformsAudit holds asked) holds left
 Performs holds given (request.Source image) left = Alone (Writes (SourceOfFile holds image.now)) holds left
 Performs holds given (request.EmitC asked) left = Alone (Writes (EmitsFile holds asked)) holds left
+Performs holds given (request.Bound asked) left = Alone (PerformsBound holds asked) holds left
 Performs holds given (request.Run e o has_trace has_count) left = PerformsRun holds e o has_trace left
 Performs holds given (request.View lattice class e o) left = PerformsView holds lattice.now class.now e o left
 Performs holds given (request.Drive driving) left = PerformsDrive holds driving given left

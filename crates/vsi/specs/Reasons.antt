@@ -1,5 +1,5 @@
 -- The reason why a request has stopped early, given the contents of its files.
-use Rattle.std.specs.Prelude.{◌≡◌, ◌≢◌, ◌⊎◌, ℕ, ℤ, Bool, true, false, List, Option, Some, None, Result, Err, IsSomeAnd}
+use Rattle.std.specs.Prelude.{◌≡◌, ◌≢◌, ◌⊎◌, ◌++◌, ℕ, ℤ, Bool, true, false, List, Option, Some, None, Result, Err, IsSomeAnd, codes, decimal}
 use Rattle.std.specs.Global.{Vec}
 use Rattle.std.specs.Borrow.{Bor}
 use Rattle.std.specs.Io.KnownBytes.{Appends}
@@ -15,6 +15,9 @@ use Rattle.vsi_store.specs.declared.error.StoreError.TheVariants as store
 use Rattle.vsi_store.specs.declared.views.ViewError.TheVariants as views
 use Rattle.vsi_diagnostics.specs.declared.fault.Fault.{Fault}
 use Rattle.vsi_diagnostics.specs.declared.fault.Fault.TheVariants as fault
+use Rattle.vsi_bound.specs.Bound.{Answers}
+use Rattle.vsi_bound.specs.declared.bound.Bound.{Bound}
+use Rattle.vsi_bound.specs.declared.bound.Bound.TheVariants as bound
 use Rattle.vsi_compiler.specs.Headline.{IsImageOf}
 use Rattle.vsi_compiler.specs.Readable.{HasProgram}
 use Rattle.vsi_audit.specs.Refusal as audited
@@ -34,18 +37,24 @@ use Rattle.vsi_conform.specs.declared.reader.Policy.{Policy}
 use Rattle.vsi_conform.specs.declared.reader.Policy.TheVariants.{File, Tables}
 use Rattle.vsi_conform.specs.Checking.{TellsRefused}
 use Rattle.vsi_answers.specs.Answers.{Because}
+use Rattle.vsi_answers.specs.Bounds as bounds
 use Rattle.vsi_answers.specs.Judged.{Declares, IsProgramFault, IsStoreFault, IsViewFault, TellsFault, TellsSource}
-use Rattle.vsi_answers.specs.Requests.{Answer, BeginsWith, BuildsTo, ChecksSteadyTo, ChecksTo, ClassesTo, ComparesTo, FlowsTo, FormatsTo, ListsTo, ReadsImage, ReadsLattice, ViewsTo, WalksTo}
+use Rattle.vsi_answers.specs.Requests.{Answer, AppliesTo, BeginsWith, BuildsTo, ChecksSteadyTo, ChecksTo, ClassesTo, ComparesTo, FlowsTo, FormatsTo, ListsTo, MendsTo, ReadsImage, ReadsLattice, ViewsTo, WalksTo}
 use Rattle.vsi_answers.specs.declared.unanswered.Unanswered.{Unanswered}
 use Rattle.vsi_answers.specs.declared.unanswered.Unanswered.TheVariants as unanswered
+use Rattle.vsi_answers.specs.declared.bounds.BoundAnswer.{BoundAnswer}
 use Rattle.vsi_types.specs.declared.rules.Profile.TheVariants.{Base}
 use Rattle.vsi_policy.specs.Named.{named_policy}
 use Rattle.vsi_arguments.specs.declared.request.Attempt.{Attempt}
 use Rattle.vsi_arguments.specs.declared.request.Audit.{Audit}
+use Rattle.vsi_arguments.specs.declared.request.Bounding.{Bounding}
+use Rattle.vsi_arguments.specs.declared.request.Budget.{Budget}
+use Rattle.vsi_arguments.specs.declared.request.Budget.TheVariants.{Auto}
 use Rattle.vsi_arguments.specs.declared.request.Comparison.{Comparison}
 use Rattle.vsi_arguments.specs.declared.request.Compilation.{Compilation}
 use Rattle.vsi_arguments.specs.declared.request.Conformance.{Conformance}
 use Rattle.vsi_arguments.specs.declared.request.Driving.{Driving}
+use Rattle.vsi_arguments.specs.declared.request.Emission.{Emission}
 use Rattle.vsi_arguments.specs.declared.request.Execution.{Execution}
 use Rattle.vsi_arguments.specs.declared.request.Judging.{Judging}
 use Rattle.vsi_arguments.specs.declared.request.Outset.{Outset}
@@ -57,9 +66,9 @@ use Rattle.vsi.specs.declared.stop.Stop.TheVariants as stops
 use Rattle.vsi.specs.Holding.{Holding, IsImageAt, IsLatticeAt, IsReadAt, IsStoreAt}
 use Rattle.vsi.specs.Input.{two_classes}
 use Rattle.vsi.specs.Tried.{AreTried, BeginsSet, IsMade, IsTriedUnder, RunsMade, policy_path}
-use Rattle.vsi.specs.Performed.{AreFiles, BeginsAt, ComparesFiles, ConformsFiles, IsAskedAt, LooksAt, LooksFor, OfFiles, Writes, compilation_of, judgement_of, named_path, profile_of, wanted_of}
+use Rattle.vsi.specs.Performed.{AreFiles, BeginsAt, BoundsFile, ComparesFiles, ConformsFiles, IsAskedAt, IsBudgetOf, IsEmittedFrom, LooksAt, LooksFor, OfFiles, Writes, compilation_of, judgement_of, named_path, profile_of, wanted_of}
 
--- ---- what a stop tells.
+-- ---- the meaning of a stop.
 
 -- The first property holds for the reason of a refused file or text and of a run out of budget, the second holds for
 -- the other stops of status 1 and for a missing class, and nothing is claimed about mistaken arguments, file faults and
@@ -99,11 +108,25 @@ abbrev pub LacksClass : Lattice → List ℕ → Stop → Type 0
 LacksClass l name (stops.NoClass told) = (told.now ≡ name) × (class_named l name ≡ None)
 LacksClass l name stop = ⊥
 
--- ---- which file is refused, or what is asked of it.
+-- With the budget `auto` no bound was found for an image, and the text of the stop says why.
+abbrev pub LacksBound : Budget → Image → Stop → Type 0
+LacksBound budget image (stops.Refused text None) = (budget ≡ Auto) × bounds.LacksBound image text.items
+LacksBound budget image stop = ⊥
+
+-- ---- the refused file, or the request about it.
 
 -- The lattice of a file has no class of this name.
 abbrev pub LacksClassAt : Holding → List ℕ → List ℕ → Stop → Type 0
 LacksClassAt holds path name stop = (l : Lattice) × IsLatticeAt holds path l × LacksClass l name stop
+
+-- With the budget `auto` no bound was found for the image of a file.
+abbrev pub LacksBoundAt : Holding → List ℕ → Budget → Stop → Type 0
+LacksBoundAt holds path budget stop = (image : Image) × IsImageAt holds path image × LacksBound budget image stop
+
+-- The lattice of a file has no class of this name, or no bound was found for the image of another one.
+abbrev pub LacksEither : Holding → List ℕ → List ℕ → List ℕ → Budget → Stop → Type 0
+LacksEither holds lattice class path budget stop =
+    LacksClassAt holds lattice class stop ⊎ LacksBoundAt holds path budget stop
 
 -- A request about the bytes of a file has no answer, for this reason.
 pub record RefusesFile {T : Type 0} (holds : Holding) (path : List ℕ) (Ask : List ℕ → Result T Unanswered → Type 0)
@@ -177,6 +200,11 @@ abbrev pub AsksFlows : Bool → Bool → Lattice → List ℕ → Answer → Typ
 AsksFlows true is_strict l source = WalksTo l (profile_of is_strict) source
 AsksFlows false is_strict l source = FlowsTo l (profile_of is_strict) source
 
+-- The request of `mend`, and that of `mend --apply`.
+abbrev pub AsksMend : Bool → Bool → Lattice → List ℕ → Answer → Type 0
+AsksMend true is_strict l source = AppliesTo l (profile_of is_strict) source
+AsksMend false is_strict l source = MendsTo l (profile_of is_strict) source
+
 -- The request of `build`.
 abbrev pub AsksImage : Bool → Lattice → List ℕ → Answer → Type 0
 AsksImage is_strict l source = BuildsTo l (profile_of is_strict) source
@@ -227,7 +255,9 @@ pub record SpendsRun (holds : Holding) (e : Execution) (o : Outset) (traced : Bo
   pub image : Image
   pub words : List ℤ
   pub begins : BeginsAt holds e o image words
-  pub ran : RunsApart traced image words e.budget None trace
+  pub budget : ℕ
+  pub within : IsBudgetOf e.budget image budget
+  pub ran : RunsApart traced image words budget None trace
   pub written : Appends old new trace
 
 -- `run`: the image is refused, or the words that it begins with, or the run is out of budget.
@@ -245,7 +275,9 @@ pub record RefusesView (holds : Holding) (path class : List ℕ) (e : Execution)
   pub image : Image
   pub words : List ℤ
   pub begins : BeginsAt holds e o image words
-  pub is : ViewsTo lattice viewer image words e.budget (Err reason)
+  pub budget : ℕ
+  pub within : IsBudgetOf e.budget image budget
+  pub is : ViewsTo lattice viewer image words budget (Err reason)
 
 -- `view`: the lattice is refused, or the image, or the words that it begins with, or the run has no answer.
 abbrev pub WhyView : Holding → List ℕ → List ℕ → Execution → Outset → Unanswered → Type 0
@@ -262,7 +294,9 @@ pub record RefusesComparison (holds : Holding) (c : Comparison) (reason : Unansw
   pub held : IsImageAt holds c.image.now image
   pub first : List ℤ
   pub second : List ℤ
-  pub is : ComparesTo lattice viewer image first second c.budget (Err reason)
+  pub budget : ℕ
+  pub within : IsBudgetOf c.budget image budget
+  pub is : ComparesTo lattice viewer image first second budget (Err reason)
 
 -- `compare`: the lattice is refused, or the image, or a store, or the runs aren't compared.
 abbrev pub WhyCompare : Holding → Comparison → Unanswered → Type 0
@@ -278,10 +312,14 @@ pub record DiffersCompare (holds : Holding) (c : Comparison) (old new : Option (
   pub differs : told.is_same ≡ false
   pub written : Appends old new told.text.items
 
--- `compare`: the lattice has no class of the name, or a difference has been written.
+-- `compare`: the lattice has no class of the name, or no bound was found for the image.
+abbrev pub LacksCompare : Holding → Comparison → Stop → Type 0
+LacksCompare holds c = LacksEither holds c.lattice.now c.class.now c.image.now c.budget
+
+-- `compare`: something is missing, or a difference has been written.
 abbrev pub OtherCompare : Holding → Comparison → Option (List ℕ) → Option (List ℕ) → Stop → Type 0
 OtherCompare holds c old new stop =
-    LacksClassAt holds c.lattice.now c.class.now stop ⊎ IsDifference (DiffersCompare holds c old new) stop
+    LacksCompare holds c stop ⊎ IsDifference (DiffersCompare holds c old new) stop
 
 -- An image is refused with the error in the stop, whose text describes that error.
 abbrev pub IsRefusedImage : Bool → Lattice → Image → Stop → Type 0
@@ -339,10 +377,47 @@ abbrev pub OtherLeak : Holding → Search → Stop → Type 0
 OtherLeak holds s stop =
     IsSomeAnd s.class (λ class. LacksClassAt holds s.lattice.now class.now stop) ⊎ ToldLeak holds s stop
 
--- `emit-c`: the image is refused, or with a lattice the lattice or the source text.
+-- `emit-c` and `bound`: the image is refused, or with a lattice the lattice or the source text.
 abbrev pub WhyEmit : Holding → Option (Bor (List ℕ)) → Bor (List ℕ) → Unanswered → Type 0
 WhyEmit holds None file = RefusesImage holds file.now
 WhyEmit holds (Some lattice) file = RefusesFiles holds (compilation_of lattice file) (AsksImage false)
+
+-- The stop says that there is no bound because of the instruction of this number.
+abbrev pub SaysNoBound : ℕ → Stop → Type 0
+SaysNoBound place (stops.Refused text None) =
+    text.items ≡ codes "no bound: instruction " ++ decimal place ++ codes "\n"
+SaysNoBound place stop = ⊥
+
+-- The stop says that a run may have more instructions than 64 bits can count.
+abbrev pub SaysTooLarge : Stop → Type 0
+SaysTooLarge (stops.Refused text None) =
+    text.items ≡ codes "no bound: more than 18446744073709551615 instructions\n"
+SaysTooLarge stop = ⊥
+
+-- The stop reports the answer about an image that has no bound: it names an instruction, or says that a run may be long.
+abbrev pub SaysBound : Bound → Stop → Type 0
+SaysBound (bound.Halts least most) stop = ⊥
+SaysBound (bound.Endless test reason) stop = SaysNoBound test stop
+SaysBound (bound.Unstructured place) stop = SaysNoBound place stop
+SaysBound bound.TooLarge stop = SaysTooLarge stop
+
+-- The stop says that an image has no bound.
+abbrev pub IsUnbounded : Image → Stop → Type 0
+IsUnbounded image stop = (found : Bound) × Answers image found × SaysBound found stop
+
+-- `emit-c --bounded`: the image has no bound.
+pub record LacksEmitBound (holds : Holding) (asked : Emission) (stop : Stop) : Type 0 where
+  pub bounded : asked.is_bounded ≡ true
+  pub image : Image
+  pub held : IsEmittedFrom holds asked.lattice asked.file image
+  pub is : IsUnbounded image stop
+
+-- `bound`: no bound was found for the image, and the line that says why has been written.
+pub record DiffersBound (holds : Holding) (asked : Bounding) (old new : Option (List ℕ)) : Type 0 where
+  pub told : BoundAnswer
+  pub bounds : BoundsFile holds asked told
+  pub unbounded : told.is_bounded ≡ false
+  pub written : Appends old new told.text.items
 
 -- `draw`: the lattice is refused, or a source text without a program.
 abbrev pub WhyDraw : Holding → List ℕ → Option (Bor (List ℕ)) → Unanswered → Type 0
@@ -365,6 +440,10 @@ abbrev pub WhyDrive : Holding → Driving → Unanswered → Type 0
 WhyDrive holds d reason =
     RefusesLattice holds d.lattice.now reason ⊎ RefusesImage holds d.execution.image.now reason
     ⊎ RefusesStore holds d.execution.image.now d.execution.store reason ⊎ RefusesController holds d reason
+
+-- `drive`: the lattice has no class of the name, or no bound was found for the image.
+abbrev pub LacksDrive : Holding → Driving → Stop → Type 0
+LacksDrive holds d = LacksEither holds d.lattice.now d.class.now d.execution.image.now d.execution.budget
 
 -- `try`: the file of the lattice that a text names is refused.
 abbrev pub RefusesNamed : Holding → List ℕ → Option (List ℕ) → Unanswered → Type 0
@@ -426,6 +505,8 @@ Why holds (request.Conform asked) old new =
     StopsBy (RefusesAsked holds asked.interface.now) (DiffersConform holds asked old new)
 Why holds (request.Classes c) old new = StopsBy (RefusesFiles holds c (AsksClasses c.is_strict)) NoOther
 Why holds (request.Flows c has_walks) old new = StopsBy (RefusesFiles holds c (AsksFlows has_walks c.is_strict)) NoOther
+Why holds (request.Mend asked) old new =
+    StopsBy (RefusesFiles holds asked.compilation (AsksMend asked.is_applied asked.compilation.is_strict)) NoOther
 Why holds (request.Build c image) old new = StopsBy (RefusesFiles holds c (AsksImage c.is_strict)) NoOther
 Why holds (request.List image) old new = StopsBy (RefusesFile holds image.now ListsTo) NoOther
 Why holds (request.Audit asked) old new =
@@ -433,12 +514,16 @@ Why holds (request.Audit asked) old new =
     (λ reason. RefusesLattice holds asked.lattice.now reason ⊎ RefusesImage holds asked.image.now reason)
     (RefusesAudit holds asked)
 Why holds (request.Source image) old new = StopsBy (RefusesImage holds image.now) (HasNoText holds image.now)
-Why holds (request.EmitC asked) old new = StopsBy (WhyEmit holds asked.lattice asked.file) NoOther
-Why holds (request.Run e o has_trace has_count) old new = StopsBy (WhyRun holds e o has_trace old new) NoOther
+Why holds (request.EmitC asked) old new = StopsBy (WhyEmit holds asked.lattice asked.file) (LacksEmitBound holds asked)
+Why holds (request.Bound asked) old new =
+    StopsBy (WhyEmit holds asked.lattice asked.file) (IsDifference (DiffersBound holds asked old new))
+Why holds (request.Run e o has_trace has_count) old new =
+    StopsBy (WhyRun holds e o has_trace old new) (LacksBoundAt holds e.image.now e.budget)
 Why holds (request.View lattice class e o) old new =
-    StopsBy (WhyView holds lattice.now class.now e o) (LacksClassAt holds lattice.now class.now)
+    StopsBy (WhyView holds lattice.now class.now e o)
+    (LacksEither holds lattice.now class.now e.image.now e.budget)
 Why holds (request.Drive driving) old new =
-    StopsBy (WhyDrive holds driving) (LacksClassAt holds driving.lattice.now driving.class.now)
+    StopsBy (WhyDrive holds driving) (LacksDrive holds driving)
 Why holds (request.Compare comparison) old new =
     StopsBy (WhyCompare holds comparison) (OtherCompare holds comparison old new)
 Why holds (request.Leak search) old new =

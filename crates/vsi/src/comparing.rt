@@ -5,8 +5,9 @@ ghost use Rattle.vsi.specs.Performed.{ComparesFiles, PerformsCompare};
 ghost use Rattle.vsi.specs.Partly.{AnswersCompare, Leaves};
 ghost use Rattle.vsi.specs.Stops.{TellsFault};
 ghost use Rattle.vsi_devices.specs.Counted.{device_of, faults_of};
-ghost use Rattle.vsi.specs.Reasons.{LacksClassAt, OtherCompare, StopsBy, WhyCompare};
+ghost use Rattle.vsi.specs.Reasons.{LacksCompare, OtherCompare, StopsBy, WhyCompare};
 
+use crate::budgets::budget_of;
 use crate::desk::Desk;
 use crate::driving::stored_words;
 use crate::files::Files;
@@ -27,7 +28,7 @@ fn compared<'a, F: Files>(
     ensures kept { F.holds files.new ≡ F.holds files.old }
     ensures told { IfOk result (ComparesFiles (F.holds files.old) asked.entry) }
     ensures stopped { IfErr result (StopsBy (WhyCompare (F.holds files.old) asked.entry)
-        (LacksClassAt (F.holds files.old) asked.entry.lattice.now asked.entry.class.now)) }
+        (LacksCompare (F.holds files.old) asked.entry)) }
 {
     let (classes, class, verified) = policy_and_image(
         desk,
@@ -38,14 +39,9 @@ fn compared<'a, F: Files>(
     )?;
     let first = stored_words(desk, &verified, Some(asked.stores.0), files)?;
     let second = stored_words(desk, &verified, Some(asked.stores.1), files)?;
+    let budget = budget_of(desk.alloc, asked.budget, &verified)?;
     let found = vsi_answers::compare(
-        desk.alloc,
-        &classes,
-        &verified,
-        class,
-        &first,
-        &second,
-        asked.budget,
+        desk.alloc, &classes, &verified, class, &first, &second, budget,
     )?;
     Ok(found)
 }

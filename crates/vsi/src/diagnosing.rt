@@ -59,6 +59,7 @@ fn cause_diagnostic<'s>(source: &[u8], cause: &'s Cause) -> Option<Diagnostic<'s
         Cause::Steady(error) => unsteady_diagnostic(source, error),
         Cause::File(fault) => fault_diagnostic(fault),
         Cause::Start(fault) => Some(start_diagnostic(*fault)),
+        Cause::Raised(_) => None,
     }
 }
 

@@ -12,11 +12,12 @@ ghost use Rattle.vsi_drive.specs.Cycles.{cycle, text_of};
 ghost use Rattle.vsi_image.specs.Fields.{globals};
 ghost use Rattle.vsi_store.specs.Text.{store_text_of};
 ghost use Rattle.vsi.specs.Holding.{Delivers, IsStoreAt};
-ghost use Rattle.vsi.specs.Reasons.{LacksClassAt, NoOther, StopsBy, WhyDrive};
+ghost use Rattle.vsi.specs.Reasons.{LacksDrive, NoOther, StopsBy, WhyDrive};
 ghost use Rattle.vsi_answers.specs.Answers.{Because};
 ghost use Rattle.vsi_answers.specs.Judged.{IsStoreFault};
 ghost use Rattle.vsi_answers.specs.Judged as judged;
 
+use crate::budgets::budget_of;
 use crate::desk::Desk;
 use crate::files::Files;
 use crate::filling::replace;
@@ -56,7 +57,7 @@ pub(crate) fn drive<'a, F: Files, R: Read, W: Write>(
         (R.remaining (device_of input.old)) (F.holds files.new)
         (W.contents (device_of output.old)) (W.contents (device_of output.new))) }
     ensures stopped { IfErr result (StopsBy (WhyDrive (F.holds files.old) driving.entry)
-        (LacksClassAt (F.holds files.old) driving.entry.lattice.now driving.entry.class.now)) }
+        (LacksDrive (F.holds files.old) driving.entry)) }
 {
     let (classes, driver, verified) = policy_and_image(
         desk,
@@ -66,7 +67,8 @@ pub(crate) fn drive<'a, F: Files, R: Read, W: Write>(
         files,
     )?;
     let mut words = stored_words(desk, &verified, driving.execution.store, files)?;
-    match Controller::new(&classes, &verified, driver, driving.execution.budget) {
+    let budget = budget_of(desk.alloc, driving.execution.budget, &verified)?;
+    match Controller::new(&classes, &verified, driver, budget) {
         Ok(controller) => drive_input(desk.alloc, &controller, &mut words, input, output)?,
         Err(error) => return Err(faulty(desk.alloc, Fault::View(error))),
     }

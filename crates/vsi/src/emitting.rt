@@ -3,9 +3,10 @@
 ghost use Rattle.std.specs.Prelude.{◌≡◌, ◌≤◌, IfErr, IfOk, length};
 ghost use Rattle.vsi.specs.Naming as naming;
 ghost use Rattle.vsi.specs.Performed.{EmitsFile, IsBuiltAt, IsEmittedFrom, IsWrittenInC};
-ghost use Rattle.vsi.specs.Reasons.{AsksImage, NoOther, RefusesFiles, StopsBy, WhyEmit};
+ghost use Rattle.vsi.specs.Reasons.{AsksImage, LacksEmitBound, NoOther, RefusesFiles, StopsBy, WhyEmit};
 ghost use Rattle.vsi.specs.declared.stop.Stop.TheVariants as stops;
 
+use crate::bounded::bounded_in_c;
 use crate::desk::Desk;
 use crate::files::Files;
 use crate::reading::image_in;
@@ -159,9 +160,13 @@ pub(crate) fn emit<'a, F: Files>(
     ensures kept { F.holds files.new ≡ F.holds files.old }
     ensures told { IfOk result (EmitsFile (F.holds files.old) asked.entry) }
     ensures stopped { IfErr result (StopsBy
-        (WhyEmit (F.holds files.old) asked.entry.lattice asked.entry.file) NoOther) }
+        (WhyEmit (F.holds files.old) asked.entry.lattice asked.entry.file)
+        (LacksEmitBound (F.holds files.old) asked.entry)) }
 {
     let verified = emitted_image(desk, asked.lattice, asked.file, files)?;
     let name = function_name(asked.name, asked.file);
+    if asked.is_bounded {
+        return bounded_in_c(desk.alloc, &verified, name, asked.is_header);
+    }
     written_in_c(desk.alloc, &verified, name, asked.is_header)
 }

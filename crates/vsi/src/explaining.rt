@@ -33,6 +33,12 @@ The run did not halt within its budget. Give a larger --budget, or look for a
 loop whose guard never becomes 0.
 ";
 
+/// The advice for a text that has grown too long by the names of its raised classes.
+const TOO_LONG: &[u8] = b"\
+With the names of the new classes the text is longer than a text may be. Shorten
+a comment, or give the classes shorter names in the lattice file.
+";
+
 /// The advice for a text whose image isn't steady.
 const UNSTEADY: &[u8] = b"\
 With --steady each `if` counts as a `while`: a variable that a guard reads must
@@ -76,6 +82,7 @@ fn is_strict(request: &Request<'_>) -> bool {
         | Request::Build(compilation, _)
         | Request::Report(compilation)
         | Request::Flows { compilation, .. } => compilation.is_strict,
+        Request::Mend(asked) => asked.compilation.is_strict,
         Request::Draw(drawing) => drawing.is_strict,
         _ => false,
     }
@@ -141,6 +148,7 @@ impl Explaining {
             Cause::File(Fault::Store(error)) => self.of_store(desk, error),
             Cause::File(fault) => self.of_file(desk, fault),
             Cause::Start(fault) => self.of_start(desk, *fault),
+            Cause::Raised(_) => Vec::from_slice(desk.alloc, TOO_LONG),
             Cause::Steady(UnsteadyError::Memory) => Ok(Vec::new(desk.alloc)),
         }
     }

@@ -13,6 +13,9 @@
 #![tactic(auto)]
 
 mod auditing;
+mod bounded;
+mod bounding;
+mod budgets;
 mod command_line;
 mod comparing;
 mod conformance;
@@ -42,6 +45,7 @@ pub use command_line::command;
 pub use files::Files;
 pub use loaded::Loaded;
 pub use loaded::Opened;
+pub use loaded::Shared;
 pub use loaded::load;
 pub use vsi_audit::AuditError;
 pub use vsi_audit::audit_in;

@@ -3,6 +3,7 @@
 ghost use Rattle.std.specs.Prelude.{◌≡◌, false, IfOk, IfSome, Some, None};
 ghost use Rattle.std.specs.Io.{ReadsAtMost};
 ghost use Rattle.std.specs.Io.KnownBytes.{ReadConsumes};
+ghost use Rattle.std.specs.Rc.{rc_slice_items};
 ghost use Rattle.vsi.specs.Loading.{AreRead, held, left_of};
 
 use crate::files::Files;
@@ -11,17 +12,32 @@ use crate::reading::whole_in;
 use crate::stop::Stop;
 use std::alloc::{AllocError, Global};
 use std::io;
-use std::io::{Cursor, Read};
+use std::io::{AsBytes, Cursor, Read};
+use std::rc::RcSlice;
 use vsi_arguments::{ArgumentsError, Request, request_of};
 
 /// The message of `trouble` about a file that this request would write over.
 const SPARED: &str = "this request reads the file, so it doesn't write over it.";
 
+/// The bytes of a file, which all its readers share.
+#[derive(Drop)]
+pub struct Shared {
+    bytes: RcSlice<u8>,
+}
+
+impl AsBytes for Shared {
+    ghost bytes = { λ shared. Some (rc_slice_items shared.bytes) };
+
+    fn as_byte_slice(&self) -> &[u8] {
+        self.bytes.as_slice()
+    }
+}
+
 /// The bytes that were read from the file at a path.
 #[derive(Drop)]
 pub(crate) struct Text {
     pub(crate) path: Vec<u8>,
-    pub(crate) bytes: Vec<u8>,
+    pub(crate) bytes: RcSlice<u8>,
 }
 
 /// The files of a system, where those that a request names were read once: the request later reads
@@ -39,7 +55,7 @@ pub struct Loaded<F> {
 /// The reader of a file: from bytes in memory, or from the system.
 #[derive(Drop)]
 pub enum Opened<R> {
-    Memory(Cursor<Vec<u8>>),
+    Memory(Cursor<Shared>),
     System(R),
 }
 
@@ -60,7 +76,8 @@ impl<R: Read> Read for Opened<R> {
 
 /// The first text that was read at the path.
 fn found<'a>(texts: &'a [Text], path: &[u8]) -> Option<&'a Text>
-    ensures text { IfSome result (λ text. held texts.now path.now ≡ Some text.now.bytes.items) }
+    ensures text { IfSome result (λ text.
+        held texts.now path.now ≡ Some (rc_slice_items text.now.bytes)) }
     ensures none { result ≡ None → held texts.now path.now ≡ None }
 {
     for text in texts {
@@ -92,7 +109,7 @@ impl<F> Loaded<F> {
 }
 
 impl<F: Files> Loaded<F> {
-    /// Reads the file at the path, and answers whether that was possible.
+    /// Reads the file at the path, and returns whether that was possible.
     fn take(&mut self, path: &str) -> Result<bool, AllocError>
         ensures kept { F.holds self.new.system ≡ F.holds self.old.system }
         ensures told { AreRead (F.holds self.old.system) self.old.texts.items
@@ -104,12 +121,16 @@ impl<F: Files> Loaded<F> {
             Err(_) => return Ok(false),
         };
         let path = Vec::from_slice(self.alloc, path.as_bytes())?;
-        self.texts.push(Text { path, bytes })?;
+        let shared = RcSlice::from_vec(bytes)?;
+        self.texts.push(Text {
+            path,
+            bytes: shared,
+        })?;
         Ok(true)
     }
 
-    /// Reads the file at the path, unless it is a store that the request replaces. It answers whether
-    /// nothing is lost.
+    /// Reads the file at the path, unless it is a store that the request replaces. It returns
+    /// whether nothing is lost.
     fn take_unless_state(&mut self, request: &Request<'_>, path: &str) -> Result<bool, AllocError>
         ensures kept { F.holds self.new.system ≡ F.holds self.old.system }
         ensures told { AreRead (F.holds self.old.system) self.old.texts.items
@@ -173,8 +194,8 @@ impl<F: Files> Files for Loaded<F> {
         }
         match found(self.texts.as_slice(), path.as_bytes()) {
             Some(text) => {
-                let bytes = Vec::from_slice(self.alloc, text.bytes.as_slice()).ok()?;
-                Some(Opened::Memory(Cursor::new(bytes)))
+                let bytes = text.bytes.clone().ok()?;
+                Some(Opened::Memory(Cursor::new(Shared { bytes })))
             }
             None => Some(Opened::System(self.system.open_file(path)?)),
         }

@@ -14,11 +14,13 @@ pub(crate) fn paths_of<'a>(request: &Request<'a>) -> [Option<&'a str>; MOST_READ
         | Request::Report(compilation)
         | Request::Build(compilation, _)
         | Request::Flows { compilation, .. } => two(compilation.lattice, compilation.source),
+        Request::Mend(asked) => two(asked.compilation.lattice, asked.compilation.source),
         Request::Conform(asked) => two(asked.interface, asked.source),
         Request::List(image) | Request::Source(image) => one(image),
         Request::Format(source) => one(source),
         Request::Audit(asked) => two(asked.lattice, asked.image),
         Request::EmitC(asked) => [asked.lattice, Some(asked.file), None, None],
+        Request::Bound(asked) => [asked.lattice, Some(asked.file), None, None],
         Request::Run { execution, .. } => [execution.store, Some(execution.image), None, None],
         Request::View {
             lattice,

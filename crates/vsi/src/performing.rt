@@ -9,6 +9,7 @@ ghost use Rattle.vsi_devices.specs.Counted.{device_of, faults_of};
 ghost use Rattle.vsi.specs.Reasons.{Why, WhyCheck};
 
 use crate::auditing::{audit, source};
+use crate::bounding::bound;
 use crate::comparing::compare;
 use crate::conformance::conform;
 use crate::desk::Desk;
@@ -20,7 +21,7 @@ use crate::leaking::leak;
 use crate::running::{Running, run, view};
 use crate::shaping::lattice;
 use crate::stop::{Stop, write};
-use crate::subcommands::{build, check, check_as_json, classes, flows, format, list};
+use crate::subcommands::{build, check, check_as_json, classes, flows, format, list, mend};
 use crate::telling::Told;
 use crate::trying::try_source;
 use std::alloc::Global;
@@ -127,11 +128,18 @@ pub(crate) fn perform<'a, F: Files, R: Read, W: Write>(
             compilation,
             has_walks,
         } => put(flows(desk, compilation, has_walks, files), output),
+        Request::Mend(asked) => {
+            put(
+                mend(desk, asked.compilation, asked.is_applied, files),
+                output,
+            )
+        }
         Request::Build(compilation, image) => build(desk, compilation, image, files),
         Request::List(image) => put(list(desk, image, files), output),
         Request::Audit(asked) => accept(audit(desk, asked, files), output),
         Request::Source(image) => put(source(desk, image, files), output),
         Request::EmitC(asked) => put(emit(desk, asked, files), output),
+        Request::Bound(asked) => bound(desk, asked, files, output),
         Request::Run {
             execution,
             outset,

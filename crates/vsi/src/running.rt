@@ -8,8 +8,9 @@ ghost use Rattle.vsi.specs.declared.stop.Stop.TheVariants.{Memory};
 ghost use Rattle.vsi_answers.specs.Requests.{BeginsWith};
 ghost use Rattle.vsi_devices.specs.Counted.{device_of, faults_of};
 ghost use Rattle.vsi_lattice.specs.NamePlaces.{texts};
-ghost use Rattle.vsi.specs.Reasons.{LacksClassAt, NoOther, RefusesImage, RefusesStart, StopsBy, WhyRun, WhyView};
+ghost use Rattle.vsi.specs.Reasons.{LacksBoundAt, LacksEither, NoOther, RefusesImage, RefusesStart, StopsBy, WhyRun, WhyView};
 
+use crate::budgets::budget_of;
 use crate::desk::{Desk, Kind};
 use crate::files::Files;
 use crate::filling::deliver;
@@ -143,10 +144,12 @@ pub(crate) fn run<'a, F: Files, W: Write>(
         (W.contents (device_of output.old)) (W.contents (device_of output.new))) }
     ensures stopped { IfErr result (StopsBy (WhyRun (F.holds files.old) asked.now.execution
         asked.now.outset asked.now.has_trace
-        (W.contents (device_of output.old)) (W.contents (device_of output.new))) NoOther) }
+        (W.contents (device_of output.old)) (W.contents (device_of output.new)))
+        (LacksBoundAt (F.holds files.old) asked.now.execution.image.now
+        asked.now.execution.budget)) }
 {
-    let budget = asked.execution.budget;
     let (verified, words) = image_and_words(desk, asked.execution, &asked.outset, files)?;
+    let budget = budget_of(desk.alloc, asked.execution.budget, &verified)?;
     match run_words(
         desk.alloc,
         &verified,
@@ -187,7 +190,8 @@ fn seen<'a, F: Files>(
     ensures told { IfOk result (ViewsFiles (F.holds files.old) lattice.now class.now execution.entry
         outset.now) }
     ensures stopped { IfErr result (StopsBy (WhyView (F.holds files.old) lattice.now class.now
-        execution.entry outset.now) (LacksClassAt (F.holds files.old) lattice.now class.now)) }
+        execution.entry outset.now) (LacksEither (F.holds files.old) lattice.now class.now
+        execution.entry.image.now execution.entry.budget)) }
 {
     let (classes, viewer, verified) = policy_and_image(
         desk,
@@ -198,7 +202,7 @@ fn seen<'a, F: Files>(
     )?;
     let file = store_in(desk, execution.store, files)?;
     let words = words_in(desk, &verified, &file, outset)?;
-    let budget = execution.budget;
+    let budget = budget_of(desk.alloc, execution.budget, &verified)?;
     Ok(vsi_answers::view(desk.alloc, &classes, &verified, viewer, &words, budget)?)
 }
 
@@ -223,7 +227,8 @@ pub(crate) fn view<'a, F: Files, W: Write>(
         execution.entry outset.now (F.holds files.new)
         (W.contents (device_of output.old)) (W.contents (device_of output.new))) }
     ensures stopped { IfErr result (StopsBy (WhyView (F.holds files.old) lattice.now class.now
-        execution.entry outset.now) (LacksClassAt (F.holds files.old) lattice.now class.now)) }
+        execution.entry outset.now) (LacksEither (F.holds files.old) lattice.now class.now
+        execution.entry.image.now execution.entry.budget)) }
 {
     let text = seen(desk, lattice, class, execution, outset, files)?;
     deliver(desk.alloc, &text, outset.out, files, output)

@@ -22,7 +22,8 @@ pub(crate) const STREAM: &str = "-";
 /// The reason why a command line ended early.
 #[derive(Debug, Drop)]
 pub(crate) enum Stop<'a> {
-    /// With the fault text, and its cause if that can be explained.
+    /// With the fault text, and its cause if that can be explained. Without a cause it is a leak, or
+    /// a budget that is to be the bound of an image for which none was found.
     Refused(Vec<u8>, Option<Cause>),
     /// An interface file is refused, with the fault text.
     Interface(Vec<u8>, InterfaceError),

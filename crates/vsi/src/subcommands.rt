@@ -1,9 +1,9 @@
 //! The answers of the subcommands that run nothing: the text to write, or why there is none.
 
 ghost use Rattle.std.specs.Prelude.{◌≡◌, ◌<◌, true, false, IfErr, IfOk, OnOk};
-ghost use Rattle.vsi.specs.Performed.{AreFiles, BuildsFile, OfFile, OfFiles, ToldAccepted, ToldCanonical, ToldClasses, ToldFlows, ToldImage, ToldJson, ToldListing, Writes};
+ghost use Rattle.vsi.specs.Performed.{AreFiles, BuildsFile, OfFile, OfFiles, ToldAccepted, ToldCanonical, ToldClasses, ToldFlows, ToldImage, ToldJson, ToldListing, ToldRaises, Writes};
 ghost use Rattle.vsi.specs.Performed.{judgement_of, profile_of};
-ghost use Rattle.vsi.specs.Reasons.{AsksCanonical, AsksCheck, AsksClasses, AsksFlows, AsksImage, NoOther, RefusesFile, RefusesFiles, RefusesLattice, StopsBy, ToldRefusal, WhyCheck};
+ghost use Rattle.vsi.specs.Reasons.{AsksCanonical, AsksCheck, AsksClasses, AsksFlows, AsksImage, AsksMend, NoOther, RefusesFile, RefusesFiles, RefusesLattice, StopsBy, ToldRefusal, WhyCheck};
 ghost use Rattle.vsi.specs.Partly.{AnswersCheck, BytesOf, Leaves};
 ghost use Rattle.vsi.specs.Stops.{TellsFault, status_of};
 ghost use Rattle.vsi_answers.specs.Requests.{ListsTo};
@@ -35,7 +35,7 @@ pub(crate) fn profile(is_strict: bool) -> Profile
 }
 
 /// The lattice, which is judged, and the bytes of the source text, which are read after it.
-fn policy_and_text<'a, F: Files>(
+pub(crate) fn policy_and_text<'a, F: Files>(
     desk: &mut Desk,
     compilation: Compilation<'a>,
     files: &mut F,
@@ -192,6 +192,48 @@ pub(crate) fn flows<'a, F: Files>(
     answered(listed_flows(
         desk.alloc,
         has_walks,
+        compilation.is_strict,
+        &classes,
+        source,
+    ))
+}
+
+/// A line for each class of a text that has to rise, or the text with these classes if requested.
+fn raised(
+    alloc: Global,
+    is_applied: bool,
+    is_strict: bool,
+    classes: &Lattice,
+    text: &[u8],
+) -> Result<Vec<u8>, Unanswered>
+    ensures { AsksMend is_applied is_strict classes.now text.now result }
+{
+    let profile = profile(is_strict);
+    if is_applied {
+        return vsi_answers::apply(alloc, profile, classes, text);
+    }
+    vsi_answers::mend(alloc, profile, classes, text)
+}
+
+/// A line for each class of the source text that has to rise, or the text with these classes if
+/// requested.
+pub(crate) fn mend<'a, F: Files>(
+    desk: &mut Desk,
+    compilation: Compilation<'a>,
+    is_applied: bool,
+    files: &mut F,
+) -> Result<Vec<u8>, Stop<'a>>
+    ensures kept { F.holds files.new ≡ F.holds files.old }
+    ensures told { IfOk result (OfFiles (F.holds files.old) compilation.entry
+        (ToldRaises is_applied compilation.entry.is_strict)) }
+    ensures stopped { IfErr result (StopsBy (RefusesFiles (F.holds files.old) compilation.entry
+        (AsksMend is_applied compilation.entry.is_strict)) NoOther) }
+{
+    let (classes, text) = policy_and_text(desk, compilation, files)?;
+    let source = text.as_slice();
+    answered(raised(
+        desk.alloc,
+        is_applied,
         compilation.is_strict,
         &classes,
         source,

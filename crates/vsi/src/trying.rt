@@ -96,7 +96,7 @@ fn viewer_of<'a>(lattice: &Lattice, name: Option<&'a str>) -> Result<Option<Clas
 }
 
 /// The image made from a text, whose bytes are kept for an explanation.
-fn made_image<'a>(
+pub(crate) fn made_image<'a>(
     desk: &mut Desk,
     lattice: &Lattice,
     source: &str,

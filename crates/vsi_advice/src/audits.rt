@@ -1,4 +1,4 @@
-//! The explanation of an image that is judged and refused.
+//! The explanation of a judged image that is refused.
 
 use std::alloc::{AllocError, Global};
 use vsi_audit::AuditError;
@@ -8,7 +8,7 @@ use vsi_lattice::{Classes, Lattice};
 use vsi_steady::SteadyError;
 use vsi_telling::names::{Part, class_names, put_names_between, put_parts, put_word_between};
 
-/// An image that is refused, and the lattice by which it was judged.
+/// A refused image, and the lattice by which it was judged.
 #[derive(Clone, Copy)]
 pub(crate) struct Judged<'a> {
     pub(crate) alloc: Global,
@@ -26,7 +26,7 @@ fn line_of<'l>(listing: &'l [u8], start: &[u8]) -> Option<&'l [u8]> {
     None
 }
 
-/// The rule of an image's commands for an instruction.
+/// The rule for an instruction in an image's commands.
 fn rule_of(instruction: Option<&Instr>) -> &'static str {
     match instruction {
         Some(Instr::Jz(_)) => {
@@ -71,7 +71,7 @@ fn put_line_of(words: &mut Vec<u8>, listing: &[u8], start: &[u8]) -> Result<(), 
     )
 }
 
-/// Adds that a global of an image has a class that is none of these.
+/// Adds that a global of an image has a class that isn't one of these.
 fn put_other_class(
     words: &mut Vec<u8>,
     name: &[u8],
@@ -106,7 +106,7 @@ impl Judged<'_> {
         put_other_class(words, name, class, &classes)
     }
 
-    /// Adds the explanation of code that isn't that of commands.
+    /// Adds the explanation of code that doesn't consist of commands.
     fn put_code(&self, words: &mut Vec<u8>, number: usize) -> Result<(), AllocError> {
         words.extend_from_slice(
             b"The image is valid, and its code isn't that of commands from here on:\n",
@@ -157,7 +157,7 @@ impl Judged<'_> {
         )
     }
 
-    /// Adds the explanation of a jump or a global into which something flows that may not.
+    /// Adds the explanation of a jump or a global with a forbidden flow into it.
     fn put_unsteady(
         &self,
         words: &mut Vec<u8>,

@@ -1,4 +1,4 @@
-//! The places of the parts of an interface file.
+//! The positions of the parts of an interface file.
 
 use toml::{Table, Value};
 use vsi_syntax::Span;
@@ -9,7 +9,7 @@ use vsi_telling::tables::{array_in, value_in};
 /// The header of each run.
 const RUN: &[u8] = b"[[runs]]";
 
-/// A part of a file that was found after so many of its bytes.
+/// A part of a file, found after this many bytes.
 fn behind(from: usize, span: Span) -> Span {
     Span {
         start: from.saturating_add(span.start),
@@ -17,20 +17,20 @@ fn behind(from: usize, span: Span) -> Span {
     }
 }
 
-/// A pair of `globals`, or the value in the place of one.
+/// A pair of `globals`, or the value in its place.
 pub(crate) fn pair_in(table: &Table, number: usize) -> Option<&[Value]> {
     let pair = value_in(table, "globals", number)?;
     Some(pair.as_array()?.as_slice())
 }
 
-/// The text at a place of a pair of `globals`.
+/// The text at one side of a pair of `globals`.
 pub(crate) fn text_in(table: &Table, number: usize, side: usize) -> Option<&[u8]> {
     let text = pair_in(table, number)?.get(side)?;
     let text = text.as_str()?;
     Some(text.as_bytes())
 }
 
-/// How many pairs `globals` has.
+/// The number of pairs in `globals`.
 pub(crate) fn pairs_in(table: &Table) -> usize {
     match array_in(table, "globals") {
         Some(pairs) => pairs.len(),
@@ -38,7 +38,7 @@ pub(crate) fn pairs_in(table: &Table) -> usize {
     }
 }
 
-/// The pair of a name, after so many others.
+/// The pair with a name, after this many others.
 pub(crate) fn pair_named(table: &Table, name: &[u8], others: usize) -> Option<usize> {
     let mut left = others;
     for number in 0..pairs_in(table) {
@@ -53,7 +53,7 @@ pub(crate) fn pair_named(table: &Table, name: &[u8], others: usize) -> Option<us
     None
 }
 
-/// How often a text occurs in `globals` before a place of a pair.
+/// The number of occurrences of a text in `globals` before one side of a pair.
 fn times_before(table: &Table, number: usize, side: usize, text: &[u8]) -> usize {
     let mut times: usize = 0;
     for before in 0..number {
@@ -69,7 +69,7 @@ fn times_before(table: &Table, number: usize, side: usize, text: &[u8]) -> usize
     times
 }
 
-/// The position of the text at a place of a pair of `globals`.
+/// The position of the text at one side of a pair of `globals`.
 pub(crate) fn pair_place(bytes: &[u8], table: &Table, number: usize, side: usize) -> Option<Span> {
     let key = key_place(bytes, b"globals")?;
     let text = text_in(table, number, side)?;
@@ -82,7 +82,7 @@ pub(crate) fn pair_place(bytes: &[u8], table: &Table, number: usize, side: usize
     Some(behind(key.stop, found))
 }
 
-/// Where the run of this number, from 1, begins.
+/// The beginning of the run with this number, from 1.
 pub(crate) fn run_place(bytes: &[u8], number: usize) -> Option<Span> {
     let mut left = number;
     let mut is_at_beginning = true;
@@ -105,7 +105,7 @@ pub(crate) fn run_place(bytes: &[u8], number: usize) -> Option<Span> {
     None
 }
 
-/// The content of the run of this number.
+/// The content of the run with this number.
 fn run_part(bytes: &[u8], number: usize) -> Option<Span> {
     let run = run_place(bytes, number)?;
     let stop = match run_place(bytes, number.saturating_add(1)) {
@@ -118,7 +118,7 @@ fn run_part(bytes: &[u8], number: usize) -> Option<Span> {
     })
 }
 
-/// The position of a key of a run, or else where the run begins.
+/// The position of a key of a run, or else the beginning of the run.
 pub(crate) fn run_key_place(bytes: &[u8], number: usize, key: &[u8]) -> Option<Span> {
     let part = run_part(bytes, number)?;
     match key_place(part_of(bytes, part), key) {
@@ -139,7 +139,7 @@ fn begins_entry(bytes: &[u8], name: &[u8]) -> bool {
     rest.trim_ascii_start().first() == Some(&b'=')
 }
 
-/// Where a run gives a name a word, or else where the run begins.
+/// The position where a run gives a name a word, or else the beginning of the run.
 pub(crate) fn entry_place(bytes: &[u8], number: usize, name: &[u8]) -> Option<Span> {
     let part = run_part(bytes, number)?;
     let text = part_of(bytes, part);

@@ -14,14 +14,14 @@ use vsi_telling::tables::value_in;
 const SHAPE: &str = "A run is written so:\n  [[runs]]\n  store = { key = 7 }\n  \
     budget = 1000\n  expect = { out = 3 }\n";
 
-/// The value of a key of the run of this number, from 1.
+/// The value of a key of the run with this number, from 1.
 fn run_value<'t>(table: &'t Table, number: usize, key: &str) -> Option<&'t Value> {
     let run = value_in(table, "runs", number.saturating_sub(1))?;
     let run = run.as_table()?;
     run.get(key)
 }
 
-/// The first key of a run that no run has.
+/// The first key of a run that isn't valid in runs.
 fn other_key(table: &Table, number: usize) -> Option<&[u8]> {
     let run = value_in(table, "runs", number.saturating_sub(1))?;
     for (key, _) in run.as_table()? {
@@ -43,7 +43,7 @@ fn global_names(alloc: Global, table: &Table) -> Result<Vec<&[u8]>, AllocError> 
     Ok(names)
 }
 
-/// The first name of a table whose value is no whole number.
+/// The first name of a table whose value isn't a whole number.
 fn wordless<'t>(value: &'t Value) -> Option<&'t [u8]> {
     for (name, word) in value.as_table()? {
         if word.as_integer().is_none() {
@@ -53,20 +53,20 @@ fn wordless<'t>(value: &'t Value) -> Option<&'t [u8]> {
     None
 }
 
-/// The first name of a table of a run whose value is no whole number.
+/// The first name of a table of a run whose value isn't a whole number.
 fn faulty_word<'t>(table: &'t Table, number: usize, key: &str) -> Option<&'t [u8]> {
     wordless(run_value(table, number, key)?)
 }
 
 impl Page<'_> {
-    /// Adds a part, the run's number and a part.
+    /// Adds a text, the run's number and another text.
     fn run(&mut self, before: &str, number: usize, behind: &str) -> Result<(), AllocError> {
         self.put(before)?;
         self.count(number)?;
         self.put(behind)
     }
 
-    /// Explains runs that are none.
+    /// Explains `runs` that aren't valid.
     fn runs(&mut self) -> Result<Option<Span>, AllocError> {
         self.put(
             "The value of `runs` is no array of tables. Hint: write a line `[[runs]]` before the \
@@ -79,7 +79,7 @@ impl Page<'_> {
         }
     }
 
-    /// Explains a run that is no table or has another key.
+    /// Explains a run that isn't a table or has an invalid key.
     fn other(&mut self, number: usize) -> Result<Option<Span>, AllocError> {
         let Some(key) = other_key(self.table, number) else {
             self.run("Run ", number, " is no table.\n")?;
@@ -113,7 +113,7 @@ impl Page<'_> {
         )
     }
 
-    /// Explains a table of words that is none.
+    /// Explains a table of words that isn't valid.
     fn table(&mut self, number: usize, key: &str) -> Result<Option<Span>, AllocError> {
         if let Some(name) = faulty_word(self.table, number, key) {
             self.word(number, key.as_bytes(), name)?;
@@ -126,7 +126,7 @@ impl Page<'_> {
         Ok(run_key_place(self.bytes, number, key.as_bytes()))
     }
 
-    /// Explains a budget that is none.
+    /// Explains a budget that isn't valid.
     fn budget(&mut self, number: usize) -> Result<Option<Span>, AllocError> {
         if run_value(self.table, number, "budget").is_none() {
             self.run("Run ", number, " has no budget. ")?;
@@ -163,7 +163,7 @@ impl Page<'_> {
         self.table(number, "expect")
     }
 
-    /// Adds that a name is none of those of the globals.
+    /// Adds that a name isn't one of the globals.
     fn other_global(
         &mut self,
         number: usize,
@@ -185,20 +185,20 @@ impl Page<'_> {
         )
     }
 
-    /// Adds that a name is no global.
+    /// Adds that a name isn't a global.
     fn no_global(&mut self, number: usize, name: &[u8]) -> Result<(), AllocError> {
         let names = global_names(self.alloc, self.table)?;
         self.other_global(number, name, &names)
     }
 
-    /// Explains a name that is no global.
+    /// Explains a name that isn't a global.
     fn global(&mut self, number: usize, name: &[u8]) -> Result<Option<Span>, AllocError> {
         self.no_global(number, name)?;
         Ok(entry_place(self.bytes, number, name))
     }
 }
 
-/// Adds the explanation of the runs of an interface, and returns its place.
+/// Adds the explanation of the runs of an interface, and returns its position.
 pub(crate) fn of_run(page: &mut Page, error: &InterfaceError) -> Result<Option<Span>, AllocError> {
     match error {
         InterfaceError::BadRuns => page.runs(),

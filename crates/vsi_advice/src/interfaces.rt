@@ -24,7 +24,7 @@ const KEYS: [&[u8]; 7] = [
 /// The keys of a run.
 pub(crate) const RUN_KEYS: [&[u8]; 4] = [b"store", b"budget", b"expect", b"halts"];
 
-/// Whether a key is one of a run.
+/// Whether a key is valid in a run.
 pub(crate) fn is_run_key(key: &[u8]) -> bool {
     for known in RUN_KEYS {
         if known == key {
@@ -40,7 +40,7 @@ const PROFILES: [&[u8]; 3] = [b"base", b"strict", b"steady"];
 /// The orders.
 const ORDERS: [&[u8]; 2] = [b"exact", b"set"];
 
-/// An interface file that is refused, and its explanation so far.
+/// A refused interface file, and its explanation so far.
 #[derive(Drop)]
 pub(crate) struct Page<'p> {
     pub(crate) alloc: Global,
@@ -49,7 +49,7 @@ pub(crate) struct Page<'p> {
     pub(crate) words: &'p mut Vec<u8>,
 }
 
-/// Adds the explanation if the file is no TOML, and answers where.
+/// Adds the explanation if the file isn't TOML, and returns its position.
 fn put_not_toml(
     alloc: Global,
     words: &mut Vec<u8>,
@@ -70,12 +70,12 @@ fn put_not_toml(
 }
 
 impl Page<'_> {
-    /// Adds words.
+    /// Adds a text.
     pub(crate) fn put(&mut self, text: &str) -> Result<(), AllocError> {
         self.words.extend_from_slice(text.as_bytes())
     }
 
-    /// Adds a word between back quotes.
+    /// Adds a text between back quotes.
     pub(crate) fn quote(&mut self, word: &[u8]) -> Result<(), AllocError> {
         put_quoted(self.words, word)
     }
@@ -85,7 +85,7 @@ impl Page<'_> {
         put_number(self.words, number)
     }
 
-    /// Adds which of the words was perhaps meant, or else a hint.
+    /// Adds which of the names was perhaps meant, or else a hint.
     pub(crate) fn hint(
         &mut self,
         written: &[u8],
@@ -123,7 +123,7 @@ impl Page<'_> {
         Ok(key_place(self.bytes, key))
     }
 
-    /// Explains a lattice that is missing, named twice or no text.
+    /// Explains a lattice that is missing, named twice or not a text.
     fn lattice(&mut self) -> Result<Option<Span>, AllocError> {
         if self.table.get("lattice").is_none() {
             self.put(
@@ -147,7 +147,7 @@ impl Page<'_> {
         Ok(key_place(self.bytes, b"lattice"))
     }
 
-    /// Explains a key that has no text as its value, and has to have one of the words.
+    /// Explains a key whose value isn't a text and should be one of the choices.
     fn no_choice(&mut self, key: &str, choices: &[&[u8]]) -> Result<Option<Span>, AllocError> {
         let fault: &[u8] = match self.table.get(key) {
             Some(_) => b"` is to have one of the words ",
@@ -160,7 +160,7 @@ impl Page<'_> {
         Ok(key_place(self.bytes, key.as_bytes()))
     }
 
-    /// Explains a text that is none of the words.
+    /// Explains a text that isn't one of the choices.
     fn other_choice(
         &mut self,
         text: &[u8],
@@ -173,7 +173,7 @@ impl Page<'_> {
         Ok(quoted_place(self.bytes, text, 0))
     }
 
-    /// Explains a key whose value is none of the words.
+    /// Explains a key whose value isn't one of the choices.
     fn choice(
         &mut self,
         key: &str,
@@ -219,7 +219,7 @@ impl Page<'_> {
         Ok(pair_place(self.bytes, self.table, number, 0))
     }
 
-    /// Adds that a class of a global is none of these.
+    /// Adds that a class of a global isn't one of these.
     fn other_class(
         &mut self,
         name: &[u8],
@@ -236,7 +236,7 @@ impl Page<'_> {
         )
     }
 
-    /// Adds that the class of a global is none of the lattice.
+    /// Adds that the class of a global isn't a class of the lattice.
     fn no_class(
         &mut self,
         name: &[u8],
@@ -250,7 +250,7 @@ impl Page<'_> {
         self.other_class(name, class, &classes)
     }
 
-    /// Explains the class of a global that is none.
+    /// Explains the class of a global that isn't a class.
     fn class(
         &mut self,
         name: &[u8],
@@ -292,7 +292,7 @@ fn is_pair(table: &Table, number: usize) -> bool {
     text_in(table, number, 1).is_some()
 }
 
-/// The first entry of `globals` that is no pair of texts.
+/// The first entry of `globals` that isn't a pair of texts.
 fn faulty_pair(table: &Table) -> usize {
     for number in 0..pairs_in(table) {
         if !is_pair(table, number) {
@@ -307,7 +307,7 @@ fn text_at<'t>(table: &'t Table, key: &str) -> Option<&'t str> {
     table.get(key)?.as_str()
 }
 
-/// Adds the explanation of a fault, and returns its place.
+/// Adds the explanation of a fault, and returns its position.
 fn put_fault(
     page: &mut Page,
     lattice: Option<&Lattice>,
@@ -339,7 +339,7 @@ fn put_fault(
     }
 }
 
-/// Adds the explanation of a fault in an interface that is a table, and returns its place.
+/// Adds the explanation of a fault in an interface that is a table, and returns its position.
 fn put_table_fault(
     alloc: Global,
     words: &mut Vec<u8>,
@@ -357,8 +357,8 @@ fn put_table_fault(
     put_fault(&mut page, lattice, error)
 }
 
-/// Adds the explanation of a refused interface file, and answers where it is wrong. The lattice is
-/// that of the file that it names.
+/// Adds the explanation of a refused interface file, and returns the position of the fault. The
+/// lattice is that of the file that it names.
 pub(crate) fn put_interface(
     alloc: Global,
     words: &mut Vec<u8>,

@@ -1,8 +1,8 @@
 //! The explanation that follows the refusal of an interface, of a setting or of a judged image:
 //! where it is wrong, what belongs there, and what to do.
 //!
-//! Its sentences are composed freely. `advice` hands them to `vsi_telling::shown`, whose clause
-//! says that no byte of a file drives a terminal.
+//! Its sentences are free text. `advice` passes them to `vsi_telling::shown`, whose clause says
+//! that no byte of a file controls a terminal.
 #![tactic(auto)]
 
 ghost use Rattle.std.specs.Prelude.{◌≡◌, IfOk, IfSome, true};
@@ -29,17 +29,17 @@ use vsi_steady::SteadyError;
 use vsi_syntax::Span;
 use vsi_telling::shown;
 
-/// A refusal: what is refused, and why.
+/// A refusal: the refused file or image, and the reason.
 #[derive(Clone, Copy)]
 pub enum Refused<'a> {
-    /// An interface file, with the lattice of the file that it names, where that was read.
+    /// An interface file, with the lattice of the file that it names, if that was read.
     Interface {
         bytes: &'a [u8],
         lattice: Option<&'a Lattice>,
         error: &'a InterfaceError,
     },
-    /// A run of an image that doesn't begin: for a setting, whose bytes these are, or for a global
-    /// that has no word.
+    /// A run of an image that doesn't begin: for a setting, with these bytes, or for a global that
+    /// has no word.
     Start {
         bytes: &'a [u8],
         image: &'a Image,
@@ -51,7 +51,7 @@ pub enum Refused<'a> {
         image: &'a Image,
         error: &'a AuditError,
     },
-    /// An image that is to be steady, and the text of its refusal.
+    /// An image that should be steady, and the text of its refusal.
     Steady {
         lattice: &'a Lattice,
         image: &'a Image,
@@ -60,15 +60,15 @@ pub enum Refused<'a> {
     },
 }
 
-/// The explanation of a refusal: a part of the file, if one is known, and words.
+/// The explanation of a refusal: a part of the file, if one is known, and a text.
 #[derive(Drop)]
 pub(crate) struct Telling {
     pub(crate) place: Option<Span>,
     pub(crate) words: Vec<u8>,
 }
 
-/// Adds the explanation of an interface or of a run that doesn't begin, and answers where it is
-/// wrong; nothing is added here for a judged image.
+/// Adds the explanation of an interface or of a run that doesn't begin, and returns the position of
+/// the fault. Adds nothing for a judged image.
 fn put_file(
     alloc: Global,
     words: &mut Vec<u8>,
@@ -89,7 +89,7 @@ fn put_file(
     }
 }
 
-/// Adds the explanation of an image that is judged; nothing is added here for a file.
+/// Adds the explanation of a judged image. Adds nothing for a file.
 fn put_judged(alloc: Global, words: &mut Vec<u8>, refused: Refused) -> Result<(), AllocError> {
     match refused {
         Refused::Audit {
@@ -129,7 +129,7 @@ fn telling_of(alloc: Global, refused: Refused) -> Result<Telling, AllocError> {
     Ok(Telling { place, words })
 }
 
-/// The bytes in which the places of a refusal are; an image has none.
+/// The bytes to which the positions of a refusal refer; an image has none.
 fn bytes_of<'a>(refused: Refused<'a>) -> &'a [u8] {
     match refused {
         Refused::Interface { bytes, .. } | Refused::Start { bytes, .. } => bytes,
@@ -137,16 +137,16 @@ fn bytes_of<'a>(refused: Refused<'a>) -> &'a [u8] {
     }
 }
 
-/// The explanation that follows a refusal: the place in the file of this path, its line and carets
-/// where a place is known, then in whole sentences of at most 80 columns what is wrong, what is
-/// wanted, and what to do.
+/// The explanation that follows a refusal: the position in the file with this path, its line and
+/// carets if the position is known, and then, in whole sentences of at most 80 columns, what is
+/// wrong, what is expected, and what to do.
 pub fn advice(
     alloc: Global,
     manner: Manner,
     path: &[u8],
     refused: Refused,
 ) -> Result<Vec<u8>, AllocError>
-    // Without colours no byte drives a terminal.
+    // Without colours no byte controls a terminal.
     ensures plain { manner ≡ Plain → IfOk result (λ text. all_plain text.items ≡ true) }
 {
     let telling = telling_of(alloc, refused)?;

@@ -8,7 +8,7 @@ use vsi_telling::names::{part_of, put_quoted, put_word_between};
 use vsi_telling::nearest::put_nearest_or;
 use vsi_telling::stores::{names_of, put_no_global};
 
-/// The part of a setting that isn't blank at its ends.
+/// The part of a setting without blanks at its ends.
 fn trimmed(setting: &[u8], part: Span) -> Span {
     let text = part_of(setting, part);
     let left = text.trim_ascii_start();
@@ -39,7 +39,7 @@ fn sides(setting: &[u8]) -> (Span, Span) {
     (trimmed(setting, name), trimmed(setting, value))
 }
 
-/// The advice for a setting that isn't of the form.
+/// The advice for a setting that doesn't have the required form.
 fn form_hint(setting: &[u8], name: &[u8], value: &[u8]) -> &'static str {
     if name.ends_with(b":") {
         return "Hint: leave the `:` out, since a setting is no assignment.\n";
@@ -56,12 +56,12 @@ fn form_hint(setting: &[u8], name: &[u8], value: &[u8]) -> &'static str {
     "Hint: write one name and one number, as in `--set x=1`.\n"
 }
 
-/// Whether a text is digits alone, one at least.
+/// Whether a text consists of one or more digits.
 fn is_digits(text: &[u8]) -> bool {
     !text.is_empty() && text.iter().all(|byte| byte.is_ascii_digit())
 }
 
-/// The advice for a value that is no number.
+/// The advice for a value that isn't a number.
 fn number_hint(value: &[u8]) -> &'static str {
     if value.starts_with(b"+") {
         return "Hint: leave the `+` out.\n";
@@ -77,7 +77,7 @@ fn number_hint(value: &[u8]) -> &'static str {
     expression.\n"
 }
 
-/// Adds the explanation of a setting that isn't of the form.
+/// Adds the explanation of a setting that doesn't have the required form.
 fn put_form(words: &mut Vec<u8>, setting: &[u8]) -> Result<Option<Span>, AllocError> {
     let (name, value) = sides(setting);
     words.extend_from_slice(
@@ -91,7 +91,7 @@ fn put_form(words: &mut Vec<u8>, setting: &[u8]) -> Result<Option<Span>, AllocEr
     }))
 }
 
-/// Adds the explanation of a name that is none of those of the globals.
+/// Adds the explanation of a name that isn't one of the globals.
 fn put_other_name(
     alloc: Global,
     words: &mut Vec<u8>,
@@ -119,7 +119,7 @@ fn put_unknown(
     put_other_name(alloc, words, name, &names)
 }
 
-/// Adds the explanation of a setting whose name is no global.
+/// Adds the explanation of a setting whose name isn't a global.
 fn put_name(
     alloc: Global,
     words: &mut Vec<u8>,
@@ -131,7 +131,7 @@ fn put_name(
     Ok(Some(place))
 }
 
-/// Adds the explanation of a setting whose number is none.
+/// Adds the explanation of a setting whose number isn't valid.
 fn put_number(words: &mut Vec<u8>, setting: &[u8]) -> Result<Option<Span>, AllocError> {
     let (_name, place) = sides(setting);
     let value = part_of(setting, place);
@@ -166,8 +166,8 @@ fn put_unnamed(words: &mut Vec<u8>, name: &[u8]) -> Result<(), AllocError> {
     words.extend_from_slice(b" = 0` to a store file, with the word that is meant.\n")
 }
 
-/// Adds the explanation of a run of an image that doesn't begin, and answers where its setting is
-/// wrong.
+/// Adds the explanation of a run of an image that doesn't begin, and returns the position of the
+/// fault in its setting.
 pub(crate) fn put_start(
     alloc: Global,
     words: &mut Vec<u8>,

@@ -8,7 +8,7 @@ use Rattle.vsi_image.proofs.Images.{spelled-is_read}
 use Rattle.vsi_image.specs.Reading.{image_of}
 use Rattle.vsi_compiler.proofs.Profiles.{strict_implies_base}
 use Rattle.vsi_devices.proofs.Seen as devices
-use Rattle.vsi_answers.specs.declared.unanswered.Cause.TheVariants.{Source, File, Start, Steady}
+use Rattle.vsi_answers.specs.declared.unanswered.Cause.TheVariants.{Source, File, Start, Steady, Raised}
 use Rattle.vsi_answers.specs.Laws.{AcceptedIsAccepted, BuiltIsAccepted, SameView, StrictIsBase}
 use Rattle.vsi_answers.proofs.Views.{same_fields, view_moved}
 
@@ -24,6 +24,7 @@ built_is_accepted l P source answer text (Source e) =
 built_is_accepted l P source answer text (File f) = ((λ checked refused. refused), (λ built refused. refused))
 built_is_accepted l P source answer text (Start f) = ((λ checked refused. refused), (λ built refused. refused))
 built_is_accepted l P source answer text (Steady e) = ((λ checked refused. refused), (λ built refused. refused))
+built_is_accepted l P source answer text (Raised e) = ((λ checked refused. refused), (λ built refused. refused))
 
 -- The strict profile accepts no more than the base profile.
 pub strict_is_base : StrictIsBase
@@ -32,6 +33,7 @@ strict_is_base l source answer text (Source e) checked refused =
 strict_is_base l source answer text (File f) checked refused = refused
 strict_is_base l source answer text (Start f) checked refused = refused
 strict_is_base l source answer text (Steady e) checked refused = refused
+strict_is_base l source answer text (Raised e) checked refused = refused
 
 -- Stores that agree give the same view.
 pub same_view : SameView

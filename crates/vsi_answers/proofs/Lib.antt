@@ -1,3 +1,4 @@
 pub mod Told
 pub mod Views
 pub mod Agreement
+pub mod Bounded

@@ -7,7 +7,7 @@ use Rattle.vsi_diagnostics.specs.declared.fault.Fault.{Fault}
 use Rattle.vsi_drive.specs.declared.starts.StartFault.{StartFault}
 use Rattle.vsi_answers.specs.declared.unanswered.Unanswered.{Unanswered}
 use Rattle.vsi_answers.specs.declared.unanswered.Unanswered.TheVariants.{Refused, OutOfBudget, Memory}
-use Rattle.vsi_answers.specs.declared.unanswered.Cause.TheVariants.{Source, File, Start, Steady}
+use Rattle.vsi_answers.specs.declared.unanswered.Cause.TheVariants.{Source, File, Start, Steady, Raised}
 use Rattle.vsi_answers.specs.Answers.{Because}
 use Rattle.vsi_lattice.specs.LatticeView.{class_named, order}
 use Rattle.vsi_types.specs.declared.rules.Profile.TheVariants.{Base}
@@ -25,6 +25,7 @@ source_told Kind l source error kind (Refused text (Source e)) told =
 source_told Kind l source error kind (Refused text (File f)) told = absurd told
 source_told Kind l source error kind (Refused text (Start f)) told = absurd told
 source_told Kind l source error kind (Refused text (Steady e)) told = absurd told
+source_told Kind l source error kind (Refused text (Raised e)) told = absurd told
 source_told Kind l source error kind OutOfBudget told = absurd told
 source_told Kind l source error kind Memory told = tt
 
@@ -35,6 +36,7 @@ fault_told Kind fault kind spent (Refused text (Source e)) told = absurd told
 fault_told Kind fault kind spent (Refused text (File f)) told = (subst Kind (sym told.0) kind, told.1)
 fault_told Kind fault kind spent (Refused text (Start f)) told = absurd told
 fault_told Kind fault kind spent (Refused text (Steady e)) told = absurd told
+fault_told Kind fault kind spent (Refused text (Raised e)) told = absurd told
 fault_told Kind fault kind spent OutOfBudget told = absurd told
 fault_told Kind fault kind spent Memory told = tt
 

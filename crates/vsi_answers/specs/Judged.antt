@@ -36,7 +36,7 @@ use Rattle.vsi_diagnostics.specs.Files.{fault_diagnostic}
 use Rattle.vsi_diagnostics.specs.Texts.{IsRefusalText, text_of}
 use Rattle.vsi_diagnostics.specs.declared.fault.Fault.{Fault}
 use Rattle.vsi_diagnostics.specs.declared.fault.Fault.TheVariants as fault
-use Rattle.vsi_answers.specs.declared.unanswered.Cause.TheVariants.{Source, File as InFile, Start, Steady}
+use Rattle.vsi_answers.specs.declared.unanswered.Cause.TheVariants.{Source, File as InFile, Start, Steady, Raised}
 use Rattle.vsi_answers.specs.Answers.{Telling}
 
 -- The text is the refusal of a source text for an error of this kind.
@@ -45,6 +45,7 @@ TellsSource Kind l source text (Source e) = (e ≢ compiler.Memory) × Kind e ×
 TellsSource Kind l source text (InFile f) = ⊥
 TellsSource Kind l source text (Start f) = ⊥
 TellsSource Kind l source text (Steady e) = ⊥
+TellsSource Kind l source text (Raised e) = ⊥
 
 -- The text is the refusal of another file for a fault of this kind.
 abbrev pub TellsFault : (Fault → Type 0) → Telling
@@ -52,6 +53,7 @@ TellsFault Kind text (Source e) = ⊥
 TellsFault Kind text (InFile f) = Kind f × (text ≡ text_of (fault_diagnostic f))
 TellsFault Kind text (Start f) = ⊥
 TellsFault Kind text (Steady e) = ⊥
+TellsFault Kind text (Raised e) = ⊥
 
 -- The text of a walk with a loop in place of each choice: its line, followed by the explanation of the walk.
 abbrev pub IsWatchedText : Lattice → List ℕ → List Step → List ℕ → Type 0
@@ -81,6 +83,21 @@ TellsSteady Kind l source text (Source e) = ⊥
 TellsSteady Kind l source text (InFile f) = ⊥
 TellsSteady Kind l source text (Start f) = ⊥
 TellsSteady Kind l source text (Steady e) = (e ≢ unsteady.Memory) × Kind e × IsSteadyText l source e text
+TellsSteady Kind l source text (Raised e) = ⊥
+
+-- The refusal of a text with raised classes: its lines, and the line that names this text.
+abbrev pub IsRaisedRefusal : Lattice → List ℕ → CompileError → List ℕ → Type 0
+IsRaisedRefusal l raised e text =
+    (lines : List ℕ) × IsRefusalText l raised e lines
+    × (text ≡ lines ++ codes "in the text with the raised classes\n")
+
+-- The text is the refusal of a text with raised classes, which is refused by an error of this kind.
+abbrev pub TellsRaised : (List ℕ → CompileError → Type 0) → Lattice → Telling
+TellsRaised Kind l text (Source e) = ⊥
+TellsRaised Kind l text (InFile f) = ⊥
+TellsRaised Kind l text (Start f) = ⊥
+TellsRaised Kind l text (Steady e) = ⊥
+TellsRaised Kind l text (Raised e) = (raised : List ℕ) × Kind raised e × IsRaisedRefusal l raised e text
 
 -- The compiler refuses the text under a profile with this error, and the text isn't accepted.
 abbrev pub IsCompileFault : Lattice → Profile → List ℕ → CompileError → Type 0
@@ -131,6 +148,7 @@ TellsStartFault Kind text (Source e) = ⊥
 TellsStartFault Kind text (InFile f) = ⊥
 TellsStartFault Kind text (Start f) = Kind f × (text ≡ start_fault_line f)
 TellsStartFault Kind text (Steady e) = ⊥
+TellsStartFault Kind text (Raised e) = ⊥
 
 -- The fault of a store file for an image.
 abbrev pub IsStoreFault : Image → List ℕ → Fault → Type 0

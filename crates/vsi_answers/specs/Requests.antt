@@ -24,9 +24,10 @@ use Rattle.vsi_steady.specs.Steady.{IsSteady}
 use Rattle.vsi_drive.specs.Starts.{Begins}
 use Rattle.vsi_devices.specs.Building.{IsBuilt}
 use Rattle.vsi_flows.specs.Text.{IsTableText, IsWalksText}
+use Rattle.vsi_raised.specs.Answers.{IsRaiseText, IsRaisedText, RefusesRaise, RefusesRaised}
 use Rattle.vsi_answers.specs.declared.unanswered.Unanswered.{Unanswered}
 use Rattle.vsi_answers.specs.Answers.{Judges, Nothing, Runs}
-use Rattle.vsi_answers.specs.Judged.{AreImage, Declares, IsCompileFault, IsImageFault, IsLatticeFault, IsProgramFault, IsTreeFault, IsViewFault, TellsFault, TellsSource, TellsStart, TellsSteady}
+use Rattle.vsi_answers.specs.Judged.{AreImage, Declares, IsCompileFault, IsImageFault, IsLatticeFault, IsProgramFault, IsTreeFault, IsViewFault, TellsFault, TellsRaised, TellsSource, TellsStart, TellsSteady}
 
 -- A text, or the reason why there is none.
 abbrev pub Answer : Type 0
@@ -86,6 +87,18 @@ FlowsTo l P source =
 abbrev pub WalksTo : Lattice → Profile → List ℕ → Answer → Type 0
 WalksTo l P source =
     Judges (λ text. IsWalksText l P source text.items) (TellsSource (IsProgramFault l source) l source)
+
+-- `mend`: the lines of the raises to the least policy, or why none serves.
+abbrev pub MendsTo : Lattice → Profile → List ℕ → Answer → Type 0
+MendsTo l P source =
+    Judges (λ text. IsRaiseText l P source text.items) (TellsSource (RefusesRaise l P source) l source)
+
+-- `mend --apply`: the text with these raises, which is accepted, or why none serves, or why that text is refused.
+abbrev pub AppliesTo : Lattice → Profile → List ℕ → Answer → Type 0
+AppliesTo l P source =
+    Judges (λ text. IsRaisedText l P source text.items × IsAccepted (class_named l) (order l) P text.items)
+    (λ text cause. TellsSource (RefusesRaise l P source) l source text cause
+    ⊎ TellsRaised (RefusesRaised l P source) l text cause)
 
 -- `build`: the bytes of the image that the text is compiled to, or the reason why it is refused.
 abbrev pub BuildsTo : Lattice → Profile → List ℕ → Answer → Type 0

@@ -7,15 +7,21 @@
 //! To be believed: all files of `specs/`.
 #![tactic(auto)]
 
+mod bounds;
 mod files;
 pub mod laws;
+mod places;
+mod raising;
 mod refusing;
 mod runs;
 mod steady;
 mod texts;
 mod unanswered;
 
+pub use bounds::{BoundAnswer, bound, bound_in, enough_budget};
 pub use files::{declared_lattice, judged_image, list};
+pub use places::Place;
+pub use raising::{apply, mend};
 pub use refusing::{refused_file, refused_source};
 pub use runs::{compare, run, run_source, start_words, view};
 pub use steady::check_steady;

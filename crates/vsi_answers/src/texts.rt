@@ -1,12 +1,17 @@
 //! The answers for a source text under a lattice.
 
+ghost use Rattle.std.specs.Prelude.{◌≡◌, IfErr, OnOk};
+ghost use Rattle.vsi_lattice.specs.LatticeView.{class_named, order};
+ghost use Rattle.vsi_compiler.specs.declared.error.CompileError.TheVariants.{Memory};
+ghost use Rattle.vsi_compiler.specs.Acceptance.{IsAccepted};
+ghost use Rattle.vsi_compiler.specs.Refusal.{Refuses};
 ghost use Rattle.vsi_answers.specs.Requests.{BuildsTo, ChecksFilesTo, ChecksTo, ClassesTo, FlowsTo, FormatsTo, WalksTo};
 
 use crate::files::declared_lattice;
 use crate::refusing::refused_source;
 use crate::unanswered::Unanswered;
 use std::alloc::Global;
-use vsi_compiler::{classes_text_in, compile_in, format_text};
+use vsi_compiler::{CompileError, classes_text_in, format_text, judge, read_source};
 use vsi_devices::{EngineError, image_bytes};
 use vsi_flows::{flows_text_in, walks_text_in};
 use vsi_lattice::Lattice;
@@ -14,6 +19,25 @@ use vsi_types::Profile;
 
 /// The answer for an accepted text.
 pub(crate) const ACCEPTED: &[u8] = b"accepted\n";
+
+/// Judges the flows of a text under a profile. No code is generated.
+fn accept(
+    alloc: Global,
+    profile: Profile,
+    lattice: &Lattice,
+    source: &[u8],
+) -> Result<(), CompileError>
+    ensures accepted { OnOk result
+        (IsAccepted (class_named lattice.now) (order lattice.now) profile source.now) }
+    ensures refused { IfErr result
+        (Refuses (class_named lattice.now) (order lattice.now) profile source.now) }
+    ensures exact { IsAccepted (class_named lattice.now) (order lattice.now) profile source.now
+        → IfErr result (λ e. e ≡ Memory) }
+{
+    let read = read_source(alloc, lattice, source)?;
+    let _classes = judge(alloc, profile, &read)?;
+    Ok(())
+}
 
 /// `accepted` and a line feed, if the text is accepted under a profile.
 pub fn check(
@@ -24,8 +48,8 @@ pub fn check(
 ) -> Result<Vec<u8>, Unanswered>
     ensures checks { ChecksTo lattice.now profile source.now result }
 {
-    match compile_in(alloc, profile, lattice, source) {
-        Ok(_verified) => Ok(Vec::from_slice(alloc, ACCEPTED)?),
+    match accept(alloc, profile, lattice, source) {
+        Ok(()) => Ok(Vec::from_slice(alloc, ACCEPTED)?),
         Err(error) => Err(refused_source(alloc, lattice, source, error)),
     }
 }

@@ -25,6 +25,9 @@ pub enum Cause {
     /// A source text is refused when a steady image is required.
     #[error("the text is refused")]
     Steady(UnsteadyError),
+    /// A source text is refused once its classes are raised.
+    #[error("the text with the raised classes is refused")]
+    Raised(CompileError),
 }
 
 /// The reason why a request has no answer. Lack of memory is always `Memory`, and never the memory

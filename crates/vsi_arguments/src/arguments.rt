@@ -94,6 +94,20 @@ pub(crate) const EMITTED: Argument = Argument {
     whole: word_help::EMITTED,
 };
 
+pub(crate) const BOUNDED: Argument = Argument {
+    name: "FILE",
+    form: Form::Place,
+    line: "The image file, or the lattice file of SOURCE",
+    whole: word_help::BOUNDED,
+};
+
+pub(crate) const BOUNDED_SOURCE: Argument = Argument {
+    name: "SOURCE",
+    form: Form::FreePlace,
+    line: "The source text",
+    whole: word_help::BOUNDED_SOURCE,
+};
+
 pub(crate) const NAME: Argument = Argument {
     name: "name",
     form: Form::Value("NAME"),
@@ -106,6 +120,13 @@ pub(crate) const HEADER: Argument = Argument {
     form: Form::Flag,
     line: "Prints the header instead",
     whole: word_help::HEADER,
+};
+
+pub(crate) const BOUNDED: Argument = Argument {
+    name: "bounded",
+    form: Form::Flag,
+    line: "Leaves the budget out, where each run halts",
+    whole: word_help::BOUNDED,
 };
 
 pub(crate) const LATTICE_OPTION: Argument = Argument {
@@ -164,6 +185,13 @@ pub(crate) const WALKS: Argument = Argument {
     whole: word_help::WALKS,
 };
 
+pub(crate) const APPLY: Argument = Argument {
+    name: "apply",
+    form: Form::Flag,
+    line: "Prints the text with the new classes instead",
+    whole: word_help::APPLY,
+};
+
 pub(crate) const TRACE: Argument = Argument {
     name: "trace",
     form: Form::Flag,
@@ -209,7 +237,7 @@ pub(crate) const LOOKING: Argument = Argument {
 pub(crate) const BUDGET: Argument = Argument {
     name: "budget",
     form: Form::NeededNumber("N"),
-    line: "The most instructions that are done",
+    line: "The most instructions that are done, or `auto`",
     whole: word_help::BUDGET,
 };
 

@@ -138,6 +138,29 @@ Example:
   1:46 l flows to t by LETVAR at 1:41
   1:58 t flows to m by ASSIGN at 1:53";
 
+/// The long help of `mend`.
+pub(crate) const MEND: &str = "\
+Prints which classes have to rise for a source text to be accepted.
+
+Reads the lattice file and the source text as `check` does, and prints a line
+`LINE:COLUMN NAME : OLD -> NEW, since CAUSE reaches it` for each declaration
+whose class is too low: whoever sees OLD but not NEW no longer sees the variable
+then. No class is lowered, and none rises further than it has to. An accepted
+text has no line. With --apply the source text is printed with the new classes.
+With --strict no classes may help: then the refusal is that of `check`.
+
+Statuses: 0 printed, 1 refused, 2 usage, 4 file fault, 5 out of memory.";
+
+/// An example of `mend`.
+pub(crate) const MEND_EXAMPLE: &str = "\
+Example:
+  $ cat leak.vsi
+  var h : H; var l : L; l := h
+  $ vsi mend two.toml leak.vsi
+  1:16 l : L -> H, since h reaches it
+  $ vsi mend --apply two.toml leak.vsi
+  var h : H; var l : H; l := h";
+
 /// The long help of `build`.
 pub(crate) const BUILD: &str = "\
 Compiles a source text to an image.
@@ -227,8 +250,9 @@ Reads and verifies the image, and prints a file in C99 that needs <stdint.h> and
 no library: the numbers of the globals, and a function
 `int NAME_run(int64_t globals[N], uint64_t budget)`. It answers 0 where the run
 halts within the budget, and the globals then hold its last store; else it
-answers 1 and leaves the globals as they were. With --lattice a source text is
-read, judged and compiled instead.
+answers 1 and leaves the globals as they were. With --bounded the function takes
+no budget and always leaves the last store, and an image without a bound is
+refused. With --lattice a source text is read, judged and compiled instead.
 
 Statuses: 0 printed, 1 refused, 2 usage, 4 file fault, 5 out of memory.";
 
@@ -257,6 +281,32 @@ Example:
   #endif
 
   #endif";
+
+/// The long help of `bound`.
+pub(crate) const BOUND: &str = "\
+Prints a number of instructions within which every run halts.
+
+Reads and verifies the image, or with a lattice file reads, judges and compiles
+the source text. If there is a bound, prints `halts within N instructions`: with
+a budget of N or more the run from every store halts. Otherwise the line begins
+with `no bound: ` and names the first loop for which none was found, and why. A
+loop has a bound if it counts from a known number to a known limit by the same
+step at each turn.
+
+Statuses: 0 there is a bound, 1 refused, or no bound was found, 2 usage,
+4 file fault, 5 out of memory.";
+
+/// An example of `bound`.
+pub(crate) const BOUND_EXAMPLE: &str = "\
+Example:
+  $ cat count.vsi
+  var n : L; letvar i := 0 in while i < 3 do { n := n + i; i := i + 1 }
+  $ vsi bound two.toml count.vsi
+  halts within 46 instructions
+  $ cat wait.vsi
+  var n : L; while n < 3 do n := n + 1
+  $ vsi bound two.toml wait.vsi
+  no bound: 1:12: the loop's variable begins with a number that isn't known";
 
 /// The long help of `report`.
 pub(crate) const REPORT: &str = "\

@@ -17,6 +17,7 @@ mod word_help;
 pub use error::ArgumentsError;
 pub use reader::request_of;
 pub use request::{
-    Asked, Attempt, Audit, Colour, Comparison, Compilation, Conformance, Drawing, Driving,
-    Emission, Execution, Judging, Manner, Outset, Request, SEARCH, Search, TRY_BUDGET,
+    Asked, Attempt, Audit, Bounding, Budget, Colour, Comparison, Compilation, Conformance, Drawing,
+    Driving, Emission, Execution, Judging, Manner, Mending, Outset, Request, SEARCH, Search,
+    TRY_BUDGET,
 };

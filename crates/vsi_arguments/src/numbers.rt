@@ -1,11 +1,13 @@
 //! The numbers among the arguments of a command line.
 
+use crate::request::Budget;
 use clap::ArgMatches;
 
 /// An option whose value must be a number.
 #[derive(Clone, Copy, Debug, PartialEq, Eq)]
 pub(crate) enum Limit {
     Budget,
+    RunBudget,
     Tries,
     Seed,
 }
@@ -16,6 +18,9 @@ impl Limit {
         match self {
             Limit::Budget => {
                 "--budget takes a number from 0 to 18446744073709551615, by digits alone"
+            }
+            Limit::RunBudget => {
+                "--budget takes `auto`, or a number from 0 to 18446744073709551615, by digits alone"
             }
             Limit::Tries =>
                 "--tries takes a number from 0 to 18446744073709551615, by digits alone",
@@ -50,12 +55,41 @@ fn has_digits_alone(word: &str) -> bool {
     !word.is_empty()
 }
 
-/// The first option whose value should be a number and isn't one.
-pub(crate) fn wrong_number(matches: &ArgMatches<'_>) -> Option<Limit> {
+/// The budget of a run: `auto`, or a number. A parse that succeeds has one.
+pub(crate) fn budget_of(matches: &ArgMatches<'_>) -> Budget {
+    if is_auto(matches) {
+        return Budget::Auto;
+    }
+    Budget::Number(number_of(matches, "budget").unwrap_or(0))
+}
+
+/// Whether the budget is the image's bound.
+fn is_auto(matches: &ArgMatches<'_>) -> bool {
+    matches.get_str("budget") == Some("auto")
+}
+
+/// Whether the subcommand of this name runs an image, whose bound can be the budget.
+fn runs_image(name: &str) -> bool {
+    matches!(name, "run" | "view" | "drive" | "compare")
+}
+
+/// The first option of a subcommand whose value should be a number and isn't one.
+pub(crate) fn wrong_number(name: &str, matches: &ArgMatches<'_>) -> Option<Limit> {
+    if runs_image(name) {
+        return wrong_budget(matches);
+    }
     for (id, limit) in &NUMBERS {
         if matches.get_str(id).is_some() && number_of(matches, id).is_none() {
             return Some(*limit);
         }
     }
     None
+}
+
+/// The requirement on a budget that is neither `auto` nor a number.
+fn wrong_budget(matches: &ArgMatches<'_>) -> Option<Limit> {
+    if is_auto(matches) || number_of(matches, "budget").is_some() {
+        return None;
+    }
+    Some(Limit::RunBudget)
 }

@@ -1,7 +1,7 @@
 //! Reads a request from the arguments of a command line.
 
 use crate::error::ArgumentsError;
-use crate::numbers::{Limit, number_of, wrong_number};
+use crate::numbers::{Limit, budget_of, number_of, wrong_number};
 use crate::request::*;
 use crate::tips::retold;
 use crate::usage::program;
@@ -120,7 +120,7 @@ fn judged<'a>(
     let Some((name, inner)) = matches.subcommand() else {
         return Ok(Err(Mistake::NoSubcommand));
     };
-    if let Some(limit) = wrong_number(inner) {
+    if let Some(limit) = wrong_number(name, inner) {
         return Ok(Err(Mistake::NoNumber(limit)));
     }
     let manner = manner_in(inner);
@@ -168,9 +168,11 @@ fn requested<'a>(name: &str, inner: &ArgMatches<'a>) -> Request<'a> {
         "conform" => Request::Conform(conformance_in(inner)),
         "classes" => Request::Classes(compilation_in(inner)),
         "flows" => flows_request(inner),
+        "mend" => mend_request(inner),
         "list" => Request::List(text(inner, "IMAGE")),
         "audit" => Request::Audit(audit_in(inner)),
         "source" => Request::Source(text(inner, "IMAGE")),
+        "bound" => Request::Bound(bounding_in(inner)),
         "drive" => Request::Drive(driving_in(inner)),
         "leak" => Request::Leak(search_in(inner)),
         "report" => Request::Report(compilation_in(inner)),
@@ -220,6 +222,13 @@ fn flows_request<'a>(matches: &ArgMatches<'a>) -> Request<'a> {
     }
 }
 
+fn mend_request<'a>(matches: &ArgMatches<'a>) -> Request<'a> {
+    Request::Mend(Mending {
+        compilation: compilation_in(matches),
+        is_applied: matches.get_flag("apply"),
+    })
+}
+
 fn try_request<'a>(alloc: Global, matches: &ArgMatches<'a>) -> Result<Request<'a>, AllocError> {
     Ok(Request::Try(Attempt {
         source: text(matches, "SOURCE"),
@@ -254,7 +263,7 @@ fn compare_request<'a>(matches: &ArgMatches<'a>) -> Result<Request<'a>, Mistake>
             lattice: text(matches, "LATTICE"),
             image: text(matches, "IMAGE"),
             class: text(matches, "class"),
-            budget: number_of(matches, "budget").unwrap_or(0),
+            budget: budget_of(matches),
             stores: (*first, *second),
         })),
         _ => Err(Mistake::NoTwoStores),
@@ -328,13 +337,29 @@ fn emission_request<'a>(matches: &ArgMatches<'a>) -> Result<Request<'a>, Mistake
         file: text(matches, "FILE"),
         name,
         is_header: matches.get_flag("header"),
+        is_bounded: matches.get_flag("bounded"),
     }))
+}
+
+/// With a second operand the first one is a lattice file.
+fn bounding_in<'a>(matches: &ArgMatches<'a>) -> Bounding<'a> {
+    let first = text(matches, "FILE");
+    match matches.get_str("SOURCE") {
+        Some(source) => Bounding {
+            lattice: Some(first),
+            file: source,
+        },
+        None => Bounding {
+            lattice: None,
+            file: first,
+        },
+    }
 }
 
 fn execution_in<'a>(matches: &ArgMatches<'a>) -> Execution<'a> {
     Execution {
         image: text(matches, "IMAGE"),
-        budget: number_of(matches, "budget").unwrap_or(0),
+        budget: budget_of(matches),
         store: matches.get_str("store"),
     }
 }

@@ -9,12 +9,20 @@ pub struct Compilation<'a> {
     pub is_strict: bool,
 }
 
+/// The most instructions of a run.
+#[derive(Clone, Copy, Debug, PartialEq, Eq)]
+pub enum Budget {
+    Number(u64),
+    /// The bound of the image, within which it halts from every store.
+    Auto,
+}
+
 /// A run: the path of an image, the budget of instructions, and the path of a store file. Without a
 /// store file the run begins with zeros.
 #[derive(Clone, Copy)]
 pub struct Execution<'a> {
     pub image: &'a str,
-    pub budget: u64,
+    pub budget: Budget,
     pub store: Option<&'a str>,
 }
 
@@ -45,7 +53,7 @@ pub struct Comparison<'a> {
     pub lattice: &'a str,
     pub image: &'a str,
     pub class: &'a str,
-    pub budget: u64,
+    pub budget: Budget,
     pub stores: (&'a str, &'a str),
 }
 
@@ -93,13 +101,23 @@ pub struct Drawing<'a> {
 }
 
 /// An emission of C: the path of an image, or of a source text together with the path of a lattice
-/// file; the prefix of the function's name, if one is given; and whether the header is written.
+/// file; the prefix of the function's name, if one is given; whether the header is written; and
+/// whether the function takes no budget.
 #[derive(Clone, Copy)]
 pub struct Emission<'a> {
     pub lattice: Option<&'a str>,
     pub file: &'a str,
     pub name: Option<&'a str>,
     pub is_header: bool,
+    pub is_bounded: bool,
+}
+
+/// A search for a bound: the path of an image or, with the path of a lattice file, of a source
+/// text.
+#[derive(Clone, Copy)]
+pub struct Bounding<'a> {
+    pub lattice: Option<&'a str>,
+    pub file: &'a str,
 }
 
 /// A judgement of a source text: its compilation, whether its image must also be steady, and
@@ -120,6 +138,14 @@ pub struct Attempt<'a> {
     pub class: Option<&'a str>,
     pub budget: u64,
     pub settings: Vec<&'a [u8]>,
+}
+
+/// A request for raises: the files of a compilation, and whether the text with the raised classes
+/// is printed instead of a line for each raise.
+#[derive(Clone, Copy)]
+pub struct Mending<'a> {
+    pub compilation: Compilation<'a>,
+    pub is_applied: bool,
 }
 
 /// Whether an explanation is coloured.
@@ -158,11 +184,13 @@ pub enum Request<'a> {
         compilation: Compilation<'a>,
         has_walks: bool,
     },
+    Mend(Mending<'a>),
     Build(Compilation<'a>, &'a str),
     List(&'a str),
     Audit(Audit<'a>),
     Source(&'a str),
     EmitC(Emission<'a>),
+    Bound(Bounding<'a>),
     Run {
         execution: Execution<'a>,
         outset: Outset<'a>,

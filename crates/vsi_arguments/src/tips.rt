@@ -4,7 +4,9 @@ use std::alloc::{AllocError, Global};
 
 /// The options that only some subcommands have, as a mistake quotes them, and the subcommands that
 /// have each.
-const OWNERS: [(&str, &str); 22] = [
+const OWNERS: [(&str, &str); 24] = [
+    ("'--apply'", "mend"),
+    ("'--bounded'", "emit-c"),
     ("'--budget'", "try, run, view, drive, compare and leak"),
     ("'--class'", "try, view, drive, compare and leak"),
     (
@@ -31,7 +33,7 @@ const OWNERS: [(&str, &str); 22] = [
     ("'--store'", "run, view, drive and compare"),
     (
         "'--strict'",
-        "check, classes, flows, build, audit, report and draw",
+        "check, classes, flows, mend, build, audit, report and draw",
     ),
     ("'--trace'", "run"),
     ("'--tries'", "leak"),
@@ -46,7 +48,7 @@ const TIPS: [(&str, &str); 3] = [
     ),
     (
         "  --budget <N>",
-        "how many instructions may be done, as in `--budget 1000`",
+        "how many instructions may be done, as in `--budget 1000` or `--budget auto`",
     ),
     (
         ", by digits alone",

@@ -19,7 +19,7 @@ struct Subcommand {
 }
 
 /// The subcommands whose refusals can be explained, in the order of the help.
-const SUBCOMMANDS: [Subcommand; 18] = [
+const SUBCOMMANDS: [Subcommand; 19] = [
     Subcommand {
         name: "try",
         line: "Judges a source text and runs it",
@@ -56,6 +56,13 @@ const SUBCOMMANDS: [Subcommand; 18] = [
         arguments: &[LATTICE, SOURCE, STRICT, WALKS],
     },
     Subcommand {
+        name: "mend",
+        line: "Prints which classes have to rise for the text to be accepted",
+        whole: help::MEND,
+        example: help::MEND_EXAMPLE,
+        arguments: &[LATTICE, SOURCE, STRICT, APPLY],
+    },
+    Subcommand {
         name: "build",
         line: "Compiles a source text to an image",
         whole: help::BUILD,
@@ -88,7 +95,14 @@ const SUBCOMMANDS: [Subcommand; 18] = [
         line: "Prints an image as a function in C",
         whole: help::EMIT_C,
         example: help::EMIT_C_EXAMPLE,
-        arguments: &[EMITTED, NAME, HEADER, LATTICE_OPTION],
+        arguments: &[EMITTED, NAME, HEADER, BOUNDED, LATTICE_OPTION],
+    },
+    Subcommand {
+        name: "bound",
+        line: "Prints a number of instructions within which every run halts",
+        whole: help::BOUND,
+        example: help::BOUND_EXAMPLE,
+        arguments: &[BOUNDED, BOUNDED_SOURCE],
     },
     Subcommand {
         name: "run",

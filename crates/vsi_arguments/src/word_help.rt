@@ -60,6 +60,17 @@ The path of the image, the bytes that `vsi build` writes, or with
 --lattice the path of a source text. Any bytes may be given: they are
 verified before they are used.";
 
+/// The file whose bound is printed.
+pub(crate) const BOUNDED: &str = "\
+The path of the image, the bytes that `vsi build` writes, or with SOURCE
+the path of the lattice file. Any bytes may be given: they are verified
+before they are used.";
+
+/// The source text whose bound is printed.
+pub(crate) const BOUNDED_SOURCE: &str = "\
+The path of the source text, which is judged and compiled under the
+lattice file FILE. The image isn't written.";
+
 /// The name in C.
 pub(crate) const NAME: &str = "\
 A letter, then letters, digits and underscores, and no keyword of C or
@@ -70,6 +81,13 @@ serves, up to its first dot, and `image` where that is no such name.";
 pub(crate) const HEADER: &str = "\
 Prints the header of the file that is printed without --header: the
 numbers of the globals, and the declaration of the function.";
+
+/// The function without a budget.
+pub(crate) const BOUNDED: &str = "\
+Prints a function `void NAME_run(int64_t globals[N])`, which takes no
+budget and counts no instructions. The image must halt from every store
+within a number of instructions that is known; the C names it in a
+comment. An image with another loop is refused.";
 
 /// The lattice file of a text that is printed as C.
 pub(crate) const LATTICE_OPTION: &str = "\
@@ -104,6 +122,13 @@ the same instructions, as many as any budget allows, and write the
 same there. These are instructions, not seconds. With it --strict
 adds nothing.";
 
+/// The short help of `--apply`.
+pub(crate) const APPLY: &str = "\
+Prints the source text with the new class in place of the old one in
+each declaration whose class has to rise. Comments and layout stay.
+The new text is accepted: it has been judged. One that has grown too
+long is refused.";
+
 /// `--walks`.
 pub(crate) const WALKS: &str = "\
 Prints below each line the steps of a shortest chain, each as in the
@@ -123,7 +148,10 @@ The name of the class that looks, one of LATTICE.";
 /// A budget.
 pub(crate) const BUDGET: &str = "\
 The most instructions that are done, the halt included: a whole number
-from 0 to 18446744073709551615, in digits alone.";
+from 0 to 18446744073709551615, in digits alone, or `auto`, which is the
+number that `vsi bound` prints for the image. No run spends that. If no
+bound is found, `auto` runs nothing: the line of `vsi bound` is printed,
+with status 1.";
 
 /// A store file.
 pub(crate) const STORE: &str = "\

@@ -5,15 +5,17 @@ use Rattle.std.specs.Option.{option_and_then, option_or}
 use Rattle.std.specs.declared.alloc.Global.{Global}
 use Rattle.std.specs.Borrow.{Bor}
 use Rattle.vsi_arguments.specs.declared.request.Attempt.{Attempt}
+use Rattle.vsi_arguments.specs.declared.request.Budget.{Budget}
+use Rattle.vsi_arguments.specs.declared.request.Budget.TheVariants.{Number}
 use Rattle.vsi_arguments.specs.declared.request.Compilation.{Compilation}
 use Rattle.vsi_arguments.specs.declared.request.Execution.{Execution}
 use Rattle.vsi_arguments.specs.declared.request.Outset.{Outset}
 use Rattle.vsi_arguments.specs.declared.request.Request.{Request}
-use Rattle.vsi_arguments.specs.declared.request.Request.TheVariants.{Try, Check, Conform, Classes, Flows, Build, List as Listing, Audit, Source, EmitC, Run, View, Drive, Compare, Leak, Report, Draw, Format, Lattice as Shaped, Explain}
+use Rattle.vsi_arguments.specs.declared.request.Request.TheVariants.{Try, Check, Conform, Classes, Flows, Mend, Build, List as Listing, Audit, Source, EmitC, Bound, Run, View, Drive, Compare, Leak, Report, Draw, Format, Lattice as Shaped, Explain}
 use Rattle.vsi_arguments.specs.declared.request.TheConstants.{SEARCH, TRY_BUDGET}
 use Rattle.vsi_explain.specs.Pages.{page_of}
 use Rattle.vsi_explain.specs.Subjects.{subject_page}
-use Rattle.vsi_asked.specs.Numbers.{Gives, number_in}
+use Rattle.vsi_asked.specs.Numbers.{GivesBudget, number_in}
 use Rattle.vsi_asked.specs.Words.{dashed_in, has_flag, is_own, operands_in, shown, texts, values_in}
 
 -- The name of the request's subcommand.
@@ -23,11 +25,13 @@ name_of (Check judging) = codes "check"
 name_of (Conform conformance) = codes "conform"
 name_of (Classes compilation) = codes "classes"
 name_of (Flows compilation has_walks) = codes "flows"
+name_of (Mend mending) = codes "mend"
 name_of (Build compilation image) = codes "build"
 name_of (Listing image) = codes "list"
 name_of (Audit audit) = codes "audit"
 name_of (Source image) = codes "source"
 name_of (EmitC emission) = codes "emit-c"
+name_of (Bound bounding) = codes "bound"
 name_of (Run execution outset has_trace has_count) = codes "run"
 name_of (View lattice class execution outset) = codes "view"
 name_of (Drive driving) = codes "drive"
@@ -55,11 +59,13 @@ operands_of (Check judging) = compiled judging.compilation
 operands_of (Conform conformance) = conformance.interface.now ∷ conformance.source.now ∷ []
 operands_of (Classes compilation) = compiled compilation
 operands_of (Flows compilation has_walks) = compiled compilation
+operands_of (Mend mending) = compiled mending.compilation
 operands_of (Build compilation image) = compilation.lattice.now ∷ compilation.source.now ∷ image.now ∷ []
 operands_of (Listing image) = image.now ∷ []
 operands_of (Audit audit) = audit.lattice.now ∷ audit.image.now ∷ []
 operands_of (Source image) = image.now ∷ []
 operands_of (EmitC emission) = emission.file.now ∷ []
+operands_of (Bound bounding) = given bounding.lattice ++ bounding.file.now ∷ []
 operands_of (Run execution outset has_trace has_count) = execution.image.now ∷ []
 operands_of (View lattice class execution outset) = lattice.now ∷ execution.image.now ∷ []
 operands_of (Drive driving) = driving.execution.image.now ∷ driving.lattice.now ∷ []
@@ -81,11 +87,15 @@ flags_of (Conform conformance) = (codes "--json", conformance.is_json) ∷ []
 flags_of (Classes compilation) = (codes "--strict", compilation.is_strict) ∷ []
 flags_of (Flows compilation has_walks) =
     (codes "--strict", compilation.is_strict) ∷ (codes "--walks", has_walks) ∷ []
+flags_of (Mend mending) =
+    (codes "--strict", mending.compilation.is_strict) ∷ (codes "--apply", mending.is_applied) ∷ []
 flags_of (Build compilation image) = (codes "--strict", compilation.is_strict) ∷ []
 flags_of (Listing image) = []
 flags_of (Audit audit) = (codes "--strict", audit.is_strict) ∷ (codes "--steady", audit.is_steady) ∷ []
 flags_of (Source image) = []
-flags_of (EmitC emission) = (codes "--header", emission.is_header) ∷ []
+flags_of (EmitC emission) =
+    (codes "--header", emission.is_header) ∷ (codes "--bounded", emission.is_bounded) ∷ []
+flags_of (Bound bounding) = []
 flags_of (Run execution outset has_trace has_count) =
     (codes "--full-store", outset.is_full) ∷ (codes "--trace", has_trace) ∷ (codes "--count", has_count) ∷ []
 flags_of (View lattice class execution outset) = (codes "--full-store", outset.is_full) ∷ []
@@ -123,19 +133,20 @@ options_of (Leak search) = (codes "--class", given search.class) ∷ []
 options_of request = []
 
 -- The budget of a run, which is required.
-abbrev pub budgeted : ℕ → List (List ℕ × Option ℕ × ℕ)
+abbrev pub budgeted : Budget → List (List ℕ × Option ℕ × Budget)
 budgeted budget = (codes "--budget", None, budget) ∷ []
 
--- The options of a request that take numbers, each with its default, if it has one, and the request's number.
-abbrev pub numbers_of : Request → List (List ℕ × Option ℕ × ℕ)
-numbers_of (Try attempt) = (codes "--budget", Some TRY_BUDGET, attempt.budget) ∷ []
+-- The options of a request that take numbers, each with its default, if it has one, and the request's number, which is
+-- `auto` for some budgets.
+abbrev pub numbers_of : Request → List (List ℕ × Option ℕ × Budget)
+numbers_of (Try attempt) = (codes "--budget", Some TRY_BUDGET, Number attempt.budget) ∷ []
 numbers_of (Run execution outset has_trace has_count) = budgeted execution.budget
 numbers_of (View lattice class execution outset) = budgeted execution.budget
 numbers_of (Drive driving) = budgeted driving.execution.budget
 numbers_of (Compare comparison) = budgeted comparison.budget
 numbers_of (Leak search) =
-    (codes "--budget", Some SEARCH, search.budget) ∷ (codes "--tries", Some SEARCH, search.tries)
-    ∷ (codes "--seed", Some 0, search.seed) ∷ []
+    (codes "--budget", Some SEARCH, Number search.budget) ∷ (codes "--tries", Some SEARCH, Number search.tries)
+    ∷ (codes "--seed", Some 0, Number search.seed) ∷ []
 numbers_of request = []
 
 -- Each of these flags is among the arguments exactly if it is set.
@@ -149,15 +160,15 @@ HasOptions words [] = Unit {0}
 HasOptions words (option ∷ options) = (values_in option.0 false words ≡ option.1) × HasOptions words options
 
 -- The arguments give each of these options its number.
-abbrev pub HasNumbers : List (List ℕ) → List (List ℕ × Option ℕ × ℕ) → Type 0
+abbrev pub HasNumbers : List (List ℕ) → List (List ℕ × Option ℕ × Budget) → Type 0
 HasNumbers words [] = Unit {0}
 HasNumbers words (option ∷ options) =
-    Gives (values_in option.0 false words) option.1 option.2 × HasNumbers words options
+    GivesBudget (values_in option.0 false words) option.1 option.2 × HasNumbers words options
 
 -- The first argument is the name, and the others have exactly these operands, flags, values of options and numbers.
 pub record Asks (words : List (String Global)) (name : List ℕ) (operands : List (List ℕ))
     (flags : List (List ℕ × Bool)) (options : List (List ℕ × List (List ℕ)))
-    (numbers : List (List ℕ × Option ℕ × ℕ)) : Type 0 where
+    (numbers : List (List ℕ × Option ℕ × Budget)) : Type 0 where
   pub rest : List (List ℕ)
   pub named : texts words ≡ name ∷ rest
   pub has_operands : operands_in false rest ≡ operands

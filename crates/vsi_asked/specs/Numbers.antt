@@ -1,6 +1,8 @@
 -- The numbers among arguments.
-use Rattle.std.specs.Prelude.{◌≡◌, ℕ, ◌+◌, ◌*◌, ◌-◌, List, [], ◌∷◌, Option, Some, None, if◌then◌else◌}
+use Rattle.std.specs.Prelude.{◌≡◌, ℕ, ◌+◌, ◌*◌, ◌-◌, List, [], ◌∷◌, Option, Some, None, codes, if◌then◌else◌}
 use Rattle.std.specs.Char.{is_ascii_digit}
+use Rattle.vsi_arguments.specs.declared.request.Budget.{Budget}
+use Rattle.vsi_arguments.specs.declared.request.Budget.TheVariants.{Number, Auto}
 
 -- The number spelled by the digits of a number followed by these decimal digits.
 abbrev pub read_on : ℕ → List ℕ → Option ℕ
@@ -18,3 +20,8 @@ abbrev pub Gives : List (List ℕ) → Option ℕ → ℕ → Type 0
 Gives [] otherwise number = otherwise ≡ Some number
 Gives (value ∷ []) otherwise number = number_in value ≡ Some number
 Gives (value ∷ next ∷ rest) otherwise number = ⊥
+
+-- These values of an option give the budget: the number, or the one value is `auto`.
+abbrev pub GivesBudget : List (List ℕ) → Option ℕ → Budget → Type 0
+GivesBudget values otherwise (Number number) = Gives values otherwise number
+GivesBudget values otherwise Auto = values ≡ codes "auto" ∷ []

@@ -5,12 +5,12 @@ ghost use Rattle.vsi_arguments.specs.declared.request.Request.TheVariants as req
 ghost use Rattle.vsi_asked.specs.Asked as spec;
 ghost use Rattle.vsi_asked.specs.Words.{operands_in, shown, texts, values_in};
 
-use crate::numbers::{has_number, number_in, only_operand};
+use crate::numbers::{has_budget, has_number, number_in, only_operand};
 use crate::own::has_own_alone;
 use crate::reading::{has_flag, has_operands, has_values};
 use vsi_arguments::{
-    Attempt, Audit, Comparison, Compilation, Conformance, Drawing, Driving, Emission, Execution,
-    Judging, Outset, Request, SEARCH, Search, TRY_BUDGET,
+    Attempt, Audit, Bounding, Comparison, Compilation, Conformance, Drawing, Driving, Emission,
+    Execution, Judging, Mending, Outset, Request, SEARCH, Search, TRY_BUDGET,
 };
 use vsi_explain::{page, subject_page};
 
@@ -142,7 +142,7 @@ fn asks_run(
     let Some(rest) = behind(words, "run", operands.as_slice(), flags.as_slice()) else {
         return false;
     };
-    has_outset(rest, execution, outset) && has_number(rest, "--budget", None, execution.budget)
+    has_outset(rest, execution, outset) && has_budget(rest, execution.budget)
 }
 
 /// Whether the arguments request a view.
@@ -163,7 +163,7 @@ fn asks_view(
     };
     has_value(rest, "--class", Some(class))
         && has_outset(rest, execution, outset)
-        && has_number(rest, "--budget", None, execution.budget)
+        && has_budget(rest, execution.budget)
 }
 
 /// Whether the arguments request the driving of a controller.
@@ -180,7 +180,7 @@ fn asks_drive(words: &[String], driving: &Driving<'_>) -> bool
     has_value(rest, "--class", Some(driving.class))
         && has_value(rest, "--store", driving.execution.store)
         && has_value(rest, "--save", driving.save)
-        && has_number(rest, "--budget", None, driving.execution.budget)
+        && has_budget(rest, driving.execution.budget)
 }
 
 /// Whether the arguments request a comparison.
@@ -195,7 +195,7 @@ fn asks_compare(words: &[String], comparison: &Comparison<'_>) -> bool
     let stores = [first.as_bytes(), second.as_bytes()];
     has_value(rest, "--class", Some(comparison.class))
         && has_values(rest, b"--store", stores.as_slice())
-        && has_number(rest, "--budget", None, comparison.budget)
+        && has_budget(rest, comparison.budget)
 }
 
 /// Whether the arguments request a search for a leak.
@@ -267,6 +267,17 @@ fn asks_flows(words: &[String], compilation: &Compilation<'_>, has_walks: bool) 
     asks_compilation(words, "flows", compilation, flags.as_slice())
 }
 
+/// Whether the arguments request raises.
+fn asks_mend(words: &[String], mending: &Mending<'_>) -> bool
+    ensures { result ≡ true → spec.Spells words.now (request.Mend mending.now) }
+{
+    let flags = [
+        ("--strict", mending.compilation.is_strict),
+        ("--apply", mending.is_applied),
+    ];
+    asks_compilation(words, "mend", &mending.compilation, flags.as_slice())
+}
+
 /// Whether the arguments request an image.
 fn asks_build(words: &[String], compilation: &Compilation<'_>, image: &str) -> bool
     ensures { result ≡ true → spec.Spells words.now (request.Build compilation.now image.entry) }
@@ -294,11 +305,27 @@ fn asks_emission(words: &[String], emission: &Emission<'_>) -> bool
     ensures { result ≡ true → spec.Spells words.now (request.EmitC emission.now) }
 {
     let operands = [emission.file.as_bytes()];
-    let flags = [("--header", emission.is_header)];
+    let flags = [
+        ("--header", emission.is_header),
+        ("--bounded", emission.is_bounded),
+    ];
     let Some(rest) = behind(words, "emit-c", operands.as_slice(), flags.as_slice()) else {
         return false;
     };
     has_value(rest, "--lattice", emission.lattice) && has_value(rest, "--name", emission.name)
+}
+
+/// Whether the arguments request a bound.
+fn asks_bound(words: &[String], bounding: &Bounding<'_>) -> bool
+    ensures { result ≡ true → spec.Spells words.now (request.Bound bounding.now) }
+{
+    match bounding.lattice {
+        Some(lattice) => {
+            let operands = [lattice.as_bytes(), bounding.file.as_bytes()];
+            asks(words, "bound", operands.as_slice(), &[])
+        }
+        None => asks(words, "bound", [bounding.file.as_bytes()].as_slice(), &[]),
+    }
 }
 
 /// Whether the arguments request a subcommand whose only flag of its own is `--strict`.
@@ -356,11 +383,13 @@ fn spells(words: &[String], request: &Request<'_>) -> bool
             compilation,
             has_walks,
         } => asks_flows(words, compilation, *has_walks),
+        Request::Mend(mending) => asks_mend(words, mending),
         Request::Build(compilation, image) => asks_build(words, compilation, image),
         Request::List(image) => asks_file(words, "list", image),
         Request::Audit(audit) => asks_audit(words, audit),
         Request::Source(image) => asks_file(words, "source", image),
         Request::EmitC(emission) => asks_emission(words, emission),
+        Request::Bound(bounding) => asks_bound(words, bounding),
         Request::Run {
             execution,
             outset,

@@ -1,11 +1,12 @@
 //! Reads the numbers among the arguments after a subcommand.
 
-ghost use Rattle.std.specs.Prelude.{◌≡◌, [], ◌∷◌, ◌+◌, ◌*◌, ◌-◌, IfSome, Some, false, true};
+ghost use Rattle.std.specs.Prelude.{◌≡◌, [], ◌∷◌, ◌+◌, ◌*◌, ◌-◌, IfSome, None, Some, codes, false, true};
 ghost use Rattle.std.specs.Char.{is_ascii_digit};
 ghost use Rattle.vsi_asked.specs.Numbers as spec;
 ghost use Rattle.vsi_asked.specs.Words.{operands_in, texts, values_in};
 
 use crate::reading::{first_value, has_operands, has_values};
+use vsi_arguments::Budget;
 
 /// A number with one more digit, if the byte is a digit and the result fits in 64 bits.
 fn with_digit(number: u64, byte: u8) -> Option<u64>
@@ -51,6 +52,17 @@ pub(crate) fn has_number(
                 && has_values(words, option.as_bytes(), [value].as_slice())
         }
         None => otherwise == Some(number) && has_values(words, option.as_bytes(), &[]),
+    }
+}
+
+/// Whether the arguments give the option `--budget`, which is required, this value.
+pub(crate) fn has_budget(words: &[String], budget: Budget) -> bool
+    ensures { result ≡ true
+        → spec.GivesBudget (values_in (codes "--budget") false (texts words.now)) None budget }
+{
+    match budget {
+        Budget::Number(number) => has_number(words, "--budget", None, number),
+        Budget::Auto => has_values(words, b"--budget", [b"auto".as_slice()].as_slice()),
     }
 }
 

@@ -29,11 +29,14 @@ const CONFORM: [&[u8]; 2] = [b"--json", b"--explain"];
 /// The flags of `flows`.
 const FLOWS: [&[u8]; 3] = [b"--strict", b"--walks", b"--explain"];
 
+/// The flags of `mend`.
+const MEND: [&[u8]; 3] = [b"--strict", b"--apply", b"--explain"];
+
 /// The flags of `audit`.
 const AUDIT: [&[u8]; 3] = [b"--strict", b"--steady", b"--explain"];
 
 /// The flags of `emit-c`.
-const EMIT_C: [&[u8]; 2] = [b"--header", b"--explain"];
+const EMIT_C: [&[u8]; 3] = [b"--header", b"--bounded", b"--explain"];
 
 /// The options of `emit-c`.
 const EMIT_C_OPTIONS: [&[u8]; 3] = [b"--lattice", b"--name", b"--color"];
@@ -134,11 +137,13 @@ pub(crate) fn has_own_alone(words: &[String], request: &Request<'_>) -> bool
         Request::Report(_) => are_own(words, STRICT.as_slice(), NO_OPTIONS.as_slice()),
         Request::Draw(_) => are_own(words, STRICT.as_slice(), NO_OPTIONS.as_slice()),
         Request::Flows { .. } => are_own(words, FLOWS.as_slice(), NO_OPTIONS.as_slice()),
+        Request::Mend(_) => are_own(words, MEND.as_slice(), NO_OPTIONS.as_slice()),
         Request::Audit(_) => are_own(words, AUDIT.as_slice(), NO_OPTIONS.as_slice()),
         Request::List(_) => are_own(words, NO_FLAGS.as_slice(), NO_OPTIONS.as_slice()),
         Request::Source(_) => are_own(words, NO_FLAGS.as_slice(), NO_OPTIONS.as_slice()),
         Request::Format(_) => are_own(words, NO_FLAGS.as_slice(), NO_OPTIONS.as_slice()),
         Request::EmitC(_) => are_own(words, EMIT_C.as_slice(), EMIT_C_OPTIONS.as_slice()),
+        Request::Bound(_) => are_own(words, NO_FLAGS.as_slice(), NO_OPTIONS.as_slice()),
         Request::Run { .. } => are_own(words, RUN.as_slice(), RUN_OPTIONS.as_slice()),
         Request::View { .. } => are_own(words, VIEW.as_slice(), VIEW_OPTIONS.as_slice()),
         Request::Drive(_) => are_own(words, NO_FLAGS.as_slice(), DRIVE_OPTIONS.as_slice()),

@@ -65,7 +65,7 @@ store_leads code facts left start place slot n value cost ev is st count p q m n
       hold = stored_holds m now facts left slot value g.operand h g.means st;
     }
 
--- A stretch leads to any list of facts, each of which it leads to or says nothing.
+-- A stretch leads to every list of facts, each of which is known after it or says nothing.
 leads_less : (code : List Instr) (facts left less : List Known) (from to : ℕ) (cost whole : Cost)
     → Leads code facts from to cost left → length less ≡ length left
     → ((k : ℕ) (f : Known) → slice_get less k ≡ Some f → (f ≡ Any) ⊎ (slice_get left k ≡ Some f))

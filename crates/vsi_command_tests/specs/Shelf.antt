@@ -7,7 +7,7 @@ use Rattle.vsi_command_tests.specs.declared.devices.Page.TheVariants.{Blank, Fil
 abbrev pub two : List ℕ
 two = codes "classes = [\"L\", \"H\"]\nbelow = [[\"L\", \"H\"]]\n"
 
--- The bytes of the files that hold texts. Those of the image aren't known.
+-- The bytes of the files with texts; the bytes of the image aren't known.
 abbrev pub stored : List ℕ → Option (List ℕ)
 stored path =
     if bytes_eq path (codes "two") then Some two

@@ -1,4 +1,4 @@
-//! The output if a device fails in mid-stream.
+//! The output if a device fails mid-stream.
 
 use super::devices::{Device, Room, SUM, Shown, run, show};
 use std::alloc::{AllocError, Global};
@@ -7,20 +7,21 @@ use std::test::Fail;
 /// The fault of a standard stream.
 const STREAM: &[u8] = b"file fault: -\n";
 
-/// Whether a device that had so much room took a beginning of what it takes in the whole, and the
-/// run ended so.
+/// Whether a device with this much room took a prefix of its whole output, and the run ended with
+/// this status.
 fn is_cut(cut: &Shown, whole: &Shown, device: Device, bytes: usize, status: u8) -> bool {
     cut.status == status
         && cut.taken(device).len() == bytes
         && whole.taken(device).starts_with(cut.taken(device))
 }
 
-/// Whether standard error was given this, where it isn't itself what fails.
+/// Whether standard error has this text, unless standard error is the device that fails.
 fn is_told(cut: &Shown, device: Device, error: &[u8]) -> bool {
     matches!(device, Device::Error) || cut.error.as_slice() == error
 }
 
-/// Whether a line ends so wherever a device takes less than the whole, and reports this.
+/// Whether a run of a line ends with this status and reports this error wherever a device takes
+/// less than the whole.
 fn is_cut_anywhere(
     alloc: Global,
     line: &str,
@@ -74,7 +75,7 @@ fn keeps_its_status_where_it_goes_unheard(rt: HostRuntime) -> Result<(), Fail> {
     Ok(())
 }
 
-/// Whether this shows a fault and nothing else.
+/// Whether the run shows only a fault.
 fn is_fault(shown: &Shown, error: &[u8]) -> bool {
     shown.status == 4 && shown.output.is_empty() && shown.error.as_slice() == error
 }
@@ -96,7 +97,8 @@ fn tells_faults_of_what_is_read(rt: HostRuntime) -> Result<(), Fail> {
     Ok(())
 }
 
-/// Whether a run without arguments whose output takes so many bytes shows these and the fault.
+/// Whether a run without arguments, whose output device takes this many bytes, shows these bytes
+/// and the fault.
 fn is_begun(alloc: Global, begun: &[u8]) -> bool {
     let shown = run(alloc, 0, Room::only(Device::Output, begun.len()));
     shown.status == 4 && shown.output.as_slice() == begun && shown.error.as_slice() == STREAM

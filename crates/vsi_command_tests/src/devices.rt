@@ -20,7 +20,7 @@ const IMAGE: &[u8] = b"VSI\x02\x00\x01\x00\x01\x00\x01\x00\x00\x00\x03\x01x\x01L
 /// A text whose flow is refused.
 pub(super) const LEAK: &[u8] = b"var h : H; var l : L; l := h";
 
-/// Gives one byte a call, and fails at one call, counted from 1.
+/// Reads one byte per call, and fails at one call, counted from 1.
 #[derive(Drop)]
 pub(super) struct Drip<'a> {
     bytes: &'a [u8],
@@ -53,7 +53,7 @@ impl Read for Drip<'_> {
     }
 }
 
-/// Takes one byte a call, and none beyond its room.
+/// Accepts one byte per call, and none beyond its room.
 #[derive(Drop)]
 pub(super) struct Scant {
     bytes: Vec<u8>,
@@ -112,7 +112,7 @@ impl Page {
     }
 }
 
-/// The files that can be read, of which `torn` fails at its ninth byte, and one that can be
+/// The files that can be read, of which `torn` fails at its ninth byte, and the one that can be
 /// written.
 #[derive(Drop)]
 pub(super) struct Shelf {
@@ -124,7 +124,7 @@ pub(super) struct Shelf {
 impl Shelf {
     ghost use Rattle.vsi_command_tests.specs.Shelf.{is_written};
 
-    /// The files, one of which takes so many bytes.
+    /// The files, with room for this many bytes in the one that can be written.
     pub(super) fn new(alloc: Global, room: usize, page: Page) -> Shelf {
         Shelf { alloc, room, page }
     }
@@ -177,7 +177,7 @@ impl Files for Shelf {
     }
 }
 
-/// The devices that are written to.
+/// The devices that receive output.
 #[derive(Clone, Copy)]
 pub(super) enum Device {
     Output,
@@ -185,7 +185,7 @@ pub(super) enum Device {
     Image,
 }
 
-/// How many bytes each device takes.
+/// The number of bytes that each device takes.
 #[derive(Clone, Copy)]
 pub(super) struct Room {
     output: usize,
@@ -194,14 +194,14 @@ pub(super) struct Room {
 }
 
 impl Room {
-    /// More than is written in these tests.
+    /// More room than these tests write.
     pub(super) const AMPLE: Room = Room {
         output: 1 << 20,
         error: 1 << 20,
         image: 1 << 20,
     };
 
-    /// So many bytes on one device, and more than is written on the others.
+    /// This many bytes on one device, and ample room on the others.
     pub(super) fn only(device: Device, bytes: usize) -> Room {
         match device {
             Device::Output => Room {
@@ -220,7 +220,7 @@ impl Room {
     }
 }
 
-/// How a command line ended, and what each device took.
+/// How a command line ended, and the bytes that each device took.
 #[derive(Drop)]
 pub(super) struct Shown {
     pub status: u8,
@@ -262,7 +262,7 @@ fn call(alloc: Global, words: &[String], drip: Drip<'_>, room: Room) -> Shown {
     }
 }
 
-/// The output of the arguments of a line within this room. An input that is read fails.
+/// The output for the arguments in a line, within this room. Any read of standard input fails.
 pub(super) fn show(alloc: Global, line: &str, room: Room) -> Result<Shown, AllocError> {
     let mut words = Vec::new(alloc);
     for word in line.split(' ') {

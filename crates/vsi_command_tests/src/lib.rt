@@ -1,5 +1,5 @@
-//! Tests of `command` over devices that fail in mid-stream, and of what errors say of themselves.
-//! The transcripts in `cases/` show the output of `command` if none fails.
+//! Tests of `command` over devices that fail mid-stream, and of the messages of errors. The
+//! transcripts in `cases/` show the output of `command` if no device fails.
 #![tactic(auto)]
 
 #[cfg(test)]

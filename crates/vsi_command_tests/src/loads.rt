@@ -5,7 +5,7 @@ use std::alloc::{AllocError, Global};
 use std::test::Fail;
 use vsi::{Counted, Files, command, load};
 
-/// Files among which `text` has another text from its second opening on.
+/// Files in which `text` has another content from its second opening on.
 #[derive(Drop)]
 struct Turncoat {
     is_read: bool,
@@ -31,7 +31,7 @@ impl Files for Turncoat {
     }
 }
 
-/// The status of a line over files that are read once, and both its outputs.
+/// The status of a line over files that are read once, and both of its outputs.
 fn carried<F: Files + Drop>(
     alloc: Global,
     line: &str,

@@ -8,7 +8,7 @@ use vsi::{
     Span, StartError, VerifyError,
 };
 
-/// Whether an error says this.
+/// Whether an error has this message.
 fn says<E: Display>(alloc: Global, error: &E, message: &str) -> Result<bool, AllocError> {
     let said = format!(in alloc; "{error}")?;
     Ok(said.as_str() == message)

@@ -1,31 +1,31 @@
 -- The numbers of the refusals.
 use Rattle.std.specs.Prelude.{ℕ, Bool, ◌&&◌, ◌||◌, nat_le, ◌==◌}
 
--- From one number to another.
+-- The number is between two others, both included.
 abbrev pub is_from : ℕ → ℕ → ℕ → Bool
 is_from low high n = nat_le low n && nat_le n high
 
--- Those of a lattice file.
+-- The refusals of a lattice file.
 abbrev pub is_lattice_refusal : ℕ → Bool
 is_lattice_refusal n = is_from 1 10 n
 
--- Those of a text for its words and its tree.
+-- The refusals of a text for its tokens and its tree.
 abbrev pub is_text_refusal : ℕ → Bool
 is_text_refusal n = is_from 11 16 n
 
--- Those of a program for its names, its size and its flows.
+-- The refusals of a program for its names, its size and its flows.
 abbrev pub is_scope_refusal : ℕ → Bool
 is_scope_refusal n = is_from 17 22 n || n == 25
 
--- Those of an image.
+-- The refusals of an image.
 abbrev pub is_image_refusal : ℕ → Bool
 is_image_refusal n = is_from 26 38 n || is_from 49 51 n
 
--- Those of a store, and of the lines and words that set globals.
+-- The refusals of a store, and of the lines and arguments that set globals.
 abbrev pub is_store_refusal : ℕ → Bool
 is_store_refusal n = is_from 39 48 n || n == 56
 
--- All of them.
+-- All refusals.
 abbrev pub is_refusal : ℕ → Bool
 is_refusal n =
     is_lattice_refusal n || (is_text_refusal n || (is_scope_refusal n || (is_image_refusal n || is_store_refusal n)))

@@ -9,7 +9,7 @@ abbrev pub NAMES : List (List ℕ)
 NAMES =
     codes "language" ∷ codes "lattice" ∷ codes "store" ∷ codes "interface" ∷ codes "classes" ∷ codes "profiles" ∷ []
 
--- A name is that of a subject.
+-- The name is the name of a subject.
 abbrev pub is_subject : List ℕ → Bool
 is_subject name = list_any (λ n. bytes_eq name n) NAMES
 

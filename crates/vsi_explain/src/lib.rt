@@ -1,8 +1,8 @@
 //! The pages of `vsi explain`: what each refusal means, and the language with its files.
 //!
-//! `page` has one for each number that the program or the library answers; `specs/Numbers` lists
-//! them, and `specs/Pages` says which page each has. `subject_page` has one for each name of
-//! `specs/Subjects`, and which one.
+//! `page` returns a page for each number that the program or the library reports; `specs/Numbers`
+//! lists the numbers, and `specs/Pages` the page for each. `subject_page` returns a page for each
+//! name of `specs/Subjects`, which also defines the pages.
 //!
 //! To be believed: `specs/Numbers`, `specs/Pages`, `specs/Subjects`.
 #![tactic(auto)]
@@ -25,9 +25,9 @@ use store::store_page;
 pub use subjects::subject_page;
 use text::text_page;
 
-/// The page of a refusal, by its number: a line with its number, its name and its fields, what
-/// they mean, what to do, and a transcript that shows it. Its lines end with a line feed each, and
-/// have at most 80 bytes of ASCII.
+/// The page of a refusal, by its number: a line with its number, its name and its fields, then
+/// their meaning, what to do, and a transcript that shows it. Each line ends with a line feed and
+/// has at most 80 bytes of ASCII.
 pub fn page(number: u64) -> Option<&'static str>
     ensures known { IsSome result ↔ (spec.is_refusal number ≡ true) }
     ensures exact { option_map (λ page. page.now) result ≡ page_of number }

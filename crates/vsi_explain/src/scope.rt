@@ -4,7 +4,7 @@ ghost use Rattle.std.specs.Prelude.{◌≡◌, ◌↔◌, IfSome, IsSome, Some, 
 ghost use Rattle.vsi_explain.specs.Numbers as spec;
 ghost use Rattle.vsi_explain.specs.Pages.{page_of};
 
-/// The page of such a refusal; none for any other number.
+/// The page of such a refusal, or none for any other number.
 pub(crate) fn scope_page(number: u64) -> Option<&'static str>
     ensures known { IsSome result ↔ (spec.is_scope_refusal number ≡ true) }
     ensures page { IfSome result (λ page. page_of number ≡ Some page.now) }

@@ -1,11 +1,10 @@
-//! The pages of the subjects: the language, its files, and what is judged.
+//! The pages of the subjects: the language, its files, and the judgements.
 
 ghost use Rattle.std.specs.Prelude.{◌≡◌, ◌↔◌, IsSome, option_map, true};
 ghost use Rattle.vsi_explain.specs.Subjects as spec;
 
 /// The page of a subject, by its name: a line that says what it is about, the subject by an
-/// example, and a transcript. Its lines end with a line feed each, and have at most 80 bytes of
-/// ASCII.
+/// example, and a transcript. Each line ends with a line feed and has at most 80 bytes of ASCII.
 pub fn subject_page(name: &[u8]) -> Option<&'static str>
     ensures known { IsSome result ↔ (spec.is_subject name.now ≡ true) }
     ensures exact { option_map (λ page. page.now) result ≡ spec.subject_page name.now }

@@ -1,10 +1,10 @@
-//! The pages of the refusals of a text for its words and its tree.
+//! The pages of the refusals of a text for its tokens and its tree.
 
 ghost use Rattle.std.specs.Prelude.{◌≡◌, ◌↔◌, IfSome, IsSome, Some, true};
 ghost use Rattle.vsi_explain.specs.Numbers as spec;
 ghost use Rattle.vsi_explain.specs.Pages.{page_of};
 
-/// The page of such a refusal; none for any other number.
+/// The page of such a refusal, or none for any other number.
 pub(crate) fn text_page(number: u64) -> Option<&'static str>
     ensures known { IsSome result ↔ (spec.is_text_refusal number ≡ true) }
     ensures page { IfSome result (λ page. page_of number ≡ Some page.now) }

@@ -6,3 +6,4 @@ pub mod BaseTargets
 pub mod IndependenceLemmas
 pub mod ImageLemmas
 pub mod WalkLemmas
+pub mod TextLemmas

@@ -1,4 +1,4 @@
--- The tree that writes the tokens of a text is that of the text.
+-- The tree that writes the tokens of a text is the text's tree.
 use Rattle.std.proofs.Common.{◌≡◌, ℕ, ◌≤◌, List, [], ◌∷◌, map, length, refl, ap, ◌∙◌}
 use Rattle.vsi_syntax.specs.declared.token.Token.{Token}
 use Rattle.vsi_syntax.specs.Cut.{IsCut, pieces}
@@ -7,7 +7,7 @@ use Rattle.vsi_syntax.specs.Tree.{Whole, Lexeme, IsProgram, write_program}
 use Rattle.vsi_syntax.specs.Spelling.{word_at}
 use Rattle.vsi_foreign.specs.Offered.{IsTreeOf}
 
--- The words of tokens are those of their pieces.
+-- The texts of tokens are the texts of their pieces.
 words_at : (ts : List Token) → lexemes ts ≡ map word_at (pieces ts)
 words_at [] = refl
 words_at (t ∷ ts) = ap (λ (ws : List Lexeme). lexeme t ∷ ws) (words_at ts)

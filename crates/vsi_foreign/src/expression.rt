@@ -13,7 +13,7 @@ pub(crate) enum Node<'a> {
     Joined(Form, usize, usize),
 }
 
-/// The words that are no operands.
+/// The keywords that are no operands.
 const NO_OPERANDS: [&[u8]; 20] = [
     b"var", b"letvar", b"in", b"if", b"then", b"else", b"while", b"do", b"and", b"or", b"not",
     b"mod", b"div", b"AND", b"OR", b"NOT", b"MOD", b"DIV", b"is", b"xor",
@@ -24,33 +24,33 @@ const TRUE: [&[u8]; 3] = [b"true", b"True", b"TRUE"];
 
 const FALSE: [&[u8]; 3] = [b"false", b"False", b"FALSE"];
 
-/// Whether a word is no operand.
+/// Whether a name can't be an operand.
 pub fn is_no_operand(word: &[u8]) -> bool {
     NO_OPERANDS.contains(&word)
 }
 
-/// Whether a word is one for 1.
+/// Whether a name means 1.
 pub fn is_true(word: &[u8]) -> bool {
     TRUE.contains(&word)
 }
 
-/// Whether a word is one for 0.
+/// Whether a name means 0.
 pub fn is_false(word: &[u8]) -> bool {
     FALSE.contains(&word)
 }
 
-/// A tree that is being read from the left.
+/// A tree in construction, read from the left.
 #[derive(Drop)]
 pub(crate) struct Reading<'a> {
     nodes: Vec<Node<'a>>,
     /// The finished operands, and whether each is in brackets.
     operands: Vec<(usize, bool)>,
-    /// The operators that wait for their last operand.
+    /// The operators that need their last operand.
     waiting: Vec<Form>,
     wants_operand: bool,
 }
 
-/// The operand that a piece is.
+/// The operand of a piece.
 fn operand_of<'a>(piece: Piece<'a>) -> Option<Node<'a>> {
     match piece.sort {
         Sort::Number => Some(Node::Number(number_of(piece.text)?)),
@@ -78,14 +78,14 @@ impl<'a> Reading<'a> {
         }
     }
 
-    /// Adds a node, and answers its number.
+    /// Adds a node, and returns its number.
     fn add(&mut self, node: Node<'a>) -> Result<usize, AllocError> {
         let number = self.nodes.len();
         self.nodes.push(node)?;
         Ok(number)
     }
 
-    /// Adds a comparison, joined with the one that its left operand is: `a < b < c` compares twice.
+    /// Adds a comparison, chained to its left operand if that is one: `a < b < c` compares twice.
     fn add_chained(&mut self, form: Form, left: usize, right: usize) -> Result<usize, AllocError> {
         if let Some((first, middle)) = self.joined(left) {
             if first.compares() {
@@ -96,7 +96,7 @@ impl<'a> Reading<'a> {
         self.add(Node::Joined(form, left, right))
     }
 
-    /// Joins the last operands by the last operator, and answers whether there are any.
+    /// Joins the last operands by the last operator, and returns whether there are any.
     fn join(&mut self) -> Result<bool, AllocError> {
         let Some(form) = self.waiting.pop() else {
             return Ok(false);
@@ -121,7 +121,7 @@ impl<'a> Reading<'a> {
         Ok(true)
     }
 
-    /// Joins by each waiting operator that binds as strongly at least.
+    /// Joins by each waiting operator that binds at least as strongly.
     fn join_stronger(&mut self, strength: u8) -> Result<bool, AllocError> {
         for _ in 0..self.waiting.len() {
             let Some(form) = self.waiting.last().copied() else {
@@ -171,7 +171,7 @@ impl<'a> Reading<'a> {
         Ok(true)
     }
 
-    /// Reads a piece, and answers whether an expression may go on with it.
+    /// Reads a piece, and returns whether an expression may go on with it.
     fn read(&mut self, piece: Piece<'a>) -> Result<bool, AllocError> {
         if self.wants_operand {
             return self.read_operand(piece);
@@ -190,7 +190,7 @@ impl<'a> Reading<'a> {
         Ok(true)
     }
 
-    /// Reads the end, and answers the node that is the whole expression.
+    /// Reads the end, and returns the node of the whole expression.
     fn end(&mut self) -> Result<Option<usize>, AllocError> {
         if self.wants_operand || !self.join_stronger(0)? || !self.waiting.is_empty() {
             return Ok(None);
@@ -211,7 +211,7 @@ impl<'a> Reading<'a> {
     }
 }
 
-/// The reading of nothing yet.
+/// A reading before its first piece.
 pub(crate) fn unread<'a>(alloc: Global) -> Reading<'a> {
     Reading {
         nodes: Vec::new(alloc),
@@ -221,7 +221,7 @@ pub(crate) fn unread<'a>(alloc: Global) -> Reading<'a> {
     }
 }
 
-/// Reads pieces, and answers the node that is the whole expression, if they are one.
+/// Reads pieces, and returns the node of the whole expression if they are one.
 pub(crate) fn read_all<'a>(
     reading: &mut Reading<'a>,
     pieces: &[Piece<'a>],

@@ -1,4 +1,4 @@
-//! The operators of other languages, and how each is written here.
+//! The operators of other languages, and their translations.
 
 /// An operator, or an open bracket.
 #[derive(Clone, Copy, PartialEq, Eq)]
@@ -67,17 +67,17 @@ fn form_in(forms: &[(&[u8], Form)], sign: &[u8]) -> Option<Form> {
     None
 }
 
-/// The operator between two operands that a sign is.
+/// The operator between two operands with this sign.
 pub(crate) fn form_between(sign: &[u8]) -> Option<Form> {
     form_in(&BETWEEN, sign)
 }
 
-/// The operator before one operand that a sign is.
+/// The operator before one operand with this sign.
 pub(crate) fn form_before(sign: &[u8]) -> Option<Form> {
     form_in(&BEFORE, sign)
 }
 
-/// Whether a sign or a word is an operator of this language or another one.
+/// Whether a sign or a name is an operator of this language or another one.
 pub fn is_operator(sign: &[u8]) -> bool {
     form_between(sign).is_some() || form_before(sign).is_some()
 }
@@ -115,9 +115,9 @@ impl Form {
     }
 }
 
-/// How an operator is written: a text with its operands in the places of P and Q, its own level,
-/// and the levels that its operands must have. The levels are 0 for a comparison, 1 for a sum, 2
-/// for a product, and 3 for a name, a number or brackets.
+/// The translation of an operator: a text with its operands in the places of P and Q, its own
+/// level, and the levels that its operands must have. The levels are 0 for a comparison, 1 for a
+/// sum, 2 for a product, and 3 for a name, a number or brackets.
 #[derive(Clone, Copy)]
 pub(crate) struct Pattern {
     pub(crate) text: &'static [u8],
@@ -136,7 +136,7 @@ fn make_pattern(text: &'static [u8], level: u8, left: u8, right: u8) -> Pattern 
     }
 }
 
-/// How `and` is written between operands that are 0 or 1, or any numbers.
+/// The translation of `and` between operands that are 0 or 1, or any numbers.
 fn and_pattern(is_left_truth: bool, is_right_truth: bool) -> Pattern {
     match (is_left_truth, is_right_truth) {
         (true, true) => make_pattern(b"P * Q", 2, 2, 3),
@@ -146,7 +146,7 @@ fn and_pattern(is_left_truth: bool, is_right_truth: bool) -> Pattern {
     }
 }
 
-/// How an operator is written. The numbers say whether its operands are 0 or 1 whatever they read.
+/// The translation of an operator. The flags say whether its operands are always 0 or 1.
 pub(crate) fn pattern_of(form: Form, is_left_truth: bool, is_right_truth: bool) -> Pattern {
     match form {
         Form::Or if is_left_truth && is_right_truth => make_pattern(b"0 < P + Q", 0, 1, 2),
@@ -169,8 +169,8 @@ pub(crate) fn pattern_of(form: Form, is_left_truth: bool, is_right_truth: bool) 
     }
 }
 
-/// How the operator between two operands that a sign is is written, where P and Q are its operands
-/// and each of them is 0 or 1.
+/// The translation of the operator between two operands with this sign, where P and Q are its
+/// operands and each is 0 or 1.
 pub fn operator_text(sign: &[u8]) -> Option<&'static [u8]> {
     let form = form_between(sign)?;
     Some(pattern_of(form, true, true).text)

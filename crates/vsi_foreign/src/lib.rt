@@ -1,8 +1,8 @@
 //! Texts of other languages: their pieces, and expressions written in this one.
 //!
 //! `pieces_of` cuts a text, and `rewritten` writes an expression of another language in this one.
-//! `expression_alone` and `program_alone` let a text through that the reader of the language has
-//! read: `IsExpression` and `IsProgramText` of `specs/Offered` say what it is.
+//! `expression_alone` and `program_alone` let through only texts that the reader of the language
+//! has read: `IsExpression` and `IsProgramText` of `specs/Offered` define these.
 //!
 //! To be believed: `specs/Offered`.
 #![tactic(auto)]

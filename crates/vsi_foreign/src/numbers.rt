@@ -1,6 +1,6 @@
 //! The numbers of other languages.
 
-/// The digits of a number, and the base that they have.
+/// The digits of a number, and their base.
 fn digits_of(text: &[u8]) -> (&[u8], u64) {
     match text {
         [b'0', b'x' | b'X', digits @ ..] => (digits, 16),
@@ -21,7 +21,7 @@ fn digit_of(byte: u8) -> Option<u64> {
     }
 }
 
-/// The value of a whole number of another language, where a text of this one can write it.
+/// The value of a whole number of another language, if this language can write it.
 pub fn number_of(text: &[u8]) -> Option<u64> {
     let (digits, base) = digits_of(text);
     let mut value: u64 = 0;

@@ -1,4 +1,4 @@
-//! Texts that may be offered: each is read first by the reader of the language.
+//! Texts that may be offered: the reader of the language reads each one first.
 
 ghost use Rattle.std.specs.Prelude.{◌≡◌, ◌++◌, ℕ, IfOk, IfSome, List, codes, true};
 ghost use Rattle.vsi_syntax.specs.ProgramView.{whole};
@@ -9,7 +9,7 @@ ghost use Rattle.vsi_foreign.specs.Offered.{IsExpression, IsProgramText, IsTreeO
 use std::alloc::{AllocError, Global};
 use vsi_syntax::{LexError, ParseError, Program, Stmt, lex, parse};
 
-/// The program that a text is, if it is one.
+/// The program of a text, if it is one.
 fn program_of<'a>(alloc: Global, text: &'a [u8]) -> Result<Option<Program<'a>>, AllocError>
     ensures { IfOk result (λ found. IfSome found (λ p. IsTreeOf text.now (whole p))) }
 {
@@ -57,7 +57,7 @@ fn is_one_assignment<'a>(body: &[Stmt<'a>]) -> bool
     is_assignment(only)
 }
 
-/// Whether a program is one assignment and nothing else.
+/// Whether a program consists of one assignment.
 fn is_alone<'a>(program: &Program<'a>) -> bool
     ensures { result ≡ true → (name : Named) × ((value : Tree) × (whole program.now
         ≡ assigning name value)) }
@@ -71,7 +71,7 @@ fn is_alone<'a>(program: &Program<'a>) -> bool
     }
 }
 
-/// Whether a text is a program that is one assignment and nothing else.
+/// Whether a text is a program that consists of one assignment.
 fn assigns(alloc: Global, text: &[u8]) -> Result<bool, AllocError>
     ensures { IfOk result (λ is. is ≡ true →
         (name : Named) × ((value : Tree) × IsTreeOf text.now (assigning name value))) }

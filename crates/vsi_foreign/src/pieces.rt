@@ -22,7 +22,7 @@ pub enum Sort {
     Strange,
 }
 
-/// A piece of a text, and where it begins.
+/// A piece of a text, and its position.
 #[derive(Clone, Copy)]
 pub struct Piece<'a> {
     pub sort: Sort,
@@ -38,12 +38,12 @@ const SIGNS: [&[u8]; 24] = [
     b"&&", b"||", b"**", b"++", b"--", b"+=", b"-=", b"*=", b"/=", b"%=", b"->",
 ];
 
-/// Whether a byte belongs to a word.
+/// Whether a byte belongs to a name.
 fn is_part(byte: u8) -> bool {
     byte.is_ascii_alphanumeric() || byte == b'_'
 }
 
-/// How many bytes of a word a text begins with.
+/// The number of bytes of the name at the beginning of a text.
 fn word_length(rest: &[u8]) -> usize {
     for at in 0..rest.len() {
         if !is_part(rest[at]) {
@@ -53,7 +53,8 @@ fn word_length(rest: &[u8]) -> usize {
     rest.len()
 }
 
-/// How many bytes of a number a text begins with: a point belongs to it where a digit follows.
+/// The number of bytes of the number at the beginning of a text. A point belongs to it if a digit
+/// follows.
 fn number_length(rest: &[u8]) -> usize {
     for at in 0..rest.len() {
         if is_part(rest[at]) {
@@ -70,7 +71,7 @@ fn number_length(rest: &[u8]) -> usize {
     rest.len()
 }
 
-/// How many bytes the rest of a line has.
+/// The number of bytes in the rest of a line.
 fn line_length(rest: &[u8]) -> usize {
     for at in 0..rest.len() {
         if rest[at] == b'\n' {
@@ -80,7 +81,7 @@ fn line_length(rest: &[u8]) -> usize {
     rest.len()
 }
 
-/// How many bytes a text between quotes has; it ends with its line at the latest.
+/// The number of bytes of a text between quotes. It ends with its line at the latest.
 fn quoted_length(rest: &[u8], quote: u8) -> usize {
     for at in 1..rest.len() {
         if rest[at] == quote {
@@ -93,7 +94,7 @@ fn quoted_length(rest: &[u8], quote: u8) -> usize {
     rest.len()
 }
 
-/// How many bytes a comment that ends with `*/` has.
+/// The number of bytes of a comment that ends with `*/`.
 fn block_length(rest: &[u8]) -> usize {
     for at in 2..rest.len() {
         if rest[at..].starts_with(b"*/") {
@@ -103,7 +104,7 @@ fn block_length(rest: &[u8]) -> usize {
     rest.len()
 }
 
-/// How many bytes a character outside of ASCII has.
+/// The number of bytes of a character outside of ASCII.
 fn strange_length(rest: &[u8]) -> usize {
     for at in 1..rest.len().min(4) {
         if !matches!(rest[at], 128..=191) {
@@ -113,7 +114,7 @@ fn strange_length(rest: &[u8]) -> usize {
     rest.len().min(4)
 }
 
-/// How many bytes the sign has that a text begins with.
+/// The number of bytes of the sign at the beginning of a text.
 fn sign_length(rest: &[u8]) -> usize {
     for sign in SIGNS {
         if rest.starts_with(sign) {
@@ -131,7 +132,7 @@ fn divides(rest: &[u8]) -> bool {
     }
 }
 
-/// How many bytes a comment of another language has, if the text begins with one.
+/// The number of bytes of a comment of another language, if the text begins with one.
 fn comment_length(rest: &[u8], is_begun: bool) -> Option<usize> {
     if rest.starts_with(b"/*") {
         return Some(block_length(rest));
@@ -145,7 +146,7 @@ fn comment_length(rest: &[u8], is_begun: bool) -> Option<usize> {
     None
 }
 
-/// The sort and the length of the piece that a text begins with.
+/// The sort and the length of the piece at the beginning of a text.
 fn measured(rest: &[u8], is_begun: bool) -> (Sort, usize) {
     if let Some(length) = comment_length(rest, is_begun) {
         return (Sort::Comment, length);
@@ -168,7 +169,7 @@ fn begins_after(piece: Option<&Piece>) -> bool {
     }
 }
 
-/// The piece that begins at a place.
+/// The piece that begins at a position.
 fn piece_at<'a>(source: &'a [u8], at: usize, is_first: bool, last: Option<&Piece>) -> Piece<'a> {
     let rest = &source[at.min(source.len())..];
     let (sort, length) = measured(rest, is_first || begins_after(last));

@@ -6,13 +6,13 @@ use crate::pieces::Piece;
 use std::alloc::{AllocError, Global};
 use vsi_syntax::put_number;
 
-/// The largest number of steps of a writing; a longer expression is not written.
+/// The largest number of steps; a longer expression is not written.
 const MOST: usize = 4096;
 
-/// A step that is left to do.
+/// A pending step.
 #[derive(Clone, Copy)]
 enum Step {
-    /// Writes the node with this number, in brackets where its level is below this one.
+    /// Writes the node with this number, in brackets if its level is below this one.
     Node(usize, u8),
     Byte(u8),
 }
@@ -26,7 +26,7 @@ struct Writing<'a, 't> {
 }
 
 impl<'a, 't> Writing<'a, 't> {
-    /// Whether the value of a node is 0 or 1 whatever it reads.
+    /// Whether the value of a node is always 0 or 1.
     fn is_truth(&self, node: usize) -> bool {
         match self.nodes.get(node) {
             Some(Node::Joined(form, _, _)) => form.is_truth(),
@@ -35,7 +35,7 @@ impl<'a, 't> Writing<'a, 't> {
         }
     }
 
-    /// The number that a node is.
+    /// The number of a node.
     fn value(&self, node: usize) -> Option<u64> {
         match self.nodes.get(node) {
             Some(Node::Number(value)) => Some(*value),
@@ -43,7 +43,7 @@ impl<'a, 't> Writing<'a, 't> {
         }
     }
 
-    /// How an operator of the tree is written, if it can be.
+    /// The translation of an operator of the tree, if there is one.
     fn pattern(&self, form: Form, left: usize, right: usize) -> Option<Pattern> {
         if form == Form::Power {
             let text: &'static [u8] = match self.value(right) {
@@ -88,7 +88,7 @@ impl<'a, 't> Writing<'a, 't> {
         Ok(())
     }
 
-    /// Writes or plans a node, and answers whether it can be written.
+    /// Writes or plans a node, and returns whether it can be written.
     fn write_node(&mut self, node: usize, level: u8) -> Result<bool, AllocError> {
         let Some(node) = self.nodes.get(node).copied() else {
             return Ok(false);
@@ -106,7 +106,7 @@ impl<'a, 't> Writing<'a, 't> {
         Ok(true)
     }
 
-    /// Does the last step, and answers whether it could be done.
+    /// Does the last step, and returns whether that was possible.
     fn write_step(&mut self, step: Step) -> Result<bool, AllocError> {
         match step {
             Step::Byte(byte) => {
@@ -117,7 +117,7 @@ impl<'a, 't> Writing<'a, 't> {
         }
     }
 
-    /// Does all steps, and answers whether they could be done.
+    /// Does all steps, and returns whether that was possible.
     fn write_all(&mut self) -> Result<bool, AllocError> {
         for _ in 0..MOST {
             let Some(step) = self.steps.pop() else {
@@ -131,7 +131,7 @@ impl<'a, 't> Writing<'a, 't> {
     }
 }
 
-/// The text of a tree in this language, at a level at least, if it has one.
+/// The text of a tree in this language, at least at a level, if it has one.
 fn written<'a>(
     alloc: Global,
     nodes: &[Node<'a>],
@@ -149,7 +149,7 @@ fn written<'a>(
     Ok(if is_whole { Some(text) } else { None })
 }
 
-/// The expression that pieces are, written in this language at a level at least, if it can be.
+/// The expression of these pieces, written in this language at least at a level, if possible.
 pub fn rewritten(
     alloc: Global,
     pieces: &[Piece],

@@ -6,13 +6,13 @@ use vsi_foreign::pieces_of;
 use vsi_shapes::{Found, Look, Shape, halved_at, shape_at, structure_at};
 use vsi_syntax::put_place;
 
-/// How many further places of a text are named at most.
+/// The largest number of further places that are listed.
 const MOST: usize = 12;
 
-/// How many bytes of a name are shown at most.
+/// The largest number of bytes of a name that are shown.
 const LONGEST: usize = 40;
 
-/// The number of the last piece that begins at a place of the text or before it.
+/// The number of the last piece that begins at or before a position in the text.
 fn piece_number(look: &Look, at: usize) -> usize {
     let mut number: usize = 0;
     let last = look.pieces.len().saturating_sub(1);
@@ -28,7 +28,7 @@ fn piece_number(look: &Look, at: usize) -> usize {
     number
 }
 
-/// The constructs of other languages in their order; none begins within another one.
+/// The constructs of other languages in order; none begins inside another one.
 fn all_shapes(alloc: Global, look: &Look) -> Result<Vec<Found>, AllocError> {
     let mut shapes = Vec::new(alloc);
     let mut next: usize = 0;
@@ -44,7 +44,7 @@ fn all_shapes(alloc: Global, look: &Look) -> Result<Vec<Found>, AllocError> {
     Ok(shapes)
 }
 
-/// The words and signs that are missing, or one too many.
+/// The keywords and signs that are missing or superfluous.
 fn all_structures(alloc: Global, look: &Look) -> Result<Vec<Found>, AllocError> {
     let mut found = Vec::new(alloc);
     for at in 0..look.pieces.len() {
@@ -58,7 +58,7 @@ fn all_structures(alloc: Global, look: &Look) -> Result<Vec<Found>, AllocError> 
     Ok(found)
 }
 
-/// The last construct that a piece belongs to, or comes right after.
+/// The last construct that a piece belongs to or directly follows.
 fn covering(shapes: &[Found], piece: usize) -> Option<Found> {
     let mut last = None;
     for found in shapes {
@@ -69,7 +69,7 @@ fn covering(shapes: &[Found], piece: usize) -> Option<Found> {
     last
 }
 
-/// Adds a hint for the construct of another language at a place of a text, and answers whether
+/// Adds a hint for the construct of another language at a position in a text, and returns whether
 /// there is one.
 pub fn put_hint(
     alloc: Global,
@@ -93,7 +93,7 @@ pub fn put_hint(
     Ok(true)
 }
 
-/// Two constructs with the same key have the same advice.
+/// The key of a construct. Constructs with the same key have the same advice.
 fn key(look: &Look, found: &Found) -> (u8, usize) {
     match found.shape {
         Shape::Say(before, after) => (
@@ -120,7 +120,7 @@ fn key(look: &Look, found: &Found) -> (u8, usize) {
     }
 }
 
-/// A number by which short texts differ.
+/// A number that distinguishes short texts.
 fn sum(text: &[u8]) -> usize {
     let mut total: usize = 0;
     for byte in text {
@@ -151,7 +151,7 @@ fn put_further_place(
     words.extend_from_slice(b"\n")
 }
 
-/// Adds the places of these that need advice of their own; `keys` are those given already.
+/// Adds the places of those that need advice of their own; `keys` has the advice already given.
 fn put_each(
     alloc: Global,
     words: &mut Vec<u8>,
@@ -199,7 +199,7 @@ fn put_list(
     words.extend_from_slice(last)
 }
 
-/// The names in the places of classes that are none of these classes, in their order.
+/// The names in the positions of classes that are none of these classes, in order.
 fn no_classes<'a>(
     alloc: Global,
     look: &Look<'a, '_>,
@@ -238,7 +238,7 @@ fn put_no_classes(
     )
 }
 
-/// Whether a piece belongs to a construct in whose place no name is left.
+/// Whether a piece belongs to a construct whose replacement doesn't contain the name.
 fn is_said(shapes: &[Found], at: usize) -> bool {
     for found in shapes {
         if found.first <= at && at < found.next {
@@ -262,7 +262,7 @@ fn is_within(look: &Look, found: &Found, name: &[u8]) -> bool {
     false
 }
 
-/// Whether a name is a new one for a name that is none here.
+/// Whether a name is a replacement for a name that isn't valid here.
 fn is_renaming(old: &[u8], name: &[u8]) -> bool {
     match name.strip_prefix(old) {
         Some(rest) => rest.first() == Some(&b'_'),
@@ -270,7 +270,7 @@ fn is_renaming(old: &[u8], name: &[u8]) -> bool {
     }
 }
 
-/// Whether a name is declared once the hints of a text are followed.
+/// Whether a name is declared after the hints for a text are followed.
 fn gets_declared(look: &Look, shapes: &[Found], name: &[u8]) -> bool {
     for found in shapes {
         let gets = match found.shape {
@@ -285,7 +285,7 @@ fn gets_declared(look: &Look, shapes: &[Found], name: &[u8]) -> bool {
     false
 }
 
-/// The names that a text uses and declares nowhere, in their order.
+/// The names that a text uses and doesn't declare, in order.
 fn undeclared<'a>(
     alloc: Global,
     look: &Look<'a, '_>,
@@ -311,7 +311,7 @@ fn undeclared<'a>(
     Ok(names)
 }
 
-/// Adds a line with the names that a text uses and declares nowhere, if it has any.
+/// Adds a line with the names that a text uses and doesn't declare, if there are any.
 fn put_undeclared(
     alloc: Global,
     words: &mut Vec<u8>,
@@ -324,8 +324,8 @@ fn put_undeclared(
     put_list(words, b"Also undeclared: ", &names, last)
 }
 
-/// Adds a line for each further place of a text where it is written as in another language, the
-/// first one of each sort; then the names that no declaration has, or that are none of the classes.
+/// Adds a line for each further place in a text that is written as in another language, the first
+/// one of each sort. Then adds the names that aren't declared, or aren't classes.
 pub fn put_further(
     alloc: Global,
     words: &mut Vec<u8>,

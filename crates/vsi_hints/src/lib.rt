@@ -1,7 +1,7 @@
-//! Hints for constructs of other languages in a text: what you write in their place.
+//! Hints for constructs of other languages in a text: what to write instead.
 //!
-//! `put_hint` speaks of the one at a refused place, and `put_further` of the others in the text. A
-//! text that is offered in place of another one has been read by the reader of the language.
+//! `put_hint` is about the construct at a refused position, and `put_further` about the others in
+//! the text. The reader of the language has read every text that is offered as a replacement.
 //!
 //! To be believed: `specs/Offered` of vsi_foreign.
 #![tactic(auto)]

@@ -8,17 +8,17 @@ use vsi_foreign::{expression_alone, number_of, operator_text, program_alone, rew
 use vsi_shapes::{Found, Look, Shape};
 use vsi_syntax::put_number;
 
-/// How many bytes of a text are shown at most.
+/// The largest number of bytes of a text that are shown.
 const LONGEST: usize = 120;
 
-/// Adds a text between back quotes, or its beginning where it is long.
+/// Adds a text between back quotes, or only its beginning if it is long.
 fn put_quoted(words: &mut Vec<u8>, text: &[u8]) -> Result<(), AllocError> {
     words.extend_from_slice(b"`")?;
     words.extend_from_slice(&text[..text.len().min(LONGEST)])?;
     words.extend_from_slice(b"`")
 }
 
-/// The part of a text that pieces are.
+/// The part of a text that these pieces cover.
 fn part<'s>(source: &'s [u8], look: &Look, first: usize, next: usize) -> &'s [u8] {
     let (Some(piece), Some(last)) = (look.pieces.get(first), next.checked_sub(1)) else {
         return b"";
@@ -27,7 +27,7 @@ fn part<'s>(source: &'s [u8], look: &Look, first: usize, next: usize) -> &'s [u8
     &source[piece.at.min(stop)..stop]
 }
 
-/// The expression that pieces are, written in this language at a level at least, if it can be.
+/// The expression of these pieces, written in this language at least at a level, if possible.
 fn value_text(
     alloc: Global,
     look: &Look,
@@ -44,7 +44,7 @@ fn value_text(
     rewritten(alloc, &look.pieces[first.min(stop)..stop], level)
 }
 
-/// Adds an expression, and answers whether it could be written.
+/// Adds an expression, and returns whether it could be written.
 fn put_value(
     alloc: Global,
     text: &mut Vec<u8>,
@@ -62,7 +62,7 @@ fn put_value(
     }
 }
 
-/// The text, where it could be written and is a program.
+/// The text, if it could be written and is a program.
 fn program_if(alloc: Global, text: Vec<u8>, is_written: bool) -> Result<Option<Vec<u8>>, AllocError>
     ensures { IfOk result (λ found. IfSome found (λ text. IsProgramText text.items)) }
 {
@@ -101,14 +101,14 @@ fn assignment(
     program_if(alloc, text, is_written)
 }
 
-/// Names for a value that is kept, for what is left of one, and for how often it was taken.
+/// Names for a kept value, for a remainder, and for a number of times.
 const KEPT: [&[u8]; 4] = [b"t", b"old", b"kept", b"former"];
 
 const LEFT: [&[u8]; 4] = [b"r", b"left", b"rest", b"remainder"];
 
 const TIMES: [&[u8]; 4] = [b"q", b"times", b"count", b"quotient"];
 
-/// The first of these names that no piece is.
+/// The first of these names that occurs in no piece.
 fn fresh(look: &Look, names: &[&'static [u8]]) -> &'static [u8] {
     for name in names {
         let mut is_free = true;
@@ -150,15 +150,15 @@ fn swap(alloc: Global, look: &Look, found: &Found) -> Result<Option<Vec<u8>>, Al
     program_if(alloc, text, is_first_written && is_written)
 }
 
-/// The loop that divides: P is divided by Q, N is what the value is for, R is what is left, and T
+/// The loop that divides: P is divided by Q, N receives the quotient, R is the remainder, and T
 /// counts.
 const QUOTIENT: &[u8] =
     b"letvar R := P in letvar T := 0 in { while Q - 1 < R do { R := R - Q; T := T + 1 }; N := T }";
 
-/// The loop that leaves a remainder.
+/// The loop that computes a remainder.
 const REMAINDER: &[u8] = b"letvar R := P in { while Q - 1 < R do R := R - Q; N := R }";
 
-/// The commands that divide an operand by another one, as often as it can be taken away.
+/// The commands that divide an operand by another one through repeated subtraction.
 fn division(alloc: Global, look: &Look, found: &Found) -> Result<Option<Vec<u8>>, AllocError>
     ensures { IfOk result (λ found. IfSome found (λ text. IsProgramText text.items)) }
 {
@@ -199,7 +199,7 @@ fn step(
     program_if(alloc, text, true)
 }
 
-/// The number that a piece is, in the digits of this language.
+/// The number of a piece, in the digits of this language.
 fn number(alloc: Global, look: &Look, found: &Found) -> Result<Option<Vec<u8>>, AllocError>
     ensures { IfOk result (λ found. IfSome found (λ text. IsExpression text.items)) }
 {
@@ -211,7 +211,7 @@ fn number(alloc: Global, look: &Look, found: &Found) -> Result<Option<Vec<u8>>, 
     expression_alone(alloc, text)
 }
 
-/// A name for one that is none here.
+/// A name in place of one that isn't valid here.
 fn renamed(alloc: Global, look: &Look, found: &Found) -> Result<Option<Vec<u8>>, AllocError>
     ensures { IfOk result (λ found. IfSome found (λ text. IsExpression text.items)) }
 {
@@ -269,7 +269,7 @@ fn valueless(alloc: Global, look: &Look, found: &Found) -> Result<Option<Vec<u8>
     declaring(alloc, text)
 }
 
-/// The expression that pieces mean, if it is one and short.
+/// The expression that pieces mean, if it is an expression and short.
 fn value(alloc: Global, look: &Look, found: &Found) -> Result<Option<Vec<u8>>, AllocError>
     ensures { IfOk result (λ found. IfSome found (λ text. IsExpression text.items)) }
 {
@@ -302,7 +302,7 @@ fn offer(alloc: Global, look: &Look, found: &Found) -> Result<Option<Vec<u8>>, A
     }
 }
 
-/// Why a text is offered in place of pieces.
+/// The reason why a text is offered as a replacement for pieces.
 fn put_reason(words: &mut Vec<u8>, look: &Look, shape: Shape) -> Result<(), AllocError> {
     let reason: &[u8] = match shape {
         Shape::Value(cause) => match look.text(cause) {
@@ -328,7 +328,7 @@ fn put_reason(words: &mut Vec<u8>, look: &Look, shape: Shape) -> Result<(), Allo
     words.extend_from_slice(reason)
 }
 
-/// Adds what to write in place of a part of a text.
+/// Adds the replacement for a part of a text.
 fn put_replacing(words: &mut Vec<u8>, text: &[u8], part: &[u8]) -> Result<(), AllocError> {
     words.extend_from_slice(b"write ")?;
     put_quoted(words, text)?;
@@ -362,7 +362,7 @@ fn put_comment(words: &mut Vec<u8>, text: &[u8]) -> Result<(), AllocError> {
     words.extend_from_slice(b": a comment ends with its line, as `# count`.")
 }
 
-/// Adds the sentence for an operator whose operands aren't offered, and answers whether there is
+/// Adds the sentence for an operator whose operands aren't offered, and returns whether there is
 /// one.
 fn put_operator(words: &mut Vec<u8>, sign: &[u8]) -> Result<bool, AllocError> {
     let Some(text) = operator_text(sign) else {
@@ -376,7 +376,7 @@ fn put_operator(words: &mut Vec<u8>, sign: &[u8]) -> Result<bool, AllocError> {
     Ok(true)
 }
 
-/// Adds the sentence for pieces for which no text is offered, and answers whether there is one.
+/// Adds the sentence for pieces without a replacement, and returns whether there is one.
 fn put_plain(words: &mut Vec<u8>, look: &Look, found: &Found) -> Result<bool, AllocError> {
     let text = look.text(found.first);
     match found.shape {
@@ -407,7 +407,7 @@ fn put_plain(words: &mut Vec<u8>, look: &Look, found: &Found) -> Result<bool, Al
     Ok(true)
 }
 
-/// Adds the sentence for pieces, and answers whether there is one.
+/// Adds the sentence for pieces, and returns whether there is one.
 pub(crate) fn put_found(
     alloc: Global,
     words: &mut Vec<u8>,

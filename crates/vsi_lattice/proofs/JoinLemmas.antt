@@ -135,7 +135,7 @@ pub from_tied : (above below : List ℕ) (a b : ℕ) → AreTied above below a b
     BothHaveOther (get_or above a 0) (get_or below a 0) a b
 from_tied above below a b h = (λ e. h.0 (sym e), bit_from_has above a b h.1, bit_from_has below a b h.2)
 
--- A bit is not 0 if it is 1.
+-- A bit is not 0 exactly if it is 1.
 bit_test : (x : ℕ) → x < 2 → not (x == 0) ≡ (x == 1)
 bit_test x h = grind (arith, nat_tests)
 

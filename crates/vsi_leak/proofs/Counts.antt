@@ -83,7 +83,7 @@ pub one_end : (image : Image) (m m₁ m₂ : Store) (n k : ℕ) → Ends image m
 one_end image m m₁ m₂ n k h h' =
     one_ending image m m₁ m₂ n k (halts_with image m n m₁ h) (halts_with image m k m₂ h')
 
--- The ending reported for a run that takes so many instructions, and halts with these words within a budget, is true.
+-- The ending reported for a run that takes this many instructions, and halts with these words within a budget, is true.
 pub ends_so : (image : Image) (m words : Store) (n budget : ℕ) → TakesSome image m n → Ends image m budget words →
     Takes image m n words
 ends_so image m words n budget h e =

@@ -7,7 +7,7 @@
 //! a slot or the instruction is missing. The law `never_stuck` says that every run of a valid image
 //! has a state, and that its operands fit on the image's stack. The loop therefore checks none of
 //! these. `act` executes one instruction, for code that runs an image over its own arrays. Clause
-//! `exact` of `counted` says that an image that halts does so within the counted number of
+//! `exact` of `counted` says that if a run halts, the image halts within the counted number of
 //! instructions, and within no smaller one. `word_cell` and `halted_cell` write the cells of texts
 //! that show two runs side by side.
 //!

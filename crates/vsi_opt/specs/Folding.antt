@@ -4,7 +4,7 @@ use Rattle.vsi_syntax.specs.declared.operator.Op.{Op}
 use Rattle.vsi_scope.specs.Language.{Expression, Number, Location, Operator, Command, Skip, Assign, Sequence, If, While, Letvar}
 use Rattle.vsi_syntax.specs.Operators.{apply}
 
--- The number that an expression is, if it is one.
+-- The number of a literal expression.
 abbrev pub literal_of : Expression → Option ℤ
 literal_of (Number n) = Some n
 literal_of (Location l s) = None

@@ -9,7 +9,7 @@ use std::alloc::{AllocError, Global};
 use vsi_scope::{Cmd, Ex};
 use vsi_syntax::Op;
 
-/// The number that an expression is, if it is one.
+/// The number of a literal expression.
 fn literal(e: &Ex) -> Option<i64>
     ensures { result ≡ literal_of (expression e.now) }
 {

@@ -4,7 +4,7 @@ use Rattle.std.proofs.Math.Seq.{take-length}
 use Rattle.std.specs.Borrow.{Bor}
 use Rattle.vsi_lattice.specs.NamePlaces.{texts}
 
--- Where the first of some texts is a name, they are that name and the others.
+-- If the first of some texts is a name, they are that name followed by the others.
 pub first_texts : (xs : List (Bor (List ℕ))) (otherwise : Bor (List ℕ)) (name : List ℕ) → 1 ≤ length xs →
     name ≡ (get_or xs 0 otherwise).now → texts xs ≡ name ∷ texts (take (length xs - 1) (drop 1 xs))
 first_texts [] otherwise name within is = absurd (omega arith)

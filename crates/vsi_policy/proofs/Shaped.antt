@@ -1,4 +1,4 @@
--- Lattices that have the shape of references to names.
+-- Lattices that have the shape for references to names.
 use Rattle.std.proofs.Common.{◌≡◌, ℕ, List, Some, length, sym, subst}
 use Rattle.std.proofs.lemmas.List.{length-map}
 use Rattle.std.specs.Borrow.{Bor}

@@ -13,16 +13,16 @@ pub enum ShapeError {
     /// No shape has this name.
     #[error("no shape has this name")]
     NoShape,
-    /// The shape takes another number of names.
+    /// The shape doesn't take this number of names.
     #[error("the shape takes another number of names")]
     WrongCount(Shape),
-    /// A class would have this name, which isn't one.
+    /// A class would have this name, which isn't a valid name.
     #[error("a class would have a name that isn't one")]
     NoName(Vec<u8>),
     /// Two classes would have this name.
     #[error("two classes would have one name")]
     Twice(Vec<u8>),
-    /// There was no memory.
+    /// There was too little memory.
     #[error("out of memory")]
     Memory,
 }

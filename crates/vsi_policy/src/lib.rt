@@ -1,7 +1,7 @@
 //! Policies: the lattice file that a source text names, and lattice files of usual shapes.
 //!
-//! `named_policy` answers the path in the first comment of a text, `# policy: FILE`. `lattice_text`
-//! takes a shape and names and answers a lattice file, which `read_lattice` has read: it declares
+//! `named_policy` returns the path in the first comment of a text, `# policy: FILE`. `lattice_text`
+//! returns a lattice file for a shape and names. `read_lattice` has read the file, and it declares
 //! exactly the classes and the order of the shape (clause `shaped`).
 //!
 //! To be believed: all files of `specs/`.

@@ -1,4 +1,5 @@
-//! Makes lattice files. The text is proposed, and the reader of lattice files says what it declares.
+//! Makes lattice files. The text is proposed, and the reader of lattice files determines what it
+//! declares.
 
 ghost use Rattle.std.specs.Prelude.{IfOk, IsTrue, length};
 ghost use Rattle.vsi_lattice.specs.FileFaults.{IsRead};
@@ -13,13 +14,13 @@ use std::alloc::{AllocError, Global};
 use vsi_lattice::{Classes, Lattice, LatticeError, read_lattice};
 use vsi_syntax::is_name;
 
-/// The text of the lattice file that has the shape which the first argument names, with the names
-/// that the others are.
+/// The text of the lattice file of the shape that the first argument names, with the other
+/// arguments as names.
 ///
 /// # Errors
 ///
-/// `NoShape` and `WrongCount` where the arguments aren't those of a shape, `NoName` and `Twice`
-/// where they aren't names of different classes, `Memory`.
+/// `NoShape` and `WrongCount` if the arguments don't fit a shape, `NoName` and `Twice` if they
+/// aren't names of different classes, `Memory`.
 pub fn lattice_text(alloc: Global, arguments: &[&[u8]]) -> Result<Vec<u8>, ShapeError>
     ensures shaped { IfOk result (λ text. IsShapedText (texts arguments.now) text.items) }
 {
@@ -69,7 +70,7 @@ fn is_shaped(
     has_classes(alloc, shape, given, lattice)
 }
 
-/// The names of the classes, which are names.
+/// The names of the classes, if they are valid names.
 fn class_names(
     alloc: Global,
     shape: Shape,
@@ -87,7 +88,7 @@ fn class_names(
     Ok(classes)
 }
 
-/// What the refusal of the proposed text means: two classes of one name, or want of memory.
+/// The meaning of a refusal of the proposed text: two classes with one name, or lack of memory.
 fn fault_of(classes: Vec<Vec<u8>>, error: LatticeError) -> ShapeError {
     let LatticeError::DuplicateName(place) = error else {
         return ShapeError::Memory;
@@ -98,8 +99,8 @@ fn fault_of(classes: Vec<Vec<u8>>, error: LatticeError) -> ShapeError {
     }
 }
 
-/// Whether a class of a shape is directly below another: at or below it, not the same, and with
-/// none between.
+/// Whether a class of a shape is directly below another: at or below it, different from it, and
+/// with none between.
 fn is_direct(shape: Shape, names: usize, count: usize, low: usize, high: usize) -> bool {
     if low == high || !is_below(shape, names, low, high) {
         return false;
@@ -113,7 +114,7 @@ fn is_direct(shape: Shape, names: usize, count: usize, low: usize, high: usize) 
     true
 }
 
-/// A text that should be the lattice file of a shape with classes of these names.
+/// A proposed text for the lattice file of a shape with classes of these names.
 fn proposed(
     alloc: Global,
     shape: Shape,

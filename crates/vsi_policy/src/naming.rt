@@ -3,7 +3,7 @@
 ghost use Rattle.std.specs.Prelude.{◌≡◌, ◌≤◌, option_map, length};
 ghost use Rattle.vsi_policy.specs.Named as spec;
 
-/// How a comment begins that names a lattice file.
+/// The beginning of a comment that names a lattice file.
 const START: &[u8] = b" policy: ";
 
 /// The path of the lattice file that a text names in its first comment, `# policy: FILE`.
@@ -15,7 +15,7 @@ pub fn named_policy(text: &[u8]) -> Option<&[u8]>
     Some(first_line(path))
 }
 
-/// What follows the first `#` of a text.
+/// The text after the first `#`.
 fn first_comment(text: &[u8]) -> Option<&[u8]>
     ensures { option_map (λ rest. rest.now) result ≡ spec.first_comment text.now }
 {
@@ -29,7 +29,7 @@ fn first_comment(text: &[u8]) -> Option<&[u8]>
     None
 }
 
-/// What follows a start.
+/// The text after a prefix, if it begins with the prefix.
 fn behind<'a>(start: &[u8], text: &'a [u8]) -> Option<&'a [u8]>
     ensures { option_map (λ rest. rest.now) result ≡ spec.behind start.now text.now }
 {
@@ -55,7 +55,7 @@ fn first_line(text: &[u8]) -> &[u8]
     &text[..line_length(text)]
 }
 
-/// How many bytes come before the first line feed or carriage return.
+/// The number of bytes before the first line feed or carriage return.
 fn line_length(text: &[u8]) -> usize
     ensures count { result ≡ spec.line_length text.now }
     ensures within { result ≤ length text.now }

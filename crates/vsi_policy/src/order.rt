@@ -10,7 +10,7 @@ use crate::shape::Shape;
 use std::alloc::{AllocError, Global};
 use vsi_lattice::{Class, Classes, Lattice};
 
-/// Whether each of the lowest binary digits that is 1 in the first number is 1 in the second.
+/// Whether each of the lowest binary digits that is 1 in the first number is 1 in the second too.
 fn is_within(digits: usize, low: usize, high: usize) -> bool
     ensures { result ≡ spec.is_within digits low high }
 {
@@ -28,7 +28,7 @@ fn is_within(digits: usize, low: usize, high: usize) -> bool
     true
 }
 
-/// Whether a class of a shape with so many names is at or below another.
+/// Whether a class of a shape with this many names is at or below another.
 pub(crate) fn is_below(shape: Shape, names: usize, low: usize, high: usize) -> bool
     ensures { result ≡ spec.is_below shape names low high }
 {
@@ -39,7 +39,7 @@ pub(crate) fn is_below(shape: Shape, names: usize, low: usize, high: usize) -> b
     }
 }
 
-/// Whether a lattice has a class above or not above others as the shape has.
+/// Whether a class of a lattice is below the same classes as in the shape.
 fn agrees_above(shape: Shape, names: usize, lattice: &Lattice, low: usize) -> bool
     requires { IsClass (order lattice.now) low }
     ensures { IsTrue result → spec.AgreesAbove shape names (order lattice.now) low }
@@ -53,7 +53,7 @@ fn agrees_above(shape: Shape, names: usize, lattice: &Lattice, low: usize) -> bo
     true
 }
 
-/// Whether a lattice has the order of the shape with so many names.
+/// Whether a lattice has the order of the shape with this many names.
 pub(crate) fn has_order(shape: Shape, names: usize, lattice: &Lattice) -> bool
     ensures { IsTrue result → spec.HasOrder shape names (order lattice.now) }
 {
@@ -65,7 +65,7 @@ pub(crate) fn has_order(shape: Shape, names: usize, lattice: &Lattice) -> bool
     true
 }
 
-/// Whether a lattice has the class of this name at this place.
+/// Whether a lattice has the class of this name at this position.
 fn has_class_at(lattice: &Lattice, name: &[u8], place: usize) -> bool
     ensures { IsTrue result → class_named lattice.now name.now ≡ Some place }
 {

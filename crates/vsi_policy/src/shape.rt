@@ -1,4 +1,4 @@
-//! The shapes of lattices, and how their classes are named.
+//! The shapes of lattices, and the names of their classes.
 
 ghost use Rattle.std.specs.Prelude.{◌≡◌, [], IfSome, IfOk, OnOk};
 ghost use Rattle.vsi_lattice.specs.NamePlaces.{texts};
@@ -19,7 +19,7 @@ pub enum Shape {
     Powerset,
 }
 
-/// The name of the class of no name.
+/// The name of the class for the empty set of names.
 const EMPTY: &[u8] = b"none";
 
 impl Shape {
@@ -42,7 +42,7 @@ impl Shape {
         None
     }
 
-    /// How many classes the shape has with so many names, where it takes so many.
+    /// The number of classes of the shape with this many names, if the shape allows that many.
     pub(crate) fn count(self, names: usize) -> Option<usize>
         ensures { result ≡ spec.count_of self names }
     {
@@ -72,15 +72,14 @@ impl Shape {
     }
 }
 
-/// The count where it holds.
+/// The count if the condition holds.
 fn only(holds: bool, count: usize) -> Option<usize>
     ensures { result ≡ spec.only holds count }
 {
     if holds { Some(count) } else { None }
 }
 
-/// How many sets of so many names there are, where they are no more than the classes of a lattice
-/// file.
+/// The number of sets of this many names, if a lattice file can have that many classes.
 fn set_count(names: usize) -> Option<usize>
     ensures { result ≡ spec.set_count names }
 {
@@ -106,7 +105,7 @@ fn level_name(class: usize) -> &'static [u8]
     }
 }
 
-/// The name at a place.
+/// The name at a position.
 fn given_name<'a>(given: &[&'a [u8]], class: usize) -> &'a [u8]
     ensures { result.now ≡ spec.given_name (texts given.now) class }
 {
@@ -116,7 +115,7 @@ fn given_name<'a>(given: &[&'a [u8]], class: usize) -> &'a [u8]
     }
 }
 
-/// Joins one more name to those in front of it.
+/// Joins one more name to those before it.
 fn join(front: &mut Vec<u8>, name: &[u8]) -> Result<(), AllocError>
     ensures { OnOk result (front.new.items ≡ spec.joined front.old.items name.now) }
 {

@@ -7,7 +7,7 @@ use crate::disk::Disk;
 use std::io::{ErrorKind, Write};
 use std::process::ExitCode;
 use std::{env, io};
-use vsi::{Counted, command};
+use vsi::{Counted, command, load};
 
 /// The status of mistaken arguments.
 const USAGE: u8 = 2;
@@ -36,7 +36,10 @@ fn main(rt: HostRuntime) -> ExitCode {
             return ExitCode::from(USAGE);
         }
     };
-    let mut files = Disk::new(&rt);
+    let Ok(mut files) = load(rt.alloc(), arguments.as_slice(), Disk::new(&rt)) else {
+        let _ = eprintln!(rt; "out of memory");
+        return ExitCode::from(OUT_OF_MEMORY);
+    };
     let mut input = Counted::new(rt.stdin());
     let mut output = Counted::new(rt.stdout());
     let mut error = Counted::new(rt.stderr());

@@ -256,8 +256,8 @@ fn faulty_page(
 ///
 /// # Errors
 ///
-/// `TooLong` if the page is longer than its source, its flows and its listing allow (`specs/Size`),
-/// though no measured text has such a page; or `Memory`.
+/// `TooLong` for a page that is longer than its source, its flows and its listing allow, as
+/// `specs/Size` says, though no measured text has such a page; or `Memory`.
 pub fn report_page(
     alloc: Global,
     profile: Profile,

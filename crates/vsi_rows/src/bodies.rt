@@ -1,5 +1,5 @@
-//! Programs over locations as texts: operators and commands before their parts, `@K` for location
-//! `K`, and after it, where places are shown, that of the name.
+//! Programs over locations as texts: operators and commands before their parts, and `@K` for
+//! location `K`, followed by the position of its name if positions are shown.
 
 use crate::row::Row;
 use crate::trees::opened;
@@ -74,7 +74,7 @@ fn put_command(row: &mut Row<'_>, c: &Cmd, has_places: bool) {
     row.put(")");
 }
 
-/// Adds a line for each command, with the places of names or without.
+/// Adds a line for each command, with the positions of names or without.
 pub(crate) fn put_lines(row: &mut Row<'_>, body: &[Cmd], has_places: bool) {
     for c in body {
         put_command(row, c, has_places);

@@ -32,7 +32,7 @@ pub(crate) fn put_hexadecimal(row: &mut Row<'_>, bytes: &[u8]) {
     row.put("\n");
 }
 
-/// Adds the bytes of an image in hexadecimal digits, or the limit that it is past.
+/// Adds the bytes of an image in hexadecimal digits, or the limit that it exceeds.
 pub(crate) fn put_encoded(alloc: Global, row: &mut Row<'_>, image: &Image) {
     match encode(alloc, image) {
         Ok(bytes) => put_hexadecimal(row, &bytes),
@@ -46,7 +46,7 @@ pub(crate) fn listed(alloc: Global, row: &mut Row<'_>) {
     put_listing(alloc, row, &image);
 }
 
-/// `encode IMAGE`: the bytes, or the limit that the image is past.
+/// `encode IMAGE`: the bytes, or the limit that the image exceeds.
 pub(crate) fn encoded(alloc: Global, row: &mut Row<'_>) {
     let image = image(alloc, row);
     put_encoded(alloc, row, &image);
@@ -60,7 +60,7 @@ pub(crate) fn verified(alloc: Global, row: &mut Row<'_>) {
     }
 }
 
-/// Adds the listing of an image, and then its first fault where it isn't valid.
+/// Adds the listing of an image, and then its first fault if it isn't valid.
 fn put_image(alloc: Global, row: &mut Row<'_>, image: Image) {
     put_listing(alloc, row, &image);
     if let Err((_, error)) = verify(image) {
@@ -68,7 +68,7 @@ fn put_image(alloc: Global, row: &mut Row<'_>, image: Image) {
     }
 }
 
-/// `decode BYTES`: the listing of the image of the bytes, and then its first fault where it isn't
+/// `decode BYTES`: the listing of the image with these bytes, and then its first fault if it isn't
 /// valid; or the fault of the bytes.
 pub(crate) fn decoded(alloc: Global, row: &mut Row<'_>) {
     let bytes = bytes(alloc, row);
@@ -78,7 +78,7 @@ pub(crate) fn decoded(alloc: Global, row: &mut Row<'_>) {
     }
 }
 
-/// Adds the fault of the beginning of this length.
+/// Adds the fault of the prefix of this length.
 fn put_cut(alloc: Global, row: &mut Row<'_>, beginning: &[u8]) {
     row.put_number(beginning.len());
     row.put(" ");
@@ -88,7 +88,7 @@ fn put_cut(alloc: Global, row: &mut Row<'_>, beginning: &[u8]) {
     }
 }
 
-/// `cuts BYTES`: the fault of each beginning of the bytes.
+/// `cuts BYTES`: the fault of each prefix of the bytes.
 pub(crate) fn cuts(alloc: Global, row: &mut Row<'_>) {
     let bytes = bytes(alloc, row);
     for count in 0..bytes.len() {
@@ -96,7 +96,7 @@ pub(crate) fn cuts(alloc: Global, row: &mut Row<'_>) {
     }
 }
 
-/// Adds a place and its instruction.
+/// Adds a position and its instruction.
 fn put_instruction(alloc: Global, row: &mut Row<'_>, place: usize, instruction: Instr) {
     let mut text = Vec::new(alloc);
     row.put_number(place);

@@ -36,7 +36,7 @@ pub(crate) enum Shown {
     Bytes,
 }
 
-/// Adds what is shown of an image.
+/// Adds a form of an image.
 fn put_image(alloc: Global, row: &mut Row<'_>, shown: Shown, verified: &Verified) {
     match shown {
         Shown::Nothing => row.put("accepted\n"),
@@ -47,7 +47,7 @@ fn put_image(alloc: Global, row: &mut Row<'_>, shown: Shown, verified: &Verified
 }
 
 /// `judge`, `sizes`, `compile` or `bytes`, then `PROFILE LATTICE TEXT`: that the text is accepted,
-/// how large its code is and how it ends, the listing, or the bytes of the image; or the fault.
+/// the size and the end of its code, the listing, or the bytes of the image; or the fault.
 pub(crate) fn image(
     alloc: Global,
     row: &mut Row<'_>,
@@ -84,8 +84,8 @@ pub(crate) fn classes(alloc: Global, row: &mut Row<'_>, profile: Profile, lattic
     }
 }
 
-/// Adds what a text says about an error: the whole text of the refusal, or the lines of the walk
-/// alone.
+/// Adds the report of an error in a text: the whole text of the refusal, or only the lines of the
+/// walk.
 fn put_told(
     alloc: Global,
     row: &mut Row<'_>,
@@ -102,7 +102,7 @@ fn put_told(
     }
 }
 
-/// Adds what the rest of a row as a text says about an error.
+/// Adds the report of an error, with the rest of the row as its text.
 fn put_error(
     alloc: Global,
     row: &mut Row<'_>,
@@ -114,8 +114,9 @@ fn put_error(
     put_told(alloc, row, lattice, &text, error, is_whole);
 }
 
-/// `refusal` or `explain`, then `PROFILE LATTICE TEXT | OTHER`: what the other text says about the
-/// refusal of the text, or about its walk alone; without another text, what the text itself says.
+/// `refusal` or `explain`, then `PROFILE LATTICE TEXT | OTHER`: the report of the text's refusal,
+/// or only of its walk, in terms of the other text; without another text, in terms of the text
+/// itself.
 pub(crate) fn refusal(
     alloc: Global,
     row: &mut Row<'_>,
@@ -130,7 +131,7 @@ pub(crate) fn refusal(
     }
 }
 
-/// `run LATTICE STORE BUDGET TEXT`: how a run of the text ends, and the words of the globals then;
+/// `run LATTICE STORE BUDGET TEXT`: how a run of the text ends, and the last words of the globals;
 /// or the fault.
 pub(crate) fn ran(alloc: Global, row: &mut Row<'_>, lattice: &Lattice) {
     let store = row.numbers(alloc);

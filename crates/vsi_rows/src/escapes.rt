@@ -1,9 +1,9 @@
-//! How the texts of rows are written.
+//! The notation for texts in rows.
 //!
-//! In a text `\n` is a line feed, `\t` a tab and `\xNN` the byte of two hexadecimal digits. `\[FROM
-//! TO PART\]` is the part once for each number from `FROM` to `TO`, upwards or downwards. In a part
-//! `%` is the number in decimal, `~` the number below it, and `@` the number in two capital
-//! letters, `AA` for 0.
+//! In a text, `\n` is a line feed, `\t` a tab, and `\xNN` the byte with two hexadecimal digits.
+//! `\[FROM TO PART\]` is the part once for each number from `FROM` to `TO`, upwards or downwards.
+//! In a part, `%` is the number in decimal, `~` the number below it, and `@` the number in two
+//! capital letters, `AA` for 0.
 
 use crate::wrong::Wrong;
 use std::alloc::{AllocError, Global};
@@ -18,14 +18,14 @@ fn digit(byte: u8) -> Result<u8, Wrong> {
     }
 }
 
-/// The byte of two hexadecimal digits.
+/// The byte with two hexadecimal digits.
 pub(crate) fn byte_of(high: u8, low: u8) -> Result<u8, Wrong> {
     let high = digit(high)?;
     let low = digit(low)?;
     Ok(high.wrapping_mul(16).wrapping_add(low))
 }
 
-/// Adds a byte and then others.
+/// Adds a first byte and then others.
 fn put(out: &mut Vec<u8>, first: u8, rest: &[u8]) -> Result<(), Wrong> {
     out.push(first)?;
     out.extend_from_slice(rest)?;
@@ -97,7 +97,7 @@ fn put_piece(out: &mut Vec<u8>, piece: &str) -> Result<(), Wrong> {
     }
 }
 
-/// The bytes that a text of a row means.
+/// The bytes that a text of a row denotes.
 pub(crate) fn bytes_of(alloc: Global, text: &str) -> Result<Vec<u8>, Wrong> {
     let mut out = Vec::new(alloc);
     let mut is_first = true;

@@ -1,4 +1,4 @@
-//! The call that writes the text of faults which are made here.
+//! The call that writes the text of faults that are made here.
 
 use crate::row::Row;
 use crate::wrong::Wrong;
@@ -9,7 +9,7 @@ use vsi_image::{DecodeError, Limit, VerifyError};
 use vsi_lattice::{Class, Lattice, LatticeError};
 use vsi_store::{StoreError, ViewError};
 
-/// The fault of a lattice file of this name, with the number or the classes that it shows.
+/// The fault of a lattice file with this name, and the number or the classes that it shows.
 fn of_lattice(name: &str, number: usize, other: usize) -> Option<LatticeError> {
     match name {
         "NotToml" => Some(LatticeError::NotToml),
@@ -27,7 +27,7 @@ fn of_lattice(name: &str, number: usize, other: usize) -> Option<LatticeError> {
     }
 }
 
-/// The fault of bytes that are no image of this name.
+/// The fault with this name of bytes that aren't an image.
 fn of_bytes(name: &str, number: usize) -> Option<DecodeError> {
     match name {
         "BadMagic" => Some(DecodeError::BadMagic),
@@ -41,7 +41,7 @@ fn of_bytes(name: &str, number: usize) -> Option<DecodeError> {
     }
 }
 
-/// The limit of this name that an image is past.
+/// The limit with this name that an image exceeds.
 fn limit(name: &str, number: usize) -> Option<Limit> {
     match name {
         "Globals" => Some(Limit::Globals),
@@ -54,7 +54,7 @@ fn limit(name: &str, number: usize) -> Option<Limit> {
     }
 }
 
-/// The fault of this name of an image that isn't valid; any other name is a limit's.
+/// The fault with this name of an image that isn't valid; any other name is a limit's.
 fn of_image(name: &str, number: usize) -> Option<VerifyError> {
     match name {
         "BadSlot" => Some(VerifyError::BadSlot(number)),
@@ -67,7 +67,7 @@ fn of_image(name: &str, number: usize) -> Option<VerifyError> {
     }
 }
 
-/// The fault of this name of a view.
+/// The fault with this name of a view.
 fn of_view(name: &str, number: usize) -> Option<ViewError> {
     match name {
         "WrongStore" => Some(ViewError::WrongStore(number)),
@@ -95,7 +95,7 @@ fn fault(kind: &str, name: &str, first: usize, second: usize) -> Option<Fault> {
 }
 
 /// `fault KIND NAME FIRST SECOND`: the text of a fault of a lattice file, bytes, an image, a store
-/// or a view, by its name and the numbers that it shows, 0 for each that it doesn't.
+/// or a view, by its name and the numbers that it shows, with 0 for each that it doesn't.
 pub(crate) fn told(alloc: Global, row: &mut Row<'_>) {
     let kind = row.field();
     let name = row.field();
@@ -107,7 +107,7 @@ pub(crate) fn told(alloc: Global, row: &mut Row<'_>) {
     }
 }
 
-/// `refusal_of_memory LATTICE`: the report if memory ran out for a text.
+/// `refusal_of_memory LATTICE`: the report of a text for which memory ran out.
 pub(crate) fn memory(alloc: Global, row: &mut Row<'_>, lattice: &Lattice) {
     row.put_made(refusal_text(alloc, lattice, b"", &CompileError::Memory));
 }

@@ -12,7 +12,8 @@ use vsi_scope::{Cmd, Ex, Resolved};
 use vsi_syntax::Span;
 use vsi_types::{CheckError, FlowFault, Profile};
 
-/// Adds a flow: its rule, the variable that is read and where, and the variable that is written.
+/// Adds a flow: its rule, the variable that is read and its position, and the variable that is
+/// written.
 fn put_flow(row: &mut Row<'_>, flow: &FlowFault) {
     row.put_value(&flow.rule);
     row.put(" from ");
@@ -24,7 +25,7 @@ fn put_flow(row: &mut Row<'_>, flow: &FlowFault) {
     row.put("\n");
 }
 
-/// Adds the line of what the check answers on a program.
+/// Adds the line for the check's answer on a program.
 fn put_checked(
     alloc: Heap,
     row: &mut Row<'_>,
@@ -41,10 +42,10 @@ fn put_checked(
     }
 }
 
-/// The program of the same globals that is an `if` with two empty branches and a loop without a
-/// body.
+/// The program with the same globals that consists of an `if` with two empty branches and a loop
+/// without a body.
 fn emptied<'a>(alloc: Heap, program: &Resolved<'a>) -> Option<Resolved<'a>> {
-    // The clause of `body` says that the program is resolved, which the proofs need.
+    // `body` ensures that the program is resolved, which the proofs need.
     let _facts = program.body();
     if program.globals().len() == 0 {
         return None;
@@ -80,7 +81,7 @@ pub(crate) enum Form {
     Emptied,
 }
 
-/// The form made from a program; nothing for one that is checked as it is written.
+/// The form made from a program, or nothing for a program that is checked unchanged.
 fn made<'a>(alloc: Heap, form: Form, program: &Resolved<'a>) -> Option<Resolved<'a>> {
     match form {
         Form::Written => None,
@@ -89,7 +90,7 @@ fn made<'a>(alloc: Heap, form: Form, program: &Resolved<'a>) -> Option<Resolved<
     }
 }
 
-/// Adds the line of what the check answers on a form of a program.
+/// Adds the line for the check's answer on a form of a program.
 fn put_form(
     alloc: Heap,
     row: &mut Row<'_>,
@@ -106,7 +107,7 @@ fn put_form(
     }
 }
 
-/// Adds the line of what the check answers on a form of a text's program, with classes of its
+/// Adds the line for the check's answer on a form of a text's program, with classes of its
 /// `letvar`s.
 fn put_text(
     alloc: Heap,
@@ -124,9 +125,9 @@ fn put_text(
 }
 
 /// `check`, `check_optimised` or `check_emptied`, then `PROFILE LATTICE CLASSES TEXT`: whether the
-/// program is typable with these classes of its `letvar`s, or the first flow that isn't in order:
-/// its rule, the variable that is read and where, and the variable that is written. The program is
-/// the text's, what the optimiser leaves of it, or an `if` with two empty branches and a loop
+/// program is typable with these classes of its `letvar`s, or the first flow that isn't allowed:
+/// its rule, the variable that is read and its position, and the variable that is written. The
+/// program is the text's, or the optimised one, or an `if` with two empty branches and a loop
 /// without a body, whose guards read the first global at byte 14.
 pub(crate) fn typed(
     alloc: Heap,

@@ -9,7 +9,7 @@ use crate::wrong::Wrong;
 use std::alloc::Global;
 use vsi_lattice::{Class, Classes, MaskLattice, PairLattice};
 
-/// The pairs of classes below `count` whose bits, row by row, `chosen` has.
+/// The pairs of classes below `count` whose bits, row by row, are set in `chosen`.
 fn chosen_pairs(alloc: Global, row: &mut Row<'_>, count: u8, chosen: u16) -> Vec<(u8, u8)>
     ensures below { ArePairsBelow count result.items }
 {
@@ -26,7 +26,7 @@ fn chosen_pairs(alloc: Global, row: &mut Row<'_>, count: u8, chosen: u16) -> Vec
     pairs
 }
 
-/// Whether both lattices answer alike on two of their classes.
+/// Whether both lattices give the same answers on two of their classes.
 fn agree_on<A: Classes, B: Classes>(left: &A, right: &B, a: Class, b: Class) -> bool
     requires left_first { IsClass (A.Classes.lattice left.now) a }
     requires left_second { IsClass (A.Classes.lattice left.now) b }
@@ -38,12 +38,12 @@ fn agree_on<A: Classes, B: Classes>(left: &A, right: &B, a: Class, b: Class) -> 
         && left.meet(a, b) == right.meet(a, b)
 }
 
-/// Whether both lattices have as many classes, and the same at the bottom and at the top.
+/// Whether both lattices have equally many classes, and the same bottom and top.
 fn agree_on_ends<A: Classes, B: Classes>(left: &A, right: &B) -> bool {
     left.bottom() == right.bottom() && left.top() == right.top() && left.count() == right.count()
 }
 
-/// Whether both lattices, of `count` classes, answer alike.
+/// Whether both lattices, of `count` classes, give the same answers.
 fn agree<A: Classes, B: Classes>(count: u8, left: &A, right: &B) -> bool
     requires left { count ≤ (A.Classes.lattice left.now).count }
     requires right { count ≤ (B.Classes.lattice right.now).count }
@@ -81,8 +81,8 @@ fn made(alloc: Global, count: u8, pairs: &[(u8, u8)]) -> Agreement
     }
 }
 
-/// Adds how many of the first orders of `count` classes both forms accept alike, refuse alike, and
-/// don't answer alike.
+/// Adds the numbers of the first orders of `count` classes that both forms accept with the same
+/// answers, refuse for the same fault, and answer differently.
 fn put_tally(alloc: Global, row: &mut Row<'_>, count: u8, orders: u16)
     requires some { 0 < count }
     requires small { count ≤ 64 }
@@ -104,8 +104,8 @@ fn put_tally(alloc: Global, row: &mut Row<'_>, count: u8, orders: u16)
     row.put("\n");
 }
 
-/// `forms COUNT`: how many of the orders of 1, 2 or 3 classes both forms of a lattice accept with
-/// the same answers, refuse for the same fault, and answer differently.
+/// `forms COUNT`: the numbers of the orders of 1, 2 or 3 classes that both forms of a lattice
+/// accept with the same answers, refuse for the same fault, and answer differently.
 pub(crate) fn forms(alloc: Global, row: &mut Row<'_>) {
     match row.small() {
         1 => put_tally(alloc, row, 1, 2),

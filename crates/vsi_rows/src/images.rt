@@ -1,6 +1,6 @@
-//! Images as rows write them: `GLOBALS SLOTS STACK CODE`. A global is `NAME:CLASS`, with commas
-//! between them and `-` for none; an instruction is written as in a listing, and each but the last
-//! ends with `;`.
+//! Images as written in rows: `GLOBALS SLOTS STACK CODE`. A global is `NAME:CLASS`; globals are
+//! separated by commas, and `-` means none. An instruction is written as in a listing, and each but
+//! the last ends with `;`.
 
 use crate::escapes::byte_of;
 use crate::row::Row;
@@ -32,7 +32,7 @@ pub(crate) fn globals(alloc: Global, row: &mut Row<'_>) -> Vec<(Vec<u8>, Vec<u8>
     globals
 }
 
-/// The instruction of a name without an operand.
+/// The instruction with a name, without an operand.
 fn plain(name: &str) -> Option<Instr> {
     match name {
         "ADD" => Some(Instr::Add),
@@ -45,7 +45,7 @@ fn plain(name: &str) -> Option<Instr> {
     }
 }
 
-/// The instruction of a name with a number of a slot or of an instruction below 65,536.
+/// The instruction with a name and the number of a slot or of an instruction, below 65,536.
 fn addressed(name: &str, number: u16) -> Option<Instr> {
     match name {
         "LOAD" => Some(Instr::Load(number)),
@@ -56,7 +56,7 @@ fn addressed(name: &str, number: u16) -> Option<Instr> {
     }
 }
 
-/// The instruction of its text.
+/// The instruction with this text.
 fn instruction(text: &str) -> Option<Instr> {
     let Some((name, operand)) = text.split_once(' ') else {
         return plain(text);
@@ -68,7 +68,7 @@ fn instruction(text: &str) -> Option<Instr> {
     }
 }
 
-/// The instructions of a text; none of an empty one.
+/// The instructions of a text; an empty text has none.
 fn code(alloc: Global, row: &mut Row<'_>, text: &str) -> Vec<Instr> {
     let mut code = Vec::new(alloc);
     if !text.is_empty() {

@@ -1,5 +1,5 @@
-//! Calls that ask for classes of the lattice. Each tests that first, and then makes the call; there
-//! is no answer where it isn't so.
+//! Calls that require classes of the lattice. Each checks this first, and then makes the call; if
+//! it isn't so, there is no answer.
 
 ghost use Rattle.std.specs.Prelude.{◌≡◌, true, map, IfSome};
 ghost use Rattle.std.specs.List.{All};
@@ -14,7 +14,7 @@ use vsi_lattice::{Class, Classes, Lattice};
 use vsi_scope::{Entry, Global, Resolved};
 use vsi_types::{CheckError, Profile, check, check_in};
 
-/// Whether each class of the globals is one of the lattice.
+/// Whether each class of the globals is a class of the lattice.
 fn are_classes<C: Classes>(lattice: &C, globals: &[Global<'_>]) -> bool
     ensures { result ≡ true →
         All (IsClass (C.lattice lattice.now)) (map (λ g. g.class) globals.now) }
@@ -27,7 +27,7 @@ fn are_classes<C: Classes>(lattice: &C, globals: &[Global<'_>]) -> bool
     true
 }
 
-/// Whether a declared class is one of the lattice.
+/// Whether a declared class is a class of the lattice.
 fn is_within<C: Classes>(lattice: &C, class: Option<Class>) -> bool
     ensures { result ≡ true → IfSome class (IsClass (C.lattice lattice.now)) }
 {
@@ -37,7 +37,7 @@ fn is_within<C: Classes>(lattice: &C, class: Option<Class>) -> bool
     }
 }
 
-/// Whether each declared class of the `letvar`s is one of the lattice.
+/// Whether each declared class of the `letvar`s is a class of the lattice.
 fn are_declared<C: Classes>(lattice: &C, letvars: &[Entry<'_>]) -> bool
     ensures { result ≡ true → AreClasses (C.lattice lattice.now) (map (λ e. e.class) letvars.now) }
 {
@@ -49,7 +49,7 @@ fn are_declared<C: Classes>(lattice: &C, letvars: &[Entry<'_>]) -> bool
     true
 }
 
-/// Whether each given class is one of the lattice.
+/// Whether each given class is a class of the lattice.
 fn are_chosen<C: Classes>(lattice: &C, choice: &[Class]) -> bool
     ensures { result ≡ true → All (IsClass (C.lattice lattice.now)) choice.now }
 {
@@ -94,8 +94,8 @@ pub(crate) fn inferred(
     })
 }
 
-/// Whether a walk is bad, by `check_walk` for the base profile; none where `check_walk_once` says
-/// otherwise.
+/// Whether a walk is bad, by `check_walk` for the base profile; none if `check_walk_once`
+/// disagrees.
 pub(crate) fn is_bad(
     alloc: Heap,
     profile: Profile,

@@ -10,7 +10,7 @@ use vsi_lattice::{
     Class, Classes, Lattice, LatticeError, MaskLattice, OrderError, PairLattice, read_lattice,
 };
 
-/// Adds for two classes whether the first is at or below the second, their join and their meet.
+/// Adds, for two classes, whether the first is at or below the second, their join and their meet.
 fn put_pair<C: Classes>(row: &mut Row<'_>, lattice: &C, low: Class, high: Class) {
     if low.index() >= lattice.count() || high.index() >= lattice.count() {
         return;
@@ -31,7 +31,7 @@ fn put_class<C: Classes>(row: &mut Row<'_>, lattice: &C, low: Class) {
     row.put("\n");
 }
 
-/// Adds a line for each class with what `put_pair` adds for each class as the second.
+/// Adds a line for each class, with the text of `put_pair` for each class as the second.
 fn put_order<C: Classes>(row: &mut Row<'_>, lattice: &C) {
     row.put("bottom ");
     row.put_number(lattice.bottom().index());
@@ -58,7 +58,7 @@ fn put_names(row: &mut Row<'_>, lattice: &Lattice) {
     row.put("\n");
 }
 
-/// The lattice of a file, unless it is refused; then the line of the refusal is added.
+/// The lattice of a file; if it is refused, the line of the refusal is added.
 fn accepted(alloc: Global, row: &mut Row<'_>) -> Option<Lattice> {
     let text = row.text(alloc);
     match read_lattice(alloc, &text) {
@@ -78,7 +78,7 @@ pub(crate) fn read(alloc: Global, row: &mut Row<'_>) {
     }
 }
 
-/// `class NAME TEXT`: the number of the class of a name in a lattice file.
+/// `class NAME TEXT`: the number of the class with a name in a lattice file.
 pub(crate) fn named(alloc: Global, row: &mut Row<'_>) {
     let name = row.field();
     if let Some(lattice) = accepted(alloc, row) {
@@ -115,7 +115,7 @@ pub(crate) fn joined(alloc: Global, row: &mut Row<'_>) {
     }
 }
 
-/// `index NUMBERS`: the place of the class at each place.
+/// `index NUMBERS`: the position of the class at each position.
 pub(crate) fn index(alloc: Global, row: &mut Row<'_>) {
     for class in &row.classes(alloc) {
         row.put_number(class.index());
@@ -131,13 +131,13 @@ fn put_made<C: Classes + Drop>(row: &mut Row<'_>, made: Result<C, OrderError>) {
     }
 }
 
-/// A number as that of a class, and one that no class has where it is none.
+/// A number as the number of a class. A text that isn't a number gives one that no class has.
 fn class_number(text: &str) -> u8 {
     text.parse::<u8>().unwrap_or(u8::MAX)
 }
 
-/// The pairs `LOW<HIGH` of a field, with commas between them, without those that aren't of numbers
-/// below a count.
+/// The pairs `LOW<HIGH` of a field, separated by commas, without those that aren't numbers below a
+/// count.
 fn pairs_below(alloc: Global, row: &mut Row<'_>, count: u8) -> Vec<(u8, u8)>
     ensures below { ArePairsBelow count result.items }
 {
@@ -154,8 +154,8 @@ fn pairs_below(alloc: Global, row: &mut Row<'_>, count: u8) -> Vec<(u8, u8)>
     pairs
 }
 
-/// `mask COUNT PAIRS` and `pair COUNT PAIRS`: the order of so many classes that pairs `LOW<HIGH` of
-/// their numbers declare, or its fault, by either form.
+/// `mask COUNT PAIRS` and `pair COUNT PAIRS`: the order of this many classes that pairs `LOW<HIGH`
+/// of their numbers declare, or its fault, by either form.
 pub(crate) fn order(alloc: Global, row: &mut Row<'_>, is_mask: bool) {
     let count = u8::try_from(row.small()).unwrap_or(0);
     if count == 0 || count > 64 {

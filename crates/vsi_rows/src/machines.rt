@@ -7,7 +7,7 @@ use std::alloc::Global;
 use vsi_image::{Verified, verify};
 use vsi_machine::Machine;
 
-/// Adds the trace line of a machine's next step, which is done, or that there was none.
+/// Does a machine's next step and adds its trace line, or adds that there was none.
 fn put_step(alloc: Global, row: &mut Row<'_>, machine: &mut Machine<'_>) {
     match machine.trace_line(alloc) {
         Ok(Some(line)) => row.put_bytes(&line),
@@ -21,7 +21,7 @@ fn put_step(alloc: Global, row: &mut Row<'_>, machine: &mut Machine<'_>) {
     });
 }
 
-/// Adds what a part of a run shows: `t` is a traced step, a number a run with this budget.
+/// Adds the output of a part of a run: `t` is a traced step, a number is a run with this budget.
 fn put_part(alloc: Global, row: &mut Row<'_>, machine: &mut Machine<'_>, part: &str) {
     match part.parse::<u64>() {
         Ok(budget) => {
@@ -33,7 +33,7 @@ fn put_part(alloc: Global, row: &mut Row<'_>, machine: &mut Machine<'_>, part: &
     }
 }
 
-/// Adds what the parts of a run show, and the words that are left.
+/// Adds the output of the parts of a run, and the remaining words.
 fn put_run(alloc: Global, row: &mut Row<'_>, machine: &mut Machine<'_>, parts: &str) {
     for part in parts.split(',') {
         put_part(alloc, row, machine, part);
@@ -42,7 +42,7 @@ fn put_run(alloc: Global, row: &mut Row<'_>, machine: &mut Machine<'_>, parts: &
     row.put_words(machine.store());
 }
 
-/// Adds what the parts of a run from a store show.
+/// Adds the output of the parts of a run from a store.
 fn put_runs(alloc: Global, row: &mut Row<'_>, verified: &Verified, store: &[i64], parts: &str) {
     match Machine::new(alloc, verified, store) {
         Ok(mut machine) => put_run(alloc, row, &mut machine, parts),
@@ -50,9 +50,9 @@ fn put_runs(alloc: Global, row: &mut Row<'_>, verified: &Verified, store: &[i64]
     }
 }
 
-/// `machine STORE PARTS IMAGE`: what the parts of one run show, in turn, with commas between them,
-/// and then the words that are left. A number is a run with this budget, and `t` one step with its
-/// trace line.
+/// `machine STORE PARTS IMAGE`: the output of the parts of one run, in turn, and then the remaining
+/// words. Parts are separated by commas: a number is a run with this budget, and `t` one step with
+/// its trace line.
 pub(crate) fn machine(alloc: Global, row: &mut Row<'_>) {
     let store = row.numbers(alloc);
     let parts = row.field();

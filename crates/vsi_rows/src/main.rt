@@ -1,14 +1,14 @@
-//! Reads rows from standard input, each a call of the library with what it is given, and prints
-//! each call's answer.
+//! Reads rows from standard input, each a call of the library with its input, and prints each
+//! call's answer.
 //!
-//! A line that is empty or begins with `#` is printed as it is. Any other is a row: the name of a
-//! call, the fields that it takes and the text, each after a space; `calls` has the calls by their
-//! names, and the comment of a call describes its fields and its answer. The row is printed too,
-//! and then the lines of the answer, each after two spaces. The expected answer of each row is in
-//! the file `stdout`; `escapes` says how texts are written.
+//! A line that is empty or begins with `#` is printed unchanged. Any other line is a row: the name
+//! of a call, its fields and the text, each after a space. `calls` lists the calls by name, and the
+//! comment of a call describes its fields and its answer. The row is printed too, followed by the
+//! lines of the answer, each after two spaces. The file `stdout` has the expected answer of each
+//! row; `escapes` defines the notation for texts.
 //!
-//! To add a row, write it into `stdin`, and into `stdout` with the answer that the language's pages
-//! ask for, worked by hand; `rt run < stdin` is to print `stdout`.
+//! To add a row, write it into `stdin`, and write it into `stdout` with the answer that the
+//! language's pages define, worked by hand; `rt run < stdin` should then print `stdout`.
 #![tactic(auto)]
 
 mod bodies;
@@ -48,7 +48,7 @@ fn show_lines(rt: &impl Print, answer: &str) -> io::Result<()> {
     Ok(())
 }
 
-/// Prints what is answered to a row.
+/// Prints a row and its answer.
 fn show(rt: &impl Print, row: &Row<'_>) -> io::Result<()> {
     if row.answer.is_empty() {
         println!(rt; "  nothing")?;

@@ -1,4 +1,4 @@
-//! Calls that answer which request the arguments of a line make.
+//! Calls about the requests that arguments make.
 
 use crate::row::Row;
 use crate::wrong::Wrong;
@@ -7,7 +7,7 @@ use vsi_arguments::{ArgumentsError, Request, request_of};
 use vsi_asked::{asks_for, asks_help};
 use vsi_explain::page;
 
-/// The words of a line, each after a single space; none for an empty line.
+/// The arguments in a line, each after a single space; an empty line has none.
 fn words_of(alloc: Global, line: &str) -> Result<Vec<String>, AllocError> {
     let mut words = Vec::new(alloc);
     if !line.is_empty() {
@@ -23,8 +23,8 @@ fn put_verdict(row: &mut Row<'_>, is_so: bool) {
     row.put(if is_so { "yes\n" } else { "no\n" });
 }
 
-/// `asked LINE | OTHER`: whether the words of the other line ask for what those of the first are
-/// read as.
+/// `asked LINE | OTHER`: whether the arguments of the other line make the request that is read from
+/// those of the first.
 pub(crate) fn asked(alloc: Global, row: &mut Row<'_>) {
     let Some((line, other)) = row.rest.split_once(" | ") else {
         row.fail(Wrong::Row);
@@ -41,8 +41,8 @@ pub(crate) fn asked(alloc: Global, row: &mut Row<'_>) {
     }
 }
 
-/// `page NUMBER LINE`: whether the words of the line ask for the page of the refusal with this
-/// number, or for an empty page where no refusal has it.
+/// `page NUMBER LINE`: whether the arguments of the line request the page of the refusal with this
+/// number, or an empty page if no refusal has it.
 pub(crate) fn page_asked(alloc: Global, row: &mut Row<'_>) {
     let request = Request::Explain(page(row.number()).unwrap_or(""));
     match words_of(alloc, row.rest) {
@@ -51,7 +51,7 @@ pub(crate) fn page_asked(alloc: Global, row: &mut Row<'_>) {
     }
 }
 
-/// `help LINE`: whether the words of the line ask for help or the version.
+/// `help LINE`: whether the arguments of the line ask for help or the version.
 pub(crate) fn help_asked(alloc: Global, row: &mut Row<'_>) {
     match words_of(alloc, row.rest) {
         Ok(words) => put_verdict(row, asks_help(words.as_slice())),

@@ -9,8 +9,8 @@ use vsi_lattice::{Class, Lattice, read_lattice};
 use vsi_syntax::Span;
 use vsi_types::Profile;
 
-/// A row whose first fields are read and whose answer is written bit by bit. Where something goes
-/// wrong, that is noted, and the row goes on with a 0, an empty text or what is there already.
+/// A row whose first fields are being read and whose answer is being written. If something goes
+/// wrong, the row notes it and goes on with 0, an empty text or the values it has.
 #[derive(Drop)]
 pub(crate) struct Row<'a> {
     /// The fields that aren't read yet, and the text.
@@ -82,7 +82,7 @@ impl<'a> Row<'a> {
         }
     }
 
-    /// The next field as a place in a text or a number in a file; 0 where no field is left.
+    /// The next field as a position in a text or a number in a file; 0 if no field is left.
     pub(crate) fn place(&mut self) -> usize {
         let field = self.field();
         match field.parse::<usize>() {
@@ -129,7 +129,7 @@ impl<'a> Row<'a> {
         }
     }
 
-    /// The next field as numbers with commas between them, `-` for none.
+    /// The next field as numbers separated by commas, or `-` for none.
     pub(crate) fn numbers(&mut self, alloc: Global) -> Vec<i64> {
         let mut numbers = Vec::new(alloc);
         let field = self.field();
@@ -156,8 +156,8 @@ impl<'a> Row<'a> {
         classes
     }
 
-    /// The rest up to ` | `, as the bytes that it means; then the text after that is left. Without
-    /// a ` | `, the whole text counts as both.
+    /// The rest up to ` | `, as the bytes that it denotes; the text after it remains. Without a
+    /// ` | `, the whole text counts as both.
     pub(crate) fn first_text(&mut self, alloc: Global) -> Vec<u8> {
         match self.rest.split_once(" | ") {
             Some((first, other)) => {
@@ -170,7 +170,7 @@ impl<'a> Row<'a> {
         }
     }
 
-    /// The rest, as the bytes that it means.
+    /// The rest, as the bytes that it denotes.
     pub(crate) fn text(&mut self, alloc: Global) -> Vec<u8> {
         match bytes_of(alloc, self.rest) {
             Ok(text) => text,
@@ -184,12 +184,12 @@ impl<'a> Row<'a> {
 
 /// Writing.
 impl<'a> Row<'a> {
-    /// Notes what went wrong.
+    /// Notes an error.
     pub(crate) fn fail(&mut self, wrong: Wrong) {
         self.wrong = Some(wrong);
     }
 
-    /// Notes that memory was wanting, where it was.
+    /// Notes that memory ran out, if it did.
     pub(crate) fn note(&mut self, is_wanting: bool) {
         if is_wanting {
             self.wrong = Some(Wrong::Memory);
@@ -210,7 +210,7 @@ impl<'a> Row<'a> {
         }
     }
 
-    /// Adds the bytes of a text that was made, unless memory was wanting for it.
+    /// Adds the bytes of a text that was made, unless memory ran out for it.
     pub(crate) fn put_made(&mut self, made: Result<Vec<u8>, AllocError>) {
         match made {
             Ok(text) => self.put_bytes(&text),
@@ -239,7 +239,7 @@ impl<'a> Row<'a> {
         self.put("\n");
     }
 
-    /// Adds where a span starts and stops.
+    /// Adds the start and the stop of a span.
     pub(crate) fn put_span(&mut self, span: Span) {
         self.put_number(span.start);
         self.put("..");

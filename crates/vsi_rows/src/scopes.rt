@@ -1,4 +1,4 @@
-//! Calls that replace names by locations, and that optimise what is over locations.
+//! Calls that replace names by locations, and that optimise programs over locations.
 
 use crate::bodies::put_lines;
 use crate::code::{put_listing, put_sizes};
@@ -23,7 +23,7 @@ pub(crate) fn resolved<'t>(
     Ok(resolve(alloc, &program, lattice)?)
 }
 
-/// Adds a line for each global: its name, its class and the number of that.
+/// Adds a line for each global: its name, its class and the number of its class.
 fn put_globals(row: &mut Row<'_>, globals: &[Global<'_>]) {
     for global in globals {
         row.put("var ");
@@ -36,7 +36,7 @@ fn put_globals(row: &mut Row<'_>, globals: &[Global<'_>]) {
     }
 }
 
-/// Adds a line for each `letvar`: its name, its place, and the number of its class where it has
+/// Adds a line for each `letvar`: its name, its position, and the number of its class if it has
 /// one.
 fn put_letvars(row: &mut Row<'_>, letvars: &[Entry<'_>]) {
     for entry in letvars {
@@ -58,7 +58,7 @@ fn put_size(row: &mut Row<'_>, program: &Resolved<'_>) {
     row.put("\n");
 }
 
-/// Adds the lines of a program, with the places of names or without.
+/// Adds the lines of a program, with the positions of names or without.
 fn put_program(row: &mut Row<'_>, program: &Resolved<'_>, has_places: bool) {
     put_globals(row, program.globals());
     put_letvars(row, program.letvars());
@@ -67,16 +67,16 @@ fn put_program(row: &mut Row<'_>, program: &Resolved<'_>, has_places: bool) {
     put_size(row, program);
 }
 
-/// The program of the same globals without a `letvar` or a command.
+/// The program with the same globals, without a `letvar` or a command.
 fn emptied<'t>(alloc: Heap, program: &Resolved<'t>) -> Option<Resolved<'t>> {
-    // The clause of `body` says that the program is resolved, which the proofs need.
+    // `body` ensures that the program is resolved, which the proofs need.
     let _facts = program.body();
     program
         .rebuilt(alloc, Vec::new(alloc), Vec::new(alloc))
         .ok()
 }
 
-/// Adds the lines of the program of the same globals without a command.
+/// Adds the lines of the program with the same globals and no command.
 fn put_emptied(alloc: Heap, row: &mut Row<'_>, program: &Resolved<'_>) {
     match emptied(alloc, program) {
         Some(program) => put_program(row, &program, true),
@@ -84,7 +84,7 @@ fn put_emptied(alloc: Heap, row: &mut Row<'_>, program: &Resolved<'_>) {
     }
 }
 
-/// Adds the lines of what the optimiser leaves of a program.
+/// Adds the lines of the optimised program.
 fn put_optimised(alloc: Heap, row: &mut Row<'_>, program: &Resolved<'_>) {
     match optimise(alloc, program) {
         Ok(program) => put_program(row, &program, false),
@@ -92,7 +92,7 @@ fn put_optimised(alloc: Heap, row: &mut Row<'_>, program: &Resolved<'_>) {
     }
 }
 
-/// The code of a program as it is written.
+/// The code of a program without optimisation.
 fn generated(alloc: Heap, row: &mut Row<'_>, program: &Resolved<'_>) -> Option<Verified> {
     let generated = generate(alloc, program);
     row.note(generated.is_err());
@@ -110,7 +110,7 @@ pub(crate) enum Form {
     CodeSizes,
 }
 
-/// Adds what is shown of a program.
+/// Adds a form of a program.
 fn put_form(alloc: Heap, row: &mut Row<'_>, form: Form, program: &Resolved<'_>) {
     match form {
         Form::Located => put_program(row, program, true),
@@ -131,9 +131,9 @@ fn put_form(alloc: Heap, row: &mut Row<'_>, form: Form, program: &Resolved<'_>) 
 }
 
 /// `resolve`, `size`, `rebuilt`, `optimise`, `generate` or `generate_sizes`, then `LATTICE TEXT`:
-/// the program over locations, its size, the program of the same globals without a command, what
-/// the optimiser leaves, the listing of the code of the program as it is written, or how large that
-/// is and how it ends; or the fault.
+/// the program over locations, its size, the program with the same globals and no command, the
+/// optimised program, the listing of the code without optimisation, or the size and the end of that
+/// code; or the fault.
 pub(crate) fn program(alloc: Heap, row: &mut Row<'_>, lattice: &Lattice, form: Form) {
     let text = row.text(alloc);
     match resolved(alloc, lattice, &text) {

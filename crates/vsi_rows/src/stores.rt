@@ -1,4 +1,4 @@
-//! Calls about stores and what is seen of them.
+//! Calls about stores and views of them.
 
 use crate::images::{globals, image};
 use crate::row::Row;
@@ -9,7 +9,7 @@ use vsi_image::{Image, Verified, verify};
 use vsi_lattice::Lattice;
 use vsi_store::{View, read_store, store_text, view};
 
-/// An image without code that has the globals of the next field.
+/// An image without code, with the globals of the next field.
 fn declaring(alloc: Global, row: &mut Row<'_>) -> Image {
     Image {
         globals: globals(alloc, row),
@@ -43,7 +43,7 @@ pub(crate) fn printed(alloc: Global, row: &mut Row<'_>) {
     }
 }
 
-/// Adds what a class sees of a run.
+/// Adds a class's view of a run.
 fn put_view(
     alloc: Global,
     row: &mut Row<'_>,
@@ -63,8 +63,8 @@ fn put_view(
     }
 }
 
-/// `view LATTICE CLASS STORE BUDGET IMAGE`: what the class of the name sees of a run, or the line
-/// of the refusal.
+/// `view LATTICE CLASS STORE BUDGET IMAGE`: the view that the class with this name has of a run, or
+/// the line of the refusal.
 pub(crate) fn viewed(alloc: Global, row: &mut Row<'_>, lattice: &Lattice) {
     let class = row.field();
     let words = row.numbers(alloc);

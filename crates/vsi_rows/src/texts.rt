@@ -17,7 +17,7 @@ fn put_tokens(row: &mut Row<'_>, tokens: &[Token<'_>]) {
     }
 }
 
-/// `lex TEXT`: each token's kind and place, or the fault.
+/// `lex TEXT`: each token's kind and position, or the fault.
 pub(crate) fn tokens(alloc: Global, row: &mut Row<'_>) {
     let text = row.text(alloc);
     match lex(alloc, &text) {
@@ -32,7 +32,7 @@ pub(crate) fn tree_of<'t>(alloc: Global, text: &'t [u8]) -> Result<Program<'t>, 
     Ok(parse(alloc, &tokens)?)
 }
 
-/// Adds the line of a refusal; for a flow it says no more than that.
+/// Adds the line of a refusal, even for a flow.
 pub(crate) fn put_refusal(row: &mut Row<'_>, error: &CompileError) {
     match error {
         CompileError::Flow(_) => row.put("Flow\n"),
@@ -48,7 +48,7 @@ pub(crate) enum Form {
     Canonical,
 }
 
-/// Adds what is shown of a tree.
+/// Adds a form of a tree.
 fn put_tree(alloc: Global, row: &mut Row<'_>, form: Form, program: &Program<'_>) {
     match form {
         Form::Accepted => row.put("accepted\n"),
@@ -82,7 +82,7 @@ pub(crate) fn name(alloc: Global, row: &mut Row<'_>) {
     row.put_line(&is_name(&text));
 }
 
-/// `place AT TEXT`: the line and the column of the byte of this number.
+/// `place AT TEXT`: the line and the column of the byte with this number.
 pub(crate) fn place(alloc: Global, row: &mut Row<'_>) {
     let at = row.place();
     let text = row.text(alloc);
@@ -93,7 +93,7 @@ pub(crate) fn place(alloc: Global, row: &mut Row<'_>) {
     row.put("\n");
 }
 
-/// The operator of a sign.
+/// The operator with a sign.
 fn operator(sign: &str) -> Option<Op> {
     match sign {
         "+" => Some(Op::Add),
@@ -105,7 +105,7 @@ fn operator(sign: &str) -> Option<Op> {
     }
 }
 
-/// `apply SIGN LEFT,RIGHT`: what the operator makes of two words.
+/// `apply SIGN LEFT,RIGHT`: the operator's result for two words.
 pub(crate) fn applied(alloc: Global, row: &mut Row<'_>) {
     let sign = operator(row.field());
     let words = row.numbers(alloc);

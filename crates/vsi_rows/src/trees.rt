@@ -1,4 +1,4 @@
-//! Trees as texts: operators and commands before their parts, each name with its place.
+//! Trees as texts: operators and commands before their parts, each name with its position.
 
 use crate::row::Row;
 use vsi_syntax::{Declaration, Expr, Name, Op, Program, Stmt};
@@ -14,14 +14,14 @@ pub(crate) fn opened(op: Op) -> &'static str {
     }
 }
 
-/// Adds a name and its place.
+/// Adds a name and its position.
 fn put_name(row: &mut Row<'_>, name: &Name<'_>) {
     row.put_bytes(name.text);
     row.put("@");
     row.put_span(name.span);
 }
 
-/// Adds an expression; square brackets are the round ones of the text.
+/// Adds an expression; square brackets are the round brackets of the text.
 fn put_expression(row: &mut Row<'_>, e: &Expr<'_>) {
     match e {
         Expr::Number(n) => row.put_word(*n),
@@ -41,7 +41,7 @@ fn put_expression(row: &mut Row<'_>, e: &Expr<'_>) {
     }
 }
 
-/// Adds the name of a `letvar`, and that of its class.
+/// Adds the name of a `letvar`, and the name of its class.
 fn put_letvar(row: &mut Row<'_>, name: &Name<'_>, class: &Option<Name<'_>>) {
     row.put("(letvar ");
     put_name(row, name);

@@ -22,7 +22,7 @@ fn put_classes(row: &mut Row<'_>, classes: &[Class]) {
     row.put("\n");
 }
 
-/// Adds the lines of a walk that refuses a program, and that it isn't bad where that is so.
+/// Adds the lines of a walk that refuses a program, and a note if it isn't bad.
 fn put_walk(
     alloc: Heap,
     row: &mut Row<'_>,
@@ -43,7 +43,7 @@ fn put_walk(
     }
 }
 
-/// Adds the lines of what the inference answers on a program.
+/// Adds the lines of the inference's answer on a program.
 fn put_inferred(
     alloc: Heap,
     row: &mut Row<'_>,
@@ -107,7 +107,7 @@ fn step(row: &mut Row<'_>) -> Step {
     }
 }
 
-/// The next fields as a number of steps and these.
+/// The next fields as a number of steps and the steps.
 fn walk(alloc: Heap, row: &mut Row<'_>) -> Walk {
     let mut steps = Vec::new(alloc);
     for _ in 0..row.small() {
@@ -130,9 +130,9 @@ fn put_judged(alloc: Heap, row: &mut Row<'_>, profile: Profile, lattice: &Lattic
     }
 }
 
-/// `walk PROFILE LATTICE COUNT STEPS TEXT`: whether so many steps are a bad walk. A step is `RULE
-/// SOURCE TARGET READ WRITTEN` by the numbers of variables and the first bytes of names of one
-/// byte.
+/// `walk PROFILE LATTICE COUNT STEPS TEXT`: whether this many steps are a bad walk. A step is
+/// `RULE SOURCE TARGET READ WRITTEN`, by the numbers of variables and the first bytes of names of
+/// one byte.
 pub(crate) fn walked(alloc: Heap, row: &mut Row<'_>, profile: Profile, lattice: &Lattice) {
     let walk = walk(alloc, row);
     put_judged(alloc, row, profile, lattice, &walk);

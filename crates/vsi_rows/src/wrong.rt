@@ -5,9 +5,9 @@ use std::alloc::{AllocError, AllocFailed};
 /// Why a row has no answer.
 #[derive(Clone, Copy, Debug)]
 pub(crate) enum Wrong {
-    /// There was no memory.
+    /// There was too little memory.
     Memory,
-    /// The row isn't written as rows of its call are.
+    /// The row doesn't have the form of its call.
     Row,
 }
 

@@ -113,7 +113,7 @@ pub record Dropped (k : ℕ) (o : Option Store) (m' : Store) : Type 0 where
   pub before : o ≡ Some store
   pub after : m' ≡ take k store
 
--- A store that was truncated came from a longer one.
+-- A truncated store consists of the first words of the store before it.
 pub dropped : (k : ℕ) (o : Option Store) (m' : Store) → drop_past k o ≡ Some m' → Dropped k o m'
 dropped k None m' e = no_answer m' e
 dropped k (Some m) m' e = record { store = m; before = refl; after = sym (same_answer _ _ e) }

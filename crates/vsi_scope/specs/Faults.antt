@@ -86,7 +86,7 @@ abbrev pub if_there : Option ℕ → ScopeError → Option ScopeError → Option
 if_there None e otherwise = otherwise
 if_there (Some l) e otherwise = Some e
 
--- The fault at a mark; of two faults, the one with the smaller number.
+-- The fault at a mark; of two faults, the one listed first in `ScopeError`.
 abbrev pub fault_at : Known → Mark → Option ScopeError
 fault_at classes (Global above x) =
     if_there (place_of above x.text) (errors.Duplicate x.span)

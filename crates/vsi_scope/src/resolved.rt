@@ -40,8 +40,7 @@ pub struct Entry<'a> {
 /// declarations, one entry for each `letvar`, and a body of size at most 65,534. All locations of
 /// the body exist, and its `letvar`s and the operators of each expression nest at most 200 deep.
 /// The body that `resolve` makes from a text is at most 200 deep as a whole; one that is passed to
-/// `rebuilt` may nest more `if`s and `while`s.
-/// `rebuilt` may have more `if`s and `while`s within one another.
+/// `rebuilt` may nest its `if`s and `while`s deeper.
 #[derive(Drop)]
 pub struct Resolved<'a> {
     globals: Vec<Global<'a>>,

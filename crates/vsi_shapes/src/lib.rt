@@ -1,9 +1,9 @@
 //! Constructs of other languages in the pieces of a text.
 //!
-//! `shape_at` says which construct begins with a piece and up to where it goes, `structure_at` and
-//! `halved_at` which word or sign of the language is missing or one too many there.
+//! `shape_at` returns the construct that begins with a piece, and its extent. `structure_at` and
+//! `halved_at` find a missing or superfluous keyword or sign of the language there.
 //!
-//! To be believed: nothing but the code: what is found is proposed, and no clause speaks of it.
+//! To be believed: nothing but the code. The results are proposals, and no clause is about them.
 #![tactic(auto)]
 
 mod look;

@@ -1,4 +1,4 @@
-//! The pieces around a place of a text.
+//! The pieces around a position in a text.
 
 use vsi_foreign::{Piece, Sort, is_no_operand, is_operator};
 
@@ -8,18 +8,18 @@ pub struct Look<'a, 't> {
     pub pieces: &'t [Piece<'a>],
 }
 
-/// The words and signs after which an expression begins.
+/// The keywords and signs after which an expression begins.
 const VALUE_STARTS: [&[u8]; 24] = [
     b":=", b";", b"{", b"}", b":", b",", b"then", b"else", b"do", b"in", b"if", b"while", b"until",
     b"elif", b"elsif", b"elseif", b"return", b"+=", b"-=", b"*=", b"/=", b"%=", b"**=", b"?",
 ];
 
-/// The words and signs before which an expression ends.
+/// The keywords and signs before which an expression ends.
 const VALUE_STOPS: [&[u8]; 11] = [
     b";", b"{", b"}", b":", b",", b"then", b"else", b"do", b"in", b":=", b"?",
 ];
 
-/// The words and signs after which a command begins.
+/// The keywords and signs after which a command begins.
 const COMMAND_STARTS: [&[u8]; 8] = [b";", b"{", b"}", b"then", b"else", b"do", b"in", b"begin"];
 
 /// The keywords of the language.
@@ -28,7 +28,7 @@ const KEYWORDS: [&[u8]; 8] = [
 ];
 
 impl<'a, 't> Look<'a, 't> {
-    /// The text of a piece; it has no byte where there is none.
+    /// The text of a piece, or an empty text if there is none.
     pub fn text(&self, at: usize) -> &'a [u8] {
         match self.pieces.get(at) {
             Some(piece) => piece.text,
@@ -36,12 +36,12 @@ impl<'a, 't> Look<'a, 't> {
         }
     }
 
-    /// Whether a piece is this word or sign.
+    /// Whether a piece is this text.
     pub fn is(&self, at: usize, text: &[u8]) -> bool {
         self.text(at) == text
     }
 
-    /// Whether the piece before this one is this word or sign.
+    /// Whether the piece before this one is this text.
     pub(crate) fn is_before(&self, at: usize, text: &[u8]) -> bool {
         match at.checked_sub(1) {
             Some(before) => self.is(before, text),
@@ -57,7 +57,7 @@ impl<'a, 't> Look<'a, 't> {
         }
     }
 
-    /// Whether a piece is a word that may be a name.
+    /// Whether a piece may be a name.
     pub fn is_name(&self, at: usize) -> bool {
         self.has_sort(at, Sort::Word) && !KEYWORDS.contains(&self.text(at))
     }
@@ -75,7 +75,7 @@ impl<'a, 't> Look<'a, 't> {
         }
     }
 
-    /// The place after a piece.
+    /// The position after a piece.
     pub fn stop(&self, at: usize) -> usize {
         match self.pieces.get(at) {
             Some(piece) => piece.at.saturating_add(piece.text.len()),
@@ -156,7 +156,7 @@ impl<'a, 't> Look<'a, 't> {
         start
     }
 
-    /// Whether a piece is an operand, or begins one that is called.
+    /// Whether a piece is an operand, or begins a call.
     fn is_operand(&self, at: usize) -> bool {
         let text = self.text(at);
         (self.is_name(at) || self.has_sort(at, Sort::Number))
@@ -164,7 +164,7 @@ impl<'a, 't> Look<'a, 't> {
             && !is_no_operand(text)
     }
 
-    /// Whether a piece is a name in the place of a class.
+    /// Whether a piece is a name in the position of a class.
     pub fn is_class(&self, at: usize) -> bool {
         let Some(word) = at.checked_sub(3) else {
             return false;
@@ -177,7 +177,7 @@ impl<'a, 't> Look<'a, 't> {
         self.is(at, b"var") || self.is(at, b"letvar")
     }
 
-    /// Whether a piece is a name that is read or assigned to, and no class.
+    /// Whether a piece is a name that is read or assigned to, and not a class.
     pub fn is_variable(&self, at: usize) -> bool {
         if !self.is_operand(at) || !self.is_name(at) || self.is_before(at, b":") {
             return false;
@@ -193,7 +193,7 @@ impl<'a, 't> Look<'a, 't> {
         self.is_operand(at) || self.is(at, b")")
     }
 
-    /// Whether a name with a `-` in it, which no declaration can have, begins with a piece.
+    /// Whether a piece begins a name with a `-` in it, which no declaration can have.
     pub fn is_hyphened(&self, at: usize) -> bool {
         let middle = at.saturating_add(1);
         let last = at.saturating_add(2);
@@ -253,7 +253,7 @@ impl<'a, 't> Look<'a, 't> {
         self.pieces.len()
     }
 
-    /// The piece with which the command around a piece has ended.
+    /// The piece at which the command around a piece has ended.
     pub(crate) fn command_stop(&self, at: usize) -> usize {
         for place in at.saturating_add(1)..self.pieces.len() {
             if self.is_first(place) || matches!(self.text(place), [b';' | b'{' | b'}' | b':']) {

@@ -1,12 +1,12 @@
-//! The words and signs of other languages that nothing replaces, and what you do in their place.
+//! Names and signs of other languages without a replacement, and what to do instead.
 
-/// Words or signs of other languages, and a sentence: one of them comes between its two parts.
+/// Names or signs of other languages, and the two parts of a sentence around one of them.
 pub(crate) type Saying = (&'static [&'static [u8]], &'static str, &'static str);
 
 /// The beginning of most sentences.
 const NONE: &str = "there is no ";
 
-/// The words that call something.
+/// Names that call something.
 const CALLS: [Saying; 9] = [
     (
         &[
@@ -78,7 +78,7 @@ const CALLS: [Saying; 9] = [
     ),
 ];
 
-/// The words that begin or end commands.
+/// Names that begin or end commands.
 const COMMANDS: [Saying; 12] = [
     (
         &[
@@ -232,7 +232,7 @@ const SIGNS: [Saying; 10] = [
     ),
 ];
 
-/// The saying of a word or a sign in a table.
+/// The sentence for a name or a sign in a table.
 fn saying_in(sayings: &[Saying], word: &[u8]) -> Option<Saying> {
     for saying in sayings {
         if saying.0.contains(&word) {
@@ -242,17 +242,17 @@ fn saying_in(sayings: &[Saying], word: &[u8]) -> Option<Saying> {
     None
 }
 
-/// The saying of a word that calls something.
+/// The sentence for a name that calls something.
 pub(crate) fn call_saying(word: &[u8]) -> Option<Saying> {
     saying_in(&CALLS, word)
 }
 
-/// The saying of a word that begins or ends a command.
+/// The sentence for a name that begins or ends a command.
 pub(crate) fn command_saying(word: &[u8]) -> Option<Saying> {
     saying_in(&COMMANDS, word)
 }
 
-/// The saying of a sign between or before operands.
+/// The sentence for a sign between or before operands.
 pub(crate) fn sign_saying(sign: &[u8]) -> Option<Saying> {
     saying_in(&SIGNS, sign)
 }

@@ -1,21 +1,21 @@
-//! The constructs of other languages, and the pieces that each takes.
+//! The constructs of other languages, and the pieces that belong to each.
 
 use crate::look::Look;
 use crate::sayings::{Saying, call_saying, command_saying, sign_saying};
 use vsi_foreign::{Sort, is_false, is_operator, is_true, number_of};
 
-/// The construct that some pieces are.
+/// The construct of some pieces.
 #[derive(Clone, Copy)]
 pub enum Shape {
-    /// Nothing replaces the first piece: a sentence with it between two parts.
+    /// Nothing replaces the first piece: the two parts of a sentence around it.
     Say(&'static str, &'static str),
-    /// The same, where the piece can't be shown.
+    /// The same, if the piece can't be shown.
     Tell(&'static str),
-    /// Another text replaces them; the rest of the sentence.
+    /// Another text replaces them; then the rest of the sentence.
     Put(&'static str, &'static str),
-    /// An expression, for its piece with this number.
+    /// An expression, for the piece with this number.
     Value(usize),
-    /// A name, so many pieces that assign, and a value.
+    /// A name, this many pieces that assign, and a value.
     Assign(usize),
     /// A name, a sign that assigns, and a value: the operator in the sign.
     Compound(&'static str),
@@ -25,11 +25,11 @@ pub enum Shape {
     Swap,
     /// A name, a sign that assigns, and one operand divided by another.
     Divide,
-    /// A number that is written otherwise here.
+    /// A number that is written differently here.
     Number,
     /// A name with a `-` in it.
     Hyphen,
-    /// A keyword in the place of a name.
+    /// A keyword in the position of a name.
     Keyword,
     /// A declaration with a value.
     Initial,
@@ -39,7 +39,7 @@ pub enum Shape {
     Comment,
 }
 
-/// Some pieces, from the first one up to the one before the next one, and what they are.
+/// Some pieces, from the first one up to but not including the next one, and their construct.
 #[derive(Clone, Copy)]
 pub struct Found {
     pub first: usize,
@@ -52,19 +52,19 @@ pub(crate) fn make_found(first: usize, next: usize, shape: Shape) -> Found {
     Found { first, next, shape }
 }
 
-/// The words for an `if` in an `else`.
+/// Names for an `if` in an `else`.
 const ELSE_IF: [&[u8]; 3] = [b"elif", b"elsif", b"elseif"];
 
-/// The words that begin a block.
+/// Names that begin a block.
 const BEGIN: [&[u8]; 2] = [b"begin", b"BEGIN"];
 
-/// The words for no value.
+/// Names for no value.
 const NULL: [&[u8]; 5] = [b"null", b"None", b"nil", b"NULL", b"undefined"];
 
-/// The words that do nothing.
+/// Names that do nothing.
 const IDLE: [&[u8]; 6] = [b"skip", b"pass", b"nop", b"noop", b"nothing", b"SKIP"];
 
-/// The words that declare a variable.
+/// Names that declare a variable.
 const TYPES: [&[u8]; 20] = [
     b"let",
     b"const",
@@ -93,7 +93,7 @@ const ASSIGNING: [&[u8]; 11] = [
     b":=", b"=", b":", b",", b"+=", b"-=", b"*=", b"/=", b"%=", b"++", b"--",
 ];
 
-/// The signs and words of the language between operands.
+/// The language's own operators between operands.
 const OWN: [&[u8]; 5] = [b"+", b"-", b"*", b"=", b"<"];
 
 /// The sentence with a saying's parts.
@@ -101,7 +101,7 @@ fn said(saying: Saying) -> Shape {
     Shape::Say(saying.1, saying.2)
 }
 
-/// A word that another text replaces.
+/// A name that another text replaces.
 fn replaced_word(look: &Look, at: usize) -> Option<Found> {
     let word = look.text(at);
     let next = at.saturating_add(1);
@@ -122,7 +122,7 @@ fn replaced_word(look: &Look, at: usize) -> Option<Found> {
     None
 }
 
-/// A word that declares a variable, or does nothing.
+/// A name that declares a variable, or does nothing.
 fn declaring_word(look: &Look, at: usize) -> Option<Found> {
     if !look.is_command_start(at) {
         return None;
@@ -144,7 +144,7 @@ fn declaring_word(look: &Look, at: usize) -> Option<Found> {
     None
 }
 
-/// A call, of which the word with this number is the name.
+/// A call, whose name is the piece with this number.
 fn call(look: &Look, at: usize) -> Option<Found> {
     let next = at.saturating_add(1);
     let is_called = look.is(next, b"(") && look.touches(next);
@@ -166,7 +166,7 @@ fn call(look: &Look, at: usize) -> Option<Found> {
     None
 }
 
-/// A word that begins or ends a command.
+/// A name that begins or ends a command.
 fn command_word(look: &Look, at: usize) -> Option<Found> {
     let is_after_operand = match at.checked_sub(1) {
         Some(before) => look.ends_operand(before),
@@ -197,7 +197,7 @@ fn command_word(look: &Look, at: usize) -> Option<Found> {
     Some(make_found(at, stop, said(saying)))
 }
 
-/// The construct that a word begins.
+/// The construct that a name begins.
 fn word(look: &Look, at: usize) -> Option<Found> {
     let text = look.text(at);
     if look.is_declared(text) || ASSIGNING.contains(&look.text(at.saturating_add(1))) {
@@ -218,7 +218,7 @@ fn word(look: &Look, at: usize) -> Option<Found> {
     call(look, at)
 }
 
-/// A name with a `-` in it, that begins with a piece.
+/// A name with a `-` in it, which begins with a piece.
 fn hyphen(look: &Look, at: usize) -> Option<Found> {
     if look.is_hyphened(at) {
         Some(make_found(at, at.saturating_add(3), Shape::Hyphen))
@@ -238,7 +238,7 @@ fn listed(look: &Look, at: usize) -> Option<Found> {
     Some(make_found(at, stop, Shape::Say("", rest)))
 }
 
-/// A declaration by `var` that isn't one here.
+/// A declaration by `var` that isn't valid here.
 fn declaration(look: &Look, at: usize) -> Option<Found> {
     let name = at.saturating_add(1);
     if look.is_keyword(name) {
@@ -275,7 +275,7 @@ fn declaration(look: &Look, at: usize) -> Option<Found> {
     }
 }
 
-/// A declaration by `letvar` that isn't one here.
+/// A declaration by `letvar` that isn't valid here.
 fn local(look: &Look, at: usize) -> Option<Found> {
     let name = at.saturating_add(1);
     if look.is_keyword(name) {
@@ -294,17 +294,17 @@ fn local(look: &Look, at: usize) -> Option<Found> {
     None
 }
 
-/// Whether two names and a sign that assigns begin with a piece.
+/// Whether two names and a sign that assigns begin at a piece.
 fn is_swap(look: &Look, at: usize) -> bool {
     look.is(at.saturating_add(1), b",")
         && look.is_name(at.saturating_add(2))
         && matches!(look.text(at.saturating_add(3)), [b'='] | [b':', b'='])
 }
 
-/// The signs and words that divide.
+/// The signs and names that divide.
 const DIVIDING: [&[u8]; 7] = [b"/", b"//", b"div", b"DIV", b"%", b"mod", b"MOD"];
 
-/// Whether an operand divided by another is the whole value that begins with a piece.
+/// Whether the value that begins at a piece consists of an operand divided by another.
 fn is_division(look: &Look, at: usize) -> bool {
     let last = at.saturating_add(2);
     look.ends_operand(at)
@@ -313,7 +313,7 @@ fn is_division(look: &Look, at: usize) -> bool {
         && look.value_stop(last) == last.saturating_add(1)
 }
 
-/// Whether the value between two pieces has an operator that no expression here has.
+/// Whether the value between two pieces has an operator without a translation.
 fn is_beyond(look: &Look, at: usize, stop: usize) -> bool {
     for place in at..stop {
         if sign_saying(look.text(place)).is_some()
@@ -325,7 +325,7 @@ fn is_beyond(look: &Look, at: usize, stop: usize) -> bool {
     false
 }
 
-/// An assignment by another sign, of which the value begins with a piece.
+/// An assignment by another sign, whose value begins at a piece.
 fn assigned(look: &Look, at: usize, value: usize, shape: Shape) -> Option<Found> {
     let stop = look.value_stop(value);
     let next = if is_beyond(look, value, stop) {
@@ -336,7 +336,7 @@ fn assigned(look: &Look, at: usize, value: usize, shape: Shape) -> Option<Found>
     Some(make_found(at, next, shape))
 }
 
-/// A command that begins with a name and isn't one here.
+/// A command that begins with a name and isn't valid here.
 fn assignment(look: &Look, at: usize) -> Option<Found> {
     let sign = at.saturating_add(1);
     let value = at.saturating_add(2);
@@ -365,7 +365,7 @@ fn assignment(look: &Look, at: usize) -> Option<Found> {
     }
 }
 
-/// Whether a sign between operands compares a second time what one before it has compared.
+/// Whether a sign compares an operand that the sign before it has already compared.
 fn is_chained(look: &Look, at: usize) -> bool {
     let mut open: usize = 0;
     for place in look.value_start(at)..at {
@@ -379,7 +379,7 @@ fn is_chained(look: &Look, at: usize) -> bool {
     false
 }
 
-/// Whether a piece is an operator that the language lacks in this place.
+/// Whether a piece is an operator that the language lacks in this position.
 fn is_foreign_operator(look: &Look, at: usize) -> bool {
     let text = look.text(at);
     let is_after_operand = match at.checked_sub(1) {
@@ -393,7 +393,7 @@ fn is_foreign_operator(look: &Look, at: usize) -> bool {
     }
 }
 
-/// The sentence for a character outside of ASCII, where it is a usual one.
+/// The sentence for a character outside of ASCII, if it is a common one.
 fn strange(text: &[u8]) -> Option<Shape> {
     let sentence = match text {
         [0xE2, 0x80, 0x90..=0x95] | [0xE2, 0x88, 0x92] => {
@@ -442,7 +442,7 @@ fn sign(look: &Look, at: usize) -> Option<Found> {
     }
 }
 
-/// A number that the language writes otherwise, or can't.
+/// A number that the language writes differently, or can't write.
 fn number(text: &[u8], at: usize) -> Option<Found> {
     let next = at.saturating_add(1);
     if text.contains(&b'.') {

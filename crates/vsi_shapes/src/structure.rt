@@ -1,12 +1,12 @@
-//! Words and signs of the language that are missing, or one too many.
+//! Keywords and signs of the language that are missing or superfluous.
 
 use crate::look::Look;
 use crate::shapes::{Found, Shape, make_found};
 
-/// The words with which an `if` goes on after its first branch.
+/// The keywords with which an `if` goes on after its first branch.
 const ELSE: [&[u8]; 5] = [b"else", b"elif", b"elsif", b"elseif", b"ELSE"];
 
-/// A `;` before a word or sign that ends something.
+/// A `;` before a keyword or sign that ends something.
 fn superfluous(look: &Look, at: usize) -> Option<Found> {
     let next = at.saturating_add(1);
     let is_last = next >= look.pieces.len();
@@ -26,7 +26,7 @@ fn superfluous(look: &Look, at: usize) -> Option<Found> {
     Some(make_found(at, next, Shape::Say("leave the ", rest)))
 }
 
-/// Whether a command begins with a piece, by the look of it.
+/// Whether a piece seems to begin a command.
 fn is_command(look: &Look, at: usize) -> bool {
     if look.is(at, b"if") || look.is(at, b"letvar") {
         return true;
@@ -53,7 +53,7 @@ fn unseparated(look: &Look, at: usize) -> Option<Found> {
     Some(make_found(at, next, Shape::Say("put a `;` after the ", rest)))
 }
 
-/// Whether the line before a piece begins with a word that a guard or a branch follows.
+/// Whether the line before a piece begins with a keyword that takes a guard or a branch.
 fn is_after_guard(look: &Look, at: usize) -> bool {
     let mut place = at;
     for _ in 0..at {
@@ -82,7 +82,7 @@ fn unended(look: &Look, at: usize) -> Option<Found> {
     Some(make_found(at, at.saturating_add(1), shape))
 }
 
-/// The piece with which the branch that begins with a piece has ended, if that is plain.
+/// The piece at which the branch that begins at a piece has ended, if that is clear.
 fn branch_stop(look: &Look, at: usize) -> Option<usize> {
     if look.is(at, b"{") {
         return Some(look.after_block(at));
@@ -93,7 +93,7 @@ fn branch_stop(look: &Look, at: usize) -> Option<usize> {
     Some(look.value_stop(at.saturating_add(2)))
 }
 
-/// Whether an `else` comes after more commands than one.
+/// Whether an `else` comes after more than one command.
 fn has_late_else(look: &Look, stop: usize) -> bool {
     if !look.is(stop, b";") || look.is(stop.saturating_add(1), b"else") {
         return false;
@@ -157,7 +157,7 @@ fn halved(look: &Look, at: usize) -> Option<Found> {
     Some(make_found(at, stop, Shape::Say("give this ", rest)))
 }
 
-/// A guard without the word after it.
+/// A guard without the keyword after it.
 fn unguarded(look: &Look, at: usize, word: &'static str) -> Option<Found> {
     let stop = look.value_stop(at.saturating_add(1));
     if look.is(stop, b":") {
@@ -179,7 +179,7 @@ fn unguarded(look: &Look, at: usize, word: &'static str) -> Option<Found> {
     Some(make_found(at, stop, shape))
 }
 
-/// A word or a sign that is missing or one too many at a piece.
+/// A keyword or a sign that is missing or superfluous at a piece.
 pub fn structure_at(look: &Look, at: usize) -> Option<Found> {
     if look.is_before(at, b"var") || look.is_before(at, b"letvar") {
         return None;
@@ -198,7 +198,7 @@ pub fn structure_at(look: &Look, at: usize) -> Option<Found> {
     }
 }
 
-/// An `if` at a piece that has no `else`.
+/// An `if` without an `else` at a piece.
 pub fn halved_at(look: &Look, at: usize) -> Option<Found> {
     if look.is(at, b"if") {
         halved(look, at)

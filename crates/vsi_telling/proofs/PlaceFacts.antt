@@ -7,7 +7,7 @@ use Rattle.vsi_caret.specs.Window.{IsWindow}
 use Rattle.vsi_caret.specs.Place.{placed}
 use Rattle.vsi_telling.specs.Places.{BeginsAt}
 
--- A place behind an empty text begins it.
+-- If an empty text is followed by a place, the text begins with the place.
 pub place_begins : (manner : Manner) (path bytes : List ℕ) (start : ℕ) (old text : List ℕ) → old ≡ []
     → (w : Window) × (IsWindow bytes start w × (text ≡ old ++ placed manner path bytes w))
     → BeginsAt manner path bytes start text
@@ -23,7 +23,7 @@ place_begins manner path bytes start old text empty h = (
   ),
 )
 
--- What begins with a place does so with more behind it.
+-- A text that begins with a place still does so with more text after it.
 pub more_begins : (manner : Manner) (path bytes : List ℕ) (start : ℕ) (text more : List ℕ)
     → BeginsAt manner path bytes start text → BeginsAt manner path bytes start (text ++ more)
 more_begins manner path bytes start text more h = (

@@ -98,7 +98,7 @@ fn put_byte(
     words.extend_from_slice(byte_hint(byte, next).as_bytes())
 }
 
-/// Adds the explanation of a word that is none.
+/// Adds the explanation of a word that isn't valid.
 fn put_word(
     alloc: Global,
     words: &mut Vec<u8>,

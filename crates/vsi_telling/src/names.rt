@@ -84,7 +84,7 @@ fn put_pair(words: &mut Vec<u8>, low: &[u8], high: &[u8]) -> Result<(), AllocErr
     words.extend_from_slice(b"\"]")
 }
 
-/// Adds a pattern with words in the places of P, Q and N.
+/// Adds a pattern, with texts in the places of P, Q and N.
 pub(crate) fn put_pattern(
     words: &mut Vec<u8>,
     pattern: &str,

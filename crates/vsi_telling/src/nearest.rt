@@ -66,7 +66,7 @@ pub(crate) fn nearest<'w>(
     Ok(best)
 }
 
-/// Adds which of the words was perhaps meant, and answers whether one was.
+/// Adds which of the words was perhaps meant, and returns whether one was.
 pub fn put_nearest(
     alloc: Global,
     words: &mut Vec<u8>,

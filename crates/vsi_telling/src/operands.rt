@@ -255,7 +255,7 @@ fn foreign_at<'a>(source: &'a [u8], sign: &[u8], at: usize) -> Option<Foreign<'a
     })
 }
 
-/// Adds how a sign or a word of other languages is written here, and answers whether it is one.
+/// Adds how a sign or a word of other languages is written here, and returns whether it is one.
 pub(crate) fn put_operator(
     words: &mut Vec<u8>,
     source: &[u8],

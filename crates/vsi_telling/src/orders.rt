@@ -285,7 +285,7 @@ fn put_placing(
     Ok(())
 }
 
-/// Adds the explanation if a class is in no pair, and answers whether one of the two does.
+/// Adds the explanation if a class is in no pair, and returns whether one of the two does.
 fn put_unplaced(
     words: &mut Vec<u8>,
     order: &Order,
@@ -339,7 +339,7 @@ fn reached_by_both<'t>(
     names_in_both(alloc, order, &reached, &others)
 }
 
-/// Adds that several classes, some at least, are above both, or below both, and answers whether
+/// Adds that several classes, some at least, are above both, or below both, and returns whether
 /// some are.
 fn put_common(
     words: &mut Vec<u8>,
@@ -372,7 +372,7 @@ fn put_common(
     Ok(true)
 }
 
-/// Adds the explanation if several classes are above, or below, both, and answers whether some are.
+/// Adds the explanation if several classes are above, or below, both, and returns whether some are.
 fn put_several(
     alloc: Global,
     words: &mut Vec<u8>,

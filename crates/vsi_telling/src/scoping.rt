@@ -138,7 +138,7 @@ fn put_class(
     put_no_class(alloc, words, name, &classes)
 }
 
-/// Adds the names of the whole text, and answers whether one of them may have been meant.
+/// Adds the names of the whole text, and returns whether one of them may have been meant.
 fn put_these(
     alloc: Global,
     words: &mut Vec<u8>,
@@ -151,7 +151,7 @@ fn put_these(
     put_nearest(alloc, words, name, names)
 }
 
-/// Adds the globals of a text, and answers whether one of them may have been meant.
+/// Adds the globals of a text, and returns whether one of them may have been meant.
 fn put_globals(
     alloc: Global,
     words: &mut Vec<u8>,
@@ -162,7 +162,7 @@ fn put_globals(
     put_these(alloc, words, &names, name)
 }
 
-/// Adds which local variable may have been meant, and answers whether one may.
+/// Adds which local variable may have been meant, and returns whether one may.
 fn put_near_local(
     alloc: Global,
     words: &mut Vec<u8>,

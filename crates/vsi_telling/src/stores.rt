@@ -32,7 +32,7 @@ pub fn put_no_global(words: &mut Vec<u8>, name: &[u8], names: &[&[u8]]) -> Resul
     put_names_between(words, b" Its globals are ", names, b".\n")
 }
 
-/// Adds the explanation of a key that is none of the names.
+/// Adds the explanation of a key that isn't one of the names.
 fn put_other_key(
     alloc: Global,
     words: &mut Vec<u8>,

@@ -102,7 +102,7 @@ fn put_idle(words: &mut Vec<u8>, spot: &Spot, before: &[u8]) -> Result<(), Alloc
 }
 
 /// Adds how a variable is declared or nothing is done, in place of a word of other languages, and
-/// answers whether the word is of these.
+/// returns whether the word is of these.
 fn put_foreign_word(words: &mut Vec<u8>, spot: &Spot, token: Token) -> Result<bool, AllocError> {
     if is_type(token.text) {
         let name = spot.name_behind(token).unwrap_or(b"x");
@@ -121,7 +121,7 @@ fn put_foreign_word(words: &mut Vec<u8>, spot: &Spot, token: Token) -> Result<bo
     Ok(true)
 }
 
-/// Adds a hint by a word of other languages, and answers whether the token is one.
+/// Adds a hint by a word of other languages, and returns whether the token is one.
 fn put_foreign(
     words: &mut Vec<u8>,
     source: &[u8],
@@ -137,7 +137,7 @@ fn put_foreign(
     put_foreign_word(words, spot, token)
 }
 
-/// Adds a hint where the tokens in front of a place are misread, and answers whether they are: a
+/// Adds a hint where the tokens in front of a place are misread, and returns whether they are: a
 /// list of what could be there is then of no use.
 fn put_misread(
     alloc: Global,
@@ -164,7 +164,7 @@ fn put_misread(
     }
 }
 
-/// Adds a hint for a `;` in front of a place that is one too many, and answers whether it is.
+/// Adds a hint for a `;` in front of a place that is one too many, and returns whether it is.
 fn put_superfluous(words: &mut Vec<u8>, source: &[u8], spot: &Spot) -> Result<bool, AllocError> {
     let Some(last) = spot.before(1) else {
         return Ok(false);
@@ -189,7 +189,7 @@ fn put_superfluous(words: &mut Vec<u8>, source: &[u8], spot: &Spot) -> Result<bo
     Ok(true)
 }
 
-/// Adds a hint where a branch or a block is empty, and answers whether it is.
+/// Adds a hint where a branch or a block is empty, and returns whether it is.
 fn put_empty(words: &mut Vec<u8>, spot: &Spot) -> Result<bool, AllocError> {
     let is_block_end = spot.kind() == Some(Kind::CloseBrace);
     match spot.kind_before(1) {

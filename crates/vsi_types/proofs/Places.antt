@@ -233,7 +233,7 @@ module _ (L : Lattice) (P : Profile) (classes : ℕ → ℕ) where
     λ names. order_append L classes (initial_steps a x names) _ (f (λ g. names a.next)) (h.3 names),
   )
 
-  -- A list of commands is judged up to a position in it.
+  -- A list of commands is judged, without a fault, up to a position in it.
   abbrev pub Reached : Place → List Cmd → ℕ → Place → Type 0
   Reached a cs i b = Judged {U = ⊤} L P classes a (sequence (take i cs)) b (Ok tt)
 

@@ -77,7 +77,7 @@ StepsDecide =
     (L : Lattice) (P : Profile) (p : Program) (s : List ℕ) → IsLattice L → IsWellFormed L p → All (IsClass L) s →
     IsTypable L P p s ↔ (IsChoice p s × AreInOrder L (class_of L (p.globals ++ s)) (steps_of P p))
 
--- Two stores agree at a where they have equal words in every location of a class at or below a.
+-- Two stores agree at a if they have equal words in every location of a class at or below a.
 abbrev pub Agree : Lattice → Locations → ℕ → Store → Store → Type 0
 Agree L q a m m' =
     (l : ℕ) → l < length q → Below L (slice_index q l) a → slice_index_or m l (pos 0) ≡ slice_index_or m' l (pos 0)

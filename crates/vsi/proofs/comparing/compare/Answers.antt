@@ -3,7 +3,7 @@ use Rattle.std.proofs.lemmas.Result.{on_ok_weaker}
 use Rattle.std.specs.Io.KnownBytes.{Appends}
 use Rattle.vsi_devices.specs.Counted.{device_of}
 use Rattle.vsi.specs.Partly.{AnswersCompare}
-use Rattle.vsi.specs.Reasons.{LacksClassAt, OtherCompare, StopsBy, WhyCompare}
+use Rattle.vsi.specs.Reasons.{LacksCompare, OtherCompare, StopsBy, WhyCompare}
 use Rattle.vsi.proofs.Partly.{answer_leaves, kept_leaves}
 use Rattle.vsi.proofs.Reasons.{StopsBy-weaker, handed}
 use Rattle.vsi.proofs.Unrun.{answer_stopped}
@@ -30,7 +30,7 @@ returns-in_err-found-clause-stopped g c =
     (g.W.Write.contents (device_of c.args.output.now)) in
     handed (StopsBy why other) c.in_err-found.field-0.0 c.from_residual.result
     c.from_residual.ensures.1
-    (StopsBy-weaker why why (LacksClassAt holds c.args.asked.lattice.now c.args.asked.class.now) other (λ reason is. is)
+    (StopsBy-weaker why why (LacksCompare holds c.args.asked) other (λ reason is. is)
     (λ stop lacks. inl lacks) c.in_err-found.field-0.0 c.in_err-found.ensures.stopped)
 
 pub returns-clause-stopped : goal.returns-clause-stopped

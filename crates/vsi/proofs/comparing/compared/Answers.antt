@@ -2,9 +2,9 @@ use Rattle.std.proofs.Common.{◌∙◌, Ok, inl, inr, subst}
 use Rattle.std.specs.Prelude.{Some}
 use Rattle.vsi_answers.specs.Requests.{ComparesTo}
 use Rattle.vsi.specs.Performed.{IsStoredAt}
-use Rattle.vsi.specs.Reasons.{LacksClassAt, WhyCompare}
+use Rattle.vsi.specs.Reasons.{LacksClassAt, LacksCompare, WhyCompare}
 use Rattle.vsi.proofs.Reasons.{handed_reason}
-use Rattle.vsi.proofs.Unrun.{store_stopped, unseen_stopped}
+use Rattle.vsi.proofs.Unrun.{more_stopped, store_stopped, unbounded_stopped, unseen_stopped}
 use Rattle.vsi.proofs.comparing.compared.Goals as goal
 
 pub returns-clause-told : goal.returns-clause-told
@@ -23,13 +23,15 @@ returns-clause-told g c =
       from_second = subst
           (λ h. IsStoredAt h (Some c.args.asked.stores.1) c.in_ok-classes.verified c.in_ok-second.second.items)
           (c.in_ok-first.ensures.kept ∙ c.in_ok-classes.ensures.kept) c.in_ok-second.ensures.stored;
+      budget = c.in_ok-budget.budget;
+      within = c.in_ok-budget.ensures.budget;
       compares = subst
           (λ w. ComparesTo c.in_ok-classes.classes c.in_ok-classes.class c.in_ok-classes.verified
-          c.in_ok-first.first.items w c.args.asked.budget (Ok c.in_ok-found.found))
+          c.in_ok-first.first.items w c.in_ok-budget.budget (Ok c.in_ok-found.found))
           c.deref-2.ensures.value
           (subst
           (λ w. ComparesTo c.in_ok-classes.classes c.in_ok-classes.class c.in_ok-classes.verified w
-          c.deref-2.result.now c.args.asked.budget (Ok c.in_ok-found.found))
+          c.deref-2.result.now c.in_ok-budget.budget (Ok c.in_ok-found.found))
           c.deref.ensures.value c.in_ok-found.ensures.compares);
     }
 
@@ -37,17 +39,19 @@ pub returns-in_err-classes-clause-stopped : goal.returns-in_err-classes-clause-s
 returns-in_err-classes-clause-stopped g c =
     let holds = g.F.Files.holds c.args.files.now in
     let why = WhyCompare holds c.args.asked in
-    unseen_stopped holds c.args.asked.lattice.now c.args.asked.image.now why
+    more_stopped why (LacksClassAt holds c.args.asked.lattice.now c.args.asked.class.now)
+    (LacksCompare holds c.args.asked) c.from_residual.result (λ stop lacks. inl lacks)
+    (unseen_stopped holds c.args.asked.lattice.now c.args.asked.image.now why
     (LacksClassAt holds c.args.asked.lattice.now c.args.asked.class.now) c.from_residual.result
     c.in_err-classes.field-0.0 (λ reason is. inl is) (λ reason is. inr (inl is)) c.from_residual.ensures.1
-    c.in_err-classes.ensures.stopped
+    c.in_err-classes.ensures.stopped)
 
 pub returns-in_err-first-clause-stopped : goal.returns-in_err-first-clause-stopped
 returns-in_err-first-clause-stopped g c =
     let holds = g.F.Files.holds c.args.files.now in
     let why = WhyCompare holds c.args.asked in
     store_stopped holds _ c.args.asked.image.now (Some c.args.asked.stores.0) why
-    (LacksClassAt holds c.args.asked.lattice.now c.args.asked.class.now) c.in_ok-classes.verified
+    (LacksCompare holds c.args.asked) c.in_ok-classes.verified
     c.from_residual-in_err-first.result c.in_err-first.field-0.0 c.in_ok-classes.ensures.held
     c.in_ok-classes.ensures.kept (λ reason is. inr (inr (inl is))) c.from_residual-in_err-first.ensures.1
     c.in_err-first.ensures.stopped
@@ -57,15 +61,23 @@ returns-in_err-second-clause-stopped g c =
     let holds = g.F.Files.holds c.args.files.now in
     let why = WhyCompare holds c.args.asked in
     store_stopped holds _ c.args.asked.image.now (Some c.args.asked.stores.1) why
-    (LacksClassAt holds c.args.asked.lattice.now c.args.asked.class.now) c.in_ok-classes.verified
+    (LacksCompare holds c.args.asked) c.in_ok-classes.verified
     c.from_residual-in_err-second.result c.in_err-second.field-0.0 c.in_ok-classes.ensures.held
     (c.in_ok-first.ensures.kept ∙ c.in_ok-classes.ensures.kept) (λ reason is. inr (inr (inr (inl is))))
     c.from_residual-in_err-second.ensures.1 c.in_err-second.ensures.stopped
 
+pub returns-in_err-budget-clause-stopped : goal.returns-in_err-budget-clause-stopped
+returns-in_err-budget-clause-stopped g c =
+    let holds = g.F.Files.holds c.args.files.now in
+    unbounded_stopped holds c.args.asked.image.now c.args.asked.budget c.in_ok-classes.verified
+    (WhyCompare holds c.args.asked) (LacksCompare holds c.args.asked)
+    c.from_residual-in_err-budget.result c.in_err-budget.field-0.0 c.in_ok-classes.ensures.held
+    (λ s lacks. inr lacks) c.from_residual-in_err-budget.ensures.1 c.in_err-budget.ensures.stopped
+
 pub returns-in_err-found-clause-stopped : goal.returns-in_err-found-clause-stopped
 returns-in_err-found-clause-stopped g c =
     let holds = g.F.Files.holds c.args.files.now in
-    handed_reason (WhyCompare holds c.args.asked) (LacksClassAt holds c.args.asked.lattice.now c.args.asked.class.now)
+    handed_reason (WhyCompare holds c.args.asked) (LacksCompare holds c.args.asked)
     c.in_err-found.field-0.0 c.from_residual-in_err-found.result
     c.from_residual-in_err-found.ensures.1
     (inr (inr (inr (inr (record {
@@ -76,5 +88,7 @@ returns-in_err-found-clause-stopped g c =
       held = c.in_ok-classes.ensures.held;
       first = c.deref.result.now;
       second = c.deref-2.result.now;
+      budget = c.in_ok-budget.budget;
+      within = c.in_ok-budget.ensures.budget;
       is = c.in_err-found.ensures.compares;
     })))))

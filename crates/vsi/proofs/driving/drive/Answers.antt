@@ -8,14 +8,14 @@ use Rattle.vsi.specs.Driven.{DrivesInput}
 use Rattle.vsi.specs.Holding.{Delivers}
 use Rattle.vsi.specs.Partly.{AnswersDrive, DrivenText, Partly}
 use Rattle.vsi.specs.Performed.{IsStoredAt}
-use Rattle.vsi.specs.Reasons.{LacksClassAt, WhyDrive}
+use Rattle.vsi.specs.Reasons.{LacksClassAt, LacksDrive, WhyDrive}
 use Rattle.vsi.proofs.Driven.{control_is, written_back}
 use Rattle.vsi.proofs.Cut.{input_driven}
 use Rattle.vsi.proofs.Leaving.{driven_answers}
 use Rattle.vsi.proofs.Partly.{kept_leaf, kept_leaves, late_handed, late_leaves}
 use Rattle.vsi.proofs.Reasons.{late_stopped}
 use Rattle.vsi.proofs.Undriven.{controller_stops}
-use Rattle.vsi.proofs.Unrun.{handed_late, store_stopped, unseen_stopped}
+use Rattle.vsi.proofs.Unrun.{handed_late, more_stopped, store_stopped, unbounded_stopped, unseen_stopped}
 use Rattle.vsi.proofs.driving.drive.Goals as goal
 
 pub returns-clause-performed : goal.returns-clause-performed
@@ -37,9 +37,11 @@ returns-clause-performed g c =
       stored = subst (λ h. IsStoredAt h asked.store image c.in_ok-words.words.items)
           c.in_ok-classes.ensures.kept c.in_ok-words.ensures.stored;
       words = c.deref.result.now;
+      budget = c.in_ok-budget.budget;
+      within = c.in_ok-budget.ensures.budget;
       drives = subst (λ k. DrivesInput k c.in_ok-words.words.items c.deref.result.now given old new)
-          (control_is (control c.in-Ok.controller) c.in_ok-classes.classes c.in_ok-classes.driver image asked.budget
-          c.in-Ok.ensures.known c.in-Ok.ensures.order c.in-Ok.ensures.class c.in-Ok.ensures.image
+          (control_is (control c.in-Ok.controller) c.in_ok-classes.classes c.in_ok-classes.driver image
+          c.in_ok-budget.budget c.in-Ok.ensures.known c.in-Ok.ensures.order c.in-Ok.ensures.class c.in-Ok.ensures.image
           c.in-Ok.ensures.budget)
           (subst (λ m. DrivesInput (control c.in-Ok.controller) m c.deref.result.now given old new)
           c.deref_mut.ensures.value
@@ -58,24 +60,35 @@ returns-clause-performed g c =
 pub returns-in_err-classes-clause-stopped : goal.returns-in_err-classes-clause-stopped
 returns-in_err-classes-clause-stopped g c =
     let holds = g.F.Files.holds c.args.files.now in
-    unseen_stopped holds c.args.driving.lattice.now c.args.driving.execution.image.now (WhyDrive holds c.args.driving)
+    more_stopped (WhyDrive holds c.args.driving)
+    (LacksClassAt holds c.args.driving.lattice.now c.args.driving.class.now)
+    (LacksDrive holds c.args.driving) c.from_residual.result (λ stop lacks. inl lacks)
+    (unseen_stopped holds c.args.driving.lattice.now c.args.driving.execution.image.now (WhyDrive holds c.args.driving)
     (LacksClassAt holds c.args.driving.lattice.now c.args.driving.class.now) c.from_residual.result
     c.in_err-classes.field-0.0 (λ reason is. inl is) (λ reason is. inr (inl is)) c.from_residual.ensures.1
-    c.in_err-classes.ensures.stopped
+    c.in_err-classes.ensures.stopped)
 
 pub returns-in_err-words-clause-stopped : goal.returns-in_err-words-clause-stopped
 returns-in_err-words-clause-stopped g c =
     let holds = g.F.Files.holds c.args.files.now in
     store_stopped holds _ c.args.driving.execution.image.now c.args.driving.execution.store
-    (WhyDrive holds c.args.driving) (LacksClassAt holds c.args.driving.lattice.now c.args.driving.class.now)
+    (WhyDrive holds c.args.driving) (LacksDrive holds c.args.driving)
     c.in_ok-classes.verified c.from_residual-in_err-words.result
     c.in_err-words.field-0.0 c.in_ok-classes.ensures.held c.in_ok-classes.ensures.kept
     (λ reason is. inr (inr (inl is))) c.from_residual-in_err-words.ensures.1 c.in_err-words.ensures.stopped
 
+pub returns-in_err-budget-clause-stopped : goal.returns-in_err-budget-clause-stopped
+returns-in_err-budget-clause-stopped g c =
+    let holds = g.F.Files.holds c.args.files.now in
+    unbounded_stopped holds c.args.driving.execution.image.now c.args.driving.execution.budget c.in_ok-classes.verified
+    (WhyDrive holds c.args.driving) (LacksDrive holds c.args.driving)
+    c.from_residual-in_err-budget.result c.in_err-budget.field-0.0 c.in_ok-classes.ensures.held
+    (λ s lacks. inr lacks) c.from_residual-in_err-budget.ensures.1 c.in_err-budget.ensures.stopped
+
 pub returns-in_err-drive_input-in-Ok-clause-stopped : goal.returns-in_err-drive_input-in-Ok-clause-stopped
 returns-in_err-drive_input-in-Ok-clause-stopped g c =
     let holds = g.F.Files.holds c.args.files.now in
-    late_stopped (WhyDrive holds c.args.driving) (LacksClassAt holds c.args.driving.lattice.now c.args.driving.class.now)
+    late_stopped (WhyDrive holds c.args.driving) (LacksDrive holds c.args.driving)
     c.from_residual-in_err-drive_input-in-Ok.result c.in_err-drive_input-in-Ok.field-0.0
     c.from_residual-in_err-drive_input-in-Ok.ensures.1 c.in_err-drive_input-in-Ok.ensures.stop
 
@@ -88,7 +101,7 @@ returns-in-Err-clause-stopped g c =
 pub returns-clause-stopped : goal.returns-clause-stopped
 returns-clause-stopped g c =
     let holds = g.F.Files.holds c.args.files.now in
-    handed_late (WhyDrive holds c.args.driving) (LacksClassAt holds c.args.driving.lattice.now c.args.driving.class.now)
+    handed_late (WhyDrive holds c.args.driving) (LacksDrive holds c.args.driving)
     c.save.result c.save.ensures.stop
 
 pub returns-in_err-classes-clause-left : goal.returns-in_err-classes-clause-left
@@ -96,6 +109,9 @@ returns-in_err-classes-clause-left g c = kept_leaves _ 4 _ c.from_residual.resul
 
 pub returns-in_err-words-clause-left : goal.returns-in_err-words-clause-left
 returns-in_err-words-clause-left g c = kept_leaves _ 4 _ c.from_residual-in_err-words.result
+
+pub returns-in_err-budget-clause-left : goal.returns-in_err-budget-clause-left
+returns-in_err-budget-clause-left g c = kept_leaves _ 4 _ c.from_residual-in_err-budget.result
 
 pub returns-in-Err-clause-left : goal.returns-in-Err-clause-left
 returns-in-Err-clause-left g c = kept_leaf _ 4 _ c.faulty.result
@@ -113,10 +129,11 @@ returns-in_err-drive_input-in-Ok-clause-left g c =
     late_handed (AnswersDrive holds c.args.driving given) old new c.from_residual-in_err-drive_input-in-Ok.result
     c.in_err-drive_input-in-Ok.field-0.0 c.from_residual-in_err-drive_input-in-Ok.ensures.1
     c.in_err-drive_input-in-Ok.ensures.stop
-    (driven_answers holds c.args.driving given old new c.in_ok-classes.classes c.in_ok-classes.driver image words drives
-    c.in_ok-classes.ensures.looks c.in_ok-classes.ensures.held
+    (driven_answers holds c.args.driving given old new c.in_ok-classes.classes c.in_ok-classes.driver image words
+    c.in_ok-budget.budget drives c.in_ok-budget.ensures.budget c.in_ok-classes.ensures.looks c.in_ok-classes.ensures.held
     (subst (λ h. IsStoredAt h asked.store image words) c.in_ok-classes.ensures.kept c.in_ok-words.ensures.stored)
-    (control_is drives c.in_ok-classes.classes c.in_ok-classes.driver image asked.budget c.in-Ok.ensures.known
+    (control_is drives c.in_ok-classes.classes c.in_ok-classes.driver image
+    c.in_ok-budget.budget c.in-Ok.ensures.known
     c.in-Ok.ensures.order c.in-Ok.ensures.class c.in-Ok.ensures.image c.in-Ok.ensures.budget)
     (subst (λ m. Partly (DrivenText drives m given) old new) c.deref_mut.ensures.value
     c.in_err-drive_input-in-Ok.ensures.cut))
@@ -132,10 +149,11 @@ returns-clause-left g c =
     let words = c.in_ok-words.words.items in
     let image = c.in_ok-classes.verified in
     late_leaves (AnswersDrive holds c.args.driving given) old new c.save.result c.save.ensures.stop
-    (driven_answers holds c.args.driving given old new c.in_ok-classes.classes c.in_ok-classes.driver image words drives
-    c.in_ok-classes.ensures.looks c.in_ok-classes.ensures.held
+    (driven_answers holds c.args.driving given old new c.in_ok-classes.classes c.in_ok-classes.driver image words
+    c.in_ok-budget.budget drives c.in_ok-budget.ensures.budget c.in_ok-classes.ensures.looks c.in_ok-classes.ensures.held
     (subst (λ h. IsStoredAt h asked.store image words) c.in_ok-classes.ensures.kept c.in_ok-words.ensures.stored)
-    (control_is drives c.in_ok-classes.classes c.in_ok-classes.driver image asked.budget c.in-Ok.ensures.known
+    (control_is drives c.in_ok-classes.classes c.in_ok-classes.driver image
+    c.in_ok-budget.budget c.in-Ok.ensures.known
     c.in-Ok.ensures.order c.in-Ok.ensures.class c.in-Ok.ensures.image c.in-Ok.ensures.budget)
     (subst (λ m. Partly (DrivenText drives m given) old new) c.deref_mut.ensures.value
     (input_driven drives c.deref_mut.result.now _ given old new c.in_ok-drive_input-in-Ok.ensures.driven)))

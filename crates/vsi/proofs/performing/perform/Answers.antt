@@ -4,7 +4,7 @@ use Rattle.std.specs.Io.KnownBytes.{Appends}
 use Rattle.vsi_devices.specs.Counted.{device_of}
 use Rattle.vsi_answers.specs.Requests.{ListsTo}
 use Rattle.vsi.specs.Shaping.{ShapedText}
-use Rattle.vsi.specs.Reasons.{AsksCanonical, AsksClasses, AsksFlows, HasNoText, LacksTried, NoOther, OtherLeak, RefusesAudit, RefusesFile, RefusesFiles, RefusesImage, RefusesLattice, RefusesSource, WhyDraw, WhyEmit, WhyTry}
+use Rattle.vsi.specs.Reasons.{AsksCanonical, AsksClasses, AsksFlows, AsksMend, HasNoText, LacksEmitBound, LacksTried, NoOther, OtherLeak, RefusesAudit, RefusesFile, RefusesFiles, RefusesImage, RefusesLattice, RefusesSource, WhyDraw, WhyEmit, WhyTry}
 use Rattle.vsi.proofs.Filled.{alone}
 use Rattle.vsi.proofs.Obeyed.{put_stops}
 use Rattle.vsi.proofs.Unrun.{Unseen, fault_stopped}
@@ -23,6 +23,11 @@ pub returns-in-Flows-clause-performed : goal.returns-in-Flows-clause-performed
 returns-in-Flows-clause-performed g c = rw c.in-Flows.is
     (put_alone _ _ _ _ _ c.flows.result c.put-in-Flows.result c.flows.ensures.kept c.flows.ensures.told
     c.put-in-Flows.ensures.done)
+
+pub returns-in-Mend-clause-performed : goal.returns-in-Mend-clause-performed
+returns-in-Mend-clause-performed g c = rw c.in-Mend.is
+    (put_alone _ _ _ _ _ c.mend.result c.put-in-Mend.result c.mend.ensures.kept c.mend.ensures.told
+    c.put-in-Mend.ensures.done)
 
 pub returns-in-List-clause-performed : goal.returns-in-List-clause-performed
 returns-in-List-clause-performed g c = rw c.in-List.is
@@ -76,6 +81,10 @@ pub returns-in-Conform-clause-performed : goal.returns-in-Conform-clause-perform
 returns-in-Conform-clause-performed g c = rw c.in-Conform.is
     (alone _ c.conform.result _ _ c.conform.ensures.kept c.conform.ensures.performed)
 
+pub returns-in-Bound-clause-performed : goal.returns-in-Bound-clause-performed
+returns-in-Bound-clause-performed g c = rw c.in-Bound.is
+    (alone _ c.bound.result _ _ c.bound.ensures.kept c.bound.ensures.performed)
+
 pub returns-in-Compare-clause-performed : goal.returns-in-Compare-clause-performed
 returns-in-Compare-clause-performed g c = rw c.in-Compare.is
     (alone _ c.compare.result _ _ c.compare.ensures.kept c.compare.ensures.performed)
@@ -118,6 +127,10 @@ returns-in-Classes-clause-left g c = rw c.in-Classes.is
 pub returns-in-Flows-clause-left : goal.returns-in-Flows-clause-left
 returns-in-Flows-clause-left g c = rw c.in-Flows.is
     (put_leaves _ _ _ c.flows.result c.put-in-Flows.result c.flows.ensures.told c.put-in-Flows.ensures.left)
+
+pub returns-in-Mend-clause-left : goal.returns-in-Mend-clause-left
+returns-in-Mend-clause-left g c = rw c.in-Mend.is
+    (put_leaves _ _ _ c.mend.result c.put-in-Mend.result c.mend.ensures.told c.put-in-Mend.ensures.left)
 
 pub returns-in-List-clause-left : goal.returns-in-List-clause-left
 returns-in-List-clause-left g c = rw c.in-List.is
@@ -175,6 +188,9 @@ returns-in-Check-clause-left g c = rw c.in-Check.is c.put_check.ensures.left
 pub returns-in-Conform-clause-left : goal.returns-in-Conform-clause-left
 returns-in-Conform-clause-left g c = rw c.in-Conform.is c.conform.ensures.left
 
+pub returns-in-Bound-clause-left : goal.returns-in-Bound-clause-left
+returns-in-Bound-clause-left g c = rw c.in-Bound.is c.bound.ensures.left
+
 pub returns-in-Compare-clause-left : goal.returns-in-Compare-clause-left
 returns-in-Compare-clause-left g c = rw c.in-Compare.is c.compare.ensures.left
 
@@ -202,6 +218,13 @@ returns-in-Flows-clause-stopped g c = rw c.in-Flows.is
     NoOther
     c.flows.result c.put-in-Flows.result c.flows.ensures.stopped c.put-in-Flows.ensures.stopped)
 
+pub returns-in-Mend-clause-stopped : goal.returns-in-Mend-clause-stopped
+returns-in-Mend-clause-stopped g c = rw c.in-Mend.is
+    (put_stops (RefusesFiles (g.F.Files.holds c.args.files.now) c.in-Mend.asked.compilation
+    (AsksMend c.in-Mend.asked.is_applied c.in-Mend.asked.compilation.is_strict))
+    NoOther
+    c.mend.result c.put-in-Mend.result c.mend.ensures.stopped c.put-in-Mend.ensures.stopped)
+
 pub returns-in-List-clause-stopped : goal.returns-in-List-clause-stopped
 returns-in-List-clause-stopped g c = rw c.in-List.is
     (put_stops (RefusesFile (g.F.Files.holds c.args.files.now) c.in-List.image.now ListsTo) NoOther
@@ -215,7 +238,8 @@ returns-in-Source-clause-stopped g c = rw c.in-Source.is
 
 pub returns-in-EmitC-clause-stopped : goal.returns-in-EmitC-clause-stopped
 returns-in-EmitC-clause-stopped g c = rw c.in-EmitC.is
-    (put_stops (WhyEmit (g.F.Files.holds c.args.files.now) c.in-EmitC.asked.lattice c.in-EmitC.asked.file) NoOther
+    (put_stops (WhyEmit (g.F.Files.holds c.args.files.now) c.in-EmitC.asked.lattice c.in-EmitC.asked.file)
+    (LacksEmitBound (g.F.Files.holds c.args.files.now) c.in-EmitC.asked)
     c.emit.result c.put-in-EmitC.result c.emit.ensures.stopped c.put-in-EmitC.ensures.stopped)
 
 pub returns-in-Leak-clause-stopped : goal.returns-in-Leak-clause-stopped
@@ -274,6 +298,9 @@ returns-in-View-clause-stopped g c = rw c.in-View.is c.view.ensures.stopped
 
 pub returns-in-Drive-clause-stopped : goal.returns-in-Drive-clause-stopped
 returns-in-Drive-clause-stopped g c = rw c.in-Drive.is c.drive.ensures.stopped
+
+pub returns-in-Bound-clause-stopped : goal.returns-in-Bound-clause-stopped
+returns-in-Bound-clause-stopped g c = rw c.in-Bound.is c.bound.ensures.stopped
 
 pub returns-in-Compare-clause-stopped : goal.returns-in-Compare-clause-stopped
 returns-in-Compare-clause-stopped g c = rw c.in-Compare.is c.compare.ensures.stopped

@@ -5,12 +5,12 @@ use Rattle.std.specs.Io.KnownBytes.{Appends}
 use Rattle.vsi_devices.specs.Counted.{device_of}
 use Rattle.vsi.specs.Partly.{AnswersRun}
 use Rattle.vsi.specs.Performed.{BeginsAt, shown}
-use Rattle.vsi.specs.Reasons.{NoOther, WhyRun}
+use Rattle.vsi.specs.Reasons.{LacksBoundAt, WhyRun}
 use Rattle.vsi.proofs.Filled.{both_done, delivered_of}
 use Rattle.vsi.proofs.Leaving.{cut_part, device_leaf, shown_part, traced_part}
 use Rattle.vsi.proofs.Partly.{kept_leaves, memory_handed, spent_leaf, spent_leaves}
 use Rattle.vsi.proofs.Reasons.{stopped_by}
-use Rattle.vsi.proofs.Unrun.{Unstarted, ended_stops, handed_late, memory_stopped}
+use Rattle.vsi.proofs.Unrun.{Unstarted, ended_stops, handed_late, memory_stopped, unbounded_stopped}
 use Rattle.vsi.proofs.running.run.Goals as goal
 
 pub returns-in-Ok-Some-clause-performed : goal.returns-in-Ok-Some-clause-performed
@@ -27,6 +27,8 @@ returns-in-Ok-Some-clause-performed g c =
             (BeginsAt (g.F.Files.holds c.args.files.now) c.args.asked.now.execution c.args.asked.now.outset
             c.in_ok-verified.verified)
             (sym c.deref.ensures.value) c.in_ok-verified.ensures.begins;
+        budget = c.in_ok-budget.budget;
+        within = c.in_ok-budget.ensures.budget;
         ran = ran.1;
       };
       written = Appends-trans (g.W.Write.contents (device_of c.args.output.now))
@@ -47,26 +49,42 @@ returns-in_err-verified-clause-stopped g c =
     let holds = g.F.Files.holds c.args.files.now in
     let old = g.W.Write.contents (device_of c.args.output.now) in
     stopped_by (Unstarted holds c.args.asked.now.execution c.args.asked.now.outset)
-    (WhyRun holds c.args.asked.now.execution c.args.asked.now.outset c.args.asked.now.has_trace old old) NoOther
+    (WhyRun holds c.args.asked.now.execution c.args.asked.now.outset c.args.asked.now.has_trace old old)
+    (LacksBoundAt holds c.args.asked.now.execution.image.now c.args.asked.now.execution.budget)
     (λ reason is. elim is [
       | inl refused ↦ inl refused
       | inr refused ↦ inr (inl refused)
     ])
     c.from_residual.result c.in_err-verified.field-0.0 c.from_residual.ensures.1 c.in_err-verified.ensures.stopped
 
+pub returns-in_err-budget-clause-stopped : goal.returns-in_err-budget-clause-stopped
+returns-in_err-budget-clause-stopped g c =
+    let holds = g.F.Files.holds c.args.files.now in
+    let old = g.W.Write.contents (device_of c.args.output.now) in
+    let asked = c.args.asked.now in
+    unbounded_stopped holds asked.execution.image.now asked.execution.budget c.in_ok-verified.verified
+    (WhyRun holds asked.execution asked.outset asked.has_trace old old)
+    (LacksBoundAt holds asked.execution.image.now asked.execution.budget)
+    c.from_residual-in_err-budget.result c.in_err-budget.field-0.0 c.in_ok-verified.ensures.begins.image
+    (λ s lacks. lacks) c.from_residual-in_err-budget.ensures.1 c.in_err-budget.ensures.stopped
+
 pub returns-in-Ok-Some-clause-stopped : goal.returns-in-Ok-Some-clause-stopped
 returns-in-Ok-Some-clause-stopped g c =
     let holds = g.F.Files.holds c.args.files.now in
     let why = WhyRun holds c.args.asked.now.execution c.args.asked.now.outset c.args.asked.now.has_trace
     (g.W.Write.contents (device_of c.args.output.now)) (g.W.Write.contents (device_of c.deliver.new.output)) in
-    handed_late why NoOther c.deliver.result c.deliver.ensures.stop
+    handed_late why
+    (LacksBoundAt holds c.args.asked.now.execution.image.now c.args.asked.now.execution.budget)
+    c.deliver.result c.deliver.ensures.stop
 
 pub returns-in_err-put_count-in-Ok-Some-clause-stopped : goal.returns-in_err-put_count-in-Ok-Some-clause-stopped
 returns-in_err-put_count-in-Ok-Some-clause-stopped g c =
     let holds = g.F.Files.holds c.args.files.now in
     let why = WhyRun holds c.args.asked.now.execution c.args.asked.now.outset c.args.asked.now.has_trace
     (g.W.Write.contents (device_of c.args.output.now)) (g.W.Write.contents (device_of c.run_words.new.writer)) in
-    memory_stopped why NoOther c.from_residual-in_err-put_count-in-Ok-Some.result c.in_err-put_count-in-Ok-Some.field-0.0
+    memory_stopped why
+    (LacksBoundAt holds c.args.asked.now.execution.image.now c.args.asked.now.execution.budget)
+    c.from_residual-in_err-put_count-in-Ok-Some.result c.in_err-put_count-in-Ok-Some.field-0.0
     c.from_residual-in_err-put_count-in-Ok-Some.ensures.1 c.in_err-put_count-in-Ok-Some.ensures
 
 pub returns-in_err-put_count-in-Ok-None-clause-stopped : goal.returns-in_err-put_count-in-Ok-None-clause-stopped
@@ -74,7 +92,9 @@ returns-in_err-put_count-in-Ok-None-clause-stopped g c =
     let holds = g.F.Files.holds c.args.files.now in
     let why = WhyRun holds c.args.asked.now.execution c.args.asked.now.outset c.args.asked.now.has_trace
     (g.W.Write.contents (device_of c.args.output.now)) (g.W.Write.contents (device_of c.run_words.new.writer)) in
-    memory_stopped why NoOther c.from_residual-in_err-put_count-in-Ok-None.result c.in_err-put_count-in-Ok-None.field-0.0
+    memory_stopped why
+    (LacksBoundAt holds c.args.asked.now.execution.image.now c.args.asked.now.execution.budget)
+    c.from_residual-in_err-put_count-in-Ok-None.result c.in_err-put_count-in-Ok-None.field-0.0
     c.from_residual-in_err-put_count-in-Ok-None.ensures.1 c.in_err-put_count-in-Ok-None.ensures
 
 pub returns-in-Ok-None-clause-stopped : goal.returns-in-Ok-None-clause-stopped
@@ -90,6 +110,8 @@ returns-in-Ok-None-clause-stopped g c =
             (BeginsAt (g.F.Files.holds c.args.files.now) c.args.asked.now.execution c.args.asked.now.outset
             c.in_ok-verified.verified)
             (sym c.deref.ensures.value) c.in_ok-verified.ensures.begins;
+        budget = c.in_ok-budget.budget;
+        within = c.in_ok-budget.ensures.budget;
         ran = ran.1;
         written = ran.2;
       },
@@ -100,11 +122,16 @@ returns-clause-stopped g c =
     let holds = g.F.Files.holds c.args.files.now in
     let why = WhyRun holds c.args.asked.now.execution c.args.asked.now.outset c.args.asked.now.has_trace
     (g.W.Write.contents (device_of c.args.output.now)) (g.W.Write.contents (device_of c.run_words.new.writer)) in
-    ended_stops why NoOther c.in-Err.error c.device_stop.result c.in-Err.ensures.only c.device_stop.ensures.write
+    ended_stops why
+    (LacksBoundAt holds c.args.asked.now.execution.image.now c.args.asked.now.execution.budget)
+    c.in-Err.error c.device_stop.result c.in-Err.ensures.only c.device_stop.ensures.write
     c.device_stop.ensures.memory
 
 pub returns-in_err-verified-clause-left : goal.returns-in_err-verified-clause-left
 returns-in_err-verified-clause-left g c = kept_leaves _ 3 _ c.from_residual.result
+
+pub returns-in_err-budget-clause-left : goal.returns-in_err-budget-clause-left
+returns-in_err-budget-clause-left g c = kept_leaves _ 3 _ c.from_residual-in_err-budget.result
 
 pub returns-in-Ok-Some-clause-left : goal.returns-in-Ok-Some-clause-left
 returns-in-Ok-Some-clause-left g c =
@@ -116,8 +143,9 @@ returns-in-Ok-Some-clause-left g c =
     spent_leaves (AnswersRun holds asked.execution asked.outset asked.has_trace) old
     (g.W.Write.contents (device_of c.deliver.new.output)) c.deliver.result c.deliver.ensures.stop
     (shown_part holds asked.execution asked.outset asked.has_trace c.in_ok-verified.verified c.deref.result.now _
-    c.in-Ok-Some.text.items c.deref-in-Ok-Some-2.result.now ran.0 old mid
-    (g.W.Write.contents (device_of c.deliver.new.output)) c.in_ok-verified.ensures.begins c.deref.ensures.value ran.1
+    c.in_ok-budget.budget c.in-Ok-Some.text.items c.deref-in-Ok-Some-2.result.now ran.0 old mid
+    (g.W.Write.contents (device_of c.deliver.new.output)) c.in_ok-budget.ensures.budget
+    c.in_ok-verified.ensures.begins c.deref.ensures.value ran.1
     ran.2 c.deref-in-Ok-Some-2.ensures.value c.deliver.ensures.part)
 
 pub returns-in_err-put_count-in-Ok-Some-clause-left : goal.returns-in_err-put_count-in-Ok-Some-clause-left
@@ -130,8 +158,9 @@ returns-in_err-put_count-in-Ok-Some-clause-left g c =
     memory_handed (AnswersRun holds asked.execution asked.outset asked.has_trace) old mid
     c.from_residual-in_err-put_count-in-Ok-Some.result c.in_err-put_count-in-Ok-Some.field-0.0
     c.from_residual-in_err-put_count-in-Ok-Some.ensures.1 c.in_err-put_count-in-Ok-Some.ensures
-    (traced_part holds asked.execution asked.outset asked.has_trace c.in_ok-verified.verified c.deref.result.now _ _
-    ran.0 old mid c.in_ok-verified.ensures.begins c.deref.ensures.value ran.1 ran.2)
+    (traced_part holds asked.execution asked.outset asked.has_trace c.in_ok-verified.verified c.deref.result.now _
+    c.in_ok-budget.budget _ ran.0 old mid c.in_ok-budget.ensures.budget
+    c.in_ok-verified.ensures.begins c.deref.ensures.value ran.1 ran.2)
 
 pub returns-in_err-put_count-in-Ok-None-clause-left : goal.returns-in_err-put_count-in-Ok-None-clause-left
 returns-in_err-put_count-in-Ok-None-clause-left g c =
@@ -143,8 +172,9 @@ returns-in_err-put_count-in-Ok-None-clause-left g c =
     memory_handed (AnswersRun holds asked.execution asked.outset asked.has_trace) old mid
     c.from_residual-in_err-put_count-in-Ok-None.result c.in_err-put_count-in-Ok-None.field-0.0
     c.from_residual-in_err-put_count-in-Ok-None.ensures.1 c.in_err-put_count-in-Ok-None.ensures
-    (traced_part holds asked.execution asked.outset asked.has_trace c.in_ok-verified.verified c.deref.result.now _ _
-    ran.0 old mid c.in_ok-verified.ensures.begins c.deref.ensures.value ran.1 ran.2)
+    (traced_part holds asked.execution asked.outset asked.has_trace c.in_ok-verified.verified c.deref.result.now _
+    c.in_ok-budget.budget _ ran.0 old mid c.in_ok-budget.ensures.budget
+    c.in_ok-verified.ensures.begins c.deref.ensures.value ran.1 ran.2)
 
 pub returns-in-Ok-None-clause-left : goal.returns-in-Ok-None-clause-left
 returns-in-Ok-None-clause-left g c =
@@ -154,8 +184,9 @@ returns-in-Ok-None-clause-left g c =
     let mid = g.W.Write.contents (device_of c.run_words.new.writer) in
     let ran = rw c.in-Ok-None.field-0-is at c.in-Ok-None.ensures.ran in
     spent_leaf (AnswersRun holds asked.execution asked.outset asked.has_trace) old mid _ (omega arith)
-    (traced_part holds asked.execution asked.outset asked.has_trace c.in_ok-verified.verified c.deref.result.now _ _
-    ran.0 old mid c.in_ok-verified.ensures.begins c.deref.ensures.value ran.1 ran.2)
+    (traced_part holds asked.execution asked.outset asked.has_trace c.in_ok-verified.verified c.deref.result.now _
+    c.in_ok-budget.budget _ ran.0 old mid c.in_ok-budget.ensures.budget
+    c.in_ok-verified.ensures.begins c.deref.ensures.value ran.1 ran.2)
 
 pub returns-clause-left : goal.returns-clause-left
 returns-clause-left g c =
@@ -166,5 +197,6 @@ returns-clause-left g c =
     device_leaf (AnswersRun holds asked.execution asked.outset asked.has_trace) c.in-Err.error old mid
     c.device_stop.result c.in-Err.ensures.only c.device_stop.ensures.write c.device_stop.ensures.memory
     (cut_part holds asked.execution asked.outset asked.has_trace c.in_ok-verified.verified c.deref.result.now _
-    c.in-Err.error old mid c.in_ok-verified.ensures.begins c.deref.ensures.value c.in-Err.ensures.only
+    c.in_ok-budget.budget c.in-Err.error old mid c.in_ok-budget.ensures.budget
+    c.in_ok-verified.ensures.begins c.deref.ensures.value c.in-Err.ensures.only
     (λ e. c.in-Err.ensures.prefix (ap Err e)) (λ e. c.in-Err.ensures.memory (ap Err e)))

@@ -1,9 +1,9 @@
 use Rattle.std.proofs.Common.{Ok, Err, inl, inr, subst}
 use Rattle.vsi_answers.specs.Requests.{ViewsTo}
 use Rattle.vsi.specs.Holding.{IsStoreAt}
-use Rattle.vsi.specs.Reasons.{LacksClassAt, WhyView}
+use Rattle.vsi.specs.Reasons.{LacksClassAt, LacksEither, WhyView}
 use Rattle.vsi.proofs.Reasons.{handed_reason, late_stopped}
-use Rattle.vsi.proofs.Unrun.{begins_at, start_stopped, unseen_stopped}
+use Rattle.vsi.proofs.Unrun.{begins_at, more_stopped, start_stopped, unbounded_stopped, unseen_stopped}
 use Rattle.vsi.proofs.running.seen.Goals as goal
 
 pub returns-clause-told : goal.returns-clause-told
@@ -20,9 +20,11 @@ returns-clause-told g c =
           (subst (λ h. IsStoreAt h c.args.execution.store c.in_ok-file.file.items) c.in_ok-classes.ensures.kept
           c.in_ok-file.ensures.read)
           c.deref.ensures.value c.in_ok-words.ensures.begins c.in_ok-words.ensures.len;
+      budget = c.in_ok-budget.budget;
+      within = c.in_ok-budget.ensures.budget;
       views = subst
           (λ w. ViewsTo c.in_ok-classes.classes c.in_ok-classes.viewer c.in_ok-classes.verified w
-          c.args.execution.budget (Ok c.in_ok-view.field-0))
+          c.in_ok-budget.budget (Ok c.in_ok-view.field-0))
           c.deref-2.ensures.value c.in_ok-view.ensures.views;
     }
 
@@ -30,15 +32,20 @@ pub returns-in_err-classes-clause-stopped : goal.returns-in_err-classes-clause-s
 returns-in_err-classes-clause-stopped g c =
     let holds = g.F.Files.holds c.args.files.now in
     let why = WhyView holds c.args.lattice.now c.args.class.now c.args.execution c.args.outset.now in
-    unseen_stopped holds c.args.lattice.now c.args.execution.image.now why
+    more_stopped why (LacksClassAt holds c.args.lattice.now c.args.class.now)
+    (LacksEither holds c.args.lattice.now c.args.class.now c.args.execution.image.now c.args.execution.budget)
+    c.from_residual.result (λ stop lacks. inl lacks)
+    (unseen_stopped holds c.args.lattice.now c.args.execution.image.now why
     (LacksClassAt holds c.args.lattice.now c.args.class.now) c.from_residual.result c.in_err-classes.field-0.0
-    (λ reason is. inl is) (λ reason is. inr (inl is)) c.from_residual.ensures.1 c.in_err-classes.ensures.stopped
+    (λ reason is. inl is) (λ reason is. inr (inl is)) c.from_residual.ensures.1 c.in_err-classes.ensures.stopped)
 
 pub returns-in_err-file-clause-stopped : goal.returns-in_err-file-clause-stopped
 returns-in_err-file-clause-stopped g c =
     let holds = g.F.Files.holds c.args.files.now in
     let why = WhyView holds c.args.lattice.now c.args.class.now c.args.execution c.args.outset.now in
-    late_stopped why (LacksClassAt holds c.args.lattice.now c.args.class.now) c.from_residual-in_err-file.result
+    late_stopped why
+    (LacksEither holds c.args.lattice.now c.args.class.now c.args.execution.image.now c.args.execution.budget)
+    c.from_residual-in_err-file.result
     c.in_err-file.field-0.0 c.from_residual-in_err-file.ensures.1 c.in_err-file.ensures.stopped
 
 pub returns-in_err-words-clause-stopped : goal.returns-in_err-words-clause-stopped
@@ -46,18 +53,30 @@ returns-in_err-words-clause-stopped g c =
     let holds = g.F.Files.holds c.args.files.now in
     let why = WhyView holds c.args.lattice.now c.args.class.now c.args.execution c.args.outset.now in
     start_stopped holds c.args.execution c.args.outset.now why
-    (LacksClassAt holds c.args.lattice.now c.args.class.now) c.in_ok-classes.verified c.in_ok-file.file.items
+    (LacksEither holds c.args.lattice.now c.args.class.now c.args.execution.image.now c.args.execution.budget)
+    c.in_ok-classes.verified c.in_ok-file.file.items
     c.deref.result.now c.from_residual-in_err-words.result c.in_err-words.field-0.0 c.in_ok-classes.ensures.held
     (subst (λ h. IsStoreAt h c.args.execution.store c.in_ok-file.file.items) c.in_ok-classes.ensures.kept
     c.in_ok-file.ensures.read)
     c.deref.ensures.value (λ reason is. inr (inr (inl is))) c.from_residual-in_err-words.ensures.1
     c.in_err-words.ensures.stopped
 
+pub returns-in_err-budget-clause-stopped : goal.returns-in_err-budget-clause-stopped
+returns-in_err-budget-clause-stopped g c =
+    let holds = g.F.Files.holds c.args.files.now in
+    let why = WhyView holds c.args.lattice.now c.args.class.now c.args.execution c.args.outset.now in
+    unbounded_stopped holds c.args.execution.image.now c.args.execution.budget c.in_ok-classes.verified why
+    (LacksEither holds c.args.lattice.now c.args.class.now c.args.execution.image.now c.args.execution.budget)
+    c.from_residual-in_err-budget.result c.in_err-budget.field-0.0 c.in_ok-classes.ensures.held
+    (λ s lacks. inr lacks) c.from_residual-in_err-budget.ensures.1 c.in_err-budget.ensures.stopped
+
 pub returns-in_err-view-clause-stopped : goal.returns-in_err-view-clause-stopped
 returns-in_err-view-clause-stopped g c =
     let holds = g.F.Files.holds c.args.files.now in
     let why = WhyView holds c.args.lattice.now c.args.class.now c.args.execution c.args.outset.now in
-    handed_reason why (LacksClassAt holds c.args.lattice.now c.args.class.now) c.in_err-view.field-0.0
+    handed_reason why
+    (LacksEither holds c.args.lattice.now c.args.class.now c.args.execution.image.now c.args.execution.budget)
+    c.in_err-view.field-0.0
     c.from_residual-in_err-view.result c.from_residual-in_err-view.ensures.1
     (inr (inr (inr (record {
       lattice = c.in_ok-classes.classes;
@@ -71,8 +90,10 @@ returns-in_err-view-clause-stopped g c =
           (subst (λ h. IsStoreAt h c.args.execution.store c.in_ok-file.file.items) c.in_ok-classes.ensures.kept
           c.in_ok-file.ensures.read)
           c.deref.ensures.value c.in_ok-words.ensures.begins c.in_ok-words.ensures.len;
+      budget = c.in_ok-budget.budget;
+      within = c.in_ok-budget.ensures.budget;
       is = subst
           (λ w. ViewsTo c.in_ok-classes.classes c.in_ok-classes.viewer c.in_ok-classes.verified w
-          c.args.execution.budget (Err c.in_err-view.field-0.0))
+          c.in_ok-budget.budget (Err c.in_err-view.field-0.0))
           c.deref-2.ensures.value c.in_err-view.ensures.views;
     }))))

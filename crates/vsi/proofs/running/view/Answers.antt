@@ -4,7 +4,7 @@ use Rattle.std.specs.Io.KnownBytes.{Appends}
 use Rattle.vsi_devices.specs.Counted.{device_of}
 use Rattle.vsi.specs.Partly.{AnswersView}
 use Rattle.vsi.specs.Performed.{shown}
-use Rattle.vsi.specs.Reasons.{LacksClassAt, StopsBy, WhyView}
+use Rattle.vsi.specs.Reasons.{LacksEither, StopsBy, WhyView}
 use Rattle.vsi.proofs.Filled.{both_done, delivered_of}
 use Rattle.vsi.proofs.Partly.{kept_leaves, late_leaves}
 use Rattle.vsi.proofs.Reasons.{handed}
@@ -50,7 +50,8 @@ returns-in_err-text-clause-stopped g c =
     (StopsBy
     (WhyView (g.F.Files.holds c.args.files.now) c.args.lattice.now c.args.class.now c.args.execution
     c.args.outset.now)
-    (LacksClassAt (g.F.Files.holds c.args.files.now) c.args.lattice.now c.args.class.now))
+    (LacksEither (g.F.Files.holds c.args.files.now) c.args.lattice.now c.args.class.now c.args.execution.image.now
+    c.args.execution.budget))
     c.in_err-text.field-0.0 c.from_residual.result c.from_residual.ensures.1 c.in_err-text.ensures.stopped
 
 pub returns-clause-stopped : goal.returns-clause-stopped
@@ -58,5 +59,6 @@ returns-clause-stopped g c =
     handed_late
     (WhyView (g.F.Files.holds c.args.files.now) c.args.lattice.now c.args.class.now c.args.execution
     c.args.outset.now)
-    (LacksClassAt (g.F.Files.holds c.args.files.now) c.args.lattice.now c.args.class.now) c.deliver.result
+    (LacksEither (g.F.Files.holds c.args.files.now) c.args.lattice.now c.args.class.now c.args.execution.image.now
+    c.args.execution.budget) c.deliver.result
     c.deliver.ensures.stop

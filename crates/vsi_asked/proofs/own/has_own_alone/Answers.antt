@@ -24,6 +24,10 @@ pub returns-in-Flows : goal.returns-in-Flows
 returns-in-Flows c =
     rw c.in-Flows.is (rw (c.as_slice-in-Flows.ensures, c.as_slice-in-Flows-2.ensures) at c.are_own-in-Flows.ensures)
 
+pub returns-in-Mend : goal.returns-in-Mend
+returns-in-Mend c =
+    rw c.in-Mend.is (rw (c.as_slice-in-Mend.ensures, c.as_slice-in-Mend-2.ensures) at c.are_own-in-Mend.ensures)
+
 pub returns-in-Audit : goal.returns-in-Audit
 returns-in-Audit c =
     rw c.in-Audit.is (rw (c.as_slice-in-Audit.ensures, c.as_slice-in-Audit-2.ensures) at c.are_own-in-Audit.ensures)
@@ -43,6 +47,10 @@ returns-in-Format c =
 pub returns-in-EmitC : goal.returns-in-EmitC
 returns-in-EmitC c =
     rw c.in-EmitC.is (rw (c.as_slice-in-EmitC.ensures, c.as_slice-in-EmitC-2.ensures) at c.are_own-in-EmitC.ensures)
+
+pub returns-in-Bound : goal.returns-in-Bound
+returns-in-Bound c =
+    rw c.in-Bound.is (rw (c.as_slice-in-Bound.ensures, c.as_slice-in-Bound-2.ensures) at c.are_own-in-Bound.ensures)
 
 pub returns-in-Run : goal.returns-in-Run
 returns-in-Run c =

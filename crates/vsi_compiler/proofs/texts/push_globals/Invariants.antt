@@ -3,7 +3,7 @@ use Rattle.vsi_syntax.specs.CommandView.{declared}
 use Rattle.vsi_compiler.specs.Classes.{global_lines}
 use Rattle.vsi_compiler.proofs.texts.push_globals.Given as goal
 
--- The lines so far and those of what is left are all lines.
+-- The lines so far and the lines of the remaining declarations are all lines.
 abbrev pub invariant-loop-global : goal.invariant-loop-global
 invariant-loop-global l =
     l.out.items ++ global_lines l.text (map declared (drop l.global-index l.globals))

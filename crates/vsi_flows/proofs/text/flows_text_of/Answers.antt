@@ -1,5 +1,6 @@
 use Rattle.std.proofs.Common.{refl, ap, ◌∙◌}
 use Rattle.vsi_flows.specs.Text.{table_text}
+use Rattle.vsi_flows.proofs.TextLemmas.{decides, shows_dependence}
 use Rattle.vsi_compiler.proofs.Held.{of_parts, globals_at, declared_at}
 use Rattle.vsi_flows.proofs.text.flows_text_of.Goals as goal
 
@@ -36,4 +37,6 @@ returns c =
       pairs = c.in-Ok.pairs.items;
       table = c.in-Ok.ensures.table;
       lines = c.in_ok-lines.ensures ∙ ap (table_text l r) c.deref.ensures.value;
+      verdict = decides l c.args.profile s.text r is.stands c.in-Ok.pairs.items c.in-Ok.ensures.verdict;
+      dependence = shows_dependence l c.args.profile s.text r is c.in-Ok.pairs.items c.in-Ok.ensures.table;
     })

@@ -14,7 +14,7 @@ use Rattle.vsi_rows.proofs.flows.emptied.Goals as goal
 abbrev bare : Span → Command
 bare s = Sequence (If (Location 0 s) Skip Skip) (Sequence (While (Location 0 s) Skip) Skip)
 
--- The commands that are made are these.
+-- The commands that are made are the bare ones.
 bare_sequence : (cs : List Cmd) (s : Span) (v w u : Vec Cmd Heap) →
     cs ≡ ([] ++ view.If (Loc 0 s) v w ∷ []) ++ view.While (Loc 0 s) u ∷ [] → v.items ≡ [] → w.items ≡ [] → u.items
     ≡ [] →
@@ -30,7 +30,7 @@ bare_sequence cs s v w u e ev ew eu =
     ∙ ap (λ x. Sequence x (Sequence (command (view.While (Loc 0 s) u)) Skip)) choice
     ∙ ap (λ x. Sequence (If (Location 0 s) Skip Skip) (Sequence x Skip)) loop
 
--- They make a resolved program of the globals of one.
+-- The commands make a resolved program with the globals of another one.
 bare_resolved : (r : Resolved) (ls : List Entry) (cs : List Cmd) (s : Span) → IsResolved r → 0 < length r.globals →
     ls ≡ [] → sequence cs ≡ bare s → IsResolved (resolved_of r.globals ls cs)
 bare_resolved r ls cs s old some none e = record {

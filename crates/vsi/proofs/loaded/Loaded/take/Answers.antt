@@ -1,4 +1,5 @@
 use Rattle.std.proofs.Common.{◌≡◌, ◌∙◌, subst, sym}
+use Rattle.std.specs.Rc.{rc_slice_items}
 use Rattle.vsi.specs.Holding.{IsReadAt}
 use Rattle.vsi.specs.Loading.{AreRead}
 use Rattle.vsi.proofs.Loading.{read_more}
@@ -10,6 +11,7 @@ returns-clause-told g c = λ all.
     let holds = g.F.Files.holds c.args.self.now.system in
     subst (AreRead holds) (sym c.in_ok-push.ensures.items)
     (read_more holds c.args.self.now.texts.items
-    (record { path = c.in_ok-path.path; bytes = c.in-Ok.bytes }) all
-    (subst (λ at. IsReadAt holds at c.in-Ok.bytes.items) (sym (c.in_ok-path.ensures.items ∙ c.as_bytes.ensures.value))
-    c.in-Ok.ensures.read))
+    (record { path = c.in_ok-path.path; bytes = c.in_ok-shared.shared }) all
+    (subst (λ at. IsReadAt holds at (rc_slice_items c.in_ok-shared.shared))
+    (sym (c.in_ok-path.ensures.items ∙ c.as_bytes.ensures.value))
+    (subst (IsReadAt holds c.args.path.now) (sym c.in_ok-shared.ensures) c.in-Ok.ensures.read)))

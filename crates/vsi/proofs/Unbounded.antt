@@ -1,0 +1,28 @@
+-- The reason that there is no C without a budget.
+use Rattle.std.proofs.Common.{◌≡◌, true, subst}
+use Rattle.vsi_answers.specs.declared.unanswered.Unanswered.{Unanswered}
+use Rattle.vsi_arguments.specs.declared.request.Emission.{Emission}
+use Rattle.vsi_bound.specs.Bound.{Answers}
+use Rattle.vsi_bound.specs.declared.bound.Bound.{Bound}
+use Rattle.vsi_image.specs.declared.instr.Image.{Image}
+use Rattle.vsi.specs.declared.stop.Stop.{Stop}
+use Rattle.vsi.specs.Holding.{Holding}
+use Rattle.vsi.specs.Performed.{IsEmittedFrom}
+use Rattle.vsi.specs.Reasons.{IsUnbounded, LacksEmitBound, SaysBound, StopsBy}
+use Rattle.vsi.proofs.Reasons.{StopsBy-weaker}
+
+-- A stop that reports the answer about an image says that the image has no bound.
+pub says_unbounded : (image : Image) (found kind : Bound) (Says : Stop → Type 0) (stop : Stop) → Answers image found →
+    found ≡ kind → ((s : Stop) → Says s → SaysBound kind s) → StopsBy (λ reason. ⊥) Says stop →
+    StopsBy (λ reason. ⊥) (IsUnbounded image) stop
+says_unbounded image found kind Says stop answers same says =
+    StopsBy-weaker (λ reason. ⊥) (λ reason. ⊥) Says (IsUnbounded image) (λ reason none. none)
+    (λ s is. (kind, subst (Answers image) same answers, says s is)) stop
+
+-- If the requested image has no bound, this is the reason that there is no C.
+pub lacks_bound : (why : Unanswered → Type 0) (holds : Holding) (asked : Emission) (image : Image) (stop : Stop) →
+    asked.is_bounded ≡ true → IsEmittedFrom holds asked.lattice asked.file image →
+    StopsBy (λ reason. ⊥) (IsUnbounded image) stop → StopsBy why (LacksEmitBound holds asked) stop
+lacks_bound why holds asked image stop bounded held =
+    StopsBy-weaker (λ reason. ⊥) why (IsUnbounded image) (LacksEmitBound holds asked) (λ reason none. absurd none)
+    (λ s is. record { bounded = bounded; image = image; held = held; is = is }) stop

@@ -1,0 +1,196 @@
+//! The answer about the bound of an image.
+
+ghost use Rattle.std.specs.Prelude.{◌≡◌, ◌++◌, IfOk, MatchResult, OnOk};
+ghost use Rattle.vsi_answers.specs.Bounds as spec;
+
+use crate::places::{Place, loop_place};
+use std::alloc::{AllocError, Global};
+use vsi_bound::{Bound, Reason, bound_of};
+use vsi_image::Verified;
+use vsi_lattice::Lattice;
+use vsi_syntax::{put_line_column, put_number};
+
+/// The answer about the bound of an image: its line, and whether there is a bound.
+#[derive(Debug, Drop)]
+pub struct BoundAnswer {
+    pub text: Vec<u8>,
+    pub is_bounded: bool,
+}
+
+/// Why a loop has no bound.
+fn reason_text(reason: Reason) -> &'static [u8]
+    ensures { result.now ≡ spec.reason_text reason }
+{
+    match reason {
+        Reason::Guard => b"the loop compares no variable with a known number",
+        Reason::Start => b"the loop's variable begins with a number that isn't known",
+        Reason::Step => {
+            b"the loop doesn't move its variable towards the limit by the same number at each turn"
+        }
+        Reason::Wraps => b"the loop's variable could wrap around before the limit",
+    }
+}
+
+/// Adds the place of a loop.
+fn put_loop(text: &mut Vec<u8>, place: Option<Place>, test: usize) -> Result<(), AllocError>
+    ensures { OnOk result (text.new.items ≡ text.old.items ++ spec.place_text place test) }
+{
+    match place {
+        Some(place) => put_line_column(text, place.line, place.column),
+        None => {
+            text.extend_from_slice(b"instruction ")?;
+            put_number(text, test)
+        }
+    }
+}
+
+/// The line of a bound.
+fn halts_line(alloc: Global, most: u64) -> Result<Vec<u8>, AllocError>
+    ensures { IfOk result (λ text. text.items ≡ spec.halts_line most) }
+{
+    let mut text = Vec::new(alloc);
+    text.extend_from_slice(b"halts within ")?;
+    put_number(&mut text, most as usize)?;
+    text.extend_from_slice(b" instructions\n")?;
+    Ok(text)
+}
+
+/// The line of a loop that has no bound.
+fn endless_line(
+    alloc: Global,
+    place: Option<Place>,
+    test: usize,
+    reason: Reason,
+) -> Result<Vec<u8>, AllocError>
+    ensures { IfOk result (λ text. text.items ≡ spec.endless_line place test reason) }
+{
+    let mut text = Vec::new(alloc);
+    text.extend_from_slice(b"no bound: ")?;
+    put_loop(&mut text, place, test)?;
+    text.extend_from_slice(b": ")?;
+    text.extend_from_slice(reason_text(reason))?;
+    text.extend_from_slice(b"\n")?;
+    Ok(text)
+}
+
+/// The line of a code that isn't made of loops and conditionals at this instruction.
+fn unstructured_line(alloc: Global, at: usize) -> Result<Vec<u8>, AllocError>
+    ensures { IfOk result (λ text. text.items ≡ spec.unstructured_line at) }
+{
+    let mut text = Vec::new(alloc);
+    text.extend_from_slice(b"no bound: instruction ")?;
+    put_number(&mut text, at)?;
+    text.extend_from_slice(b": the code isn't made of loops and conditionals\n")?;
+    Ok(text)
+}
+
+/// The line of a number of instructions that is too large.
+fn large_line(alloc: Global) -> Result<Vec<u8>, AllocError>
+    ensures { IfOk result (λ text. text.items ≡ spec.large_line) }
+{
+    Vec::from_slice(
+        alloc,
+        b"no bound: the number of instructions is above 18446744073709551615\n",
+    )
+}
+
+/// The line of an answer, where a loop that it names is at a place of a source text, if one is
+/// given.
+fn bound_line(alloc: Global, place: Option<Place>, found: Bound) -> Result<Vec<u8>, AllocError>
+    ensures { IfOk result (λ text. text.items ≡ spec.bound_line place found) }
+{
+    match found {
+        Bound::Halts { least: _, most } => halts_line(alloc, most),
+        Bound::Endless { test, reason } => endless_line(alloc, place, test, reason),
+        Bound::Unstructured(at) => unstructured_line(alloc, at),
+        Bound::TooLarge => large_line(alloc),
+    }
+}
+
+/// Whether an answer has a number of instructions.
+fn is_bounded(found: Bound) -> bool
+    ensures { result ≡ spec.is_bounded found }
+{
+    match found {
+        Bound::Halts { .. } => true,
+        Bound::Endless { .. } => false,
+        Bound::Unstructured(_) => false,
+        Bound::TooLarge => false,
+    }
+}
+
+/// The answer about the bound of an image. A loop without a bound is named by the number of the
+/// instruction that tests its guard.
+///
+/// # Errors
+///
+/// There was no memory.
+pub fn bound(alloc: Global, verified: &Verified) -> Result<BoundAnswer, AllocError>
+    ensures bound { IfOk result (spec.TellsBound verified.now) }
+{
+    let found = bound_of(alloc, verified)?;
+    let text = bound_line(alloc, None, found)?;
+    Ok(BoundAnswer {
+        text,
+        is_bounded: is_bounded(found),
+    })
+}
+
+/// The place in a source text of the loop that an answer names.
+fn place_in(
+    alloc: Global,
+    lattice: &Lattice,
+    source: &[u8],
+    verified: &Verified,
+    found: Bound,
+) -> Result<Option<Place>, AllocError> {
+    match found {
+        Bound::Endless { test, reason: _ } => {
+            loop_place(alloc, lattice, source, &verified.image().code, test)
+        }
+        _ => Ok(None),
+    }
+}
+
+/// The answer about the bound of the image of a source text. A loop without a bound is named by the
+/// line and the column of its `while`; no clause says that they are right.
+///
+/// # Errors
+///
+/// There was no memory.
+pub fn bound_in(
+    alloc: Global,
+    lattice: &Lattice,
+    source: &[u8],
+    verified: &Verified,
+) -> Result<BoundAnswer, AllocError>
+    ensures bound { IfOk result (spec.TellsBound verified.now) }
+{
+    let found = bound_of(alloc, verified)?;
+    let place = place_in(alloc, lattice, source, verified, found)?;
+    let text = bound_line(alloc, place, found)?;
+    Ok(BoundAnswer {
+        text,
+        is_bounded: is_bounded(found),
+    })
+}
+
+/// A number of instructions within which an image halts from every store, or the line that says why
+/// none was found. A loop without a bound is named as by `bound`.
+///
+/// # Errors
+///
+/// There was no memory.
+pub fn enough_budget(alloc: Global, verified: &Verified) -> Result<Result<u64, Vec<u8>>, AllocError>
+    ensures budget { IfOk result (λ answer. MatchResult answer
+        (spec.IsBound verified.now) (λ line. spec.LacksBound verified.now line.items)) }
+{
+    let found = bound_of(alloc, verified)?;
+    match found {
+        Bound::Halts { least: _, most } => Ok(Ok(most)),
+        _ => {
+            let line = bound_line(alloc, None, found)?;
+            Ok(Err(line))
+        }
+    }
+}

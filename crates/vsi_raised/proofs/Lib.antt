@@ -1,0 +1,4 @@
+pub mod RaiseLemmas
+pub mod PartLemmas
+pub mod SpliceLemmas
+pub mod AnswerLemmas
