@@ -86,9 +86,9 @@ numbers of the globals, and the declaration of the function.";
 /// The function without a budget.
 pub(crate) const BOUNDED: &str = "\
 Prints a function `void NAME_run(int64_t globals[N])`, which takes no
-budget and counts no instructions. The image must halt from every store
-within a number of instructions that is known; the C names it in a
-comment. An image with another loop is refused.";
+budget and counts no instructions. The image must have a bound, as
+`vsi bound` finds it; a comment of the C names it. An image without a
+bound is refused.";
 
 /// The lattice file of a text that is printed as C.
 pub(crate) const LATTICE_OPTION: &str = "\
@@ -150,9 +150,9 @@ The name of the observer's class, one of the classes of LATTICE.";
 pub(crate) const BUDGET: &str = "\
 The maximum number of instructions, the halt included: a whole number
 from 0 to 18446744073709551615, in digits alone; or `auto`, the number
-that `vsi bound` prints for the image, within which every run halts. If
-no bound is found, `auto` runs nothing: the line of `vsi bound` goes to
-standard error, and the status is 1.";
+that `vsi bound` prints for the image, within which every run halts.
+If no bound is found, `auto` runs nothing: the line of `vsi bound`
+goes to standard error, and the status is 1.";
 
 /// A store file.
 pub(crate) const STORE: &str = "\
