@@ -1,5 +1,5 @@
 -- The reason that there is no C without a budget.
-use Rattle.std.proofs.Common.{◌≡◌, true, subst}
+use Rattle.std.proofs.Common.{◌≡◌, Bool, true, subst}
 use Rattle.vsi_answers.specs.declared.unanswered.Unanswered.{Unanswered}
 use Rattle.vsi_arguments.specs.declared.request.Emission.{Emission}
 use Rattle.vsi_bound.specs.Bound.{Answers}
@@ -21,8 +21,17 @@ says_unbounded image found kind Says stop answers same says =
 
 -- If the requested image has no bound, this is the reason that there is no C.
 pub lacks_bound : (why : Unanswered → Type 0) (holds : Holding) (asked : Emission) (image : Image) (stop : Stop) →
-    asked.is_bounded ≡ true → IsEmittedFrom holds asked.lattice asked.file image →
-    StopsBy (λ reason. ⊥) (IsUnbounded image) stop → StopsBy why (LacksEmitBound holds asked) stop
-lacks_bound why holds asked image stop bounded held =
-    StopsBy-weaker (λ reason. ⊥) why (IsUnbounded image) (LacksEmitBound holds asked) (λ reason none. absurd none)
-    (λ s is. record { bounded = bounded; image = image; held = held; is = is }) stop
+    IsEmittedFrom holds asked.lattice asked.file image →
+    StopsBy (λ reason. ⊥) (λ s. (asked.is_bounded ≡ true) × IsUnbounded image s) stop →
+    StopsBy why (LacksEmitBound holds asked) stop
+lacks_bound why holds asked image stop held =
+    StopsBy-weaker (λ reason. ⊥) why (λ s. (asked.is_bounded ≡ true) × IsUnbounded image s) (LacksEmitBound holds asked)
+    (λ reason none. absurd none) (λ s is. record { bounded = is.0; image = image; held = held; is = is.1 }) stop
+
+-- An image has no bound, and a function without a budget is requested.
+pub bounded_lacks : (image : Image) (is_bounded : Bool) (stop : Stop) → is_bounded ≡ true →
+    StopsBy (λ reason. ⊥) (IsUnbounded image) stop →
+    StopsBy (λ reason. ⊥) (λ s. (is_bounded ≡ true) × IsUnbounded image s) stop
+bounded_lacks image is_bounded stop bounded =
+    StopsBy-weaker (λ reason. ⊥) (λ reason. ⊥) (IsUnbounded image) (λ s. (is_bounded ≡ true) × IsUnbounded image s)
+    (λ reason none. none) (λ s is. (bounded, is)) stop

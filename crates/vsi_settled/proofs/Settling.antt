@@ -1,18 +1,14 @@
 -- Pairs of runs that halt.
-use Rattle.std.proofs.Common.{◌≡◌, ℕ, ◌≤◌, ℤ, List, length, Option, Some, None, true, refl, sym, ◌∙◌, subst, arith}
-use Rattle.std.specs.Prelude.{IsTrue}
-use Rattle.std.proofs.lemmas.Option.{same_Some}
+use Rattle.std.proofs.Common.{◌≡◌, ℕ, ◌≤◌, Option, Some, None, refl, sym, ◌∙◌, subst, arith}
 use Rattle.vsi_image.specs.declared.instr.Image.{Image}
 use Rattle.vsi_image.specs.Meaning.{State, start}
 use Rattle.vsi_machine.specs.Counting.{Halts}
 use Rattle.vsi_machine.specs.Runs.{globals_of, run_of}
 use Rattle.vsi_machine.proofs.Counts.{halts_longer}
 use Rattle.vsi_bound.specs.Bound.{AlwaysHalts}
-use Rattle.vsi_lattice.specs.Known.{Known}
-use Rattle.vsi_lattice.specs.Order.{Lattice}
 use Rattle.vsi_scope.specs.Meaning.{Store}
 use Rattle.vsi_compiler.specs.Observation.{Ends, IsStoreOf}
-use Rattle.vsi_steady.specs.Laws.{StandAlike, SteadyRunsAlike}
+use Rattle.vsi_steady.specs.Laws.{SteadyRunsAlike}
 use Rattle.vsi_settled.specs.Settled.{SettledCount, SettledNoninterference}
 
 -- A run that halts ends in a store.
