@@ -1,8 +1,8 @@
 -- The meaning of a stop of the run without arguments, and the report of it.
-use Rattle.std.proofs.Common.{◌≡◌, ◌≢◌, ◌-◌, ◌^◌, ◌≤◌, ◌<◌, ◌⊎◌, ◌++◌, [], ℕ, List, Option, Some, None, Result, Ok, Err, inl, inr, sym, ap, subst, ◌∙◌, arith, append-nil}
-use Rattle.std.specs.Prelude.{IfOk, IfErr, IsTrue, OnOk, MatchResult, Bool, true, false, codes, ◌==◌, if◌then◌else◌}
+use Rattle.std.proofs.Common.{◌≡◌, ◌≢◌, ◌-◌, ◌^◌, ◌≤◌, ◌<◌, ◌++◌, [], ℕ, List, Option, Some, None, Result, Ok, Err, sym, ap, subst, ◌∙◌, arith, append-nil}
+use Rattle.std.specs.Prelude.{IfOk, IfErr, OnOk, MatchResult, Bool, true, false, codes, ◌==◌, if◌then◌else◌}
 use Rattle.std.specs.Global.{Vec}
-use Rattle.std.proofs.KnownBytes.{Appends-nil, Appends-trans}
+use Rattle.std.proofs.KnownBytes.{Appends-trans}
 use Rattle.vsi_answers.specs.declared.unanswered.Unanswered.{Unanswered}
 use Rattle.vsi_answers.specs.declared.unanswered.Unanswered.TheVariants as unanswered
 use Rattle.vsi_devices.specs.Counted.{device_of, faults_of}
