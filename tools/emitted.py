@@ -6,7 +6,8 @@ usage: tools/emitted.py [PROGRAM] [--count N] [--first N]
 PROGRAM is crates/vsi_program/out/vsi_program unless another is named. Half of the images are compiled from texts by the
 generator of tools/generated.py, half are valid images that no compiler made (tools/emitted_images.py). Each is printed
 by `vsi emit-c`, and run from three stores with the budgets 0, 1, one below what the run takes, what it takes, and a
-large one: the answers and the globals must be those of `vsi run`. A hundred images are compiled at a time, without a
+large one: the answers and the globals must be those of `vsi run`. Where an image has a bound, the function of
+`emit-c --bounded` must leave the same globals as each run that halts. A hundred images are compiled at a time, without a
 warning: by gcc and clang at each level with the sanitizer of undefined behaviour, and by the compilers for other
 processors, whose programs run under qemu-user. What isn't installed is left out, and named in a line. A difference ends
 the trial with its case; else nothing is written.
@@ -30,24 +31,35 @@ from emitted_images import NUMBERS, odd_image  # noqa: E402
 from generated import Trial  # noqa: E402
 
 BATCH, LARGE = 100, 20_000
+# So many images of a whole batch have a bound, at least.
+BOUNDED = 20
 
 HARNESS = """\
 #include <inttypes.h>
 #include <stdio.h>
+#include <string.h>
 %(includes)s
 typedef int emitted(int64_t *, uint64_t);
-static const struct { emitted *run; int globals; } images[] = {
+typedef void bounded(int64_t *);
+static const struct { emitted *run; bounded *settle; int globals; } images[] = {
 %(rows)s
 };
 
 int main(void) {
     unsigned number;
     uint64_t budget;
-    int64_t globals[256];
+    int64_t globals[256] = {0}, again[256];
     while (scanf("%%u %%" SCNu64, &number, &budget) == 2) {
         for (int at = 0; at < images[number].globals; at++)
             if (scanf("%%" SCNd64, &globals[at]) != 1) return 1;
-        printf("%%d", images[number].run(globals, budget));
+        memcpy(again, globals, sizeof again);
+        int answer = images[number].run(globals, budget);
+        printf("%%d", answer);
+        if (answer == 0 && images[number].settle) {
+            images[number].settle(again);
+            if (memcmp(again, globals, (size_t)images[number].globals * sizeof again[0])) printf(" bounded:");
+            memcpy(globals, again, sizeof again);
+        }
         for (int at = 0; at < images[number].globals; at++) printf(" %%" PRId64, globals[at]);
         putchar('\\n');
     }
@@ -68,6 +80,7 @@ class Emitted:
         self.put(f"{self.name}.image", self.data)
         self.put(f"{self.name}.c", self.vsi(0, "emit-c", f"{self.name}.image")[0])
         self.put(f"{self.name}.h", self.vsi(0, "emit-c", f"{self.name}.image", "--header")[0])
+        self.is_bounded = self.is_settled()
         self.cases = [case for _ in range(3) for case in self.runs(self.store())]
 
     def made(self):
@@ -78,6 +91,21 @@ class Emitted:
             raise Fault(f"image {self.number}: a text of one class is refused")
         with open("image", "rb") as file:
             return file.read()
+
+    def is_settled(self):
+        """Writes the function without a budget, with its header; or the image is refused in one line."""
+        name = f"{self.name}_bounded"
+        asked = ["emit-c", f"{self.name}.image", "--bounded", "--name", name]
+        text, said = self.vsi(1, *asked)
+        if text is None:
+            if not said.startswith(b"no bound") or said.count(b"\n") != 1:
+                raise Fault(f"image {self.number}: {' '.join(asked)} says {said.decode()}")
+            return False
+        if b"budget" in text:
+            raise Fault(f"image {self.number}: {' '.join(asked)} writes a budget")
+        self.put(f"{name}.c", text)
+        self.put(f"{name}.h", self.vsi(0, *asked, "--header")[0])
+        return True
 
     def put(self, name, data):
         with open(os.path.join(self.folder, name), "wb") as file:
@@ -106,20 +134,31 @@ class Emitted:
                    " ".join(map(str, [int(output is None), *words])))
 
 
+def files_of(batch):
+    """The names of the files of a batch, without their endings."""
+    return [each.name for each in batch] + [f"{each.name}_bounded" for each in batch if each.is_bounded]
+
+
+def row_of(each):
+    """The line of an image in the table of the functions."""
+    bounded = f"{each.name}_bounded_run" if each.is_bounded else "0"
+    return f"    {{{each.name}_run, {bounded}, {each.name}_globals}}"
+
+
 def write_harness(folder, batch):
     """One file with all functions, and one that calls them by their headers."""
     with open(os.path.join(folder, "functions.c"), "w", encoding="ascii") as file:
-        file.writelines(f'#include "{each.name}.c"\n' for each in batch)
+        file.writelines(f'#include "{name}.c"\n' for name in files_of(batch))
     with open(os.path.join(folder, "harness.c"), "w", encoding="ascii") as file:
         file.write(HARNESS % {
-            "includes": "".join(f'#include "{each.name}.h"\n' for each in batch),
-            "rows": ",\n".join(f"    {{{each.name}_run, {each.name}_globals}}" for each in batch)})
+            "includes": "".join(f'#include "{name}.h"\n' for name in files_of(batch)),
+            "rows": ",\n".join(map(row_of, batch))})
 
 
 def compile_headers(folder, batch):
     """Compiles the headers as C++ too, silently."""
     with open(os.path.join(folder, "headers.cpp"), "w", encoding="ascii") as file:
-        file.writelines(f'#include "{each.name}.h"\n' for each in batch)
+        file.writelines(f'#include "{name}.h"\n' for name in files_of(batch))
     for name in ("g++", "clang++"):
         if shutil.which(name):
             options = ["-std=c++11", *SILENT[1:], "-c", "headers.cpp", "-o", "headers.o"]
@@ -157,6 +196,8 @@ def main():
         os.chdir(folder)
         for first in range(options.first, end, BATCH):
             batch = [Emitted(program, folder, number) for number in range(first, min(first + BATCH, end))]
+            if len(batch) == BATCH and sum(each.is_bounded for each in batch) < BOUNDED:
+                raise Fault(f"of the images from {first} on too few have a bound")
             write_harness(folder, batch)
             compile_headers(folder, batch)
             for target in targets:

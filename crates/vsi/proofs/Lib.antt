@@ -12,6 +12,7 @@ pub mod Checked
 pub mod Obeyed
 pub mod Refused
 pub mod Unrun
+pub mod Unbounded
 pub mod Conforming
 pub mod Undriven
 pub mod Short

@@ -12,6 +12,8 @@ use Rattle.vsi_types.specs.declared.rules.Profile.{Profile}
 use Rattle.vsi_types.specs.declared.rules.Profile.TheVariants.{Base, Strict}
 use Rattle.vsi_image.specs.declared.instr.Image.{Image}
 use Rattle.vsi_image.specs.Fields.{globals}
+use Rattle.vsi_emit.specs.Bounded.{HaltsWithin, IsEmittedBounded}
+use Rattle.vsi_emit.specs.BoundedWriting.{bounded_header_text}
 use Rattle.vsi_emit.specs.Emitted.{IsEmitted}
 use Rattle.vsi_emit.specs.Writing.{header_text}
 use Rattle.vsi_store.specs.File.{Tells}
@@ -282,11 +284,27 @@ abbrev pub IsWrittenInC : Bool → Image → List ℕ → List ℕ → Type 0
 IsWrittenInC true im name text = text ≡ header_text name (globals im.globals.items)
 IsWrittenInC false im name text = IsEmitted im name text
 
+-- The header of an image's C without a budget, or that C; no run of the image has more instructions than this.
+abbrev pub IsWrittenBounded : Bool → Image → ℕ → List ℕ → List ℕ → Type 0
+IsWrittenBounded true im most name text = text ≡ bounded_header_text name (globals im.globals.items) most
+IsWrittenBounded false im most name text = IsEmittedBounded im name most text
+
+-- The same, where there is such a number.
+pub record IsBoundedC (is_header : Bool) (im : Image) (name text : List ℕ) : Type 0 where
+  pub most : ℕ
+  pub halts : HaltsWithin im most
+  pub is : IsWrittenBounded is_header im most name text
+
+-- An image's C or its header, without a budget or with one.
+abbrev pub IsRequestedC : Bool → Bool → Image → List ℕ → List ℕ → Type 0
+IsRequestedC true = IsBoundedC
+IsRequestedC false = IsWrittenInC
+
 -- The C of the requested image, or its header.
 pub record EmitsFile (holds : Holding) (asked : Emission) (text : Vec ℕ) : Type 0 where
   pub image : Image
   pub held : IsEmittedFrom holds asked.lattice asked.file image
-  pub is : IsWrittenInC asked.is_header image (function_name asked.name asked.file.now) text.items
+  pub is : IsRequestedC asked.is_bounded asked.is_header image (function_name asked.name asked.file.now) text.items
 
 -- The request of an interface, its lattice and a source text, as the files hold them.
 pub record AreAsked (holds : Holding) (c : Conformance) (asked : Asked) (l : Lattice) (source : List ℕ) : Type 0 where

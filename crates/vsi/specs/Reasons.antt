@@ -1,5 +1,5 @@
 -- The reason why a request has stopped early, given the contents of its files.
-use Rattle.std.specs.Prelude.{◌≡◌, ◌≢◌, ◌⊎◌, ℕ, ℤ, Bool, true, false, List, Option, Some, None, Result, Err, IsSomeAnd}
+use Rattle.std.specs.Prelude.{◌≡◌, ◌≢◌, ◌⊎◌, ◌++◌, ℕ, ℤ, Bool, true, false, List, Option, Some, None, Result, Err, IsSomeAnd, codes, decimal}
 use Rattle.std.specs.Global.{Vec}
 use Rattle.std.specs.Borrow.{Bor}
 use Rattle.std.specs.Io.KnownBytes.{Appends}
@@ -15,6 +15,9 @@ use Rattle.vsi_store.specs.declared.error.StoreError.TheVariants as store
 use Rattle.vsi_store.specs.declared.views.ViewError.TheVariants as views
 use Rattle.vsi_diagnostics.specs.declared.fault.Fault.{Fault}
 use Rattle.vsi_diagnostics.specs.declared.fault.Fault.TheVariants as fault
+use Rattle.vsi_bound.specs.Bound.{Answers}
+use Rattle.vsi_bound.specs.declared.bound.Bound.{Bound}
+use Rattle.vsi_bound.specs.declared.bound.Bound.TheVariants as bound
 use Rattle.vsi_compiler.specs.Headline.{IsImageOf}
 use Rattle.vsi_audit.specs.Refusal as audited
 use Rattle.vsi_audit.specs.Telling.{IsAuditText}
@@ -44,6 +47,7 @@ use Rattle.vsi_arguments.specs.declared.request.Comparison.{Comparison}
 use Rattle.vsi_arguments.specs.declared.request.Compilation.{Compilation}
 use Rattle.vsi_arguments.specs.declared.request.Conformance.{Conformance}
 use Rattle.vsi_arguments.specs.declared.request.Driving.{Driving}
+use Rattle.vsi_arguments.specs.declared.request.Emission.{Emission}
 use Rattle.vsi_arguments.specs.declared.request.Execution.{Execution}
 use Rattle.vsi_arguments.specs.declared.request.Judging.{Judging}
 use Rattle.vsi_arguments.specs.declared.request.Outset.{Outset}
@@ -55,7 +59,7 @@ use Rattle.vsi.specs.declared.stop.Stop.TheVariants as stops
 use Rattle.vsi.specs.Holding.{Holding, IsImageAt, IsLatticeAt, IsReadAt, IsStoreAt}
 use Rattle.vsi.specs.Input.{two_classes}
 use Rattle.vsi.specs.Tried.{AreTried, BeginsSet, IsMade, IsTriedUnder, RunsMade, policy_path}
-use Rattle.vsi.specs.Performed.{AreFiles, BeginsAt, ComparesFiles, ConformsFiles, IsAskedAt, LooksAt, OfFiles, Writes, compilation_of, judgement_of, named_path, profile_of}
+use Rattle.vsi.specs.Performed.{AreFiles, BeginsAt, ComparesFiles, ConformsFiles, IsAskedAt, IsEmittedFrom, LooksAt, OfFiles, Writes, compilation_of, judgement_of, named_path, profile_of}
 
 -- ---- what a stop tells.
 
@@ -337,6 +341,36 @@ abbrev pub WhyEmit : Holding → Option (Bor (List ℕ)) → Bor (List ℕ) → 
 WhyEmit holds None file = RefusesImage holds file.now
 WhyEmit holds (Some lattice) file = RefusesFiles holds (compilation_of lattice file) (AsksImage false)
 
+-- The stop says that there is no bound because of the instruction of this number.
+abbrev pub SaysNoBound : ℕ → Stop → Type 0
+SaysNoBound place (stops.Refused text None) =
+    text.items ≡ codes "no bound: instruction " ++ decimal place ++ codes "\n"
+SaysNoBound place stop = ⊥
+
+-- It says that a run may have more instructions than 64 bits can count.
+abbrev pub SaysTooLarge : Stop → Type 0
+SaysTooLarge (stops.Refused text None) =
+    text.items ≡ codes "no bound: more than 18446744073709551615 instructions\n"
+SaysTooLarge stop = ⊥
+
+-- It says which bound was found: the loop, or the instruction that belongs to no command.
+abbrev pub SaysBound : Bound → Stop → Type 0
+SaysBound (bound.Halts least most) stop = ⊥
+SaysBound (bound.Endless test reason) stop = SaysNoBound test stop
+SaysBound (bound.Unstructured place) stop = SaysNoBound place stop
+SaysBound bound.TooLarge stop = SaysTooLarge stop
+
+-- The stop says that an image has no bound.
+abbrev pub IsUnbounded : Image → Stop → Type 0
+IsUnbounded image stop = (found : Bound) × Answers image found × SaysBound found stop
+
+-- `emit-c --bounded`: the image has no bound.
+pub record LacksBound (holds : Holding) (asked : Emission) (stop : Stop) : Type 0 where
+  pub bounded : asked.is_bounded ≡ true
+  pub image : Image
+  pub held : IsEmittedFrom holds asked.lattice asked.file image
+  pub is : IsUnbounded image stop
+
 -- `draw`: the lattice is refused, or a source text without a program.
 abbrev pub WhyDraw : Holding → List ℕ → Option (Bor (List ℕ)) → Unanswered → Type 0
 WhyDraw holds lattice None reason = RefusesLattice holds lattice reason
@@ -426,7 +460,7 @@ Why holds (request.Audit asked) old new =
     (λ reason. RefusesLattice holds asked.lattice.now reason ⊎ RefusesImage holds asked.image.now reason)
     (RefusesAudit holds asked)
 Why holds (request.Source image) old new = StopsBy (RefusesImage holds image.now) (HasNoText holds image.now)
-Why holds (request.EmitC asked) old new = StopsBy (WhyEmit holds asked.lattice asked.file) NoOther
+Why holds (request.EmitC asked) old new = StopsBy (WhyEmit holds asked.lattice asked.file) (LacksBound holds asked)
 Why holds (request.Run e o has_trace has_count) old new = StopsBy (WhyRun holds e o has_trace old new) NoOther
 Why holds (request.View lattice class e o) old new =
     StopsBy (WhyView holds lattice.now class.now e o) (LacksClassAt holds lattice.now class.now)

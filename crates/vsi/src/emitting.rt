@@ -1,11 +1,12 @@
 //! The answer of `emit-c`: an image in C, or why there is none.
 
-ghost use Rattle.std.specs.Prelude.{◌≡◌, ◌≤◌, IfErr, IfOk, length};
+ghost use Rattle.std.specs.Prelude.{◌≡◌, ◌≤◌, true, IfErr, IfOk, length};
 ghost use Rattle.vsi.specs.Naming as naming;
-ghost use Rattle.vsi.specs.Performed.{EmitsFile, IsBuiltAt, IsEmittedFrom, IsWrittenInC};
-ghost use Rattle.vsi.specs.Reasons.{AsksImage, NoOther, RefusesFiles, StopsBy, WhyEmit};
+ghost use Rattle.vsi.specs.Performed.{EmitsFile, IsBuiltAt, IsEmittedFrom, IsRequestedC, IsWrittenInC};
+ghost use Rattle.vsi.specs.Reasons.{AsksImage, IsUnbounded, LacksBound, NoOther, RefusesFiles, StopsBy, WhyEmit};
 ghost use Rattle.vsi.specs.declared.stop.Stop.TheVariants as stops;
 
+use crate::bounded::bounded_in_c;
 use crate::desk::Desk;
 use crate::files::Files;
 use crate::reading::image_in;
@@ -150,6 +151,25 @@ fn written_in_c<'a>(
     }
 }
 
+/// The C of an image or its header, without a budget or with one.
+fn in_c<'a>(
+    alloc: Global,
+    verified: &Verified,
+    name: &[u8],
+    is_header: bool,
+    is_bounded: bool,
+) -> Result<Vec<u8>, Stop<'a>>
+    ensures told { IfOk result
+        (λ text. IsRequestedC is_bounded is_header verified.now name.now text.items) }
+    ensures stopped { IfErr result
+        (StopsBy (λ reason. ⊥) (λ stop. (is_bounded ≡ true) × IsUnbounded verified.now stop)) }
+{
+    if is_bounded {
+        return bounded_in_c(alloc, verified, name, is_header);
+    }
+    written_in_c(alloc, verified, name, is_header)
+}
+
 /// The C of the requested image, or its header.
 pub(crate) fn emit<'a, F: Files>(
     desk: &mut Desk,
@@ -159,9 +179,16 @@ pub(crate) fn emit<'a, F: Files>(
     ensures kept { F.holds files.new ≡ F.holds files.old }
     ensures told { IfOk result (EmitsFile (F.holds files.old) asked.entry) }
     ensures stopped { IfErr result (StopsBy
-        (WhyEmit (F.holds files.old) asked.entry.lattice asked.entry.file) NoOther) }
+        (WhyEmit (F.holds files.old) asked.entry.lattice asked.entry.file)
+        (LacksBound (F.holds files.old) asked.entry)) }
 {
     let verified = emitted_image(desk, asked.lattice, asked.file, files)?;
     let name = function_name(asked.name, asked.file);
-    written_in_c(desk.alloc, &verified, name, asked.is_header)
+    in_c(
+        desk.alloc,
+        &verified,
+        name,
+        asked.is_header,
+        asked.is_bounded,
+    )
 }

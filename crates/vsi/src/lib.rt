@@ -13,6 +13,7 @@
 #![tactic(auto)]
 
 mod auditing;
+mod bounded;
 mod command_line;
 mod comparing;
 mod conformance;

@@ -108,6 +108,13 @@ pub(crate) const HEADER: Argument = Argument {
     whole: word_help::HEADER,
 };
 
+pub(crate) const BOUNDED: Argument = Argument {
+    name: "bounded",
+    form: Form::Flag,
+    line: "Leaves the budget out, where each run halts",
+    whole: word_help::BOUNDED,
+};
+
 pub(crate) const LATTICE_OPTION: Argument = Argument {
     name: "lattice",
     form: Form::Value("LATTICE"),

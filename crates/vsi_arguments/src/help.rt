@@ -228,8 +228,9 @@ Reads and verifies the image, and prints a file in C99 that needs <stdint.h> and
 no library: the numbers of the globals, and a function
 `int NAME_run(int64_t globals[N], uint64_t budget)`. It answers 0 where the run
 halts within the budget, and the globals then hold its last store; else it
-answers 1 and leaves the globals as they were. With --lattice a source text is
-read, judged and compiled instead.
+answers 1 and leaves the globals as they were. With --bounded the function takes
+no budget and always leaves the last store, and an image without a bound is
+refused. With --lattice a source text is read, judged and compiled instead.
 
 Statuses: 0 printed, 1 refused, 2 usage, 4 file fault, 5 out of memory.";
 

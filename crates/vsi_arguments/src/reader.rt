@@ -329,6 +329,7 @@ fn emission_request<'a>(matches: &ArgMatches<'a>) -> Result<Request<'a>, Mistake
         file: text(matches, "FILE"),
         name,
         is_header: matches.get_flag("header"),
+        is_bounded: matches.get_flag("bounded"),
     }))
 }
 

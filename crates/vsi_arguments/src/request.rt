@@ -93,13 +93,15 @@ pub struct Drawing<'a> {
 }
 
 /// What is written as C: the path of an image or, with that of a lattice file, of a source text; the
-/// name that the function's name begins with, where one is given; and whether the header is written.
+/// name that the function's name begins with, where one is given; whether the header is written; and
+/// whether the function takes no budget.
 #[derive(Clone, Copy)]
 pub struct Emission<'a> {
     pub lattice: Option<&'a str>,
     pub file: &'a str,
     pub name: Option<&'a str>,
     pub is_header: bool,
+    pub is_bounded: bool,
 }
 
 /// What a source text is judged for: its flows, by the profile that `Compilation` names, or also

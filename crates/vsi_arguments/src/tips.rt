@@ -3,7 +3,8 @@
 use std::alloc::{AllocError, Global};
 
 /// Each option that only some subcommands have, as a mistake quotes it, and those that have it.
-const OWNERS: [(&str, &str); 22] = [
+const OWNERS: [(&str, &str); 23] = [
+    ("'--bounded'", "emit-c"),
     ("'--budget'", "try, run, view, drive, compare and leak"),
     ("'--class'", "try, view, drive, compare and leak"),
     (

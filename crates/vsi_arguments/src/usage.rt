@@ -88,7 +88,7 @@ const SUBCOMMANDS: [Subcommand; 18] = [
         line: "Prints an image as a function in C",
         whole: help::EMIT_C,
         example: help::EMIT_C_EXAMPLE,
-        arguments: &[EMITTED, NAME, HEADER, LATTICE_OPTION],
+        arguments: &[EMITTED, NAME, HEADER, BOUNDED, LATTICE_OPTION],
     },
     Subcommand {
         name: "run",

@@ -71,6 +71,13 @@ pub(crate) const HEADER: &str = "\
 Prints the header of the file that is printed without --header: the
 numbers of the globals, and the declaration of the function.";
 
+/// The function without a budget.
+pub(crate) const BOUNDED: &str = "\
+Prints a function `void NAME_run(int64_t globals[N])`, which takes no
+budget and counts no instructions. The image must have a bound: from
+every store it halts within that many instructions, which a comment
+of the C gives. An image without one is refused.";
+
 /// The lattice file of a text that is printed as C.
 pub(crate) const LATTICE_OPTION: &str = "\
 The path of the lattice file. With it FILE is a source text, which is

@@ -85,7 +85,8 @@ flags_of (Build compilation image) = (codes "--strict", compilation.is_strict) �
 flags_of (Listing image) = []
 flags_of (Audit audit) = (codes "--strict", audit.is_strict) ∷ (codes "--steady", audit.is_steady) ∷ []
 flags_of (Source image) = []
-flags_of (EmitC emission) = (codes "--header", emission.is_header) ∷ []
+flags_of (EmitC emission) =
+    (codes "--header", emission.is_header) ∷ (codes "--bounded", emission.is_bounded) ∷ []
 flags_of (Run execution outset has_trace has_count) =
     (codes "--full-store", outset.is_full) ∷ (codes "--trace", has_trace) ∷ (codes "--count", has_count) ∷ []
 flags_of (View lattice class execution outset) = (codes "--full-store", outset.is_full) ∷ []

@@ -294,7 +294,10 @@ fn asks_emission(words: &[String], emission: &Emission<'_>) -> bool
     ensures { result ≡ true → spec.Spells words.now (request.EmitC emission.now) }
 {
     let operands = [emission.file.as_bytes()];
-    let flags = [("--header", emission.is_header)];
+    let flags = [
+        ("--header", emission.is_header),
+        ("--bounded", emission.is_bounded),
+    ];
     let Some(rest) = behind(words, "emit-c", operands.as_slice(), flags.as_slice()) else {
         return false;
     };

@@ -33,7 +33,7 @@ const FLOWS: [&[u8]; 3] = [b"--strict", b"--walks", b"--explain"];
 const AUDIT: [&[u8]; 3] = [b"--strict", b"--steady", b"--explain"];
 
 /// The flags of `emit-c`.
-const EMIT_C: [&[u8]; 2] = [b"--header", b"--explain"];
+const EMIT_C: [&[u8]; 3] = [b"--header", b"--bounded", b"--explain"];
 
 /// The options of `emit-c`.
 const EMIT_C_OPTIONS: [&[u8]; 3] = [b"--lattice", b"--name", b"--color"];

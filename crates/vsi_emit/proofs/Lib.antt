@@ -4,6 +4,8 @@ pub mod Straight
 pub mod Courses
 pub mod Emulating
 pub mod Passes
+pub mod Free
+pub mod Forms
 pub mod Following
 pub mod Apart
 pub mod Small

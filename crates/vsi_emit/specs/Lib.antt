@@ -3,6 +3,9 @@ pub mod Writing
 pub mod Emulation
 pub mod Jumps
 pub mod Emitted
+pub mod BoundedWriting
+pub mod Bounded
+pub mod Forms
 pub mod Apart
 pub mod Whole
 pub mod Laws

@@ -1,7 +1,7 @@
 //! Laws of emitted functions.
 
 ghost use Rattle.vsi_emit.specs.Apart.{WrittenApart};
-ghost use Rattle.vsi_emit.specs.Laws.{AnswersLast, Noninterference, SteadyJumps};
+ghost use Rattle.vsi_emit.specs.Laws.{AnswersLast, BoundedNoninterference, Noninterference, SteadyJumps};
 
 use vsi_steady::laws::steady_runs_alike;
 
@@ -10,6 +10,12 @@ use vsi_steady::laws::steady_runs_alike;
 /// agree there.
 pub fn noninterference()
     ensures { Noninterference }
+{}
+
+/// Where the image always halts, so do the calls of its function without a budget: any two of them,
+/// with arrays that agree at and below a class, leave arrays that agree there.
+pub fn bounded_noninterference()
+    ensures { BoundedNoninterference }
 {}
 
 /// Two calls of a steady image's function, with arrays that agree at and below a class, reach the same

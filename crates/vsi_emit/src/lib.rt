@@ -26,6 +26,6 @@ mod operands;
 mod pieces;
 mod statements;
 
-pub use emit::{emit_c, emit_header};
+pub use emit::{emit_bounded, emit_bounded_header, emit_c, emit_header};
 pub use error::EmitError;
 pub use vsi_c_names::is_function_name;

@@ -4,7 +4,7 @@ use Rattle.std.specs.Io.KnownBytes.{Appends}
 use Rattle.vsi_devices.specs.Counted.{device_of}
 use Rattle.vsi_answers.specs.Requests.{ListsTo}
 use Rattle.vsi.specs.Shaping.{ShapedText}
-use Rattle.vsi.specs.Reasons.{AsksCanonical, AsksClasses, AsksFlows, HasNoText, LacksTried, NoOther, OtherLeak, RefusesAudit, RefusesFile, RefusesFiles, RefusesImage, RefusesLattice, RefusesSource, WhyDraw, WhyEmit, WhyTry}
+use Rattle.vsi.specs.Reasons.{AsksCanonical, AsksClasses, AsksFlows, HasNoText, LacksBound, LacksTried, NoOther, OtherLeak, RefusesAudit, RefusesFile, RefusesFiles, RefusesImage, RefusesLattice, RefusesSource, WhyDraw, WhyEmit, WhyTry}
 use Rattle.vsi.proofs.Filled.{alone}
 use Rattle.vsi.proofs.Obeyed.{put_stops}
 use Rattle.vsi.proofs.Unrun.{Unseen, fault_stopped}
@@ -215,7 +215,8 @@ returns-in-Source-clause-stopped g c = rw c.in-Source.is
 
 pub returns-in-EmitC-clause-stopped : goal.returns-in-EmitC-clause-stopped
 returns-in-EmitC-clause-stopped g c = rw c.in-EmitC.is
-    (put_stops (WhyEmit (g.F.Files.holds c.args.files.now) c.in-EmitC.asked.lattice c.in-EmitC.asked.file) NoOther
+    (put_stops (WhyEmit (g.F.Files.holds c.args.files.now) c.in-EmitC.asked.lattice c.in-EmitC.asked.file)
+    (LacksBound (g.F.Files.holds c.args.files.now) c.in-EmitC.asked)
     c.emit.result c.put-in-EmitC.result c.emit.ensures.stopped c.put-in-EmitC.ensures.stopped)
 
 pub returns-in-Leak-clause-stopped : goal.returns-in-Leak-clause-stopped
