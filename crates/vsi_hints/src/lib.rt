@@ -1,12 +1,16 @@
 //! Hints for constructs of other languages in a text: what you write in their place.
 //!
-//! `put_hint` speaks of the one at a refused place, and `put_further` of the others in the text. A
-//! text that is offered in place of another one has been read by the reader of the language.
+//! `hint_at` finds the hint for a refused place, and `put_further` writes those for the rest of the
+//! text. A text that a hint offers has been read by the reader of the language (`OffersRead`), and
+//! `put_hint` writes exactly the line of a hint (`hint_line`). Which hint is chosen is only tested.
 //!
-//! To be believed: `specs/Offered` of vsi_foreign.
+//! To be believed: `specs/Hints`, and `specs/Offered` of vsi_foreign.
 #![tactic(auto)]
 
 mod advice;
-mod telling;
+mod choice;
+mod offers;
+mod wording;
 
-pub use advice::{put_further, put_hint};
+pub use advice::{hint_at, put_further};
+pub use wording::{Hint, Reason, put_hint};
