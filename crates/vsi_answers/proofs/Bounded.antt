@@ -1,7 +1,6 @@
 -- Runs within a bound.
-use Rattle.std.proofs.Common.{◌≡◌, ℕ, ◌≤◌, ◌-◌, ◌++◌, ℤ, pos, List, [], Bool, true, false, Option, Some, None, length, replicate, take, refl, sym, subst, ap, ◌∙◌}
+use Rattle.std.proofs.Common.{◌≡◌, ℕ, ◌-◌, ◌++◌, ℤ, pos, List, [], Bool, true, false, Option, Some, None, length, replicate, take, refl, sym, subst, ap, ◌∙◌}
 use Rattle.std.specs.Prelude.{IsSomeAnd, IsTrue, Ok, slice_get}
-use Rattle.std.specs.Global.{Vec}
 use Rattle.std.proofs.lemmas.List.{length-map}
 use Rattle.vsi_lattice.specs.Known.{Known}
 use Rattle.vsi_lattice.specs.LatticeView.{class_named, order}
@@ -17,10 +16,10 @@ use Rattle.vsi_bound.specs.Bound.{AlwaysHalts, Answers}
 use Rattle.vsi_bound.specs.declared.bound.Bound.{Bound}
 use Rattle.vsi_bound.specs.declared.bound.Bound.TheVariants.{Halts, Endless, Unstructured, TooLarge}
 use Rattle.vsi_bound.proofs.Ending as bounds
-use Rattle.vsi_compiler.specs.Observation.{AgreeAt, Ends, IsNoninterfering, IsStoreOf}
+use Rattle.vsi_compiler.specs.Observation.{AgreeAt, Ends, IsNoninterfering}
 use Rattle.vsi_answers.specs.declared.places.Place.{Place}
 use Rattle.vsi_answers.specs.Bounds.{bound_line, halts_line, is_bounded}
-use Rattle.vsi_answers.specs.Laws.{AlwaysEndAlike, BoundIsKept, BoundedIsNoninterfering, EndAlike}
+use Rattle.vsi_answers.specs.Laws.{AlwaysEndAlike, BoundIsKept, BoundedIsNoninterfering}
 use Rattle.vsi_answers.proofs.Views.{same_fields}
 
 -- The number of an answer that has one.

@@ -1,6 +1,5 @@
 use Rattle.vsi.specs.Reasons.{NoOther, RefusesImage, StopsBy}
 use Rattle.vsi.proofs.Reasons.{handed}
-use Rattle.vsi.proofs.Unrun.{memory_stopped}
 use Rattle.vsi.proofs.bounding.image_bound.Goals as goal
 
 pub returns-in_err-verified-clause-stopped : goal.returns-in_err-verified-clause-stopped
