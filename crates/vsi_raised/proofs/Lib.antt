@@ -1,4 +1,3 @@
 pub mod RaiseLemmas
-pub mod PartLemmas
-pub mod SpliceLemmas
+pub mod NameLemmas
 pub mod AnswerLemmas

@@ -19,9 +19,13 @@ name_start globals letvars v =
     if nat_lt v (length globals) then slice_index_or (map (λ g. g.name.span.start) globals) v 0
     else slice_index_or (map (λ e. e.span.start) letvars) (v - length globals) 0
 
--- The line of a raise: where the variable is declared, its name and its declared class, its new class, and the variable
--- that forces it.
+-- The beginning of the line of a raise: where the variable is declared, its name and its declared class, and the new one.
+abbrev pub change_text : Lattice → List ℕ → ℕ → Resolved → Raise → List ℕ
+change_text l source start r raise =
+    place_text source start ++ codes " " ++ variable_text l r raise.variable ++ codes " -> " ++ class_name l raise.new
+
+-- The line of a raise: the change, and the variable that forces it.
 abbrev pub raise_line : Lattice → List ℕ → List Declared → Resolved → Raise → List ℕ
 raise_line l source globals r raise =
-    place_text source (name_start globals r.letvars raise.variable) ++ codes " " ++ variable_text l r raise.variable
-    ++ codes " -> " ++ class_name l raise.new ++ codes ", since " ++ name_of r raise.cause ++ codes " reaches it\n"
+    change_text l source (name_start globals r.letvars raise.variable) r raise ++ codes ", since " ++ name_of r raise.cause
+    ++ codes " reaches it\n"

@@ -22,6 +22,28 @@ use vsi_scope::Resolved;
 use vsi_syntax::{Declaration, put_place};
 use vsi_types::Profile;
 
+/// Adds the beginning of the line of a raise.
+fn put_change(
+    text: &mut Vec<u8>,
+    lattice: &Lattice,
+    source: &[u8],
+    start: usize,
+    program: &Resolved<'_>,
+    raise: &Raise,
+) -> Result<(), AllocError>
+    requires globals { All (IsClass (order lattice.now)) (program_of program.now).globals }
+    requires declared { AreClasses (order lattice.now) (program_of program.now).declared }
+    requires new { IsClass (order lattice.now) raise.now.new }
+    ensures { OnOk result (text.new.items ≡ text.old.items
+        ++ spec.change_text lattice.now source.now start program.now raise.now) }
+{
+    put_place(text, source, start)?;
+    text.extend_from_slice(b" ")?;
+    put_variable(text, lattice, program, raise.variable)?;
+    text.extend_from_slice(b" -> ")?;
+    text.extend_from_slice(lattice.name(raise.new))
+}
+
 /// Adds the line of a raise.
 fn put_raise(
     text: &mut Vec<u8>,
@@ -38,11 +60,7 @@ fn put_raise(
         (map declared declarations.now) program.now raise.now) }
 {
     let start = name_start(declarations, program.letvars(), raise.variable);
-    put_place(text, source, start)?;
-    text.extend_from_slice(b" ")?;
-    put_variable(text, lattice, program, raise.variable)?;
-    text.extend_from_slice(b" -> ")?;
-    text.extend_from_slice(lattice.name(raise.new))?;
+    put_change(text, lattice, source, start, program, raise)?;
     text.extend_from_slice(b", since ")?;
     text.extend_from_slice(name(program, raise.cause))?;
     text.extend_from_slice(b" reaches it\n")

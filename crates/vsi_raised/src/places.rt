@@ -2,13 +2,14 @@
 
 ghost use Rattle.std.specs.Prelude.{◌≡◌, ◌++◌, map, option_map, IfOk, OnOk};
 ghost use Rattle.vsi_syntax.specs.CommandView.{body_of, command, declared};
-ghost use Rattle.vsi_syntax.specs.Tree.{Whole};
-ghost use Rattle.vsi_syntax.specs.View.{named};
+ghost use Rattle.vsi_syntax.specs.ProgramView.{whole};
+ghost use Rattle.vsi_syntax.specs.Tree.{IsProgram, Whole, write_program};
+ghost use Rattle.vsi_syntax.specs.View.{lexemes, named};
 ghost use Rattle.vsi_compiler.specs.Source.{Reads};
 ghost use Rattle.vsi_raised.specs.Places as spec;
 
 use std::alloc::{AllocError, Global};
-use vsi_syntax::{Declaration, Name, Span, Stmt, lex, parse};
+use vsi_syntax::{Declaration, Name, Program, Span, Stmt, Token, lex, parse};
 
 /// Where a letvar writes its class: nothing after its name where it writes none.
 fn class_place(name: Name<'_>, class: Option<Name<'_>>) -> Span
@@ -67,6 +68,27 @@ fn put_globals(places: &mut Vec<Span>, globals: &[Declaration<'_>]) -> Result<()
     Ok(())
 }
 
+/// The tree that writes tokens.
+fn tree_of<'a>(alloc: Global, tokens: &[Token<'a>]) -> Result<Program<'a>, AllocError>
+    ensures { (tree : Whole) → IsProgram tree.body → write_program tree ≡ lexemes tokens.now
+        → IfOk result (λ p. whole p ≡ tree) }
+{
+    match parse(alloc, tokens) {
+        Ok(program) => Ok(program),
+        Err(_) => Err(AllocError),
+    }
+}
+
+/// The tree of a text that has one.
+fn tree_in<'a>(alloc: Global, text: &'a [u8]) -> Result<Program<'a>, AllocError>
+    ensures { (tree : Whole) → Reads text.now tree → IfOk result (λ p. whole p ≡ tree) }
+{
+    match lex(alloc, text) {
+        Ok(tokens) => tree_of(alloc, &tokens),
+        Err(_) => Err(AllocError),
+    }
+}
+
 /// Where the declarations of a text that has a tree write their classes: globals, then letvars in
 /// the order of the text.
 ///
@@ -77,12 +99,7 @@ pub(crate) fn written_places(alloc: Global, text: &[u8]) -> Result<Vec<Span>, Al
     ensures { (tree : Whole) → Reads text.now tree
         → IfOk result (λ places. places.items ≡ spec.written_places tree) }
 {
-    let Ok(tokens) = lex(alloc, text) else {
-        return Err(AllocError);
-    };
-    let Ok(program) = parse(alloc, &tokens) else {
-        return Err(AllocError);
-    };
+    let program = tree_in(alloc, text)?;
     let mut places = Vec::new(alloc);
     put_globals(&mut places, program.globals())?;
     put_all(&mut places, program.body())?;

@@ -33,7 +33,7 @@ fn source_error(error: CompileError) -> RaisedError
 
 /// The error for a text with raised classes that is refused.
 fn raised_error(text: Vec<u8>, error: CompileError) -> RaisedError
-    ensures { result ≡ errors.raised_error text.entry error }
+    ensures { result ≡ errors.raised_error text error }
 {
     match error {
         CompileError::Memory => RaisedError::Memory,
@@ -61,10 +61,10 @@ fn accepted(
     lattice: &Lattice,
     text: Vec<u8>,
 ) -> Result<Vec<u8>, RaisedError>
-    ensures same { IfOk result (λ out. out.items ≡ text.entry.items) }
+    ensures same { IfOk result (λ out. out.items ≡ text.items) }
     ensures accepted { IfOk result (λ out. IsAccepted
         (class_named lattice.now) (order lattice.now) profile out.items) }
-    ensures refused { IfErr result (RefusesText lattice.now profile text.entry.items) }
+    ensures refused { IfErr result (RefusesText lattice.now profile text.items) }
 {
     match judged(alloc, profile, lattice, &text) {
         Ok(()) => Ok(text),

@@ -16,7 +16,7 @@ written-requires c =
 pub returns-clause-raised : goal.returns-clause-raised
 returns-clause-raised c =
     let s = c.args.source.now in
-    let is = raised_text s c.resolved-_program.ensures.kept c.args.profile c.args.raises.now c.in_ok-text.text.items
+    let is = raised_text s c.resolved-program.ensures.kept c.args.profile c.args.raises.now c.in_ok-text.text.items
     c.requires c.in_ok-text.ensures in
     IfOk-weaker c.accepted.result _ _
     (λ out same. subst (IsRaisedText s.lattice c.args.profile s.text) (sym same) is) c.accepted.ensures.same
@@ -29,7 +29,7 @@ returns-clause-accepted c =
 pub returns-clause-refused : goal.returns-clause-refused
 returns-clause-refused c =
     let s = c.args.source.now in
-    let is = raised_text s c.resolved-_program.ensures.kept c.args.profile c.args.raises.now c.in_ok-text.text.items
+    let is = raised_text s c.resolved-program.ensures.kept c.args.profile c.args.raises.now c.in_ok-text.text.items
     c.requires c.in_ok-text.ensures in
     IfErr-weaker c.accepted.result (RefusesText c.lattice-lattice.result.now c.args.profile c.in_ok-text.text.items) _
     (λ e refused. raised_refused s.lattice c.args.profile s.text c.in_ok-text.text.items e is
