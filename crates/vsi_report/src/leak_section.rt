@@ -47,12 +47,15 @@ pub(crate) fn put_leak(
         steps: false,
         effort: effort(lattice),
     };
-    match leak_of_text(alloc, lattice, source, &wanted) {
-        Ok((verified, Finding::Leak(leak))) => put_found(alloc, page, lattice, &verified, &leak),
-        Ok((_, Finding::Nothing { pairs })) => put_none(page, pairs),
-        Err(CompileError::Memory) => Err(AllocError),
+    let (verified, finding) = match leak_of_text(alloc, lattice, source, &wanted) {
+        Ok(searched) => searched,
+        Err(CompileError::Memory) => return Err(AllocError),
         // A text without a program has no section.
-        Err(_) => Ok(()),
+        Err(_) => return Ok(()),
+    };
+    match finding {
+        Finding::Leak(leak) => put_found(alloc, page, lattice, &verified, &leak),
+        Finding::Nothing { pairs } => put_none(page, pairs),
     }
 }
 

@@ -6,8 +6,8 @@ use Rattle.vsi_report.specs.Size.{most_bytes}
 use Rattle.vsi_report.proofs.SizeLemmas.{short_for_less, short_with}
 use Rattle.vsi_report.proofs.report.accepted_page.Goals as goal
 
-pub returns-in-Ok-clause-bounded : goal.returns-in-Ok-clause-bounded
-returns-in-Ok-clause-bounded c =
+pub returns-in_ok-lines-in-Ok-clause-bounded : goal.returns-in_ok-lines-in-Ok-clause-bounded
+returns-in_ok-lines-in-Ok-clause-bounded c =
     let lines = listing (fields c.args.verified.now) in
     let pairs = c.in-Ok.facts.pairs.items in
     short_with c.args.lattice.now c.args.profile c.args.source.now pairs lines c.page_with_image.result c.in-Ok.ensures

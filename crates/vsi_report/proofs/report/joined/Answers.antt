@@ -4,4 +4,4 @@ pub returns-clause-panel : goal.returns-clause-panel
 returns-clause-panel c = c.in_ok-whole.ensures c.args.source.now c.requires
 
 pub returns-clause-short : goal.returns-clause-short
-returns-clause-short c = c.in_ok-check_size.ensures
+returns-clause-short c = c.in_ok-check_size.ensures.short
