@@ -1,12 +1,8 @@
-//! Hints for the constructs of other languages in a text.
+//! Sentences about the constructs of other languages in a text.
 
-ghost use Rattle.std.specs.Prelude.{IfOk, IfSome};
-ghost use Rattle.vsi_hints.specs.Hints.{OffersRead};
-
-use crate::choice::hint_of;
-use crate::wording::{Hint, put_sentence};
+use crate::telling::put_found;
 use std::alloc::{AllocError, Global};
-use vsi_foreign::{is_false, is_true, pieces_of};
+use vsi_foreign::pieces_of;
 use vsi_shapes::{Found, Look, Shape, halved_at, shape_at, structure_at};
 use vsi_syntax::put_place;
 
@@ -73,21 +69,28 @@ fn covering(shapes: &[Found], piece: usize) -> Option<Found> {
     last
 }
 
-/// The hint for the construct of another language at a place of a text, if there is one.
-pub fn hint_at<'s>(
+/// Adds a hint for the construct of another language at a position in a text, and returns whether
+/// there is one.
+pub fn put_hint(
     alloc: Global,
-    source: &'s [u8],
+    words: &mut Vec<u8>,
+    source: &[u8],
     at: usize,
-) -> Result<Option<Hint<'s>>, AllocError>
-    ensures read { IfOk result (λ hint. IfSome hint OffersRead) }
-{
+) -> Result<bool, AllocError> {
     let pieces = pieces_of(alloc, source)?;
     let look = Look { pieces: &pieces };
     let shapes = all_shapes(alloc, &look)?;
-    match covering(&shapes, piece_number(&look, at)) {
-        Some(found) => hint_of(alloc, source, &look, &found),
-        None => Ok(None),
+    let Some(found) = covering(&shapes, piece_number(&look, at)) else {
+        return Ok(false);
+    };
+    let mut sentence = Vec::new(alloc);
+    if !put_found(alloc, &mut sentence, source, &look, &found)? {
+        return Ok(false);
     }
+    words.extend_from_slice(b"Hint: ")?;
+    words.extend_from_slice(&sentence)?;
+    words.extend_from_slice(b"\n")?;
+    Ok(true)
 }
 
 /// The key of a construct. Constructs with the same key have the same advice.
@@ -127,32 +130,33 @@ fn sum(text: &[u8]) -> usize {
 }
 
 /// Adds one further place.
-fn put_further_place<'s>(
+fn put_further_place(
     alloc: Global,
     words: &mut Vec<u8>,
-    source: &'s [u8],
-    look: &Look<'s, '_>,
+    source: &[u8],
+    look: &Look,
     found: &Found,
 ) -> Result<(), AllocError> {
-    let Some(hint) = hint_of(alloc, source, look, found)? else {
+    let mut sentence = Vec::new(alloc);
+    if !put_found(alloc, &mut sentence, source, look, found)? {
         return Ok(());
-    };
+    }
     let Some(piece) = look.pieces.get(found.first) else {
         return Ok(());
     };
     words.extend_from_slice(b"Also at ")?;
     put_place(words, source, piece.at)?;
     words.extend_from_slice(b": ")?;
-    put_sentence(words, &hint)?;
+    words.extend_from_slice(&sentence)?;
     words.extend_from_slice(b"\n")
 }
 
 /// Adds the places of those that need advice of their own; `keys` has the advice already given.
-fn put_each<'s>(
+fn put_each(
     alloc: Global,
     words: &mut Vec<u8>,
-    source: &'s [u8],
-    look: &Look<'s, '_>,
+    source: &[u8],
+    look: &Look,
     shapes: &[Found],
     is_within: bool,
     piece: usize,
@@ -300,9 +304,6 @@ fn undeclared<'a>(
             continue;
         }
         if names.len() >= MOST || names.contains(&name) || gets_declared(look, shapes, name) {
-            continue;
-        }
-        if is_true(name) || is_false(name) || name == b"default" {
             continue;
         }
         names.push(name)?;

@@ -1,16 +1,12 @@
 //! Hints for constructs of other languages in a text: what to write instead.
 //!
-//! `hint_at` finds the hint for a refused place, and `put_further` writes those for the rest of the
-//! text. A text that a hint offers has been read by the reader of the language (`OffersRead`), and
-//! `put_hint` writes exactly the line of a hint (`hint_line`). Which hint is chosen is only tested.
+//! `put_hint` is about the construct at a refused position, and `put_further` about the others in
+//! the text. The reader of the language has read every text that is offered as a replacement.
 //!
-//! To be believed: `specs/Hints`, and `specs/Offered` of vsi_foreign.
+//! To be believed: `specs/Offered` of vsi_foreign.
 #![tactic(auto)]
 
 mod advice;
-mod choice;
-mod offers;
-mod wording;
+mod telling;
 
-pub use advice::{hint_at, put_further};
-pub use wording::{Hint, Reason, put_hint};
+pub use advice::{put_further, put_hint};
