@@ -28,7 +28,6 @@ pub(crate) fn name<'a>(program: &'a Resolved<'_>, variable: Var) -> &'a [u8]
 }
 
 /// Where the name of a declaration begins.
-#[tactic(auto, using(crate::proofs::NameLemmas::global_start))]
 pub(crate) fn name_start(globals: &[Declaration<'_>], letvars: &[Entry<'_>], variable: Var) -> usize
     ensures { result ≡ spec.name_start (map declared globals.now) letvars.now variable }
 {

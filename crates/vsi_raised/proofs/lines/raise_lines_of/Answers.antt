@@ -17,7 +17,7 @@ lines_of-requires c =
 pub returns-in_ok-lines_of-in-Raised-clause-lines : goal.returns-in_ok-lines_of-in-Raised-clause-lines
 returns-in_ok-lines_of-in-Raised-clause-lines c =
     let s = c.args.source.now in
-    c.in_ok-lines_of.ensures c.args.profile
+    c.in_ok-lines_of-in-Raised.ensures c.args.profile
     (subst (AreLeastRaises (order s.lattice) c.args.profile (program s.resolved)) (sym c.deref.ensures.value)
     (subst (Answers (order s.lattice) c.args.profile (program s.resolved)) c.in-Raised.is c.in_ok-raising.ensures.answer))
 
