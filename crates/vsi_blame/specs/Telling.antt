@@ -68,7 +68,7 @@ abbrev pub count_words : ℕ → ℕ → List ℕ
 count_words refused told =
     if refused == told
     then []
-    else codes "Refused flows: " ++ shown (decimal refused) ++ codes ". Told here: " ++ shown (decimal told)
+    else codes "Refused flows: " ++ shown (decimal refused) ++ codes ". Shown here: " ++ shown (decimal told)
     ++ codes ".\n"
 
 -- The text reports the first refused pairs of the source text's program, at most 20, and their number if there are

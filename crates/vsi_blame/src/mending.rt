@@ -112,9 +112,9 @@ fn put_break(
     put_variable(text, program, step.source)?;
     text.extend_from_slice(b".\n")?;
     if count > 1 {
-        text.extend_from_slice(b"  Of the flows told here ")?;
+        text.extend_from_slice(b"  ")?;
         put_number(text, count)?;
-        text.extend_from_slice(b" go that way.\n")?;
+        text.extend_from_slice(b" of the flows shown here take that step.\n")?;
     }
     Ok(())
 }
@@ -133,18 +133,18 @@ fn put_raise(
     let class = match raised(lattice, program, pair) {
         Some(class) => class,
         None => {
-            text.extend_from_slice(b"- No declaration gives ")?;
+            text.extend_from_slice(b"- No declaration changes the class of ")?;
             put_variable(text, program, target)?;
-            return text.extend_from_slice(b" another class.\n");
+            return text.extend_from_slice(b".\n");
         }
     };
     text.extend_from_slice(b"- Or declare ")?;
     put_variable(text, program, target)?;
     text.extend_from_slice(b" as ")?;
     put_safe(text, lattice.name(class))?;
-    text.extend_from_slice(b": who sees ")?;
+    text.extend_from_slice(b": an observer at ")?;
     put_class_of(text, lattice, program, target)?;
-    text.extend_from_slice(b" alone then doesn't see it.\n")
+    text.extend_from_slice(b" then no longer sees it.\n")
 }
 
 /// Whether a pair is the first reported pair of its source.
@@ -170,7 +170,9 @@ fn put_warning(
     }
     text.extend_from_slice(b"Declaring ")?;
     put_variable(text, program, source)?;
-    text.extend_from_slice(b" lower is no mend: it gives it away.\n")
+    text.extend_from_slice(b" lower is not a fix: it makes ")?;
+    put_variable(text, program, source)?;
+    text.extend_from_slice(b" visible to more observers.\n")
 }
 
 /// Adds the remarks about all pairs, after the last one.
@@ -187,8 +189,8 @@ pub(crate) fn put_closing(
         return Ok(());
     }
     text.extend_from_slice(
-        b"Nothing in this language lets a single answer out on purpose.\n\
-        `vsi leak` with the same files looks for two runs that show what gets out.\n",
+        b"This language has no way to release a single result on purpose.\n\
+        `vsi leak` with the same files looks for two runs that show the leak.\n",
     )
 }
 
@@ -205,7 +207,7 @@ pub(crate) fn put_mending(
     requires declared { AreClasses (order lattice.now)
         (program_of program.now).declared }
 {
-    text.extend_from_slice(b"What would mend it:\n")?;
+    text.extend_from_slice(b"What would fix it:\n")?;
     put_break(text, page, program, walks, &entry.steps)?;
     put_raise(text, lattice, program, entry.pair)?;
     put_warning(text, program, walks, entry.pair)

@@ -41,11 +41,11 @@ fn before_read(rule: Rule) -> &'static [u8] {
 /// The text between the name of the variable that is read and that of the variable that is written.
 fn before_written(rule: Rule) -> &'static [u8] {
     match rule {
-        Rule::Assign => b" is read, and what is computed from it is put into ",
-        Rule::Letvar => b" is read, and what is computed from it is put into the new ",
-        Rule::If => b".\nWhich branch is done depends on it, and a branch assigns ",
-        Rule::While => b".\nHow often the body is done depends on it, and the body assigns ",
-        Rule::Loop => b", which is read here.\nUnder the strict profile a run tells everyone ",
+        Rule::Assign => b" is read, and a value computed from it is assigned to ",
+        Rule::Letvar => b" is read, and a value computed from it is the initial value of ",
+        Rule::If => b".\nWhich branch runs depends on it, and a branch assigns ",
+        Rule::While => b".\nHow often the body runs depends on it, and the body assigns ",
+        Rule::Loop => b", which is read here.\nUnder the strict profile everyone sees whether ",
     }
 }
 
@@ -56,11 +56,11 @@ fn put_guarded(
     program: &Resolved<'_>,
     step: &Step,
 ) -> Result<(), AllocError> {
-    text.extend_from_slice(b".\nNo value is copied, and yet whoever sees ")?;
+    text.extend_from_slice(b".\nNo value is copied, but whoever sees ")?;
     put_variable(text, program, step.target)?;
-    text.extend_from_slice(b" learns something of ")?;
+    text.extend_from_slice(b" learns something about ")?;
     put_variable(text, program, step.source)?;
-    text.extend_from_slice(b".\nIt is assigned here:\n")?;
+    text.extend_from_slice(b".\nThe assignment is here:\n")?;
     let written = step.written;
     put_place(text, page.path, page.source, written.start, written.stop)
 }
@@ -75,7 +75,7 @@ fn put_consequence(
     match step.rule {
         Rule::Assign | Rule::Letvar => text.extend_from_slice(b".\n"),
         Rule::If | Rule::While => put_guarded(text, page, program, step),
-        Rule::Loop => text.extend_from_slice(b"whether it ends.\n"),
+        Rule::Loop => text.extend_from_slice(b"a run ends.\n"),
     }
 }
 

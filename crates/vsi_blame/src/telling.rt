@@ -35,12 +35,12 @@ fn put_follows(
     let Some(class) = declared_class(lattice, program, source) else {
         return Ok(());
     };
-    text.extend_from_slice(b"And so ")?;
+    text.extend_from_slice(b"So ")?;
     put_variable(text, program, target)?;
     text.extend_from_slice(b" is ")?;
     put_safe(text, lattice.name(class))?;
     if class != lattice.top() {
-        text.extend_from_slice(b" or above it")?;
+        text.extend_from_slice(b" or a class above it")?;
     }
     text.extend_from_slice(b".\n")
 }
@@ -63,7 +63,7 @@ fn put_steps(
             put_step(text, page, program, &step)?;
             put_follows(text, lattice, program, entry.pair.source, step.target)?;
         } else if number == TOLD_AT_AN_END {
-            text.extend_from_slice(b"Steps between, which are not told here: ")?;
+            text.extend_from_slice(b"Steps left out here: ")?;
             put_number(text, steps.len().saturating_sub(2 * TOLD_AT_AN_END))?;
             text.extend_from_slice(b".\n")?;
         }
@@ -127,7 +127,7 @@ pub(crate) fn count_text(alloc: Global, refused: usize, told: usize) -> Result<V
     }
     text.extend_from_slice(b"Refused flows: ")?;
     put_number(&mut text, refused)?;
-    text.extend_from_slice(b". Told here: ")?;
+    text.extend_from_slice(b". Shown here: ")?;
     put_number(&mut text, told)?;
     text.extend_from_slice(b".\n")?;
     Ok(text)
