@@ -1,5 +1,6 @@
 -- Where the names of globals begin, and the line of a raise from its parts.
 use Rattle.std.proofs.Common.{◌≡◌, ◌∙◌, ℕ, zero, suc, ◌-◌, ◌<◌, true, cond, nat_lt, List, [], ◌∷◌, ◌++◌, length, map, get_or, slice_index_or, refl, sym, ap, arith, append_assoc}
+use Rattle.std.specs.Prelude.{Result, Ok, Err, OnOk, is_ok, if◌then◌else◌}
 use Rattle.std.proofs.lemmas.List.{length-map}
 use Rattle.std.proofs.lemmas.Bool.Decides.{nat_tests}
 use Rattle.vsi_syntax.specs.CommandView.{declared}
@@ -31,8 +32,15 @@ global_start globals letvars v d lt =
 -- A line from its four parts.
 pub line_made : (text first second third fourth one two three four : List ℕ) → one ≡ text ++ first →
     two ≡ one ++ second → three ≡ two ++ third → four ≡ three ++ fourth →
-    four ≡ text ++ first ++ second ++ third ++ fourth
+    four ≡ text ++ (first ++ second ++ third ++ fourth)
 line_made text first second third fourth one two three four a b c d =
     d ∙ ap (λ x. x ++ fourth) (c ∙ ap (λ x. x ++ third) (b ∙ ap (λ x. x ++ second) a))
-    ∙ append_assoc ((text ++ first) ++ second) third fourth ∙ append_assoc (text ++ first) second (third ++ fourth)
-    ∙ append_assoc text first (second ++ third ++ fourth)
+    ∙ ap (λ x. (x ++ third) ++ fourth) (append_assoc text first second)
+    ∙ ap (λ x. x ++ fourth) (append_assoc text (first ++ second) third)
+    ∙ append_assoc text ((first ++ second) ++ third) fourth
+
+-- A text that is present where it was added is present at the answer.
+pub on_added : {E : Type 0} (r : Result (Unit {0}) E) (new more old : List ℕ) → new ≡ (if is_ok r then more else old)
+    → OnOk r (new ≡ more)
+on_added (Ok u) new more old e = e
+on_added (Err e) new more old h = tt

@@ -3,7 +3,7 @@ use Rattle.std.proofs.lemmas.Result.{on_ok_weaker}
 use Rattle.vsi_syntax.specs.CommandView.{declared}
 use Rattle.vsi_infer.specs.Explanation.{name_of}
 use Rattle.vsi_raised.specs.Lines.{change_text, name_start}
-use Rattle.vsi_raised.proofs.NameLemmas.{line_made}
+use Rattle.vsi_raised.proofs.NameLemmas.{line_made, on_added}
 use Rattle.vsi_raised.proofs.lines.put_raise.Goals as goal
 
 pub returns : goal.returns
@@ -23,4 +23,4 @@ returns c =
     (c.in_ok-put_change.ensures ∙ ap (λ (s : ℕ). text ++ change_text l source s r raise) start)
     c.in_ok-extend_from_slice.ensures.items
     (c.in_ok-extend_from_slice-2.ensures.items ∙ ap (λ n. c.extend_from_slice.new.self.items ++ n) c.name.ensures) last)
-    c.extend_from_slice-3.ensures.items
+    (on_added c.extend_from_slice-3.result _ _ _ c.extend_from_slice-3.ensures.items)
