@@ -1,5 +1,5 @@
 -- Runs within a bound.
-use Rattle.std.proofs.Common.{◌≡◌, ℕ, ◌-◌, ◌++◌, ℤ, pos, List, [], Bool, true, false, Option, Some, None, length, replicate, take, refl, sym, subst, ap, ◌∙◌}
+use Rattle.std.proofs.Common.{◌≡◌, ℕ, ◌-◌, ◌++◌, ℤ, pos, List, [], true, Option, Some, None, length, replicate, take, refl, sym, subst, ap, ◌∙◌}
 use Rattle.std.specs.Prelude.{IsSomeAnd, IsTrue, Ok, slice_get}
 use Rattle.std.proofs.lemmas.List.{length-map}
 use Rattle.vsi_lattice.specs.Known.{Known}
@@ -48,17 +48,12 @@ bound_is_kept image told tells bounded =
       halts = λ m budget full le. bounds.enough_budget image h.least h.most budget m h.always le full;
     }
 
--- A Boolean for which `IsTrue` holds is `true`.
-true_of : (b : Bool) → IsTrue b → b ≡ true
-true_of true t = refl
-true_of false f = absurd f
-
 -- A run that has halted ends with some words in the globals.
 ends_of : (image : Image) (m : List ℤ) (budget : ℕ) (o : Option State) → run_of image m budget ≡ o →
     IsSomeAnd o (λ s. IsTrue s.halted) → (m' : List ℤ) × Ends image m budget m'
 ends_of image m budget (Some s) at halts = (
   take (length image.globals.items) s.slots,
-  record { state = s; reached = at; halted = true_of s.halted halts; words = refl },
+  record { state = s; reached = at; halted = halts; words = refl },
 )
 ends_of image m budget None at halts = absurd halts
 
@@ -137,5 +132,6 @@ bounded_is_noninterfering l P source bytes im told a built are tells bounded cla
     let same : fields im ≡ fields image = same_fields (fields im) (fields image) (sym are.0 ∙ read) in
     let h = has_most im tells.place tells.answer tells.is (sym tells.bounded ∙ bounded) in (
       h.most,
-      (tells.line ∙ h.line, end_alike l im image a h.least h.most same built.compiled.noninterference class h.always),
+      tells.line ∙ h.line,
+      end_alike l im image a h.least h.most same built.compiled.noninterference class h.always,
     )

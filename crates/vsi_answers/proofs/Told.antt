@@ -70,6 +70,6 @@ raised_told Kind l raised error kind (Refused text (File f)) told = absurd told
 raised_told Kind l raised error kind (Refused text (Start f)) told = absurd told
 raised_told Kind l raised error kind (Refused text (Steady e)) told = absurd told
 raised_told Kind l raised error kind (Refused text (Raised e)) told =
-    (told.0, subst (λ t. Kind t e) (sym told.1.0.0) (subst (Kind raised) (sym told.1.0.1) kind), told.1.1)
+    (told.0, subst (λ t. Kind t e) (sym told.1.0) (subst (Kind raised) (sym told.1.1) kind), told.2)
 raised_told Kind l raised error kind OutOfBudget told = absurd told
 raised_told Kind l raised error kind Memory told = tt
