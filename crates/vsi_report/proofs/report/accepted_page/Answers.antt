@@ -14,7 +14,7 @@ returns-in_ok-lines-in-Ok-clause-bounded c =
     (subst
     (λ told. IfOk c.page_with_image.result (λ page.
     length page.items ≤ most_bytes (length c.args.source.now) (length pairs) (length told)))
-    (c.deref.ensures.value ∙ c.in_ok-lines.ensures ∙ ap (λ i. listing (fields i)) c.image.ensures.same)
+    (c.deref.ensures.value ∙ c.in_ok-lines-in-Ok.ensures ∙ ap (λ i. listing (fields i)) c.image.ensures.same)
     c.page_with_image.ensures.short)
 
 pub returns-in-Err-clause-bounded : goal.returns-in-Err-clause-bounded
