@@ -1,6 +1,7 @@
 use Rattle.std.proofs.Common.{◌≡◌, true}
 use Rattle.std.proofs.lemmas.Result.{IfErr-weaker}
 use Rattle.vsi.specs.Reasons.{IsUnbounded, StopsBy}
+use Rattle.vsi.specs.declared.stop.Stop.{Stop}
 use Rattle.vsi.specs.declared.stop.Stop.TheVariants as stops
 use Rattle.vsi.proofs.Unbounded.{bounded_lacks}
 use Rattle.vsi.proofs.Unrun.{memory_stops}
@@ -21,6 +22,6 @@ returns-clause-told c = rw c.if-is_bounded.false c.written_in_c.ensures.told
 
 pub returns-clause-stopped : goal.returns-clause-stopped
 returns-clause-stopped c =
-    let other = λ s. (c.args.is_bounded ≡ true) × IsUnbounded c.args.verified.now s in
+    let other = λ (s : Stop). (c.args.is_bounded ≡ true) × IsUnbounded c.args.verified.now s in
     IfErr-weaker c.written_in_c.result (λ stop. stop ≡ stops.Memory) (StopsBy (λ reason. ⊥) other)
     (memory_stops (λ reason. ⊥) other) c.written_in_c.ensures.memory
