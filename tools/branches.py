@@ -1,7 +1,7 @@
-"""Looks for conditional jumps in the machine code of emitted C: each must be one of the budget or of a guard.
+"""Looks for conditional jumps in the machine code of emitted C: each must be at a test of the budget or a guard.
 
-Without a budget blocks are joined, and a compiler may turn a guard into a choice of values, for which it jumps at no line
-of the C. Such jumps may be there only where a guard has no jump at its own line.
+Without a budget blocks are joined, and a compiler may turn a guard into a choice of values, for which it jumps at no
+line of the C. Such jumps are allowed, any number of them, if some guard of the file has no jump at its own line.
 """
 
 import bisect
