@@ -126,6 +126,19 @@ class Student:
         self.js("document.getElementById(arguments[0]).scrollIntoView({block: 'center'})", identifier)
         self.at(identifier).click()
 
+    def click(self, selector: str) -> None:
+        """Clicks the first element of a selector, once more where the page has just put another in its place."""
+        from selenium.common.exceptions import StaleElementReferenceException
+        for _ in range(10):
+            try:
+                found = self.driver.find_element("css selector", selector)
+                self.js("arguments[0].scrollIntoView({block: 'center'})", found)
+                found.click()
+                return
+            except StaleElementReferenceException:
+                time.sleep(0.2)
+        complain(f"{self.size[0]} {self.scheme}: {selector} can't be clicked")
+
     def wait(self, what: str, happens: Callable[[], Any], seconds: float = 20) -> bool:
         """Waits until something happens; complains if it doesn't."""
         end = time.monotonic() + seconds
@@ -180,9 +193,7 @@ class Student:
         self.press("leak-button")
         self.wait("a leak", lambda: "A leak at L" in self.text("leak-result"))
         self.look("leak")
-        fix = self.driver.find_element("css selector", ".fixes button")
-        self.js("arguments[0].scrollIntoView({block: 'center'})", fix)
-        fix.click()
+        self.click(".fixes button")
         self.verdict("Accepted")
         if "var shown : H;" not in self.js("return document.getElementById('text').value"):
             complain("the quick fix didn't change the class")
