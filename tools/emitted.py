@@ -18,6 +18,7 @@ import argparse
 import itertools
 import os
 import random
+import re
 import shutil
 import subprocess
 import sys
@@ -103,7 +104,7 @@ class Emitted:
             if not said.startswith(b"no bound") or said.count(b"\n") != 1:
                 raise Fault(f"image {self.number}: {' '.join(asked)} says {said.decode()}")
             return False
-        if b"budget" in text:
+        if re.search(rb"uint64_t budget\b|\bbudget (<|-)", text):
             raise Fault(f"image {self.number}: {' '.join(asked)} writes a budget")
         self.put(f"{name}.c", text)
         self.put(f"{name}.h", self.vsi(0, *asked, "--header")[0])
