@@ -27,14 +27,14 @@ const COPY_TOLD: &[u8] = b"`h` flows to `l`: `h` is H and `l` is L, and H is not
 copy.vsi:2:6
   2 | l := h
     |      ^
-Here `h` is read, and what is computed from it is put into `l`.
-What would mend it:
+Here `h` is read, and a value computed from it is assigned to `l`.
+What would fix it:
 - Change copy.vsi:2:6 so that `l` doesn't depend on `h`.
-- Or declare `l` as H: who sees L alone then doesn't see it.
-Declaring `h` lower is no mend: it gives it away.
+- Or declare `l` as H: an observer at L then no longer sees it.
+Declaring `h` lower is not a fix: it makes `h` visible to more observers.
 
-Nothing in this language lets a single answer out on purpose.
-`vsi leak` with the same files looks for two runs that show what gets out.
+This language has no way to release a single result on purpose.
+`vsi leak` with the same files looks for two runs that show the leak.
 ";
 
 const WAIT: &[u8] = b"var h : H;\nwhile h < 1 do h := h\n";
@@ -46,14 +46,14 @@ wait.vsi:2:7
   2 | while h < 1 do h := h
     |       ^
 Whether a loop ends depends on `h`, which is read here.
-Under the strict profile a run tells everyone whether it ends.
-What would mend it:
+Under the strict profile everyone sees whether a run ends.
+What would fix it:
 - Change wait.vsi:2:7 so that the ending of loops doesn't depend on `h`.
-- No declaration gives the ending of loops another class.
-Declaring `h` lower is no mend: it gives it away.
+- No declaration changes the class of the ending of loops.
+Declaring `h` lower is not a fix: it makes `h` visible to more observers.
 
-Nothing in this language lets a single answer out on purpose.
-`vsi leak` with the same files looks for two runs that show what gets out.
+This language has no way to release a single result on purpose.
+`vsi leak` with the same files looks for two runs that show the leak.
 ";
 
 const GUARD: &[u8] = b"var h : H; var l : L;\nif h < 1 then\n  l := 0\nelse h := h\n";
@@ -63,19 +63,19 @@ guard.vsi:2:4
   2 | if h < 1 then
     |    ^
 Here the guard of an `if` reads `h`.
-Which branch is done depends on it, and a branch assigns `l`.
-No value is copied, and yet whoever sees `l` learns something of `h`.
-It is assigned here:
+Which branch runs depends on it, and a branch assigns `l`.
+No value is copied, but whoever sees `l` learns something about `h`.
+The assignment is here:
 guard.vsi:3:3
   3 |   l := 0
     |   ^
-What would mend it:
+What would fix it:
 - Change guard.vsi:2:4 so that `l` doesn't depend on `h`.
-- Or declare `l` as H: who sees L alone then doesn't see it.
-Declaring `h` lower is no mend: it gives it away.
+- Or declare `l` as H: an observer at L then no longer sees it.
+Declaring `h` lower is not a fix: it makes `h` visible to more observers.
 
-Nothing in this language lets a single answer out on purpose.
-`vsi leak` with the same files looks for two runs that show what gets out.
+This language has no way to release a single result on purpose.
+`vsi leak` with the same files looks for two runs that show the leak.
 ";
 
 const NONE_TOLD: &[u8] = b"";
@@ -103,7 +103,7 @@ fn counts(rt: HostRuntime) {
     let is_counted = match text {
         Some(text) => text
             .as_slice()
-            .ends_with(b"Refused flows: 21. Told here: 20.\n"),
+            .ends_with(b"Refused flows: 21. Shown here: 20.\n"),
         None => false,
     };
     assert!(rt; is_counted);
@@ -120,11 +120,37 @@ fn follows(rt: HostRuntime) {
     let is_told = match text {
         Some(text) => has(
             text.as_slice(),
-            b"is put into the new `same`.\nAnd so `same` is H.\nsame.vsi:2:33\n",
+            b"is the initial value of `same`.\nSo `same` is H.\nsame.vsi:2:33\n",
         ),
         None => false,
     };
     assert!(rt; is_told);
+}
+
+/// A walk of 18 steps, of which two are left out.
+const LONG: &[u8] = b"var h : H; var l : L;
+letvar a := h in letvar b := a in letvar c := b in letvar d := c in letvar e := d in
+letvar f := e in letvar g := f in letvar i := g in letvar j := i in letvar k := j in
+letvar m := k in letvar n := m in letvar o := n in letvar p := o in letvar q := p in
+letvar r := q in letvar s := r in l := s
+";
+
+/// The sentences around the two steps that are left out, from the eighth step to the eleventh.
+const LONG_MIDDLE: &[u8] =
+    b"Here `g` is read, and a value computed from it is the initial value of `i`.
+So `i` is H.
+Steps left out here: 2.
+long.vsi:4:13
+";
+
+#[test]
+fn leaves_out(rt: HostRuntime) {
+    let text = told(rt.alloc(), Profile::Base, "long.vsi", LONG);
+    let is_left_out = match text {
+        Some(text) => has(text.as_slice(), LONG_MIDDLE),
+        None => false,
+    };
+    assert!(rt; is_left_out);
 }
 
 /// Whether a part stands in a text.
