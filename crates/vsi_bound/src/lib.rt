@@ -22,8 +22,6 @@ mod known;
 pub mod laws;
 mod loops;
 mod stretches;
-#[cfg(test)]
-mod tests;
 mod values;
 
 pub use bound::{Bound, bound_of};

@@ -1,10 +1,13 @@
 //! The tests of the library that rows and transcripts can't hold: devices that fail mid-stream,
 //! images with changed bytes, leaks over given stores, controllers that share a store, refused
-//! flows and counts, continuations of unfinished texts, and positions with carets.
+//! flows and counts, bounds of small codes, raises of declared classes, continuations of unfinished
+//! texts, and positions with carets.
 #![tactic(auto)]
 
 #[cfg(test)]
 mod beginnings;
+#[cfg(test)]
+mod bounds;
 #[cfg(test)]
 mod counts;
 #[cfg(test)]
@@ -17,6 +20,10 @@ mod leaks;
 mod near;
 #[cfg(test)]
 mod places;
+#[cfg(test)]
+mod raised_texts;
+#[cfg(test)]
+mod raises;
 #[cfg(test)]
 mod refused_flows;
 #[cfg(test)]

@@ -14,8 +14,6 @@ mod floors;
 mod least;
 mod raise;
 mod reaching;
-#[cfg(test)]
-mod rows;
 mod settling;
 
 pub use least::{raises_in, raises_of};

@@ -14,8 +14,6 @@ mod judged;
 mod lines;
 mod names;
 mod places;
-#[cfg(test)]
-mod rows;
 mod splice;
 mod written;
 

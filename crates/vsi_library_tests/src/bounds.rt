@@ -1,8 +1,7 @@
 //! Bounds of small codes, worked by hand.
 
-use crate::bound::{Bound, bound_of};
-use crate::error::Reason;
 use std::alloc::Global;
+use vsi_bound::{Bound, Reason, bound_of};
 use vsi_image::Instr::{Add, Eq, Halt, Jmp, Jz, Load, Lt, Push, Store, Sub};
 use vsi_image::{Image, Instr, verify};
 

@@ -1,11 +1,10 @@
 //! Programs and their raises, worked by hand.
 
-use crate::least::raises_of;
-use crate::raise::{Raise, Raising};
 use std::alloc::Global;
 use vsi_compiler::read_source;
 use vsi_infer::Step;
 use vsi_lattice::{Class, read_lattice};
+use vsi_raise::{Raise, Raising, raises_of};
 use vsi_scope::Var;
 use vsi_types::{LOOP, Profile};
 

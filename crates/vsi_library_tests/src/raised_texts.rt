@@ -1,11 +1,9 @@
 //! Texts, the lines of their raises, and the texts with these raises, worked by hand.
 
-use crate::error::RaisedError;
-use crate::lines::raise_lines_in;
-use crate::written::raised_text_in;
 use std::alloc::Global;
 use vsi_compiler::CompileError;
 use vsi_lattice::read_lattice;
+use vsi_raised::{RaisedError, raise_lines_in, raised_text_in};
 use vsi_syntax::LexError;
 use vsi_types::Profile;
 
