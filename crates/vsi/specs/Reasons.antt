@@ -1,5 +1,5 @@
 -- The reason why a request has stopped early, given the contents of its files.
-use Rattle.std.specs.Prelude.{◌≡◌, ◌≢◌, ◌⊎◌, ◌++◌, ℕ, ℤ, Bool, true, false, List, Option, Some, None, Result, Err, IsSomeAnd, codes, decimal}
+use Rattle.std.specs.Prelude.{◌≡◌, ◌≢◌, ◌<◌, ◌⊎◌, ◌++◌, ℕ, ℤ, Bool, true, false, List, Option, Some, None, Result, Err, IsSomeAnd, codes, decimal}
 use Rattle.std.specs.Global.{Vec}
 use Rattle.std.specs.Borrow.{Bor}
 use Rattle.std.specs.Io.KnownBytes.{Appends}
@@ -25,6 +25,8 @@ use Rattle.vsi_audit.specs.Telling.{IsAuditText}
 use Rattle.vsi_audit.specs.declared.error.AuditError.{AuditError}
 use Rattle.vsi_steady.specs.Refusal as steady
 use Rattle.vsi_steady.specs.Telling.{IsUnsteadyText}
+use Rattle.vsi_steady.specs.declared.error.SteadyError.{SteadyError}
+use Rattle.vsi_steady.specs.declared.error.SteadyError.TheVariants as unsteady
 use Rattle.vsi_leak.specs.Leaks.{IsLeak, IsWanted}
 use Rattle.vsi_leak.specs.Texts.{IsLeakText}
 use Rattle.vsi_leak.specs.declared.found.Finding.TheVariants as finding
@@ -38,6 +40,7 @@ use Rattle.vsi_conform.specs.declared.reader.Policy.TheVariants.{File, Tables}
 use Rattle.vsi_conform.specs.Checking.{TellsRefused}
 use Rattle.vsi_answers.specs.Answers.{Because}
 use Rattle.vsi_answers.specs.Bounds as bounds
+use Rattle.vsi_answers.specs.Bounds.{IsBound}
 use Rattle.vsi_answers.specs.Judged.{Declares, IsProgramFault, IsStoreFault, IsViewFault, TellsFault, TellsSource}
 use Rattle.vsi_answers.specs.Requests.{Answer, AppliesTo, BeginsWith, BuildsTo, ChecksSteadyTo, ChecksTo, ClassesTo, ComparesTo, FlowsTo, FormatsTo, ListsTo, MendsTo, ReadsImage, ReadsLattice, ViewsTo, WalksTo}
 use Rattle.vsi_answers.specs.declared.unanswered.Unanswered.{Unanswered}
@@ -441,9 +444,45 @@ WhyDrive holds d reason =
     RefusesLattice holds d.lattice.now reason ⊎ RefusesImage holds d.execution.image.now reason
     ⊎ RefusesStore holds d.execution.image.now d.execution.store reason ⊎ RefusesController holds d reason
 
--- `drive`: the lattice has no class of the name, or no bound was found for the image.
+-- The line of a budget below a bound.
+abbrev pub short_line : ℕ → ℕ → List ℕ
+short_line budget most =
+    codes "budget below the bound: " ++ decimal budget ++ codes " of " ++ decimal most ++ codes " instructions\n"
+
+-- The line says that a budget is below the bound of an image, which is refused as not steady.
+pub record IsBelow (l : Lattice) (image : Image) (budget : ℕ) (line : List ℕ) : Type 0 where
+  pub most : ℕ
+  pub halts : IsBound image most
+  pub below : budget < most
+  pub error : SteadyError
+  pub known : error ≢ unsteady.Memory
+  pub refused : steady.Refuses (class_named l) (order l) image error
+  pub says : line ≡ short_line budget most
+
+-- The line says why a budget isn't enough: no bound was found for the image, or the budget is below it.
+abbrev pub IsShort : Lattice → Image → ℕ → List ℕ → Type 0
+IsShort l image budget line = bounds.LacksBound image line ⊎ IsBelow l image budget line
+
+-- The text of the stop says why a budget isn't enough.
+abbrev pub SaysShort : Lattice → Image → ℕ → Stop → Type 0
+SaysShort l image budget (stops.Refused text None) = IsShort l image budget text.items
+SaysShort l image budget stop = ⊥
+
+-- `drive`: the budget isn't enough, and `--unbounded` isn't given.
+pub record FallsShort (holds : Holding) (d : Driving) (stop : Stop) : Type 0 where
+  pub bounded : d.is_unbounded ≡ false
+  pub lattice : Lattice
+  pub declared : IsLatticeAt holds d.lattice.now lattice
+  pub image : Image
+  pub held : IsImageAt holds d.execution.image.now image
+  pub budget : ℕ
+  pub within : IsBudgetOf d.execution.budget image budget
+  pub is : SaysShort lattice image budget stop
+
+-- `drive`: the lattice has no class of the name, no bound was found for the image, or the budget isn't enough.
 abbrev pub LacksDrive : Holding → Driving → Stop → Type 0
-LacksDrive holds d = LacksEither holds d.lattice.now d.class.now d.execution.image.now d.execution.budget
+LacksDrive holds d stop =
+    LacksEither holds d.lattice.now d.class.now d.execution.image.now d.execution.budget stop ⊎ FallsShort holds d stop
 
 -- `try`: the file of the lattice that a text names is refused.
 abbrev pub RefusesNamed : Holding → List ℕ → Option (List ℕ) → Unanswered → Type 0
