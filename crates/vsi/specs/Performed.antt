@@ -12,7 +12,7 @@ use Rattle.vsi_types.specs.declared.rules.Profile.{Profile}
 use Rattle.vsi_types.specs.declared.rules.Profile.TheVariants.{Base, Strict}
 use Rattle.vsi_image.specs.declared.instr.Image.{Image}
 use Rattle.vsi_image.specs.Fields.{globals}
-use Rattle.vsi_emit.specs.Bounded.{HaltsWithin, IsEmittedBounded}
+use Rattle.vsi_emit.specs.Bounded.{IsEmittedBounded}
 use Rattle.vsi_emit.specs.BoundedWriting.{bounded_header_text}
 use Rattle.vsi_emit.specs.Emitted.{IsEmitted}
 use Rattle.vsi_emit.specs.Writing.{header_text}
@@ -341,7 +341,7 @@ IsWrittenBounded false im most name text = IsEmittedBounded im name most text
 -- The image has a bound, and this is the header of its C without a budget, or that C.
 pub record IsBoundedC (is_header : Bool) (im : Image) (name text : List ℕ) : Type 0 where
   pub most : ℕ
-  pub halts : HaltsWithin im most
+  pub halts : IsBound im most
   pub is : IsWrittenBounded is_header im most name text
 
 -- An image's C or its header, without a budget or with one.

@@ -15,9 +15,6 @@ use Rattle.vsi_store.specs.declared.error.StoreError.TheVariants as store
 use Rattle.vsi_store.specs.declared.views.ViewError.TheVariants as views
 use Rattle.vsi_diagnostics.specs.declared.fault.Fault.{Fault}
 use Rattle.vsi_diagnostics.specs.declared.fault.Fault.TheVariants as fault
-use Rattle.vsi_bound.specs.Bound.{Answers}
-use Rattle.vsi_bound.specs.declared.bound.Bound.{Bound}
-use Rattle.vsi_bound.specs.declared.bound.Bound.TheVariants as bound
 use Rattle.vsi_compiler.specs.Headline.{IsImageOf}
 use Rattle.vsi_compiler.specs.Readable.{HasProgram}
 use Rattle.vsi_audit.specs.Refusal as audited
@@ -110,6 +107,11 @@ IsDifference told stop = (stop ≡ stops.Differs) × told
 abbrev pub LacksClass : Lattice → List ℕ → Stop → Type 0
 LacksClass l name (stops.NoClass told) = (told.now ≡ name) × (class_named l name ≡ None)
 LacksClass l name stop = ⊥
+
+-- The text of the stop says why no bound was found for an image.
+abbrev pub IsUnbounded : Image → Stop → Type 0
+IsUnbounded image (stops.Refused text None) = bounds.LacksBound image text.items
+IsUnbounded image stop = ⊥
 
 -- With the budget `auto` no bound was found for an image, and the text of the stop says why.
 abbrev pub LacksBound : Budget → Image → Stop → Type 0
@@ -385,35 +387,22 @@ abbrev pub WhyEmit : Holding → Option (Bor (List ℕ)) → Bor (List ℕ) → 
 WhyEmit holds None file = RefusesImage holds file.now
 WhyEmit holds (Some lattice) file = RefusesFiles holds (compilation_of lattice file) (AsksImage false)
 
--- The stop says that there is no bound because of the instruction of this number.
-abbrev pub SaysNoBound : ℕ → Stop → Type 0
-SaysNoBound place (stops.Refused text None) =
-    text.items ≡ codes "no bound: instruction " ++ decimal place ++ codes "\n"
-SaysNoBound place stop = ⊥
+-- The stop is a refusal with this line.
+abbrev pub SaysLine : List ℕ → Stop → Type 0
+SaysLine line (stops.Refused text None) = text.items ≡ line
+SaysLine line stop = ⊥
 
--- The stop says that a run may have more instructions than 64 bits can count.
-abbrev pub SaysTooLarge : Stop → Type 0
-SaysTooLarge (stops.Refused text None) =
-    text.items ≡ codes "no bound: more than 18446744073709551615 instructions\n"
-SaysTooLarge stop = ⊥
+-- The request of `bound` about the image of an emission.
+abbrev pub bounding_of : Emission → Bounding
+bounding_of asked = record { lattice = asked.lattice; file = asked.file }
 
--- The stop reports the answer about an image that has no bound: it names an instruction, or says that a run may be long.
-abbrev pub SaysBound : Bound → Stop → Type 0
-SaysBound (bound.Halts least most) stop = ⊥
-SaysBound (bound.Endless test reason) stop = SaysNoBound test stop
-SaysBound (bound.Unstructured place) stop = SaysNoBound place stop
-SaysBound bound.TooLarge stop = SaysTooLarge stop
-
--- The stop says that an image has no bound.
-abbrev pub IsUnbounded : Image → Stop → Type 0
-IsUnbounded image stop = (found : Bound) × Answers image found × SaysBound found stop
-
--- `emit-c --bounded`: the image has no bound.
+-- `emit-c --bounded`: no bound was found for the image, and the line is that of `bound`.
 pub record LacksEmitBound (holds : Holding) (asked : Emission) (stop : Stop) : Type 0 where
   pub bounded : asked.is_bounded ≡ true
-  pub image : Image
-  pub held : IsEmittedFrom holds asked.lattice asked.file image
-  pub is : IsUnbounded image stop
+  pub told : BoundAnswer
+  pub bounds : BoundsFile holds (bounding_of asked) told
+  pub unbounded : told.is_bounded ≡ false
+  pub says : SaysLine told.text.items stop
 
 -- `bound`: no bound was found for the image, and the line that says why has been written.
 pub record DiffersBound (holds : Holding) (asked : Bounding) (old new : Option (List ℕ)) : Type 0 where
