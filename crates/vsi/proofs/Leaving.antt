@@ -24,7 +24,7 @@ use Rattle.vsi.specs.declared.stop.Stop.{Stop}
 use Rattle.vsi.specs.declared.stop.Stop.TheVariants.{Memory}
 use Rattle.vsi.specs.Holding.{Holding, IsImageAt}
 use Rattle.vsi.specs.Partly.{AnswersCheck, AnswersDrive, AnswersRun, DrivenText, Leaves, Partly, WritesPart, cut_from}
-use Rattle.vsi.specs.Performed.{BeginsAt, IsBudgetOf, IsStoredAt, LooksAt, OfFiles, ToldJson, control_of, judgement_of, shown}
+use Rattle.vsi.specs.Performed.{BeginsAt, IsAdmitted, IsBudgetOf, IsStoredAt, LooksAt, OfFiles, ToldJson, control_of, judgement_of, shown}
 use Rattle.vsi.specs.Reasons.{ToldRefusal}
 use Rattle.vsi.specs.Stops.{status_of}
 use Rattle.vsi.proofs.Partly.{Partly-weaker, spent_leaf, whole_part}
@@ -195,9 +195,9 @@ pub driven_answers : (holds : Holding) (d : Driving) (given old new : Option (Li
     (image : Image) (first : List ℤ) (budget : ℕ) (k : Control) → IsBudgetOf d.execution.budget image budget →
     LooksAt holds d.lattice.now d.class.now l driver →
     IsImageAt holds d.execution.image.now image → IsStoredAt holds d.execution.store image first →
-    k ≡ control_of l driver image budget → Partly (DrivenText k first given) old new →
-    Partly (AnswersDrive holds d given) old new
-driven_answers holds d given old new l driver image first budget k within looks held stored same =
+    k ≡ control_of l driver image budget → IsAdmitted d.is_unbounded l image budget →
+    Partly (DrivenText k first given) old new → Partly (AnswersDrive holds d given) old new
+driven_answers holds d given old new l driver image first budget k within looks held stored same admitted =
     Partly-weaker (DrivenText k first given) (AnswersDrive holds d given) old new
     (λ text is. record {
       lattice = l;
@@ -209,5 +209,6 @@ driven_answers holds d given old new l driver image first budget k within looks 
       stored = stored;
       budget = budget;
       within = within;
+      admitted = admitted;
       driven = subst (λ c. DrivenText c first given text) same is;
     })

@@ -1,23 +1,41 @@
 -- The reason that there is no C without a budget.
-use Rattle.std.proofs.Common.{◌≡◌, Bool, true, subst}
+use Rattle.std.proofs.Common.{◌≡◌, Bool, true, false, Some, None, refl, sym}
 use Rattle.vsi_answers.specs.declared.unanswered.Unanswered.{Unanswered}
 use Rattle.vsi_arguments.specs.declared.request.Emission.{Emission}
-use Rattle.vsi_bound.specs.Bound.{Answers}
-use Rattle.vsi_bound.specs.declared.bound.Bound.{Bound}
 use Rattle.vsi_image.specs.declared.instr.Image.{Image}
 use Rattle.vsi.specs.declared.stop.Stop.{Stop}
+use Rattle.vsi.specs.declared.stop.Stop.TheVariants as stops
 use Rattle.vsi.specs.Holding.{Holding}
 use Rattle.vsi.specs.Performed.{IsEmittedFrom}
-use Rattle.vsi.specs.Reasons.{IsUnbounded, LacksEmitBound, SaysBound, StopsBy}
+use Rattle.vsi.specs.Reasons.{IsUnbounded, LacksEmitBound, StopsBy}
 use Rattle.vsi.proofs.Reasons.{StopsBy-weaker}
 
--- A stop that reports the answer about an image says that the image has no bound.
-pub says_unbounded : (image : Image) (found kind : Bound) (Says : Stop → Type 0) (stop : Stop) → Answers image found →
-    found ≡ kind → ((s : Stop) → Says s → SaysBound kind s) → StopsBy (λ reason. ⊥) Says stop →
-    StopsBy (λ reason. ⊥) (IsUnbounded image) stop
-says_unbounded image found kind Says stop answers same says =
-    StopsBy-weaker (λ reason. ⊥) (λ reason. ⊥) Says (IsUnbounded image) (λ reason none. none)
-    (λ s is. (kind, subst (Answers image) same answers, says s is)) stop
+-- A stop that says why no bound was found for the requested image has the line of `bound`.
+unbounded_says : (holds : Holding) (asked : Emission) (image : Image) →
+    IsEmittedFrom holds asked.lattice asked.file image → asked.is_bounded ≡ true → (stop : Stop) →
+    IsUnbounded image stop → LacksEmitBound holds asked stop
+unbounded_says holds asked image held bounded (stops.Refused text (Some cause)) is = absurd is
+unbounded_says holds asked image held bounded (stops.Refused text None) is = record {
+  bounded = bounded;
+  told = record { text = text; is_bounded = false };
+  bounds = record {
+    image = image;
+    held = held;
+    is = record { answer = is.answer; is = is.is; place = None; line = is.says; bounded = sym is.unbounded };
+  };
+  unbounded = refl;
+  says = refl;
+}
+unbounded_says holds asked image held bounded (stops.Interface text error) is = absurd is
+unbounded_says holds asked image held bounded (stops.Audit text error) is = absurd is
+unbounded_says holds asked image held bounded (stops.Unsteady text error) is = absurd is
+unbounded_says holds asked image held bounded stops.Differs is = absurd is
+unbounded_says holds asked image held bounded (stops.Usage text) is = absurd is
+unbounded_says holds asked image held bounded (stops.NoClass name) is = absurd is
+unbounded_says holds asked image held bounded stops.OutOfBudget is = absurd is
+unbounded_says holds asked image held bounded (stops.FileFault path) is = absurd is
+unbounded_says holds asked image held bounded (stops.LostFile path) is = absurd is
+unbounded_says holds asked image held bounded stops.Memory is = absurd is
 
 -- If the requested image has no bound, this is the reason that there is no C.
 pub lacks_bound : (why : Unanswered → Type 0) (holds : Holding) (asked : Emission) (image : Image) (stop : Stop) →
@@ -26,7 +44,7 @@ pub lacks_bound : (why : Unanswered → Type 0) (holds : Holding) (asked : Emiss
     StopsBy why (LacksEmitBound holds asked) stop
 lacks_bound why holds asked image stop held =
     StopsBy-weaker (λ reason. ⊥) why (λ s. (asked.is_bounded ≡ true) × IsUnbounded image s) (LacksEmitBound holds asked)
-    (λ reason none. absurd none) (λ s is. record { bounded = is.0; image = image; held = held; is = is.1 }) stop
+    (λ reason none. absurd none) (λ s is. unbounded_says holds asked image held is.0 s is.1) stop
 
 -- An image has no bound, and a function without a budget is requested.
 pub bounded_lacks : (image : Image) (is_bounded : Bool) (stop : Stop) → is_bounded ≡ true →

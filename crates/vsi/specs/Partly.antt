@@ -22,7 +22,7 @@ use Rattle.vsi.specs.declared.stop.Stop.{Stop}
 use Rattle.vsi.specs.declared.stop.Stop.TheVariants.{Differs}
 use Rattle.vsi.specs.Driven.{lines_of}
 use Rattle.vsi.specs.Holding.{Holding, IsImageAt}
-use Rattle.vsi.specs.Performed.{AuditsFiles, BeginsAt, BoundsFile, ComparesFiles, ConformsFiles, DrawsFiles, EmitsFile, IsBudgetOf, IsStoredAt, LooksAt, OfFile, OfFiles, RunsFiles, SearchesFiles, SourceOfFile, ToldAccepted, ToldCanonical, ToldClasses, ToldFlows, ToldJson, ToldListing, ToldPage, ToldRaises, ViewsFiles, control_of, judgement_of, shown}
+use Rattle.vsi.specs.Performed.{AuditsFiles, BeginsAt, BoundsFile, ComparesFiles, ConformsFiles, DrawsFiles, EmitsFile, IsAdmitted, IsBudgetOf, IsStoredAt, LooksAt, OfFile, OfFiles, RunsFiles, SearchesFiles, SourceOfFile, ToldAccepted, ToldCanonical, ToldClasses, ToldFlows, ToldJson, ToldListing, ToldPage, ToldRaises, ViewsFiles, control_of, judgement_of, shown}
 use Rattle.vsi.specs.Reasons.{ToldRefusal}
 use Rattle.vsi.specs.Shaping.{ShapedText}
 use Rattle.vsi.specs.Stops.{status_of}
@@ -94,6 +94,7 @@ pub record AnswersDrive (holds : Holding) (d : Driving) (given : Option (List â„
   pub stored : IsStoredAt holds d.execution.store image first
   pub budget : â„•
   pub within : IsBudgetOf d.execution.budget image budget
+  pub admitted : IsAdmitted d.is_unbounded lattice image budget
   pub driven : DrivenText (control_of lattice driver image budget) first given text
 
 -- `compare`: what the class sees of both runs, the same or not.

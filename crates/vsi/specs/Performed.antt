@@ -1,5 +1,5 @@
 -- The output of each subcommand that ends well, given the contents of its files.
-use Rattle.std.specs.Prelude.{◌≡◌, ℕ, ◌++◌, ℤ, Bool, true, false, List, [], Option, Some, None, Ok, codes, decimal, if◌then◌else◌, IsSomeAnd}
+use Rattle.std.specs.Prelude.{◌≡◌, ◌≤◌, ◌⊎◌, ℕ, ◌++◌, ℤ, Bool, true, false, List, [], Option, Some, None, Ok, codes, decimal, if◌then◌else◌, IsSomeAnd}
 use Rattle.std.specs.Borrow.{Bor}
 use Rattle.std.specs.Global.{Vec}
 use Rattle.std.specs.Io.KnownBytes.{Appends, Keeps}
@@ -12,7 +12,7 @@ use Rattle.vsi_types.specs.declared.rules.Profile.{Profile}
 use Rattle.vsi_types.specs.declared.rules.Profile.TheVariants.{Base, Strict}
 use Rattle.vsi_image.specs.declared.instr.Image.{Image}
 use Rattle.vsi_image.specs.Fields.{globals}
-use Rattle.vsi_emit.specs.Bounded.{HaltsWithin, IsEmittedBounded}
+use Rattle.vsi_emit.specs.Bounded.{IsEmittedBounded}
 use Rattle.vsi_emit.specs.BoundedWriting.{bounded_header_text}
 use Rattle.vsi_emit.specs.Emitted.{IsEmitted}
 use Rattle.vsi_emit.specs.Writing.{header_text}
@@ -131,6 +131,18 @@ pub record LooksAt (holds : Holding) (path name : List ℕ) (l : Lattice) (class
 abbrev pub IsBudgetOf : Budget → Image → ℕ → Type 0
 IsBudgetOf (Number given) image number = number ≡ given
 IsBudgetOf Auto image number = IsBound image number
+
+-- A budget is enough for the runs of an image: the image has a bound, and the budget isn't below it or the image is
+-- steady. Then whether a run is out of budget reveals nothing.
+pub record IsEnough (l : Lattice) (image : Image) (budget : ℕ) : Type 0 where
+  pub most : ℕ
+  pub halts : IsBound image most
+  pub covers : (most ≤ budget) ⊎ IsSteady (class_named l) (order l) image
+
+-- A drive takes a budget that is enough, and with `--unbounded` any.
+abbrev pub IsAdmitted : Bool → Lattice → Image → ℕ → Type 0
+IsAdmitted true l image budget = Unit {0}
+IsAdmitted false l image budget = IsEnough l image budget
 
 -- ---- the output.
 
@@ -329,7 +341,7 @@ IsWrittenBounded false im most name text = IsEmittedBounded im name most text
 -- The image has a bound, and this is the header of its C without a budget, or that C.
 pub record IsBoundedC (is_header : Bool) (im : Image) (name text : List ℕ) : Type 0 where
   pub most : ℕ
-  pub halts : HaltsWithin im most
+  pub halts : IsBound im most
   pub is : IsWrittenBounded is_header im most name text
 
 -- An image's C or its header, without a budget or with one.
@@ -441,8 +453,8 @@ abbrev pub control_of : Lattice → ℕ → Image → ℕ → Control
 control_of l class im budget =
     record { known = class_named l; order = order l; class = class; image = im; budget = budget }
 
--- `drive`: a cycle has run for each line of the input, beginning with the words of the store file, its text has been
--- written, and the last store goes to a file if one is given.
+-- `drive`: its budget is enough or `--unbounded` is given, a cycle has run for each line of the input, beginning with
+-- the words of the store file, its text has been written, and the last store goes to a file if one is given.
 pub record PerformsDrive (holds : Holding) (d : Driving) (given : Option (List ℕ)) (left : Holding)
     (old new : Option (List ℕ)) : Type 0 where
   pub lattice : Lattice
@@ -455,6 +467,7 @@ pub record PerformsDrive (holds : Holding) (d : Driving) (given : Option (List �
   pub words : List ℤ
   pub budget : ℕ
   pub within : IsBudgetOf d.execution.budget image budget
+  pub admitted : IsAdmitted d.is_unbounded lattice image budget
   pub drives : DrivesInput (control_of lattice driver image budget) first words given old new
   pub saved : Delivers d.save (store_text_of (globals image.globals.items) words) holds left
 

@@ -1,5 +1,5 @@
 -- The reason why a request has stopped early, given the contents of its files.
-use Rattle.std.specs.Prelude.{◌≡◌, ◌≢◌, ◌⊎◌, ◌++◌, ℕ, ℤ, Bool, true, false, List, Option, Some, None, Result, Err, IsSomeAnd, codes, decimal}
+use Rattle.std.specs.Prelude.{◌≡◌, ◌≢◌, ◌<◌, ◌⊎◌, ◌++◌, ℕ, ℤ, Bool, true, false, List, Option, Some, None, Result, Err, IsSomeAnd, codes, decimal}
 use Rattle.std.specs.Global.{Vec}
 use Rattle.std.specs.Borrow.{Bor}
 use Rattle.std.specs.Io.KnownBytes.{Appends}
@@ -15,9 +15,6 @@ use Rattle.vsi_store.specs.declared.error.StoreError.TheVariants as store
 use Rattle.vsi_store.specs.declared.views.ViewError.TheVariants as views
 use Rattle.vsi_diagnostics.specs.declared.fault.Fault.{Fault}
 use Rattle.vsi_diagnostics.specs.declared.fault.Fault.TheVariants as fault
-use Rattle.vsi_bound.specs.Bound.{Answers}
-use Rattle.vsi_bound.specs.declared.bound.Bound.{Bound}
-use Rattle.vsi_bound.specs.declared.bound.Bound.TheVariants as bound
 use Rattle.vsi_compiler.specs.Headline.{IsImageOf}
 use Rattle.vsi_compiler.specs.Readable.{HasProgram}
 use Rattle.vsi_audit.specs.Refusal as audited
@@ -25,6 +22,8 @@ use Rattle.vsi_audit.specs.Telling.{IsAuditText}
 use Rattle.vsi_audit.specs.declared.error.AuditError.{AuditError}
 use Rattle.vsi_steady.specs.Refusal as steady
 use Rattle.vsi_steady.specs.Telling.{IsUnsteadyText}
+use Rattle.vsi_steady.specs.declared.error.SteadyError.{SteadyError}
+use Rattle.vsi_steady.specs.declared.error.SteadyError.TheVariants as unsteady
 use Rattle.vsi_leak.specs.Leaks.{IsLeak, IsWanted}
 use Rattle.vsi_leak.specs.Texts.{IsLeakText}
 use Rattle.vsi_leak.specs.declared.found.Finding.TheVariants as finding
@@ -38,6 +37,7 @@ use Rattle.vsi_conform.specs.declared.reader.Policy.TheVariants.{File, Tables}
 use Rattle.vsi_conform.specs.Checking.{TellsRefused}
 use Rattle.vsi_answers.specs.Answers.{Because}
 use Rattle.vsi_answers.specs.Bounds as bounds
+use Rattle.vsi_answers.specs.Bounds.{IsBound}
 use Rattle.vsi_answers.specs.Judged.{Declares, IsProgramFault, IsStoreFault, IsViewFault, TellsFault, TellsSource}
 use Rattle.vsi_answers.specs.Requests.{Answer, AppliesTo, BeginsWith, BuildsTo, ChecksSteadyTo, ChecksTo, ClassesTo, ComparesTo, FlowsTo, FormatsTo, ListsTo, MendsTo, ReadsImage, ReadsLattice, ViewsTo, WalksTo}
 use Rattle.vsi_answers.specs.declared.unanswered.Unanswered.{Unanswered}
@@ -107,6 +107,11 @@ IsDifference told stop = (stop ≡ stops.Differs) × told
 abbrev pub LacksClass : Lattice → List ℕ → Stop → Type 0
 LacksClass l name (stops.NoClass told) = (told.now ≡ name) × (class_named l name ≡ None)
 LacksClass l name stop = ⊥
+
+-- The text of the stop says why no bound was found for an image.
+abbrev pub IsUnbounded : Image → Stop → Type 0
+IsUnbounded image (stops.Refused text None) = bounds.LacksBound image text.items
+IsUnbounded image stop = ⊥
 
 -- With the budget `auto` no bound was found for an image, and the text of the stop says why.
 abbrev pub LacksBound : Budget → Image → Stop → Type 0
@@ -382,35 +387,22 @@ abbrev pub WhyEmit : Holding → Option (Bor (List ℕ)) → Bor (List ℕ) → 
 WhyEmit holds None file = RefusesImage holds file.now
 WhyEmit holds (Some lattice) file = RefusesFiles holds (compilation_of lattice file) (AsksImage false)
 
--- The stop says that there is no bound because of the instruction of this number.
-abbrev pub SaysNoBound : ℕ → Stop → Type 0
-SaysNoBound place (stops.Refused text None) =
-    text.items ≡ codes "no bound: instruction " ++ decimal place ++ codes "\n"
-SaysNoBound place stop = ⊥
+-- The stop is a refusal with this line.
+abbrev pub SaysLine : List ℕ → Stop → Type 0
+SaysLine line (stops.Refused text None) = text.items ≡ line
+SaysLine line stop = ⊥
 
--- The stop says that a run may have more instructions than 64 bits can count.
-abbrev pub SaysTooLarge : Stop → Type 0
-SaysTooLarge (stops.Refused text None) =
-    text.items ≡ codes "no bound: more than 18446744073709551615 instructions\n"
-SaysTooLarge stop = ⊥
+-- The request of `bound` about the image of an emission.
+abbrev pub bounding_of : Emission → Bounding
+bounding_of asked = record { lattice = asked.lattice; file = asked.file }
 
--- The stop reports the answer about an image that has no bound: it names an instruction, or says that a run may be long.
-abbrev pub SaysBound : Bound → Stop → Type 0
-SaysBound (bound.Halts least most) stop = ⊥
-SaysBound (bound.Endless test reason) stop = SaysNoBound test stop
-SaysBound (bound.Unstructured place) stop = SaysNoBound place stop
-SaysBound bound.TooLarge stop = SaysTooLarge stop
-
--- The stop says that an image has no bound.
-abbrev pub IsUnbounded : Image → Stop → Type 0
-IsUnbounded image stop = (found : Bound) × Answers image found × SaysBound found stop
-
--- `emit-c --bounded`: the image has no bound.
+-- `emit-c --bounded`: no bound was found for the image, and the line is that of `bound`.
 pub record LacksEmitBound (holds : Holding) (asked : Emission) (stop : Stop) : Type 0 where
   pub bounded : asked.is_bounded ≡ true
-  pub image : Image
-  pub held : IsEmittedFrom holds asked.lattice asked.file image
-  pub is : IsUnbounded image stop
+  pub told : BoundAnswer
+  pub bounds : BoundsFile holds (bounding_of asked) told
+  pub unbounded : told.is_bounded ≡ false
+  pub says : SaysLine told.text.items stop
 
 -- `bound`: no bound was found for the image, and the line that says why has been written.
 pub record DiffersBound (holds : Holding) (asked : Bounding) (old new : Option (List ℕ)) : Type 0 where
@@ -441,9 +433,45 @@ WhyDrive holds d reason =
     RefusesLattice holds d.lattice.now reason ⊎ RefusesImage holds d.execution.image.now reason
     ⊎ RefusesStore holds d.execution.image.now d.execution.store reason ⊎ RefusesController holds d reason
 
--- `drive`: the lattice has no class of the name, or no bound was found for the image.
+-- The line of a budget below a bound.
+abbrev pub short_line : ℕ → ℕ → List ℕ
+short_line budget most =
+    codes "budget below the bound: " ++ decimal budget ++ codes " of " ++ decimal most ++ codes " instructions\n"
+
+-- The line says that a budget is below the bound of an image, which is refused as not steady.
+pub record IsBelow (l : Lattice) (image : Image) (budget : ℕ) (line : List ℕ) : Type 0 where
+  pub most : ℕ
+  pub halts : IsBound image most
+  pub below : budget < most
+  pub error : SteadyError
+  pub known : error ≢ unsteady.Memory
+  pub refused : steady.Refuses (class_named l) (order l) image error
+  pub says : line ≡ short_line budget most
+
+-- The line says why a budget isn't enough: no bound was found for the image, or the budget is below it.
+abbrev pub IsShort : Lattice → Image → ℕ → List ℕ → Type 0
+IsShort l image budget line = bounds.LacksBound image line ⊎ IsBelow l image budget line
+
+-- The text of the stop says why a budget isn't enough.
+abbrev pub SaysShort : Lattice → Image → ℕ → Stop → Type 0
+SaysShort l image budget (stops.Refused text None) = IsShort l image budget text.items
+SaysShort l image budget stop = ⊥
+
+-- `drive`: the budget isn't enough, and `--unbounded` isn't given.
+pub record FallsShort (holds : Holding) (d : Driving) (stop : Stop) : Type 0 where
+  pub bounded : d.is_unbounded ≡ false
+  pub lattice : Lattice
+  pub declared : IsLatticeAt holds d.lattice.now lattice
+  pub image : Image
+  pub held : IsImageAt holds d.execution.image.now image
+  pub budget : ℕ
+  pub within : IsBudgetOf d.execution.budget image budget
+  pub is : SaysShort lattice image budget stop
+
+-- `drive`: the lattice has no class of the name, no bound was found for the image, or the budget isn't enough.
 abbrev pub LacksDrive : Holding → Driving → Stop → Type 0
-LacksDrive holds d = LacksEither holds d.lattice.now d.class.now d.execution.image.now d.execution.budget
+LacksDrive holds d stop =
+    LacksEither holds d.lattice.now d.class.now d.execution.image.now d.execution.budget stop ⊎ FallsShort holds d stop
 
 -- `try`: the file of the lattice that a text names is refused.
 abbrev pub RefusesNamed : Holding → List ℕ → Option (List ℕ) → Unanswered → Type 0

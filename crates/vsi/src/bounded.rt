@@ -1,62 +1,25 @@
 //! The C of an image without a budget, or the reason that the image has none.
 
-ghost use Rattle.std.specs.Prelude.{◌≡◌, ◌++◌, IfErr, IfOk, codes, decimal};
+ghost use Rattle.std.specs.Prelude.{IfErr, IfOk};
 ghost use Rattle.vsi.specs.Performed.{IsBoundedC};
-ghost use Rattle.vsi.specs.Reasons.{IsUnbounded, SaysNoBound, SaysTooLarge, StopsBy};
-ghost use Rattle.vsi_emit.specs.Bounded.{HaltsWithin};
+ghost use Rattle.vsi.specs.Reasons.{IsUnbounded, StopsBy};
+ghost use Rattle.vsi_answers.specs.Bounds.{IsBound};
 
 use crate::stop::Stop;
-use std::alloc::{AllocError, Global};
-use vsi_bound::{Bound, bound_of};
+use std::alloc::Global;
+use vsi_answers::enough_budget;
 use vsi_emit::{emit_bounded, emit_bounded_header};
 use vsi_image::Verified;
-use vsi_syntax::put_number;
 
-/// The line of an image that has no bound because of the instruction of this number.
-fn unbounded_line(alloc: Global, place: usize) -> Result<Vec<u8>, AllocError>
-    ensures { IfOk result (λ text. text.items
-        ≡ codes "no bound: instruction " ++ decimal place ++ codes "\n") }
-{
-    let mut text = Vec::new(alloc);
-    text.extend_from_slice(b"no bound: instruction ")?;
-    put_number(&mut text, place)?;
-    text.extend_from_slice(b"\n")?;
-    Ok(text)
-}
-
-/// The stop for an image that has no bound because of the instruction of this number.
-fn unbounded<'a>(alloc: Global, place: usize) -> Stop<'a>
-    ensures { StopsBy (λ reason. ⊥) (SaysNoBound place) result }
-{
-    match unbounded_line(alloc, place) {
-        Ok(text) => Stop::Refused(text, None),
-        Err(_) => Stop::Memory,
-    }
-}
-
-/// The stop for an image whose number of instructions is too large.
-fn too_large<'a>(alloc: Global) -> Stop<'a>
-    ensures { StopsBy (λ reason. ⊥) SaysTooLarge result }
-{
-    match Vec::from_slice(
-        alloc,
-        b"no bound: more than 18446744073709551615 instructions\n",
-    ) {
-        Ok(text) => Stop::Refused(text, None),
-        Err(_) => Stop::Memory,
-    }
-}
-
-/// The most instructions of an image's runs, or the stop that says why there is no such number.
+/// The most instructions of an image's runs, or the stop with the line of `bound` that says why there
+/// is no such number.
 fn most_of<'a>(alloc: Global, verified: &Verified) -> Result<u64, Stop<'a>>
-    ensures told { IfOk result (HaltsWithin verified.now) }
+    ensures told { IfOk result (IsBound verified.now) }
     ensures stopped { IfErr result (StopsBy (λ reason. ⊥) (IsUnbounded verified.now)) }
 {
-    match bound_of(alloc, verified)? {
-        Bound::Halts { least: _, most } => Ok(most),
-        Bound::Endless { test, reason: _ } => Err(unbounded(alloc, test)),
-        Bound::Unstructured(place) => Err(unbounded(alloc, place)),
-        Bound::TooLarge => Err(too_large(alloc)),
+    match enough_budget(alloc, verified)? {
+        Ok(most) => Ok(most),
+        Err(line) => Err(Stop::Refused(line, None)),
     }
 }
 

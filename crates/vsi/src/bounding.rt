@@ -62,7 +62,7 @@ fn text_bound<'a, F: Files>(
 }
 
 /// The answer about the bound of the requested image.
-fn bounded<'a, F: Files>(
+pub(crate) fn bounded<'a, F: Files>(
     desk: &mut Desk,
     asked: Bounding<'a>,
     files: &mut F,

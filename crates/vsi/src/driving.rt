@@ -17,6 +17,7 @@ ghost use Rattle.vsi_answers.specs.Answers.{Because};
 ghost use Rattle.vsi_answers.specs.Judged.{IsStoreFault};
 ghost use Rattle.vsi_answers.specs.Judged as judged;
 
+use crate::admitting::admit;
 use crate::budgets::budget_of;
 use crate::desk::Desk;
 use crate::files::Files;
@@ -36,13 +37,15 @@ use vsi_store::{read_store, store_text};
 const CHUNK: usize = 4096;
 
 /// Drives an image file: each line of the input sets globals, and the part of the store that a
-/// class sees after its run is written. The last store goes to the requested file.
+/// class sees after its run is written. The last store goes to the requested file. The note gets a
+/// line if the budget isn't enough and is taken all the same.
 pub(crate) fn drive<'a, F: Files, R: Read, W: Write>(
     desk: &mut Desk,
     driving: Driving<'a>,
     files: &mut F,
     input: &mut Counted<R>,
     output: &mut Counted<W>,
+    note: &mut Vec<u8>,
 ) -> Result<(), Stop<'a>>
     requires input { faults_of input.old < u64.MAX }
     requires output { faults_of output.old < u64.MAX }
@@ -69,7 +72,17 @@ pub(crate) fn drive<'a, F: Files, R: Read, W: Write>(
     let mut words = stored_words(desk, &verified, driving.execution.store, files)?;
     let budget = budget_of(desk.alloc, driving.execution.budget, &verified)?;
     match Controller::new(&classes, &verified, driver, budget) {
-        Ok(controller) => drive_input(desk.alloc, &controller, &mut words, input, output)?,
+        Ok(controller) => {
+            admit(
+                desk.alloc,
+                driving.is_unbounded,
+                &classes,
+                &verified,
+                budget,
+                note,
+            )?;
+            drive_input(desk.alloc, &controller, &mut words, input, output)?;
+        }
         Err(error) => return Err(faulty(desk.alloc, Fault::View(error))),
     }
     save(desk.alloc, &verified, &words, driving.save, files)

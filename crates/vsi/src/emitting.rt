@@ -7,6 +7,7 @@ ghost use Rattle.vsi.specs.Reasons.{AsksImage, IsUnbounded, LacksEmitBound, NoOt
 ghost use Rattle.vsi.specs.declared.stop.Stop.TheVariants as stops;
 
 use crate::bounded::bounded_in_c;
+use crate::bounding::bounded;
 use crate::desk::Desk;
 use crate::files::Files;
 use crate::reading::image_in;
@@ -14,7 +15,7 @@ use crate::stop::Stop;
 use crate::subcommands::built;
 use std::alloc::Global;
 use vsi_answers::judged_image;
-use vsi_arguments::{Compilation, Emission};
+use vsi_arguments::{Bounding, Compilation, Emission};
 use vsi_c_names::is_function_name;
 use vsi_emit::{emit_c, emit_header};
 use vsi_image::Verified;
@@ -170,8 +171,8 @@ fn in_c<'a>(
     written_in_c(alloc, verified, name, is_header)
 }
 
-/// The C of the requested image, or its header.
-pub(crate) fn emit<'a, F: Files>(
+/// The C of the requested image, or its header, once its bound has been looked for.
+fn emitted<'a, F: Files>(
     desk: &mut Desk,
     asked: Emission<'a>,
     files: &mut F,
@@ -191,4 +192,47 @@ pub(crate) fn emit<'a, F: Files>(
         asked.is_header,
         asked.is_bounded,
     )
+}
+
+/// Stops with the line of `bound` if a function without a budget is requested and no bound was found
+/// for the image.
+fn check_bound<'a, F: Files>(
+    desk: &mut Desk,
+    asked: Emission<'a>,
+    files: &mut F,
+) -> Result<(), Stop<'a>>
+    ensures kept { F.holds files.new ≡ F.holds files.old }
+    ensures stopped { IfErr result (StopsBy
+        (WhyEmit (F.holds files.old) asked.entry.lattice asked.entry.file)
+        (LacksEmitBound (F.holds files.old) asked.entry)) }
+{
+    if !asked.is_bounded {
+        return Ok(());
+    }
+    let sought = Bounding {
+        lattice: asked.lattice,
+        file: asked.file,
+    };
+    let found = bounded(desk, sought, files)?;
+    if found.is_bounded {
+        Ok(())
+    } else {
+        Err(Stop::Refused(found.text, None))
+    }
+}
+
+/// The C of the requested image, or its header.
+pub(crate) fn emit<'a, F: Files>(
+    desk: &mut Desk,
+    asked: Emission<'a>,
+    files: &mut F,
+) -> Result<Vec<u8>, Stop<'a>>
+    ensures kept { F.holds files.new ≡ F.holds files.old }
+    ensures told { IfOk result (EmitsFile (F.holds files.old) asked.entry) }
+    ensures stopped { IfErr result (StopsBy
+        (WhyEmit (F.holds files.old) asked.entry.lattice asked.entry.file)
+        (LacksEmitBound (F.holds files.old) asked.entry)) }
+{
+    check_bound(desk, asked, files)?;
+    emitted(desk, asked, files)
 }

@@ -12,6 +12,7 @@
 //! `Diagnosing` is a stepping stone of proofs.
 #![tactic(auto)]
 
+mod admitting;
 mod auditing;
 mod bounded;
 mod bounding;

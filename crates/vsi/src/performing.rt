@@ -160,7 +160,7 @@ pub(crate) fn perform<'a, F: Files, R: Read, W: Write>(
             execution,
             outset,
         } => view(desk, lattice, class, execution, &outset, files, output),
-        Request::Drive(driving) => drive(desk, driving, files, input, output),
+        Request::Drive(driving) => drive(desk, driving, files, input, output, &mut told.note),
         Request::Compare(comparison) => compare(desk, comparison, files, output),
         Request::Leak(search) => put(leak(desk, search, files), output),
         Request::Report(compilation) => put(report(desk, compilation, files), output),

@@ -241,6 +241,20 @@ pub(crate) const BUDGET: Argument = Argument {
     whole: word_help::BUDGET,
 };
 
+pub(crate) const DRIVE_BUDGET: Argument = Argument {
+    name: "budget",
+    form: Form::Number("N"),
+    line: "The maximum number of instructions; default: auto",
+    whole: word_help::DRIVE_BUDGET,
+};
+
+pub(crate) const UNBOUNDED: Argument = Argument {
+    name: "unbounded",
+    form: Form::Flag,
+    line: "Takes a budget that may reveal secrets",
+    whole: word_help::UNBOUNDED,
+};
+
 pub(crate) const RUN_BUDGET: Argument = Argument {
     name: "budget",
     form: Form::Number("N"),

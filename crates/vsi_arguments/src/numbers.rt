@@ -55,17 +55,17 @@ fn has_digits_alone(word: &str) -> bool {
     !word.is_empty()
 }
 
-/// The budget of a run: `auto`, or a number. A parse that succeeds has one.
+/// The budget of a run: `auto`, as without a value, or a number. Only `drive` parses without one.
 pub(crate) fn budget_of(matches: &ArgMatches<'_>) -> Budget {
-    if is_auto(matches) {
-        return Budget::Auto;
+    match number_of(matches, "budget") {
+        Some(number) => Budget::Number(number),
+        None => Budget::Auto,
     }
-    Budget::Number(number_of(matches, "budget").unwrap_or(0))
 }
 
 /// Whether the budget is the image's bound.
 fn is_auto(matches: &ArgMatches<'_>) -> bool {
-    matches.get_str("budget") == Some("auto")
+    matches.get_str("budget").unwrap_or("auto") == "auto"
 }
 
 /// Whether the subcommand of this name runs an image, whose bound can be the budget.

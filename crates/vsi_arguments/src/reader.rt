@@ -297,6 +297,7 @@ fn driving_in<'a>(matches: &ArgMatches<'a>) -> Driving<'a> {
         class: text(matches, "class"),
         execution: execution_in(matches),
         save: matches.get_str("save"),
+        is_unbounded: matches.get_flag("unbounded"),
     }
 }
 

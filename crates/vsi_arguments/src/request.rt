@@ -37,13 +37,15 @@ pub struct Outset<'a> {
 }
 
 /// The driving of a controller: the path of a lattice file, the class that sets inputs and sees
-/// outputs, the run of each cycle, and the path of a file that receives the last store.
+/// outputs, the run of each cycle, the path of a file that receives the last store, and whether a
+/// budget is taken that runs may exceed for a reason that the class doesn't see.
 #[derive(Clone, Copy)]
 pub struct Driving<'a> {
     pub lattice: &'a str,
     pub class: &'a str,
     pub execution: Execution<'a>,
     pub save: Option<&'a str>,
+    pub is_unbounded: bool,
 }
 
 /// A comparison: the paths of a lattice file, of an image and of two store files, the class of the

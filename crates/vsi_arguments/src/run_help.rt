@@ -81,7 +81,8 @@ globals at or below the class, the image runs, and the globals that the class
 sees are written as one line of the same form. The final store of a run is the
 initial store of the next. A faulty line, or a run that is out of budget, is
 answered by a line that says so, and leaves the store as it was. After the last
-line the store is written to the file that --save gives, if any.
+line the store is written to the file that --save gives, if any. Without
+--budget each run has the bound of the image as its budget, and so it halts.
 
 Statuses: 0 standard input has ended, 1 refused, 2 usage or no such class,
 4 file fault, 5 out of memory.";
@@ -90,7 +91,7 @@ Statuses: 0 standard input has ended, 1 refused, 2 usage or no such class,
 pub(crate) const DRIVE_EXAMPLE: &str = "\
 Example:
   $ printf 'l = 4\\n\\nh = 1\\n' > lines
-  $ vsi drive add.image two.toml --class L --budget 7 < lines
+  $ vsi drive add.image two.toml --class L < lines
   l = 5
   l = 6
   refused: 47 AboveClass 0";

@@ -154,6 +154,21 @@ that `vsi bound` prints for the image, within which every run halts.
 If no bound is found, `auto` runs nothing: the line of `vsi bound`
 goes to standard error, and the status is 1.";
 
+/// The budget of a drive.
+pub(crate) const DRIVE_BUDGET: &str = "\
+The maximum number of instructions of a cycle, the halt included: a
+whole number from 0 to 18446744073709551615, in digits alone; or
+`auto`, as without this option: the number that `vsi bound` prints for
+the image, within which every cycle halts. Unless the image is steady,
+a smaller number is refused, and so is any number if no bound is
+found; --unbounded takes it.";
+
+/// The budget that runs may exceed.
+pub(crate) const UNBOUNDED: &str = "\
+Takes a --budget that the image may exceed for a reason that the class
+doesn't see: whether a cycle is out of budget may then reveal secrets
+to it. A line on standard error says so.";
+
 /// A store file.
 pub(crate) const STORE: &str = "\
 The path of the store file, a TOML document of at most 1048576 bytes

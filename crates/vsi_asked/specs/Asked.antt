@@ -6,7 +6,7 @@ use Rattle.std.specs.declared.alloc.Global.{Global}
 use Rattle.std.specs.Borrow.{Bor}
 use Rattle.vsi_arguments.specs.declared.request.Attempt.{Attempt}
 use Rattle.vsi_arguments.specs.declared.request.Budget.{Budget}
-use Rattle.vsi_arguments.specs.declared.request.Budget.TheVariants.{Number}
+use Rattle.vsi_arguments.specs.declared.request.Budget.TheVariants.{Number, Auto}
 use Rattle.vsi_arguments.specs.declared.request.Compilation.{Compilation}
 use Rattle.vsi_arguments.specs.declared.request.Execution.{Execution}
 use Rattle.vsi_arguments.specs.declared.request.Outset.{Outset}
@@ -99,7 +99,7 @@ flags_of (Bound bounding) = []
 flags_of (Run execution outset has_trace has_count) =
     (codes "--full-store", outset.is_full) ∷ (codes "--trace", has_trace) ∷ (codes "--count", has_count) ∷ []
 flags_of (View lattice class execution outset) = (codes "--full-store", outset.is_full) ∷ []
-flags_of (Drive driving) = []
+flags_of (Drive driving) = (codes "--unbounded", driving.is_unbounded) ∷ []
 flags_of (Compare comparison) = []
 flags_of (Leak search) = (codes "--endings", search.has_endings) ∷ (codes "--steps", search.has_steps) ∷ []
 flags_of (Report compilation) = (codes "--strict", compilation.is_strict) ∷ []
@@ -133,20 +133,21 @@ options_of (Leak search) = (codes "--class", given search.class) ∷ []
 options_of request = []
 
 -- The budget of a run, which is required.
-abbrev pub budgeted : Budget → List (List ℕ × Option ℕ × Budget)
+abbrev pub budgeted : Budget → List (List ℕ × Option Budget × Budget)
 budgeted budget = (codes "--budget", None, budget) ∷ []
 
--- The options of a request that take numbers, each with its default, if it has one, and the request's number, which is
--- `auto` for some budgets.
-abbrev pub numbers_of : Request → List (List ℕ × Option ℕ × Budget)
-numbers_of (Try attempt) = (codes "--budget", Some TRY_BUDGET, Number attempt.budget) ∷ []
+-- The options of a request that take numbers, each with its default, if it has one, and the request's number; some
+-- budgets are `auto` instead.
+abbrev pub numbers_of : Request → List (List ℕ × Option Budget × Budget)
+numbers_of (Try attempt) = (codes "--budget", Some (Number TRY_BUDGET), Number attempt.budget) ∷ []
 numbers_of (Run execution outset has_trace has_count) = budgeted execution.budget
 numbers_of (View lattice class execution outset) = budgeted execution.budget
-numbers_of (Drive driving) = budgeted driving.execution.budget
+numbers_of (Drive driving) = (codes "--budget", Some Auto, driving.execution.budget) ∷ []
 numbers_of (Compare comparison) = budgeted comparison.budget
 numbers_of (Leak search) =
-    (codes "--budget", Some SEARCH, Number search.budget) ∷ (codes "--tries", Some SEARCH, Number search.tries)
-    ∷ (codes "--seed", Some 0, Number search.seed) ∷ []
+    (codes "--budget", Some (Number SEARCH), Number search.budget)
+    ∷ (codes "--tries", Some (Number SEARCH), Number search.tries)
+    ∷ (codes "--seed", Some (Number 0), Number search.seed) ∷ []
 numbers_of request = []
 
 -- Each of these flags is among the arguments exactly if it is set.
@@ -160,7 +161,7 @@ HasOptions words [] = Unit {0}
 HasOptions words (option ∷ options) = (values_in option.0 false words ≡ option.1) × HasOptions words options
 
 -- The arguments give each of these options its number.
-abbrev pub HasNumbers : List (List ℕ) → List (List ℕ × Option ℕ × Budget) → Type 0
+abbrev pub HasNumbers : List (List ℕ) → List (List ℕ × Option Budget × Budget) → Type 0
 HasNumbers words [] = Unit {0}
 HasNumbers words (option ∷ options) =
     GivesBudget (values_in option.0 false words) option.1 option.2 × HasNumbers words options
@@ -168,7 +169,7 @@ HasNumbers words (option ∷ options) =
 -- The first argument is the name, and the others have exactly these operands, flags, values of options and numbers.
 pub record Asks (words : List (String Global)) (name : List ℕ) (operands : List (List ℕ))
     (flags : List (List ℕ × Bool)) (options : List (List ℕ × List (List ℕ)))
-    (numbers : List (List ℕ × Option ℕ × Budget)) : Type 0 where
+    (numbers : List (List ℕ × Option Budget × Budget)) : Type 0 where
   pub rest : List (List ℕ)
   pub named : texts words ≡ name ∷ rest
   pub has_operands : operands_in false rest ≡ operands

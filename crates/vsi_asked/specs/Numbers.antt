@@ -1,5 +1,5 @@
 -- The numbers among arguments.
-use Rattle.std.specs.Prelude.{◌≡◌, ℕ, ◌+◌, ◌*◌, ◌-◌, List, [], ◌∷◌, Option, Some, None, codes, if◌then◌else◌}
+use Rattle.std.specs.Prelude.{◌≡◌, ◌⊎◌, ℕ, ◌+◌, ◌*◌, ◌-◌, List, [], ◌∷◌, Option, Some, None, codes, if◌then◌else◌}
 use Rattle.std.specs.Char.{is_ascii_digit}
 use Rattle.vsi_arguments.specs.declared.request.Budget.{Budget}
 use Rattle.vsi_arguments.specs.declared.request.Budget.TheVariants.{Number, Auto}
@@ -21,7 +21,19 @@ Gives [] otherwise number = otherwise ≡ Some number
 Gives (value ∷ []) otherwise number = number_in value ≡ Some number
 Gives (value ∷ next ∷ rest) otherwise number = ⊥
 
--- These values of an option give the budget: the number, or the one value is `auto`.
-abbrev pub GivesBudget : List (List ℕ) → Option ℕ → Budget → Type 0
-GivesBudget values otherwise (Number number) = Gives values otherwise number
-GivesBudget values otherwise Auto = values ≡ codes "auto" ∷ []
+-- The number that a default is.
+abbrev pub default_number : Option Budget → Option ℕ
+default_number None = None
+default_number (Some (Number number)) = Some number
+default_number (Some Auto) = None
+
+-- These values of an option give `auto`: it is the one value, or there is none and it is the default.
+abbrev pub GivesAuto : List (List ℕ) → Option Budget → Type 0
+GivesAuto values None = values ≡ codes "auto" ∷ []
+GivesAuto values (Some (Number number)) = values ≡ codes "auto" ∷ []
+GivesAuto values (Some Auto) = (values ≡ codes "auto" ∷ []) ⊎ (values ≡ [])
+
+-- These values of an option give the budget, a number or `auto`.
+abbrev pub GivesBudget : List (List ℕ) → Option Budget → Budget → Type 0
+GivesBudget values otherwise (Number number) = Gives values (default_number otherwise) number
+GivesBudget values otherwise Auto = GivesAuto values otherwise

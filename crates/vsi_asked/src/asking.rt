@@ -5,7 +5,7 @@ ghost use Rattle.vsi_arguments.specs.declared.request.Request.TheVariants as req
 ghost use Rattle.vsi_asked.specs.Asked as spec;
 ghost use Rattle.vsi_asked.specs.Words.{operands_in, shown, texts, values_in};
 
-use crate::numbers::{has_budget, has_number, number_in, only_operand};
+use crate::numbers::{has_budget, has_budget_or_auto, has_number, number_in, only_operand};
 use crate::own::has_own_alone;
 use crate::reading::{has_flag, has_operands, has_values};
 use vsi_arguments::{
@@ -174,13 +174,14 @@ fn asks_drive(words: &[String], driving: &Driving<'_>) -> bool
         driving.execution.image.as_bytes(),
         driving.lattice.as_bytes(),
     ];
-    let Some(rest) = behind(words, "drive", operands.as_slice(), &[]) else {
+    let flags = [("--unbounded", driving.is_unbounded)];
+    let Some(rest) = behind(words, "drive", operands.as_slice(), flags.as_slice()) else {
         return false;
     };
     has_value(rest, "--class", Some(driving.class))
         && has_value(rest, "--store", driving.execution.store)
         && has_value(rest, "--save", driving.save)
-        && has_budget(rest, driving.execution.budget)
+        && has_budget_or_auto(rest, driving.execution.budget)
 }
 
 /// Whether the arguments request a comparison.

@@ -2,6 +2,7 @@
 
 ghost use Rattle.std.specs.Prelude.{◌≡◌, [], ◌∷◌, ◌+◌, ◌*◌, ◌-◌, IfSome, None, Some, codes, false, true};
 ghost use Rattle.std.specs.Char.{is_ascii_digit};
+ghost use Rattle.vsi_arguments.specs.declared.request.Budget.TheVariants.{Auto};
 ghost use Rattle.vsi_asked.specs.Numbers as spec;
 ghost use Rattle.vsi_asked.specs.Words.{operands_in, texts, values_in};
 
@@ -63,6 +64,20 @@ pub(crate) fn has_budget(words: &[String], budget: Budget) -> bool
     match budget {
         Budget::Number(number) => has_number(words, "--budget", None, number),
         Budget::Auto => has_values(words, b"--budget", [b"auto".as_slice()].as_slice()),
+    }
+}
+
+/// Whether the arguments give the option `--budget` this value, or none if it is `auto`.
+pub(crate) fn has_budget_or_auto(words: &[String], budget: Budget) -> bool
+    ensures { result ≡ true → spec.GivesBudget
+        (values_in (codes "--budget") false (texts words.now)) (Some Auto) budget }
+{
+    match budget {
+        Budget::Number(number) => has_number(words, "--budget", None, number),
+        Budget::Auto => {
+            has_values(words, b"--budget", [b"auto".as_slice()].as_slice())
+                || has_values(words, b"--budget", &[])
+        }
     }
 }
 

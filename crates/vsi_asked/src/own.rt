@@ -60,6 +60,9 @@ const VIEW_OPTIONS: [&[u8]; 6] = [
     b"--color",
 ];
 
+/// The flags of `drive`.
+const DRIVE: [&[u8]; 2] = [b"--unbounded", b"--explain"];
+
 /// The options of `drive`.
 const DRIVE_OPTIONS: [&[u8]; 5] = [b"--class", b"--store", b"--save", b"--budget", b"--color"];
 
@@ -146,7 +149,7 @@ pub(crate) fn has_own_alone(words: &[String], request: &Request<'_>) -> bool
         Request::Bound(_) => are_own(words, NO_FLAGS.as_slice(), NO_OPTIONS.as_slice()),
         Request::Run { .. } => are_own(words, RUN.as_slice(), RUN_OPTIONS.as_slice()),
         Request::View { .. } => are_own(words, VIEW.as_slice(), VIEW_OPTIONS.as_slice()),
-        Request::Drive(_) => are_own(words, NO_FLAGS.as_slice(), DRIVE_OPTIONS.as_slice()),
+        Request::Drive(_) => are_own(words, DRIVE.as_slice(), DRIVE_OPTIONS.as_slice()),
         Request::Compare(_) => are_own(words, NO_FLAGS.as_slice(), COMPARE_OPTIONS.as_slice()),
         Request::Leak(_) => are_own(words, LEAK.as_slice(), LEAK_OPTIONS.as_slice()),
         Request::Try(_) => are_own(words, NO_FLAGS.as_slice(), TRY_OPTIONS.as_slice()),

@@ -1,4 +1,10 @@
-use Rattle.vsi_bound.specs.declared.bound.Bound.TheVariants as bound
-use Rattle.vsi.specs.Reasons.{SaysNoBound, SaysTooLarge}
-use Rattle.vsi.proofs.Unbounded.{says_unbounded}
+use Rattle.std.proofs.Common.{subst}
+use Rattle.std.specs.Result.{MatchResult}
+use Rattle.vsi_answers.specs.Bounds.{IsBound, LacksBound}
 use Rattle.vsi.proofs.bounded.most_of.Goals as goal
+
+pub returns-in-Err-clause-stopped : goal.returns-in-Err-clause-stopped
+returns-in-Err-clause-stopped c =
+    let image = c.args.verified.now in
+    subst (λ r. MatchResult r (IsBound image) (λ line. LacksBound image line.items)) c.in-Err.is
+    c.in_ok-most.ensures.budget

@@ -14,7 +14,7 @@ use Rattle.vsi.proofs.Cut.{input_driven}
 use Rattle.vsi.proofs.Leaving.{driven_answers}
 use Rattle.vsi.proofs.Partly.{kept_leaf, kept_leaves, late_handed, late_leaves}
 use Rattle.vsi.proofs.Reasons.{late_stopped}
-use Rattle.vsi.proofs.Undriven.{controller_stops}
+use Rattle.vsi.proofs.Undriven.{controller_stops, short_stopped}
 use Rattle.vsi.proofs.Unrun.{handed_late, more_stopped, store_stopped, unbounded_stopped, unseen_stopped}
 use Rattle.vsi.proofs.driving.drive.Goals as goal
 
@@ -39,6 +39,7 @@ returns-clause-performed g c =
       words = c.deref.result.now;
       budget = c.in_ok-budget.budget;
       within = c.in_ok-budget.ensures.budget;
+      admitted = c.in_ok-admit-in-Ok.ensures.admitted;
       drives = subst (λ k. DrivesInput k c.in_ok-words.words.items c.deref.result.now given old new)
           (control_is (control c.in-Ok.controller) c.in_ok-classes.classes c.in_ok-classes.driver image
           c.in_ok-budget.budget c.in-Ok.ensures.known c.in-Ok.ensures.order c.in-Ok.ensures.class c.in-Ok.ensures.image
@@ -62,7 +63,7 @@ returns-in_err-classes-clause-stopped g c =
     let holds = g.F.Files.holds c.args.files.now in
     more_stopped (WhyDrive holds c.args.driving)
     (LacksClassAt holds c.args.driving.lattice.now c.args.driving.class.now)
-    (LacksDrive holds c.args.driving) c.from_residual.result (λ stop lacks. inl lacks)
+    (LacksDrive holds c.args.driving) c.from_residual.result (λ stop lacks. inl (inl lacks))
     (unseen_stopped holds c.args.driving.lattice.now c.args.driving.execution.image.now (WhyDrive holds c.args.driving)
     (LacksClassAt holds c.args.driving.lattice.now c.args.driving.class.now) c.from_residual.result
     c.in_err-classes.field-0.0 (λ reason is. inl is) (λ reason is. inr (inl is)) c.from_residual.ensures.1
@@ -83,7 +84,19 @@ returns-in_err-budget-clause-stopped g c =
     unbounded_stopped holds c.args.driving.execution.image.now c.args.driving.execution.budget c.in_ok-classes.verified
     (WhyDrive holds c.args.driving) (LacksDrive holds c.args.driving)
     c.from_residual-in_err-budget.result c.in_err-budget.field-0.0 c.in_ok-classes.ensures.held
-    (λ s lacks. inr lacks) c.from_residual-in_err-budget.ensures.1 c.in_err-budget.ensures.stopped
+    (λ s lacks. inl (inr lacks)) c.from_residual-in_err-budget.ensures.1 c.in_err-budget.ensures.stopped
+
+pub returns-in_err-admit-in-Ok-clause-stopped : goal.returns-in_err-admit-in-Ok-clause-stopped
+returns-in_err-admit-in-Ok-clause-stopped g c =
+    let holds = g.F.Files.holds c.args.files.now in
+    short_stopped holds c.args.driving (WhyDrive holds c.args.driving) c.in_ok-classes.classes
+    c.in_ok-classes.driver c.in_ok-classes.verified c.in_ok-budget.budget
+    c.from_residual-in_err-admit-in-Ok.result c.in_err-admit-in-Ok.field-0.0 c.in_ok-classes.ensures.looks
+    c.in_ok-classes.ensures.held c.in_ok-budget.ensures.budget
+    c.from_residual-in_err-admit-in-Ok.ensures.1 c.in_err-admit-in-Ok.ensures.stopped
+
+pub returns-in_err-admit-in-Ok-clause-left : goal.returns-in_err-admit-in-Ok-clause-left
+returns-in_err-admit-in-Ok-clause-left g c = kept_leaves _ 4 _ c.from_residual-in_err-admit-in-Ok.result
 
 pub returns-in_err-drive_input-in-Ok-clause-stopped : goal.returns-in_err-drive_input-in-Ok-clause-stopped
 returns-in_err-drive_input-in-Ok-clause-stopped g c =
@@ -135,6 +148,7 @@ returns-in_err-drive_input-in-Ok-clause-left g c =
     (control_is drives c.in_ok-classes.classes c.in_ok-classes.driver image
     c.in_ok-budget.budget c.in-Ok.ensures.known
     c.in-Ok.ensures.order c.in-Ok.ensures.class c.in-Ok.ensures.image c.in-Ok.ensures.budget)
+    c.in_ok-admit-in-Ok.ensures.admitted
     (subst (λ m. Partly (DrivenText drives m given) old new) c.deref_mut.ensures.value
     c.in_err-drive_input-in-Ok.ensures.cut))
 
@@ -155,5 +169,6 @@ returns-clause-left g c =
     (control_is drives c.in_ok-classes.classes c.in_ok-classes.driver image
     c.in_ok-budget.budget c.in-Ok.ensures.known
     c.in-Ok.ensures.order c.in-Ok.ensures.class c.in-Ok.ensures.image c.in-Ok.ensures.budget)
+    c.in_ok-admit-in-Ok.ensures.admitted
     (subst (λ m. Partly (DrivenText drives m given) old new) c.deref_mut.ensures.value
     (input_driven drives c.deref_mut.result.now _ given old new c.in_ok-drive_input-in-Ok.ensures.driven)))
