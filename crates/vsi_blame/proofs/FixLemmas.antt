@@ -74,23 +74,23 @@ find_more p xs i x none lt at failed =
 
 module _ (l : Lattice) (path source : List ℕ) (r : Resolved) (walks : List Walked) (pair : Pair) (near : List Step) where
   -- The possible fixes are added.
-  pub fixes_more : (busiest : Option Step) (advised : Option ℕ) (old m₁ m₂ m₃ new : List ℕ)
-      → IsBusiest walks near busiest → IsAdvised (order l) (program r) pair advised
-      → m₁ ≡ old ++ codes "What would fix it:\n" → m₂ ≡ m₁ ++ change_prose path source r walks busiest
-      → m₃ ≡ m₂ ++ declare_prose l r pair.target advised
+  pub fixes_more : (old m₁ m₂ m₃ new : List ℕ) → m₁ ≡ old ++ codes "What would fix it:\n"
+      → ((s : Option Step) × (IsBusiest walks near s × (m₂ ≡ m₁ ++ change_prose path source r walks s)))
+      → ((c : Option ℕ) × (IsAdvised (order l) (program r) pair c × (m₃ ≡ m₂ ++ declare_prose l r pair.target c)))
       → new ≡ m₃ ++ warning_prose r walks pair.source pair.target
       → (s : Option Step) × ((c : Option ℕ) × (IsBusiest walks near s × (IsAdvised (order l) (program r) pair c
       × (new ≡ old ++ fix_prose l path source r walks pair s c))))
-  fixes_more busiest advised old m₁ m₂ m₃ new b a h₁ h₂ h₃ h = (
-    busiest,
+  fixes_more old m₁ m₂ m₃ new h₁ p q h = (
+    p.0,
     (
-      advised,
+      q.0,
       (
-        b,
+        p.1.0,
         (
-          a,
-          four_parts old (codes "What would fix it:\n") (change_prose path source r walks busiest)
-              (declare_prose l r pair.target advised) (warning_prose r walks pair.source pair.target) m₁ m₂ m₃ new h₁ h₂ h₃ h,
+          q.1.0,
+          four_parts old (codes "What would fix it:\n") (change_prose path source r walks p.0)
+              (declare_prose l r pair.target q.0) (warning_prose r walks pair.source pair.target) m₁ m₂ m₃ new h₁ p.1.1
+              q.1.1 h,
         ),
       ),
     ),

@@ -60,10 +60,14 @@ step_change path source r s =
     codes "- Change " ++ where_prose path source s.read.start ++ codes " so that " ++ variable_prose r s.target
     ++ codes " doesn't depend on " ++ variable_prose r s.source ++ codes ".\n"
 
--- The same, with the number of walks that pass the step; empty if there is no step.
+-- The same, with the number of walks that pass the step.
+abbrev pub found_prose : List ℕ → List ℕ → Resolved → List Walked → Step → List ℕ
+found_prose path source r walks s = step_change path source r s ++ also_prose (passing walks s)
+
+-- The same for the step to change; empty if there is none.
 abbrev pub change_prose : List ℕ → List ℕ → Resolved → List Walked → Option Step → List ℕ
 change_prose path source r walks None = []
-change_prose path source r walks (Some s) = step_change path source r s ++ also_prose (passing walks s)
+change_prose path source r walks (Some s) = found_prose path source r walks s
 
 -- The class that fixes the flow if the target is declared with it; none if no declaration changes the target's class.
 abbrev pub IsAdvised : Lattice → Program → Pair → Option ℕ → Type 0
@@ -82,10 +86,14 @@ raise_prose l r v c = codes "- Or declare " ++ variable_prose r v ++ codes " as 
 abbrev pub hidden_prose : named.Lattice → Resolved → ℕ → List ℕ
 hidden_prose l r v = codes ": an observer at " ++ class_prose l r v ++ codes " then no longer sees it.\n"
 
--- The advice to declare the target with that class.
+-- Both sentences.
+abbrev pub declared_prose : named.Lattice → Resolved → ℕ → ℕ → List ℕ
+declared_prose l r v c = raise_prose l r v c ++ hidden_prose l r v
+
+-- The advice to declare the target with that class, if there is one.
 abbrev pub declare_prose : named.Lattice → Resolved → ℕ → Option ℕ → List ℕ
 declare_prose l r v None = fixed_prose r v
-declare_prose l r v (Some c) = raise_prose l r v c ++ hidden_prose l r v
+declare_prose l r v (Some c) = declared_prose l r v c
 
 -- Whether the walk, if there is one, leads to a variable.
 abbrev pub leads_to : Option Walked → ℕ → Bool

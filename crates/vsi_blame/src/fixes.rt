@@ -147,21 +147,37 @@ fn put_also(text: &mut Vec<u8>, count: usize) -> Result<(), AllocError>
 }
 
 /// Adds the advice to change a step, with the number of walks that pass it.
+fn put_found(
+    text: &mut Vec<u8>,
+    page: &Page<'_, '_>,
+    program: &Resolved<'_>,
+    walks: &[Walked],
+    step: &Step,
+) -> Result<(), AllocError>
+    ensures { OnOk result (text.new.items ≡ text.old.items
+        ++ spec.found_prose page.now.path.now page.now.source.now program.now walks.now step.now) }
+{
+    put_step_change(text, page, program, step)?;
+    put_also(text, passing(walks, step))
+}
+
+/// Adds the advice to change the step that most walks pass, if there is a step; `near` are the
+/// steps of a walk that are reported.
 fn put_change(
     text: &mut Vec<u8>,
     page: &Page<'_, '_>,
     program: &Resolved<'_>,
     walks: &[Walked],
-    busiest: Option<Step>,
+    near: &[Step],
 ) -> Result<(), AllocError>
-    ensures { OnOk result (text.new.items ≡ text.old.items
-        ++ spec.change_prose page.now.path.now page.now.source.now program.now walks.now busiest) }
+    ensures { OnOk result ((busiest : Option Step) × (spec.IsBusiest walks.now near.now busiest
+        × (text.new.items ≡ text.old.items ++ spec.change_prose page.now.path.now
+        page.now.source.now program.now walks.now busiest))) }
 {
-    let Some(step) = busiest else {
-        return Ok(());
-    };
-    put_step_change(text, page, program, &step)?;
-    put_also(text, passing(walks, &step))
+    match busiest(walks, near) {
+        Some(step) => put_found(text, page, program, walks, &step),
+        None => Ok(()),
+    }
 }
 
 /// Adds the sentence that no declaration changes a variable's class.
@@ -209,26 +225,41 @@ fn put_hidden(
     text.extend_from_slice(b" then no longer sees it.\n")
 }
 
-/// Adds the class that the target would need.
+/// Adds the advice to declare a variable with a class, and who then no longer sees it.
+fn put_declared(
+    text: &mut Vec<u8>,
+    lattice: &Lattice,
+    program: &Resolved<'_>,
+    variable: Var,
+    class: Class,
+) -> Result<(), AllocError>
+    requires globals { All (IsClass (order lattice.now)) (program_of program.now).globals }
+    requires declared { AreClasses (order lattice.now) (program_of program.now).declared }
+    requires class { IsClass (order lattice.now) class }
+    ensures { OnOk result (text.new.items ≡ text.old.items
+        ++ spec.declared_prose lattice.now program.now variable class) }
+{
+    put_raise(text, lattice, program, variable, class)?;
+    put_hidden(text, lattice, program, variable)
+}
+
+/// Adds the class that the target of a pair would need.
 fn put_declare(
     text: &mut Vec<u8>,
     lattice: &Lattice,
     program: &Resolved<'_>,
-    target: Var,
-    advised: Option<Class>,
+    pair: Pair,
 ) -> Result<(), AllocError>
     requires globals { All (IsClass (order lattice.now)) (program_of program.now).globals }
     requires declared { AreClasses (order lattice.now) (program_of program.now).declared }
-    requires advised { IfSome advised (IsClass (order lattice.now)) }
-    ensures { OnOk result (text.new.items ≡ text.old.items
-        ++ spec.declare_prose lattice.now program.now target advised) }
+    ensures { OnOk result ((advised : Option ℕ)
+        × (spec.IsAdvised (order lattice.now) (program_of program.now) pair advised
+        × (text.new.items ≡ text.old.items
+        ++ spec.declare_prose lattice.now program.now pair.target advised))) }
 {
-    match advised {
-        Some(class) => {
-            put_raise(text, lattice, program, target, class)?;
-            put_hidden(text, lattice, program, target)
-        }
-        None => put_fixed(text, program, target),
+    match raised(lattice, program, pair) {
+        Some(class) => put_declared(text, lattice, program, pair.target, class),
+        None => put_fixed(text, program, pair.target),
     }
 }
 
@@ -283,11 +314,8 @@ pub(crate) fn put_fixes(
         × (text.new.items ≡ text.old.items ++ spec.fix_prose lattice.now page.now.path.now
         page.now.source.now program.now walks.now pair busiest advised))))) }
 {
-    let target = pair.target;
-    let step = busiest(walks, near);
-    let class = raised(lattice, program, pair);
     text.extend_from_slice(b"What would fix it:\n")?;
-    put_change(text, page, program, walks, step)?;
-    put_declare(text, lattice, program, target, class)?;
+    put_change(text, page, program, walks, near)?;
+    put_declare(text, lattice, program, pair)?;
     put_warning(text, program, walks, pair)
 }
