@@ -1,4 +1,5 @@
 pub mod Stops
+pub mod Screen
 pub mod Input
 pub mod Words
 pub mod Holding
@@ -11,5 +12,6 @@ pub mod Performed
 pub mod Reasons
 pub mod Partly
 pub mod Done
+pub mod Noted
 pub mod Laws
 pub mod Diagnosing

@@ -1,52 +1,72 @@
--- The texts of pairs, one after another.
+-- The texts about pairs, one after another.
 use Rattle.std.proofs.Common.{◌≡◌, ℕ, List, [], ◌∷◌, ◌++◌, refl, sym, ap, ◌∙◌, subst}
-use Rattle.std.specs.Prelude.{Result, Ok, Err, OnOk}
-use Rattle.std.specs.List.{flat_map}
-use Rattle.std.proofs.lemmas.List.{map_push, append_assoc, append-nil}
+use Rattle.std.specs.Prelude.{Option, codes}
+use Rattle.std.specs.List.{All, flat_map}
+use Rattle.std.proofs.lemmas.List.{map_push, append-nil}
+use Rattle.std.proofs.lemmas.List.Elements.{All-nil, All-push}
 use Rattle.std.proofs.lemmas.Grind.{flat_map-append}
 use Rattle.vsi_lattice.specs.declared.lattice.Lattice.{Lattice}
+use Rattle.vsi_lattice.specs.LatticeView.{order}
 use Rattle.vsi_scope.specs.Program.{Resolved}
+use Rattle.vsi_types.specs.declared.rules.Step.{Step}
+use Rattle.vsi_types.specs.Security.{program}
 use Rattle.vsi_blame.specs.declared.walking.Walked.{Walked}
-use Rattle.vsi_blame.specs.Telling.{odds, Told, told_text, AreTold}
+use Rattle.vsi_blame.specs.Odds.{odds}
+use Rattle.vsi_blame.specs.Steps.{near_ends, IsWalkText}
+use Rattle.vsi_blame.specs.Fixes.{IsBusiest, IsAdvised, fix_prose}
+use Rattle.vsi_blame.specs.Telling.{Paragraph, IsParagraph, paragraph_text, AreTold}
+use Rattle.vsi_blame.proofs.PartLemmas.{four_parts}
 
-module _ (l : Lattice) (r : Resolved) where
+module _ (l : Lattice) (path source : List ℕ) (r : Resolved) (walks : List Walked) where
+  -- The conflict, the steps and the fixes of a pair are added.
+  pub paragraph_more : (w : Walked) (items near : List Step) (old m₁ m₂ m₃ new : List ℕ) → items ≡ w.steps.items
+      → near ≡ near_ends items → m₁ ≡ old ++ odds l r w.pair.source w.pair.target
+      → ((lines : List ℕ) × (IsWalkText l path source r w.pair.source items lines × (m₂ ≡ m₁ ++ lines)))
+      → ((busiest : Option Step) × ((advised : Option ℕ) × (IsBusiest walks near busiest
+      × (IsAdvised (order l) (program r) w.pair advised
+      × (m₃ ≡ m₂ ++ fix_prose l path source r walks w.pair busiest advised)))))
+      → new ≡ m₃ ++ codes "\n" → (p : Paragraph) × ((p.entry ≡ w) × (IsParagraph l path source r walks p
+      × (new ≡ old ++ paragraph_text l path source r walks p)))
+  paragraph_more w items near old m₁ m₂ m₃ new same is h₁ p q h =
+      let one : Paragraph = record { entry = w; lines = p.0; busiest = q.0; advised = q.1.0 } in
+      let exact : IsParagraph l path source r walks one = record {
+        steps = subst (λ (t : List Step). IsWalkText l path source r w.pair.source t p.0) same p.1.0;
+        busiest = subst (λ (t : List Step). IsBusiest walks t q.0) (is ∙ ap near_ends same) q.1.1.0;
+        advised = q.1.1.1.0;
+      } in (
+        one,
+        (
+          refl,
+          (
+            exact,
+            four_parts old (odds l r w.pair.source w.pair.target) p.0
+                (fix_prose l path source r walks w.pair q.0 q.1.0) (codes "\n") m₁ m₂ m₃ new h₁ p.1.1 q.1.1.1.1 h,
+          ),
+        ),
+      )
+
   -- No pairs have an empty text.
-  pub told_none : (text : List ℕ) → text ≡ [] → AreTold l r [] text
+  pub told_none : (text : List ℕ) → text ≡ [] → AreTold l path source r walks [] text
   told_none text e = record {
     told = [];
     kept = refl;
+    exact = All-nil (IsParagraph l path source r walks);
     whole = e;
   }
 
   -- One more pair adds its text.
-  pub told_more : (walked : List Walked) (text with more rest : List ℕ) (w : Walked) → AreTold l r walked text
-      → with ≡ text ++ odds l r w.pair.source w.pair.target → more ≡ with ++ rest → AreTold l r (walked ++ w ∷ []) more
-  told_more walked text with more rest w a e f =
-      let one : Told = record { entry = w; rest = rest } in
+  pub told_more : (part : List Walked) (w : Walked) (text new : List ℕ) → AreTold l path source r walks part text
+      → ((p : Paragraph) × ((p.entry ≡ w) × (IsParagraph l path source r walks p
+      × (new ≡ text ++ paragraph_text l path source r walks p))))
+      → AreTold l path source r walks (part ++ w ∷ []) new
+  told_more part w text new a q =
+      let f = paragraph_text l path source r walks in
+      let one = q.0 in
       record {
         told = a.told ++ one ∷ [];
-        kept = map_push (λ t. t.entry) a.told one ∙ ap (λ ws. ws ++ w ∷ []) a.kept;
-        whole = f ∙ ap (λ t. t ++ rest) (e ∙ ap (λ t. t ++ odds l r w.pair.source w.pair.target) a.whole)
-            ∙ joined (flat_map (told_text l r) a.told) (odds l r w.pair.source w.pair.target) rest
-            ∙ sym (flat_map-append (told_text l r) a.told (one ∷ []));
+        kept = map_push (λ p. p.entry) a.told one ∙ ap (λ t. t ++ one.entry ∷ []) a.kept
+            ∙ ap (λ t. part ++ t ∷ []) q.1.0;
+        exact = All-push (IsParagraph l path source r walks) a.told one a.exact q.1.1.0;
+        whole = q.1.1.1 ∙ ap (λ t. t ++ f one) a.whole ∙ ap (λ t. flat_map f a.told ++ t) (sym (append-nil (f one)))
+            ∙ sym (flat_map-append f a.told (one ∷ []));
       }
-    where
-      joined : (x y z : List ℕ) → (x ++ y) ++ z ≡ x ++ ((y ++ z) ++ [])
-      joined x y z = append_assoc x y z ∙ ap (λ t. x ++ t) (sym (append-nil (y ++ z)))
-
--- A fact about a call's success implies its consequence there.
-pub on_ok : {V E : Type 0} {A B : Type 0} (o : Result V E) → (A → B) → OnOk o A → OnOk o B
-on_ok (Ok v) f h = f h
-on_ok (Err e) f h = tt
-
--- A part added to a text with another part comes after that part.
-moved : (n m k a b : List ℕ) → n ≡ m ++ b → m ≡ k ++ a → n ≡ k ++ (a ++ b)
-moved n m k a b h e = h ∙ ap (λ t. t ++ b) e ∙ append_assoc k a b
-
--- Six parts are added one after another.
-pub six_parts : (k a b c d e f m₁ m₂ m₃ m₄ m₅ n : List ℕ) → m₁ ≡ k ++ a → m₂ ≡ m₁ ++ b → m₃ ≡ m₂ ++ c → m₄ ≡ m₃ ++ d
-    → m₅ ≡ m₄ ++ e → n ≡ m₅ ++ f → n ≡ k ++ (((((a ++ b) ++ c) ++ d) ++ e) ++ f)
-six_parts k a b c d e f m₁ m₂ m₃ m₄ m₅ n h₁ h₂ h₃ h₄ h₅ h =
-    moved n m₅ k ((((a ++ b) ++ c) ++ d) ++ e) f h
-    (moved m₅ m₄ k (((a ++ b) ++ c) ++ d) e h₅
-    (moved m₄ m₃ k ((a ++ b) ++ c) d h₄ (moved m₃ m₂ k (a ++ b) c h₃ (moved m₂ m₁ k a b h₂ h₁))))

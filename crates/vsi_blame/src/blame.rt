@@ -13,7 +13,7 @@ ghost use Rattle.vsi_blame.specs.Telling.{TellsRefused};
 
 use crate::refused::refused_pairs;
 use crate::sentences::Page;
-use crate::telling::{count_text, told_of};
+use crate::telling::{put_end, told_of};
 use crate::walking::walks_of;
 use std::alloc::{AllocError, Global};
 use vsi_caret::put_text;
@@ -21,7 +21,7 @@ use vsi_compiler::{CompileError, Source, read_source};
 use vsi_lattice::Lattice;
 use vsi_types::Profile;
 
-/// The largest number of pairs that the report names.
+/// The largest number of pairs that are reported.
 const TOLD: usize = 20;
 
 /// The report about the refused flows of a source text under a profile, and possible fixes: at most
@@ -33,7 +33,7 @@ pub fn refused_flows_of(
     source: &Source<'_>,
 ) -> Result<Vec<u8>, AllocError>
     ensures told { IfOk result (λ out.
-        TellsRefused source.now.lattice profile source.now.text out.items) }
+        TellsRefused source.now.lattice profile path.now source.now.text out.items) }
     ensures plain { IfOk result (λ out. all_plain out.items ≡ true) }
 {
     let lattice = source.lattice();
@@ -47,8 +47,7 @@ pub fn refused_flows_of(
         source: text,
     };
     let mut prose = told_of(alloc, lattice, &page, resolved, &walks)?;
-    let count = count_text(alloc, pairs.len(), walks.len())?;
-    prose.extend_from_slice(&count)?;
+    put_end(&mut prose, pairs.len(), walks.len())?;
     let mut answer = Vec::new(alloc);
     put_text(&mut answer, &prose)?;
     Ok(answer)
@@ -66,7 +65,8 @@ pub fn refused_flows(
     path: &str,
     source: &[u8],
 ) -> Result<Vec<u8>, CompileError>
-    ensures told { IfOk result (λ out. TellsRefused lattice.now profile source.now out.items) }
+    ensures told { IfOk result (λ out.
+        TellsRefused lattice.now profile path.now source.now out.items) }
     ensures plain { IfOk result (λ out. all_plain out.items ≡ true) }
     ensures refused { IfErr result (RefusesProgram (class_named lattice.now) source.now) }
     ensures exact { (tree : Whole) (commands : List Command) → Reads source.now tree

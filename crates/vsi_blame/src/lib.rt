@@ -2,17 +2,18 @@
 //!
 //! The input is a source text, its path and a profile. The output is prose for a person: for each
 //! refused pair of variables, the conflict; the steps of a shortest walk, each with its position
-//! and its line; and possible fixes. Clause `told` of `refused_flows_of` says which pairs the prose
-//! names, and clause `plain` says that no byte of it controls a terminal.
+//! and its line; and possible fixes. Clause `told` of `refused_flows_of` gives the whole prose, for
+//! the path and the source text, and clause `plain` says that no byte of it controls a terminal.
 //!
 //! To be believed: all files of `specs/`.
 #![tactic(auto)]
 
 mod blame;
-mod mending;
+mod fixes;
 mod names;
 mod refused;
 mod sentences;
+mod steps;
 mod telling;
 mod walking;
 

@@ -7,12 +7,12 @@ ghost use Rattle.vsi_lattice.specs.LatticeView.{order};
 ghost use Rattle.vsi_types.specs.Security.{program as program_of};
 ghost use Rattle.vsi_infer.specs.Explanation.{name_of};
 ghost use Rattle.vsi_infer.specs.Inference.{AreClasses};
-ghost use Rattle.vsi_blame.specs.Telling as spec;
+ghost use Rattle.vsi_blame.specs.Odds as spec;
 
 use std::alloc::AllocError;
 use vsi_caret::put_safe;
 use vsi_infer::declared_class;
-use vsi_lattice::Lattice;
+use vsi_lattice::{Class, Lattice};
 use vsi_scope::{Resolved, Var};
 use vsi_types::LOOP;
 
@@ -41,7 +41,7 @@ pub(crate) fn put_variable(
     variable: Var,
 ) -> Result<(), AllocError>
     ensures { OnOk result
-        (text.new.items ≡ text.old.items ++ spec.variable_words program.now variable) }
+        (text.new.items ≡ text.old.items ++ spec.variable_prose program.now variable) }
 {
     if variable == LOOP {
         return text.extend_from_slice(b"the ending of loops");
@@ -49,6 +49,18 @@ pub(crate) fn put_variable(
     text.extend_from_slice(b"`")?;
     put_safe(text, name(program, variable))?;
     text.extend_from_slice(b"`")
+}
+
+/// Adds the name of a class.
+pub(crate) fn put_class_name(
+    text: &mut Vec<u8>,
+    lattice: &Lattice,
+    class: Class,
+) -> Result<(), AllocError>
+    requires { IsClass (order lattice.now) class }
+    ensures { OnOk result (text.new.items ≡ text.old.items ++ spec.class_name lattice.now class) }
+{
+    put_safe(text, lattice.name(class))
 }
 
 /// Adds the name of a variable's declared class.
@@ -61,7 +73,7 @@ pub(crate) fn put_class_of(
     requires globals { All (IsClass (order lattice.now)) (program_of program.now).globals }
     requires declared { AreClasses (order lattice.now) (program_of program.now).declared }
     ensures { OnOk result
-        (text.new.items ≡ text.old.items ++ spec.class_words lattice.now program.now variable) }
+        (text.new.items ≡ text.old.items ++ spec.class_prose lattice.now program.now variable) }
 {
     match declared_class(lattice, program, variable) {
         Some(class) => put_safe(text, lattice.name(class)),
@@ -77,7 +89,7 @@ fn put_flow(
     target: Var,
 ) -> Result<(), AllocError>
     ensures { OnOk result
-        (text.new.items ≡ text.old.items ++ spec.flow_words program.now source target) }
+        (text.new.items ≡ text.old.items ++ spec.flow_prose program.now source target) }
 {
     put_variable(text, program, source)?;
     text.extend_from_slice(b" flows to ")?;
@@ -95,7 +107,7 @@ fn put_has(
     requires globals { All (IsClass (order lattice.now)) (program_of program.now).globals }
     requires declared { AreClasses (order lattice.now) (program_of program.now).declared }
     ensures { OnOk result
-        (text.new.items ≡ text.old.items ++ spec.has_words lattice.now program.now variable) }
+        (text.new.items ≡ text.old.items ++ spec.has_prose lattice.now program.now variable) }
 {
     put_variable(text, program, variable)?;
     text.extend_from_slice(b" is ")?;
@@ -113,7 +125,7 @@ fn put_order(
     requires globals { All (IsClass (order lattice.now)) (program_of program.now).globals }
     requires declared { AreClasses (order lattice.now) (program_of program.now).declared }
     ensures { OnOk result
-        (text.new.items ≡ text.old.items ++ spec.order_words lattice.now program.now source target) }
+        (text.new.items ≡ text.old.items ++ spec.order_prose lattice.now program.now source target) }
 {
     put_class_of(text, lattice, program, source)?;
     text.extend_from_slice(b" is not at or below ")?;

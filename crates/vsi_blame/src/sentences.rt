@@ -1,5 +1,11 @@
 //! The sentences about a step.
 
+ghost use Rattle.std.specs.Prelude.{◌≡◌, ◌++◌, OnOk};
+ghost use Rattle.vsi_caret.specs.declared.window.Window.{Window};
+ghost use Rattle.vsi_caret.specs.Window.{IsWindow};
+ghost use Rattle.vsi_blame.specs.Fixes.{where_prose};
+ghost use Rattle.vsi_blame.specs.Steps as spec;
+
 use crate::names::put_variable;
 use std::alloc::AllocError;
 use vsi_caret::{put_number, put_place, put_safe};
@@ -19,7 +25,10 @@ pub(crate) fn put_where(
     text: &mut Vec<u8>,
     page: &Page<'_, '_>,
     at: usize,
-) -> Result<(), AllocError> {
+) -> Result<(), AllocError>
+    ensures { OnOk result
+        (text.new.items ≡ text.old.items ++ where_prose page.now.path.now page.now.source.now at) }
+{
     let (line, column) = line_column(page.source, at);
     put_safe(text, page.path)?;
     text.extend_from_slice(b":")?;
@@ -28,8 +37,10 @@ pub(crate) fn put_where(
     put_number(text, column)
 }
 
-/// The text before the name of the variable that is read.
-fn before_read(rule: Rule) -> &'static [u8] {
+/// The text before the variable that is read.
+fn before_read(rule: Rule) -> &'static [u8]
+    ensures { result.now ≡ spec.before_read rule }
+{
     match rule {
         Rule::Assign | Rule::Letvar => b"Here ",
         Rule::If => b"Here the guard of an `if` reads ",
@@ -38,66 +49,103 @@ fn before_read(rule: Rule) -> &'static [u8] {
     }
 }
 
-/// The text between the name of the variable that is read and that of the variable that is written.
-fn before_written(rule: Rule) -> &'static [u8] {
+/// The text after the variable that is read.
+fn after_read(rule: Rule) -> &'static [u8]
+    ensures { result.now ≡ spec.after_read rule }
+{
     match rule {
         Rule::Assign => b" is read, and a value computed from it is assigned to ",
         Rule::Letvar => b" is read, and a value computed from it is the initial value of ",
         Rule::If => b".\nWhich branch runs depends on it, and a branch assigns ",
         Rule::While => b".\nHow often the body runs depends on it, and the body assigns ",
-        Rule::Loop => b", which is read here.\nUnder the strict profile everyone sees whether ",
+        Rule::Loop => {
+            b", which is read here.\nUnder the strict profile everyone sees whether a run ends"
+        }
     }
 }
 
-/// Adds what a step under a guard reveals without a copy, and where its target is assigned.
+/// Adds the variable that is written; the ending of loops is in the text before it.
+fn put_written(text: &mut Vec<u8>, program: &Resolved<'_>, step: &Step) -> Result<(), AllocError>
+    ensures { OnOk result (text.new.items
+        ≡ text.old.items ++ spec.written_prose program.now step.now.rule step.now.target) }
+{
+    match step.rule {
+        Rule::Assign | Rule::Letvar | Rule::If | Rule::While => {
+            put_variable(text, program, step.target)
+        }
+        Rule::Loop => Ok(()),
+    }
+}
+
+/// Adds the sentence about a step.
+fn put_sentence(text: &mut Vec<u8>, program: &Resolved<'_>, step: &Step) -> Result<(), AllocError>
+    ensures { OnOk result (text.new.items ≡ text.old.items ++ spec.sentence program.now step.now) }
+{
+    text.extend_from_slice(before_read(step.rule))?;
+    put_variable(text, program, step.source)?;
+    text.extend_from_slice(after_read(step.rule))?;
+    put_written(text, program, step)?;
+    text.extend_from_slice(b".\n")
+}
+
+/// Adds the sentence about what a step under a guard reveals.
+fn put_learns(text: &mut Vec<u8>, program: &Resolved<'_>, step: &Step) -> Result<(), AllocError>
+    ensures { OnOk result
+        (text.new.items ≡ text.old.items ++ spec.learns_prose program.now step.now) }
+{
+    text.extend_from_slice(b"No value is copied, but whoever sees ")?;
+    put_variable(text, program, step.target)?;
+    text.extend_from_slice(b" learns something about ")?;
+    put_variable(text, program, step.source)?;
+    text.extend_from_slice(b".\nThe assignment is here:\n")
+}
+
+/// Adds what a step under a guard reveals, and where its target is assigned.
 fn put_guarded(
     text: &mut Vec<u8>,
     page: &Page<'_, '_>,
     program: &Resolved<'_>,
     step: &Step,
-) -> Result<(), AllocError> {
-    text.extend_from_slice(b".\nNo value is copied, but whoever sees ")?;
-    put_variable(text, program, step.target)?;
-    text.extend_from_slice(b" learns something about ")?;
-    put_variable(text, program, step.source)?;
-    text.extend_from_slice(b".\nThe assignment is here:\n")?;
+) -> Result<(), AllocError>
+    ensures { OnOk result ((v : Window) × (IsWindow page.now.source.now step.now.written.start v
+        × (text.new.items ≡ text.old.items
+        ++ spec.guarded_prose page.now.path.now page.now.source.now program.now step.now v))) }
+{
+    put_learns(text, program, step)?;
     let written = step.written;
     put_place(text, page.path, page.source, written.start, written.stop)
 }
 
-/// Adds the text after the name of the variable that is written.
+/// Adds what a step reveals without a copy, if it is under a guard.
 fn put_consequence(
     text: &mut Vec<u8>,
     page: &Page<'_, '_>,
     program: &Resolved<'_>,
     step: &Step,
-) -> Result<(), AllocError> {
+) -> Result<(), AllocError>
+    ensures { OnOk result ((v : Window) × (IsWindow page.now.source.now step.now.written.start v
+        × (text.new.items ≡ text.old.items ++ spec.consequence step.now.rule
+        (spec.guarded_prose page.now.path.now page.now.source.now program.now step.now v)))) }
+{
     match step.rule {
-        Rule::Assign | Rule::Letvar => text.extend_from_slice(b".\n"),
+        Rule::Assign | Rule::Letvar | Rule::Loop => Ok(()),
         Rule::If | Rule::While => put_guarded(text, page, program, step),
-        Rule::Loop => text.extend_from_slice(b"a run ends.\n"),
     }
 }
 
-/// Adds a step: its position, its line, and what happens there.
+/// Adds a step: where the source is read, what happens there, and what that reveals.
 pub(crate) fn put_step(
     text: &mut Vec<u8>,
     page: &Page<'_, '_>,
     program: &Resolved<'_>,
     step: &Step,
-) -> Result<(), AllocError> {
-    put_place(
-        text,
-        page.path,
-        page.source,
-        step.read.start,
-        step.read.stop,
-    )?;
-    text.extend_from_slice(before_read(step.rule))?;
-    put_variable(text, program, step.source)?;
-    text.extend_from_slice(before_written(step.rule))?;
-    if step.rule != Rule::Loop {
-        put_variable(text, program, step.target)?;
-    }
+) -> Result<(), AllocError>
+    ensures { OnOk result ((s : spec.Shown) × (s.step ≡ step.now
+        × (spec.IsShown page.now.source.now s × (text.new.items ≡ text.old.items
+        ++ spec.step_prose page.now.path.now page.now.source.now program.now s)))) }
+{
+    let read = step.read;
+    put_place(text, page.path, page.source, read.start, read.stop)?;
+    put_sentence(text, program, step)?;
     put_consequence(text, page, program, step)
 }

@@ -1,96 +1,60 @@
 //! The report about refused pairs.
 
-ghost use Rattle.std.specs.Prelude.{◌≡◌, ◌++◌, ◌≤◌, IfOk, OnOk};
+ghost use Rattle.std.specs.Prelude.{◌≡◌, ◌++◌, IfOk, OnOk, length};
 ghost use Rattle.std.specs.List.{All};
 ghost use Rattle.vsi_lattice.specs.Order.{IsClass};
 ghost use Rattle.vsi_lattice.specs.LatticeView.{order};
 ghost use Rattle.vsi_types.specs.Security.{program as program_of};
 ghost use Rattle.vsi_infer.specs.Inference.{AreClasses};
+ghost use Rattle.vsi_blame.specs.Steps.{near_ends};
 ghost use Rattle.vsi_blame.specs.Telling as spec;
 
-use crate::mending::{TOLD_AT_AN_END, is_told, put_closing, put_mending};
-use crate::names::{put_odds, put_variable};
-use crate::sentences::{Page, put_step};
+use crate::fixes::put_fixes;
+use crate::names::put_odds;
+use crate::sentences::Page;
+use crate::steps::{near_end, near_start, put_walk};
 use crate::walking::Walked;
 use std::alloc::{AllocError, Global};
-use vsi_caret::{put_number, put_safe};
-use vsi_infer::declared_class;
-use vsi_lattice::{Classes, Lattice};
-use vsi_scope::{Resolved, Var};
+use vsi_caret::put_number;
+use vsi_lattice::Lattice;
+use vsi_scope::Resolved;
+use vsi_types::Step;
 
-/// Adds the class that a new variable without a declared class gets from the value assigned to it.
-fn put_follows(
-    text: &mut Vec<u8>,
-    lattice: &Lattice,
-    program: &Resolved<'_>,
-    source: Var,
-    target: Var,
-) -> Result<(), AllocError>
-    requires globals { All (IsClass (order lattice.now)) (program_of program.now).globals }
-    requires declared { AreClasses (order lattice.now) (program_of program.now).declared }
+/// The steps of a walk that are reported: those near its ends.
+fn near_ends_of(alloc: Global, steps: &[Step]) -> Result<Vec<Step>, AllocError>
+    ensures { IfOk result (λ near. near.items ≡ near_ends steps.now) }
 {
-    if declared_class(lattice, program, target).is_some() {
-        return Ok(());
-    }
-    let Some(class) = declared_class(lattice, program, source) else {
-        return Ok(());
-    };
-    text.extend_from_slice(b"So ")?;
-    put_variable(text, program, target)?;
-    text.extend_from_slice(b" is ")?;
-    put_safe(text, lattice.name(class))?;
-    if class != lattice.top() {
-        text.extend_from_slice(b" or a class above it")?;
-    }
-    text.extend_from_slice(b".\n")
+    let mut near = Vec::new(alloc);
+    near.extend_from_slice(near_start(steps))?;
+    near.extend_from_slice(near_end(steps))?;
+    Ok(near)
 }
 
-/// Adds the steps of a walk; of a long walk, only those near its ends.
-fn put_steps(
+/// Adds the text about a pair: the conflict, the steps of its walk, and possible fixes.
+fn put_paragraph(
     text: &mut Vec<u8>,
-    lattice: &Lattice,
-    page: &Page<'_, '_>,
-    program: &Resolved<'_>,
-    entry: &Walked,
-) -> Result<(), AllocError>
-    requires globals { All (IsClass (order lattice.now)) (program_of program.now).globals }
-    requires declared { AreClasses (order lattice.now) (program_of program.now).declared }
-{
-    let steps = &entry.steps;
-    for number in 0..steps.len() {
-        if is_told(steps.len(), number) {
-            let step = steps[number];
-            put_step(text, page, program, &step)?;
-            put_follows(text, lattice, program, entry.pair.source, step.target)?;
-        } else if number == TOLD_AT_AN_END {
-            text.extend_from_slice(b"Steps left out here: ")?;
-            put_number(text, steps.len().saturating_sub(2 * TOLD_AT_AN_END))?;
-            text.extend_from_slice(b".\n")?;
-        }
-    }
-    Ok(())
-}
-
-/// The text about a pair after the sentence that states the conflict: the steps, and possible
-/// fixes.
-fn rest_of(
     alloc: Global,
     lattice: &Lattice,
     page: &Page<'_, '_>,
     program: &Resolved<'_>,
     walks: &[Walked],
     entry: &Walked,
-) -> Result<Vec<u8>, AllocError>
+) -> Result<(), AllocError>
     requires globals { All (IsClass (order lattice.now)) (program_of program.now).globals }
-    requires declared { AreClasses (order lattice.now)
-        (program_of program.now).declared }
+    requires declared { AreClasses (order lattice.now) (program_of program.now).declared }
+    ensures { OnOk result ((p : spec.Paragraph) × (p.entry ≡ entry.now
+        × (spec.IsParagraph lattice.now page.now.path.now page.now.source.now program.now
+        walks.now p
+        × (text.new.items ≡ text.old.items ++ spec.paragraph_text lattice.now page.now.path.now
+        page.now.source.now program.now walks.now p)))) }
 {
-    let mut text = Vec::new(alloc);
-    put_steps(&mut text, lattice, page, program, entry)?;
-    put_mending(&mut text, lattice, page, program, walks, entry)?;
-    text.extend_from_slice(b"\n")?;
-    put_closing(&mut text, walks, entry)?;
-    Ok(text)
+    let pair = entry.pair;
+    let steps = entry.steps.as_slice();
+    let near = near_ends_of(alloc, steps)?;
+    put_odds(text, lattice, program, pair.source, pair.target)?;
+    put_walk(text, lattice, page, program, pair.source, steps)?;
+    put_fixes(text, lattice, page, program, walks, pair, near.as_slice())?;
+    text.extend_from_slice(b"\n")
 }
 
 /// The texts about the pairs, one after another.
@@ -102,33 +66,49 @@ pub(crate) fn told_of(
     walks: &[Walked],
 ) -> Result<Vec<u8>, AllocError>
     requires globals { All (IsClass (order lattice.now)) (program_of program.now).globals }
-    requires declared { AreClasses (order lattice.now)
-        (program_of program.now).declared }
-    ensures { IfOk result
-        (λ text. spec.AreTold lattice.now program.now walks.now text.items) }
+    requires declared { AreClasses (order lattice.now) (program_of program.now).declared }
+    ensures { IfOk result (λ text. spec.AreTold lattice.now page.now.path.now page.now.source.now
+        program.now walks.now walks.now text.items) }
 {
     let mut text = Vec::new(alloc);
     for entry in walks {
-        let pair = entry.pair;
-        put_odds(&mut text, lattice, program, pair.source, pair.target)?;
-        let rest = rest_of(alloc, lattice, page, program, walks, entry)?;
-        text.extend_from_slice(&rest)?;
+        put_paragraph(&mut text, alloc, lattice, page, program, walks, entry)?;
     }
     Ok(text)
 }
 
-/// The number of refused pairs and of reported ones, if not all are reported.
-pub(crate) fn count_text(alloc: Global, refused: usize, told: usize) -> Result<Vec<u8>, AllocError>
-    ensures { IfOk result (λ text. text.items ≡ spec.count_words refused told) }
+/// Adds the remarks after the last pair.
+fn put_closing(text: &mut Vec<u8>, told: usize) -> Result<(), AllocError>
+    ensures { OnOk result (text.new.items ≡ text.old.items ++ spec.closing_prose told) }
 {
-    let mut text = Vec::new(alloc);
+    if told == 0 {
+        return Ok(());
+    }
+    text.extend_from_slice(b"This language has no way to release a single result on purpose.\n")?;
+    text.extend_from_slice(
+        b"`vsi leak` with the same files looks for two runs that show the leak.\n",
+    )
+}
+
+/// Adds the number of refused pairs and of reported ones, if not all are reported.
+fn put_count(text: &mut Vec<u8>, refused: usize, told: usize) -> Result<(), AllocError>
+    ensures { OnOk result (text.new.items ≡ text.old.items ++ spec.count_prose refused told) }
+{
     if refused == told {
-        return Ok(text);
+        return Ok(());
     }
     text.extend_from_slice(b"Refused flows: ")?;
-    put_number(&mut text, refused)?;
+    put_number(text, refused)?;
     text.extend_from_slice(b". Shown here: ")?;
-    put_number(&mut text, told)?;
-    text.extend_from_slice(b".\n")?;
-    Ok(text)
+    put_number(text, told)?;
+    text.extend_from_slice(b".\n")
+}
+
+/// Adds the remarks after the last pair, and the number of pairs if not all are reported.
+pub(crate) fn put_end(text: &mut Vec<u8>, refused: usize, told: usize) -> Result<(), AllocError>
+    ensures { OnOk result (text.new.items
+        ≡ text.old.items ++ spec.closing_prose told ++ spec.count_prose refused told) }
+{
+    put_closing(text, told)?;
+    put_count(text, refused, told)
 }
