@@ -34,20 +34,18 @@ pub(crate) fn put_policy(alloc: Global, page: &mut Page, order: &Order) -> Resul
     put_lattice_section(page, order, &layout)
 }
 
-/// Adds the section of the lattice and the end of a column: a wide picture is after the column.
-pub(crate) fn put_lattice_beside(
+/// Adds the section of the lattice, if its picture is as wide as asked.
+pub(crate) fn put_lattice_if(
     alloc: Global,
     page: &mut Page,
     order: &Order,
-    end: &'static [u8],
+    is_wide: bool,
 ) -> Result<(), AllocError> {
     let layout = lattice_layout(alloc, order)?;
-    if layout.wide > WIDE {
-        page.put(end)?;
-        return put_lattice_section(page, order, &layout);
+    if (layout.wide > WIDE) == is_wide {
+        put_lattice_section(page, order, &layout)?;
     }
-    put_lattice_section(page, order, &layout)?;
-    page.put(end)
+    Ok(())
 }
 
 /// Adds the section of the lattice with this layout.

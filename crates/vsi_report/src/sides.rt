@@ -8,7 +8,7 @@ use crate::fixing::put_fixes;
 use crate::leak_section::put_leak;
 use crate::order::Order;
 use crate::page::Page;
-use crate::sections::{put_all_flows, put_lattice_beside, put_listing, put_policy, put_promise};
+use crate::sections::{put_all_flows, put_lattice_if, put_listing, put_policy, put_promise};
 use crate::telling::put_walk;
 use std::alloc::{AllocError, Global};
 use vsi_compiler::CompileError;
@@ -74,7 +74,9 @@ fn after_accepted(
     page.put(HINT)?;
     page.put(b"<div>\n")?;
     put_promise(&mut page, subject.profile)?;
-    put_lattice_beside(alloc, &mut page, subject.order, b"</div>\n")?;
+    put_lattice_if(alloc, &mut page, subject.order, false)?;
+    page.put(b"</div>\n")?;
+    put_lattice_if(alloc, &mut page, subject.order, true)?;
     put_all_flows(alloc, &mut page, subject.profile, subject.order, facts, &[])?;
     put_listing(&mut page, lines)?;
     put_filing(alloc, &mut page, subject)?;
@@ -130,10 +132,12 @@ fn after_refused(
     page.put(REACHED)?;
     page.put(b"<div class=\"side\">\n")?;
     put_walk(&mut page, subject.order, facts, subject.source, walk)?;
-    put_lattice_beside(alloc, &mut page, subject.order, b"</div>\n<div>\n")?;
+    put_lattice_if(alloc, &mut page, subject.order, false)?;
+    page.put(b"</div>\n<div>\n")?;
     put_fixes(alloc, &mut page, subject, facts, walk)?;
     put_leak(alloc, &mut page, subject, last_class(facts, walk))?;
     page.put(b"</div>\n")?;
+    put_lattice_if(alloc, &mut page, subject.order, true)?;
     put_all_flows(
         alloc,
         &mut page,
