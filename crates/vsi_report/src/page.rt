@@ -1,6 +1,6 @@
 //! The parts of a page and the writer that appends them.
 
-ghost use Rattle.std.specs.Prelude.{◌≡◌, ◌++◌, ℕ, List, IfOk, OnOk, decimal};
+ghost use Rattle.std.specs.Prelude.{◌≡◌, ◌++◌, ℕ, List, [], IfOk, OnOk, decimal};
 ghost use Rattle.vsi_report.specs.Escape.{escaped};
 ghost use Rattle.vsi_report.specs.Page.{HasPanel};
 ghost use Rattle.vsi_report.specs.Reading.{Shows};
@@ -36,7 +36,9 @@ pub(crate) struct Page {
 
 impl Page {
     /// An empty page.
-    pub(crate) fn new(alloc: Global) -> Page {
+    pub(crate) fn new(alloc: Global) -> Page
+        ensures { result.text.items ≡ [] }
+    {
         Page {
             text: Vec::new(alloc),
         }

@@ -54,7 +54,7 @@ pub(crate) fn begun_page(
     name: &[u8],
     style: &[u8],
 ) -> Result<Page, AllocError>
-    ensures { IfOk result (λ page. page.text.items ≡ spec.beginning verdict name.now style.now) }
+    ensures { IfOk result (λ page. spec.HasBanner verdict page.text.items) }
 {
     let mut page = Page::new(alloc);
     page.put(FIRST)?;
