@@ -191,19 +191,23 @@ pub(crate) fn put_refused(
     put_judged(page, subject.profile)
 }
 
+/// The sentence about the only pair of an accepted text.
+const ONE_PAIR: &[u8] =
+    b"<p class=\"lead\">The only pair of declared variables joined by flows is allowed.</p>\n";
+
 /// Adds the sentence about the pairs of an accepted text.
 fn put_allowed_pairs(page: &mut Page, facts: &Facts) -> Result<(), AllocError> {
     if facts.pairs.is_empty() {
         return page.put(b"<p class=\"lead\">No declared variable flows to another one.</p>\n");
     }
     let count = facts.pairs.len();
+    if count == 1 {
+        return page.put(ONE_PAIR);
+    }
     page.put_parts(&[
-        Part::Markup(number_word(count, b"<p class=\"lead\">The ", b"<p class=\"lead\">All ")),
+        Part::Markup(b"<p class=\"lead\">All "),
         Part::Number(count),
-        Part::Markup(number_word(count, b" pair", b" pairs")),
-        Part::Markup(b" of declared variables joined by flows "),
-        Part::Markup(number_word(count, b"is", b"are")),
-        Part::Markup(b" allowed.</p>\n"),
+        Part::Markup(b" pairs of declared variables joined by flows are allowed.</p>\n"),
     ])
 }
 

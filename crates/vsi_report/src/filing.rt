@@ -29,11 +29,14 @@ fn leaf(path: &[u8]) -> &[u8] {
     &path[start.min(path.len())..]
 }
 
-impl<'a> Filing<'a> {
-    /// The name that the title of a page adds.
-    pub(crate) fn title(&self) -> &[u8] {
-        leaf(self.source)
+/// The end of a page's title: the name of the source text's file after a comma, if it has one.
+pub(crate) fn title_end(alloc: Global, filing: &Filing<'_>) -> Result<Vec<u8>, AllocError> {
+    let mut title = Vec::new(alloc);
+    if !filing.source.is_empty() {
+        title.extend_from_slice(b", ")?;
+        title.extend_from_slice(leaf(filing.source))?;
     }
+    Ok(title)
 }
 
 /// The digits of a hexadecimal number.

@@ -70,7 +70,7 @@ fn program_page(
         ≤ most_bytes (length source.now) (length facts.now.pairs.items) lines) }
 {
     let panel = source_panel(alloc, subject.order, facts, walk, source)?;
-    let begun = begun_page(alloc, verdict, subject.filing.title(), style)?;
+    let begun = begun_page(alloc, verdict, sides.title.as_slice(), style)?;
     joined(begun, sides, &panel, source, facts.pairs.len(), lines)
 }
 
@@ -224,7 +224,7 @@ fn page_with_refusal(
     let sides = faulty_sides(alloc, &subject, error)?;
     let style = fault_style(alloc, source, error)?;
     let panel = plain_panel(alloc, source)?;
-    let begun = begun_page(alloc, Verdict::NoProgram, filing.title(), &style)?;
+    let begun = begun_page(alloc, Verdict::NoProgram, sides.title.as_slice(), &style)?;
     joined(begun, &sides, &panel, source, 0, 0)
 }
 

@@ -3,7 +3,7 @@
 use crate::banner::{put_accepted, put_faulty, put_refused};
 use crate::facts::{Facts, variable_class};
 use crate::fault::put_fault;
-use crate::filing::{Filing, put_filing};
+use crate::filing::{Filing, put_filing, title_end};
 use crate::fixing::put_fixes;
 use crate::leak_section::put_leak;
 use crate::order::Order;
@@ -26,10 +26,11 @@ pub(crate) struct Subject<'a> {
     pub(crate) source: &'a [u8],
 }
 
-/// The parts of a page after its banner's heading: that before the panel of the source, and that
-/// after it.
+/// The end of a page's title, and the parts of the page after its banner's heading: that before the
+/// panel of the source, and that after it.
 #[derive(Drop)]
 pub(crate) struct Sides {
+    pub(crate) title: Vec<u8>,
     pub(crate) before: Page,
     pub(crate) after: Page,
 }
@@ -94,7 +95,12 @@ pub(crate) fn accepted_sides(
 ) -> Result<Sides, AllocError> {
     let before = before_accepted(alloc, subject, facts, verified)?;
     let after = after_accepted(alloc, subject, facts, lines)?;
-    Ok(Sides { before, after })
+    let title = title_end(alloc, subject.filing)?;
+    Ok(Sides {
+        title,
+        before,
+        after,
+    })
 }
 
 /// The part of a page before the panel of a text with a refused flow.
@@ -160,7 +166,12 @@ pub(crate) fn refused_sides(
 ) -> Result<Sides, AllocError> {
     let before = before_refused(alloc, subject, facts, walk)?;
     let after = after_refused(alloc, subject, facts, walk)?;
-    Ok(Sides { before, after })
+    let title = title_end(alloc, subject.filing)?;
+    Ok(Sides {
+        title,
+        before,
+        after,
+    })
 }
 
 /// The part of a page before the panel of a text that has no program.
@@ -195,5 +206,10 @@ pub(crate) fn faulty_sides(
 ) -> Result<Sides, AllocError> {
     let before = before_faulty(alloc, subject, error)?;
     let after = after_faulty(alloc, subject)?;
-    Ok(Sides { before, after })
+    let title = title_end(alloc, subject.filing)?;
+    Ok(Sides {
+        title,
+        before,
+        after,
+    })
 }
