@@ -36,7 +36,8 @@ a{color:inherit;text-underline-offset:.2em}
 section{min-width:0}
 .beside{display:grid;gap:0 2rem;grid-template-columns:minmax(0,1fr);align-items:start}\
 .beside>*{min-width:0}.wide{grid-column:1/-1}
-@media (min-width:62rem){.beside{grid-template-columns:minmax(0,3fr) minmax(0,2fr)}\
+@media (min-width:62rem){.beside{grid-template-columns:minmax(0,3fr) minmax(0,2fr);\
+grid-template-rows:min-content 1fr}\
 .side{grid-column:2;grid-row:1/span 2}}
 pre{background:var(--panel);border:1px solid var(--rule);border-radius:.5rem;\
 padding:.8rem 1rem;margin:.5rem 0;\
@@ -111,7 +112,8 @@ summary{cursor:pointer;padding:.2rem 0}dl{margin:.5rem 0}dt{font-weight:700;marg
 dd{margin:0}.sum{font-size:.85em}
 @media (max-width:40rem){body{font-size:16px}header h1{font-size:1.6rem}.line{\
 padding-left:2.6rem}.line::before{width:2rem}\
-pre{font-size:.85rem}th,td{padding-right:.5rem}}
+pre{font-size:.85rem}th,td{padding-right:.5rem}\
+.name:not([data-step=\"\"]){white-space:normal;overflow-wrap:anywhere}}
 @media print{@page{margin:14mm 13mm}:root{--paper:#fff;--panel:#fff;--ink:#000;\
 -webkit-print-color-adjust:exact;print-color-adjust:exact}\
 body{font-size:10.5pt;line-height:1.45}main{max-width:none;padding:0}.beside{display:block}\
