@@ -108,7 +108,7 @@ th{color:var(--soft);font-size:.85rem}
 .refused,.apart{background:var(--badp)}
 caption{text-align:left;font-weight:700;padding:.3rem 0}.runs{margin:.4rem 0}
 .runs th[scope=row]{font-size:inherit;color:inherit;font-weight:600}.runs td{white-space:nowrap}
-summary{cursor:pointer;padding:.2rem 0}dl{margin:.5rem 0}dt{font-weight:700;margin-top:.4rem}
+.raise{white-space:pre-wrap;overflow-wrap:anywhere}summary{cursor:pointer;padding:.2rem 0}dl{margin:.5rem 0}dt{font-weight:700;margin-top:.4rem}
 dd{margin:0}.sum{font-size:.85em}
 @media (max-width:40rem){body{font-size:16px}header h1{font-size:1.6rem}.line{\
 padding-left:2.6rem}.line::before{width:2rem}\
