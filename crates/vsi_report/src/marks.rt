@@ -97,6 +97,9 @@ fn control_label(byte: u8) -> &'static [u8] {
 /// The character at a position, if it isn't visible: its length and its label.
 fn hidden_at(source: &[u8], at: usize) -> Option<(usize, &'static [u8])> {
     let byte = byte_at(source, at);
+    if 32 <= byte && byte < 127 {
+        return None;
+    }
     if is_control(source, at) {
         return Some((1, control_label(byte)));
     }
