@@ -102,7 +102,8 @@ const NO_ARROWS: &[u8] = b"<figcaption>There are more than 2,000 flows of one st
 arrows aren't drawn. A dashed box is a variable whose class the text doesn't declare.";
 
 /// The text about the arrows of a walk.
-const THICK: &[u8] = b" The thick arrows with numbers are the chain for which the text is refused.";
+const THICK: &[u8] = b" The thick arrows with numbers are the chain for which the text is refused; \
+a thin red arrow goes against the order of the classes.";
 
 /// Adds the text about the picture of the flows.
 fn put_caption(page: &mut Page, has_arrows: bool, has_walk: bool) -> Result<(), AllocError> {

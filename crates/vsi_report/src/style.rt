@@ -60,7 +60,8 @@ font:700 .68em/1 system-ui,sans-serif;border-radius:.2rem;padding:.1em .3em;vert
 .name::after{content:attr(data-class);font-size:.68em;font-weight:600;vertical-align:.45em;\
 margin-left:.12em;\
 -webkit-user-select:none;user-select:none}
-.name:not([data-step=\"\"]){scroll-margin:40vh 0;background:var(--badp);outline:2px solid var(--bad);\
+.name:not([data-step=\"\"]){scroll-margin:40vh 0;background:var(--badp);\
+outline:2px solid var(--bad);\
 border-radius:.2rem;padding:.05em .15em;white-space:nowrap}
 .name:not([data-step=\"\"])::before{content:attr(data-step);background:var(--bad);\
 color:var(--paper);\
@@ -76,7 +77,8 @@ white-space:nowrap}
 font-weight:700;color:var(--bad)}
 .walk p{margin:.15rem 0}.step{font-size:1.02em}
 .turn{font-size:.85rem}.walk,.lead,dd,td,th,.end{overflow-wrap:anywhere}
-main:has(.walk li:target) :is(.walk li:not(:target),.line .name:not([data-step=\"\"]),.told,.number){\
+main:has(.walk li:target) :is(.walk li:not(:target),.line .name:not([data-step=\"\"]),\
+.told,.number){\
 opacity:.3}
 .end{border-left:.25rem solid var(--bad);padding-left:.8rem}
 figure{margin:.5rem 0}figcaption{margin-top:.4rem;max-width:46rem}
@@ -108,7 +110,8 @@ th{color:var(--soft);font-size:.85rem}
 .refused,.apart{background:var(--badp)}
 caption{text-align:left;font-weight:700;padding:.3rem 0}.runs{margin:.4rem 0}
 .runs th[scope=row]{font-size:inherit;color:inherit;font-weight:600}.runs td{white-space:nowrap}
-.raise{white-space:pre-wrap;overflow-wrap:anywhere}summary{cursor:pointer;padding:.2rem 0}dl{margin:.5rem 0}dt{font-weight:700;margin-top:.4rem}
+.raise{white-space:pre-wrap;overflow-wrap:anywhere}\
+summary{cursor:pointer;padding:.2rem 0}dl{margin:.5rem 0}dt{font-weight:700;margin-top:.4rem}
 dd{margin:0}.sum{font-size:.85em}
 @media (max-width:40rem){body{font-size:16px}header h1{font-size:1.6rem}.line{\
 padding-left:2.6rem}.line::before{width:2rem}\
@@ -126,7 +129,8 @@ pre{overflow:visible;white-space:pre-wrap;overflow-wrap:anywhere;font-size:8.5pt
 header,figure,tr,li,.line,.end{break-inside:avoid}.high{break-inside:auto}\
 h2,h3,summary{break-after:avoid}.turn{display:none}\
 details::details-content{content-visibility:visible;display:block;height:auto}\
-@page{@bottom-right{content:counter(page) \" of \" counter(pages)}}thead{display:table-header-group}}
+@page{@bottom-right{content:counter(page) \" of \" counter(pages)}}\
+thead{display:table-header-group}}
 ";
 
 /// The style sheet of a page whose text has neither a walk nor a fault.

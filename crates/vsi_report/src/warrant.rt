@@ -27,7 +27,8 @@ fn put_bound(page: &mut Page, bound: Bound) -> Result<(), AllocError> {
 fn put_steadiness(page: &mut Page, is_steady: bool) -> Result<(), AllocError> {
     if is_steady {
         page.put(
-            b"<li>Steady: the number of instructions depends on nothing above the least class.</li>\n",
+            b"<li>Steady: the number of instructions depends on nothing above the least \
+class.</li>\n",
         )
     } else {
         page.put(
