@@ -34,8 +34,8 @@ untagged_byte b = if b == 60 then [] else b ∷ []
 abbrev pub untagged : List ℕ → List ℕ
 untagged style = flat_map untagged_byte style
 
--- The beginning of a page: its head, with the end of its title and its style sheet, in neither of which a tag can begin,
--- and the banner, which is the first thing of its body.
+-- The beginning of a page: its head, with the end of its title and its style sheet, in neither of which a tag can
+-- begin, and the banner, which is the first thing of its body.
 abbrev pub beginning : Verdict → List ℕ → List ℕ → List ℕ
 beginning v name style =
     first_lines ++ title v ++ escaped name ++ codes "</title>\n<style>\n" ++ untagged style

@@ -2,14 +2,14 @@
 //!
 //! The input is a lattice, a source text and a profile. `report_page` makes an HTML page that needs
 //! nothing else: no script, no font, and no picture from elsewhere. The first thing that the page
-//! shows is the compiler's verdict (`HasVerdict` of `specs/Verdict`). `filed_page` makes the same
-//! page with the names of the files. `lattice_dot` and `flows_dot` write its pictures in the language
-//! of Graphviz. Every byte of a text or a name enters a page through `put_escaped`, and the panel of
-//! a source text shows the text (`Shows` of `specs/Reading`).
+//! shows is the compiler's verdict (`HasVerdict` of `specs/Verdict`). `filed_page` makes it with
+//! the names of the files. `lattice_dot` and `flows_dot` write its pictures in the language of
+//! Graphviz. Every byte of a text or a name enters a page through `put_escaped`, and the panel of a
+//! source text shows the text (`Shows` of `specs/Reading`).
 //!
 //! To be believed: `specs/Banner`, `specs/Covering`, `specs/Escape`, `specs/FlowsGraph`,
-//! `specs/Graph`, `specs/Page`, `specs/Reading`, `specs/Size` and `specs/Verdict`; the other files of
-//! `specs/` are only steps of proofs.
+//! `specs/Graph`, `specs/Page`, `specs/Reading`, `specs/Size` and `specs/Verdict`; the other files
+//! of `specs/` are only steps of proofs.
 #![tactic(auto)]
 
 mod bands;

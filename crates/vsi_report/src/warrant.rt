@@ -23,18 +23,18 @@ fn put_bound(page: &mut Page, bound: Bound) -> Result<(), AllocError> {
     }
 }
 
+/// The sentence about an image that is steady.
+const STEADY: &[u8] = b"<li>Steady: the number of instructions depends on nothing above the least \
+class.</li>\n";
+
+/// The sentence about an image that isn't steady.
+const UNSTEADY: &[u8] =
+    b"<li>Not steady: the number of instructions may depend on a variable above \
+the least class.</li>\n";
+
 /// Adds whether an image is steady.
 fn put_steadiness(page: &mut Page, is_steady: bool) -> Result<(), AllocError> {
-    if is_steady {
-        page.put(
-            b"<li>Steady: the number of instructions depends on nothing above the least \
-class.</li>\n",
-        )
-    } else {
-        page.put(
-            b"<li>Not steady: the number of instructions may depend on a variable above the least class.</li>\n",
-        )
-    }
+    page.put(if is_steady { STEADY } else { UNSTEADY })
 }
 
 /// Whether an image is steady under a lattice.
