@@ -40,7 +40,9 @@ pub(crate) fn title_end(alloc: Global, filing: &Filing<'_>) -> Result<Vec<u8>, A
 }
 
 /// The digits of a hexadecimal number.
-const DIGITS: &[u8] = b"0123456789abcdef";
+const DIGITS: [u8; 16] = [
+    b'0', b'1', b'2', b'3', b'4', b'5', b'6', b'7', b'8', b'9', b'a', b'b', b'c', b'd', b'e', b'f',
+];
 
 /// The SHA-256 of a text, in hexadecimal.
 fn checksum(alloc: Global, text: &[u8]) -> Result<Vec<u8>, AllocError> {
