@@ -1,18 +1,60 @@
 //! Pages and pictures.
 
 ghost use Rattle.std.specs.Prelude.{◌≡◌, Some, IfErr, IfOk, IsSomeAnd};
+ghost use Rattle.vsi.specs.Holding.{IsLatticeAt};
 ghost use Rattle.vsi.specs.Performed.{DrawsFiles, OfFiles, ToldFlowsGraph, ToldPage};
+ghost use Rattle.vsi_report.specs.Page.{HasPanel};
 ghost use Rattle.vsi.specs.Reasons.{NoOther, RefusesLattice, RefusesProgramAt, StopsBy, WhyDraw};
 
 use crate::desk::{Desk, Kind};
 use crate::files::Files;
-use crate::reading::{bytes_in, lattice_in, refused};
+use crate::reading::{bytes_in, declared_lattice, lattice_in, refused};
 use crate::stop::Stop;
 use crate::subcommands::profile;
 use std::alloc::Global;
 use vsi_arguments::{Compilation, Drawing};
 use vsi_lattice::Lattice;
-use vsi_report::{flows_dot, lattice_dot, report_page};
+use vsi_report::{Filing, ReportError, filed_page, flows_dot, lattice_dot};
+
+/// The bytes of a lattice file, and its lattice.
+fn policy_in<'a, F: Files>(
+    desk: &mut Desk,
+    path: &'a str,
+    files: &mut F,
+) -> Result<(Vec<u8>, Lattice), Stop<'a>>
+    ensures kept { F.holds files.new ≡ F.holds files.old }
+    ensures read { IfOk result (λ policy. IsLatticeAt (F.holds files.old) path.now policy.1) }
+    ensures stopped { IfErr result
+        (StopsBy (RefusesLattice (F.holds files.old) path.now) NoOther) }
+{
+    let bytes = bytes_in(desk, Kind::Lattice, path, files)?;
+    let lattice = declared_lattice(desk.alloc, bytes.as_slice())?;
+    Ok((bytes, lattice))
+}
+
+/// The page of a source text over a lattice, with the names of both files.
+fn page_of(
+    alloc: Global,
+    compilation: Compilation<'_>,
+    policy: &[u8],
+    classes: &Lattice,
+    text: &[u8],
+) -> Result<Vec<u8>, ReportError>
+    ensures panel { IfOk result (λ page. HasPanel page.items text.now) }
+{
+    let filing = Filing {
+        source: compilation.source.as_bytes(),
+        lattice: compilation.lattice.as_bytes(),
+        policy,
+    };
+    filed_page(
+        alloc,
+        profile(compilation.is_strict),
+        &filing,
+        classes,
+        text,
+    )
+}
 
 /// The page of a source text.
 pub(crate) fn report<'a, F: Files>(
@@ -25,10 +67,9 @@ pub(crate) fn report<'a, F: Files>(
     ensures stopped { IfErr result
         (StopsBy (RefusesLattice (F.holds files.old) compilation.entry.lattice.now) NoOther) }
 {
-    let classes = lattice_in(desk, compilation.lattice, files)?;
+    let read = policy_in(desk, compilation.lattice, files)?;
     let text = bytes_in(desk, Kind::Source, compilation.source, files)?;
-    let profile = profile(compilation.is_strict);
-    Ok(report_page(desk.alloc, profile, &classes, text.as_slice())?)
+    Ok(page_of(desk.alloc, compilation, &read.0, &read.1, text.as_slice())?)
 }
 
 /// The graph of the flows of the source text.

@@ -3,3 +3,4 @@ pub mod CoveringLemmas
 pub mod NameLemmas
 pub mod FlowsGraphLemmas
 pub mod SizeLemmas
+pub mod BannerLemmas

@@ -7,3 +7,5 @@ pub mod Graph
 pub mod ByRule
 pub mod FlowsGraph
 pub mod Size
+pub mod Banner
+pub mod Verdict

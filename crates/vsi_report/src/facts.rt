@@ -1,16 +1,18 @@
 //! The facts of a program that a page or a picture shows.
 
-ghost use Rattle.std.specs.Prelude.{◌≡◌, IfOk};
+ghost use Rattle.std.specs.Prelude.{◌≡◌, IfErr, IfOk};
 ghost use Rattle.std.specs.List.{All};
 ghost use Rattle.vsi_lattice.specs.Order.{IsClass};
-ghost use Rattle.vsi_lattice.specs.LatticeView.{order};
+ghost use Rattle.vsi_lattice.specs.LatticeView.{class_named, order};
 ghost use Rattle.vsi_types.specs.Security.{program as program_of};
 ghost use Rattle.vsi_infer.specs.Inference.{AreClasses};
+ghost use Rattle.vsi_compiler.specs.Refusal.{RefusesProgram};
 ghost use Rattle.vsi_flows.specs.Table.{IsTable};
 ghost use Rattle.vsi_report.specs.FlowsGraph.{AreShown};
 ghost use Rattle.vsi_report.specs.Size.{AreFlows};
 
 use crate::by_rule::{Flows, flows_of, has_flow};
+use crate::reached::reached_classes;
 use crate::walking::{MOST_DRAWN, Use, uses_of};
 use std::alloc::{AllocError, Global};
 use vsi_compiler::{CompileError, resolved_program};
@@ -136,6 +138,24 @@ pub(crate) fn inferred_classes(
     }
 }
 
+/// The classes of the letvars: the inferred ones, or, if the program is refused, for each the least
+/// class at or above all that reaches it.
+fn shown_classes(
+    alloc: Global,
+    profile: Profile,
+    lattice: &Lattice,
+    program: &Resolved<'_>,
+) -> Result<Vec<Class>, AllocError>
+    requires globals { All (IsClass (order lattice.now)) (program_of program.now).globals }
+    requires declared { AreClasses (order lattice.now) (program_of program.now).declared }
+{
+    match infer_in(alloc, profile, lattice, program) {
+        Ok(classes) => Ok(classes),
+        Err(InferError::Refused(_walk)) => reached_classes(alloc, profile, lattice, program),
+        Err(InferError::Memory) => Err(AllocError),
+    }
+}
+
 /// The table of flows.
 fn pairs_of(
     alloc: Global,
@@ -208,7 +228,7 @@ fn facts_of_program(
     ensures { IfOk result (λ facts.
         IsTable (order lattice.now) profile (program_of program.now) facts.pairs.items) }
 {
-    let inferred = inferred_classes(alloc, profile, lattice, program)?;
+    let inferred = shown_classes(alloc, profile, lattice, program)?;
     let pairs = pairs_of(alloc, profile, lattice, program)?;
     gathered(alloc, profile, lattice, program, &inferred, pairs)
 }
@@ -224,8 +244,9 @@ pub(crate) fn facts_of(
     lattice: &Lattice,
     source: &[u8],
 ) -> Result<Facts, CompileError>
-    ensures { IfOk result (λ facts.
+    ensures flows { IfOk result (λ facts.
         AreFlows lattice.now profile source.now facts.pairs.items) }
+    ensures refused { IfErr result (RefusesProgram (class_named lattice.now) source.now) }
 {
     let program = resolved_program(alloc, lattice, source)?;
     Ok(facts_of_program(alloc, profile, lattice, &program)?)

@@ -3,7 +3,7 @@
 use crate::bands::{Band, Banded};
 use crate::facts::{Facts, flows_between, is_inferred, number_of, variable_class, variable_name};
 use crate::lattice_picture::{colour, put_box, put_picture, spot_at};
-use crate::order::{Order, name_of};
+use crate::order::{Order, is_below, name_of};
 use crate::page::{Page, Part};
 use crate::passage::passage;
 use crate::walking::{RULES, rule_name};
@@ -114,41 +114,50 @@ fn arrow_of(picture: &Banded, source: usize, target: usize, rule: Rule) -> Arrow
     }
 }
 
-/// Adds an arrow: the markup before its curve, the curve, and the markup after it.
-fn put_arrow(
-    page: &mut Page,
-    before: &'static [u8],
-    arrow: Arrow,
-    behind: &'static [u8],
-) -> Result<(), AllocError> {
+/// Adds the curve of an arrow.
+fn put_curve(page: &mut Page, arrow: Arrow) -> Result<(), AllocError> {
     page.put_parts(&[
-        Part::Markup(before),
+        Part::Markup(b"\" d=\"M"),
         Part::Point(arrow.x1, arrow.y1),
         Part::Markup(b"C"),
         Part::Point(arrow.bend1, arrow.bend),
         Part::Point(arrow.bend2, arrow.bend),
         Part::Point(arrow.x2, arrow.y2),
-        Part::Markup(behind),
     ])
 }
 
-/// The markup before the curve of an arrow by a rule.
+/// The beginning of the tag of an arrow by a rule.
 fn before_curve(rule: Rule) -> &'static [u8] {
     match rule {
-        Rule::Assign => b"<path class=\"flow r1\" d=\"M",
-        Rule::If => b"<path class=\"flow r2\" d=\"M",
-        Rule::While => b"<path class=\"flow r4\" d=\"M",
-        Rule::Letvar => b"<path class=\"flow r8\" d=\"M",
-        Rule::Loop => b"<path class=\"flow r16\" d=\"M",
+        Rule::Assign => b"<path class=\"flow r1",
+        Rule::If => b"<path class=\"flow r2",
+        Rule::While => b"<path class=\"flow r4",
+        Rule::Letvar => b"<path class=\"flow r8",
+        Rule::Loop => b"<path class=\"flow r16",
     }
 }
 
-/// The markup after the curve of an arrow.
-const BEHIND_CURVE: &[u8] = b"\" marker-end=\"url(#tip)\"/>";
+/// Whether a flow from a variable to another breaks the order of their classes.
+fn is_against(order: &Order, facts: &Facts, source: usize, target: usize) -> bool {
+    match (variable_class(facts, source), variable_class(facts, target)) {
+        (Some(low), Some(high)) => !is_below(order, low, high),
+        _ => false,
+    }
+}
+
+/// The rest of the class of an arrow, and the markup after its curve.
+fn looks(is_against: bool) -> (&'static [u8], &'static [u8]) {
+    if is_against {
+        (b" against", b"\" marker-end=\"url(#against)\"/>")
+    } else {
+        (b"", b"\" marker-end=\"url(#tip)\"/>")
+    }
+}
 
 /// Adds the arrows from a variable to another, one for each rule.
 fn put_arrows(
     page: &mut Page,
+    order: &Order,
     facts: &Facts,
     picture: &Banded,
     source: usize,
@@ -157,21 +166,29 @@ fn put_arrows(
     if source == target {
         return Ok(());
     }
+    let (class, end) = looks(is_against(order, facts, source, target));
     for rule in RULES {
         if flows_between(facts, source, target, rule) {
-            let arrow = arrow_of(picture, source, target, rule);
-            put_arrow(page, before_curve(rule), arrow, BEHIND_CURVE)?;
+            page.put(before_curve(rule))?;
+            page.put(class)?;
+            put_curve(page, arrow_of(picture, source, target, rule))?;
+            page.put(end)?;
         }
     }
     Ok(())
 }
 
 /// Adds all arrows.
-fn put_all_arrows(page: &mut Page, facts: &Facts, picture: &Banded) -> Result<(), AllocError> {
+fn put_all_arrows(
+    page: &mut Page,
+    order: &Order,
+    facts: &Facts,
+    picture: &Banded,
+) -> Result<(), AllocError> {
     let count = facts.variables.len();
     for source in 0..count {
         for target in 0..count {
-            put_arrows(page, facts, picture, source, target)?;
+            put_arrows(page, order, facts, picture, source, target)?;
         }
     }
     Ok(())
@@ -207,31 +224,28 @@ fn step_arrow(facts: &Facts, picture: &Banded, step: &Step) -> Arrow {
     arrow_of(picture, source, target, step.rule)
 }
 
-/// The markup before the curve of a step's arrow.
-const BEFORE_TOLD: &[u8] = b"<path class=\"told\" d=\"M";
-
-/// The markup after the curve.
-const BEHIND_TOLD: &[u8] = b"\" marker-end=\"url(#told)\"/>";
-
 /// The middle of a curve, from the sum of its ends and the sum of its bends.
 fn middle_of(ends: usize, bends: usize) -> usize {
     ends.saturating_add(bends.saturating_mul(3)) / 8
 }
 
-/// Adds the number of a step of the walk, in the middle of its arrow.
+/// Adds the number of a step of the walk, in the middle of its arrow, with a link to the step.
 fn put_step_number(page: &mut Page, arrow: Arrow, number: usize) -> Result<(), AllocError> {
     let bends = arrow.bend1.saturating_add(arrow.bend2);
     let x = middle_of(arrow.x1.saturating_add(arrow.x2), bends);
     let heights = arrow.y1.saturating_add(arrow.y2);
     let y = middle_of(heights, arrow.bend.saturating_mul(2));
     page.put_parts(&[
-        Part::Value(b"<g class=\"number\"><circle r=\"11\" cx=\"", x),
+        Part::Value(b"<a href=\"#s", number.saturating_add(1)),
+        Part::Markup(b"><g class=\"number w"),
+        Part::Number(number.saturating_add(1)),
+        Part::Value(b"\"><circle r=\"11\" cx=\"", x),
         Part::Value(b" cy=\"", y),
         Part::Value(b"/><text x=\"", x),
         Part::Value(b" y=\"", y.saturating_add(5)),
         Part::Markup(b">"),
         Part::Number(number.saturating_add(1)),
-        Part::Markup(b"</text></g>"),
+        Part::Markup(b"</text></g></a>"),
     ])
 }
 
@@ -278,7 +292,10 @@ const TIPS: &[u8] = b"<defs><marker id=\"tip\" viewBox=\"0 0 10 10\" refX=\"7\" 
 markerWidth=\"8\" markerHeight=\"8\" markerUnits=\"userSpaceOnUse\" orient=\"auto\"><path \
 class=\"tip\" d=\"M0 0L10 5L0 10z\"/></marker><marker id=\"told\" viewBox=\"0 0 10 10\" refX=\"7\" \
 refY=\"5\" markerWidth=\"13\" markerHeight=\"13\" markerUnits=\"userSpaceOnUse\" orient=\"auto\">\
-<path class=\"toldtip\" d=\"M0 0L10 5L0 10z\"/></marker></defs>";
+<path class=\"toldtip\" d=\"M0 0L10 5L0 10z\"/></marker><marker id=\"against\" \
+viewBox=\"0 0 10 10\" refX=\"7\" refY=\"5\" markerWidth=\"8\" markerHeight=\"8\" \
+markerUnits=\"userSpaceOnUse\" orient=\"auto\"><path class=\"toldtip\" \
+d=\"M0 0L10 5L0 10z\"/></marker></defs>";
 
 /// Adds the box of a variable; the box is dashed if the class is inferred.
 fn put_variable(
@@ -318,9 +335,11 @@ fn put_walk(
     picture: &Banded,
     walk: &[Step],
 ) -> Result<(), AllocError> {
-    for step in walk {
-        let arrow = step_arrow(facts, picture, step);
-        put_arrow(page, BEFORE_TOLD, arrow, BEHIND_TOLD)?;
+    for (place, step) in walk.iter().enumerate() {
+        page.put(b"<path class=\"told w")?;
+        page.number(place.saturating_add(1))?;
+        put_curve(page, step_arrow(facts, picture, step))?;
+        page.put(b"\" marker-end=\"url(#told)\"/>")?;
     }
     for (number, step) in walk.iter().enumerate() {
         put_step_number(page, step_arrow(facts, picture, step), number)?;
@@ -353,7 +372,7 @@ pub(crate) fn put_flows(
     page.put(TIPS)?;
     put_bands(page, order, picture)?;
     if has_arrows {
-        put_all_arrows(page, facts, picture)?;
+        put_all_arrows(page, order, facts, picture)?;
     }
     put_boxes(page, facts, picture, shown)?;
     put_walk(page, facts, picture, walk)?;

@@ -1,15 +1,17 @@
 //! The section of a page that shows a leak of a refused text, or that none was found.
 
+ghost use Rattle.std.specs.Prelude.{◌≡◌, IfSome};
 ghost use Rattle.vsi_lattice.specs.LatticeView.{order};
 ghost use Rattle.vsi_lattice.specs.Order.{IsClass};
 
 use crate::facts::is_strict;
 use crate::page::{Page, Part};
+use crate::sides::Subject;
 use std::alloc::{AllocError, Global};
 use vsi_compiler::CompileError;
-use vsi_image::Verified;
-use vsi_lattice::{Classes, Lattice};
-use vsi_leak::{Effort, Finding, Leak, Wanted, leak_of_text, leak_text};
+use vsi_image::{Image, Verified};
+use vsi_lattice::{Class, Classes, Lattice};
+use vsi_leak::{Effort, Ending, Finding, Leak, Wanted, leak_of_text, leak_text};
 use vsi_types::Profile;
 
 /// The most instructions of a run in the search for a leak.
@@ -33,29 +35,74 @@ fn effort(lattice: &Lattice) -> Effort {
     }
 }
 
-/// Adds a leak that was found, or that none was.
-pub(crate) fn put_leak(
-    alloc: Global,
-    page: &mut Page,
-    profile: Profile,
-    lattice: &Lattice,
-    source: &[u8],
-) -> Result<(), AllocError> {
-    let wanted = Wanted {
-        class: None,
+/// The wanted leaks, at one class or at each.
+fn wanted(lattice: &Lattice, profile: Profile, class: Option<Class>) -> Wanted
+    ensures { result.class ≡ class }
+{
+    Wanted {
+        class,
         endings: is_strict(profile),
         steps: false,
         effort: effort(lattice),
-    };
-    let (verified, finding) = match leak_of_text(alloc, lattice, source, &wanted) {
+    }
+}
+
+/// Adds a leak that a search finds, and answers in how many pairs of runs none was found.
+fn put_leak_by(
+    alloc: Global,
+    page: &mut Page,
+    lattice: &Lattice,
+    source: &[u8],
+    wanted: &Wanted,
+) -> Result<Option<u64>, AllocError>
+    requires { IfSome wanted.now.class (IsClass (order lattice.now)) }
+{
+    let (verified, finding) = match leak_of_text(alloc, lattice, source, wanted) {
         Ok(searched) => searched,
         Err(CompileError::Memory) => return Err(AllocError),
         // A text without a program has no section.
-        Err(_) => return Ok(()),
+        Err(_) => return Ok(None),
     };
     match finding {
-        Finding::Leak(leak) => put_found(alloc, page, lattice, &verified, &leak),
-        Finding::Nothing { pairs } => put_none(page, pairs),
+        Finding::Leak(leak) => {
+            put_found(alloc, page, lattice, &verified, &leak)?;
+            Ok(None)
+        }
+        Finding::Nothing { pairs } => Ok(Some(pairs)),
+    }
+}
+
+/// Adds a leak at a class, and answers in how many pairs of runs none was found there.
+fn put_leak_at(
+    alloc: Global,
+    page: &mut Page,
+    subject: &Subject<'_>,
+    class: usize,
+) -> Result<Option<u64>, AllocError> {
+    let lattice = subject.lattice;
+    if class < lattice.count() {
+        let wanted = wanted(lattice, subject.profile, Some(Class::at(class as u8)));
+        return put_leak_by(alloc, page, lattice, subject.source, &wanted);
+    }
+    Ok(Some(0))
+}
+
+/// Adds a leak, at the class of the refused flow's last variable if there is one, otherwise at any
+/// class, or that none was found.
+pub(crate) fn put_leak(
+    alloc: Global,
+    page: &mut Page,
+    subject: &Subject<'_>,
+    class: usize,
+) -> Result<(), AllocError> {
+    let Some(first) = put_leak_at(alloc, page, subject, class)? else {
+        return Ok(());
+    };
+    let lattice = subject.lattice;
+    let wanted = wanted(lattice, subject.profile, None);
+    match put_leak_by(alloc, page, lattice, subject.source, &wanted)? {
+        Some(pairs) => put_none(page, first.saturating_add(pairs)),
+        None => Ok(()),
     }
 }
 
@@ -70,20 +117,135 @@ fn put_found(
     requires { IsClass (order lattice.now) leak.now.class }
 {
     let text = leak_text(alloc, lattice, verified.image(), leak)?;
-    put_shown(page, &text)
+    put_shown(
+        page,
+        lattice.name(leak.class),
+        verified.image(),
+        leak,
+        &text,
+    )
 }
 
-/// The text about a leak.
-const LEAK: &[u8] = b"<section><h2>A leak</h2>\n<p>When the text is run all the same, from two \
-stores that agree on everything that the class sees, the final stores differ in something that it \
-sees. A star marks each row whose sides differ.</p>\n<pre class=\"leak\" tabindex=\"0\"><code>";
+/// The beginning of the section of a leak, before the name of the class.
+const LEAK: &[u8] = b"<section aria-labelledby=\"leak\"><h2 id=\"leak\">A leak</h2>\n\
+<p>Two runs of the text, from stores that agree on everything that an observer at ";
 
-/// Adds a leak.
-fn put_shown(page: &mut Page, text: &[u8]) -> Result<(), AllocError> {
+/// The text after the name of the class.
+const SEES: &[u8] = b" sees, and that the observer can tell apart.</p>\n";
+
+/// The head of the rows of a leak, after the caption of their table.
+const HEAD: &[u8] = b"</caption>\n<thead><tr><th scope=\"col\">Variable</th>\
+<th scope=\"col\">First run</th><th scope=\"col\">Second run</th><th scope=\"col\">Differs</th>\
+</tr></thead>\n<tbody>\n";
+
+/// The word of a store at an index.
+fn word_at(words: &[i64], index: usize) -> i64 {
+    match words.get(index) {
+        Some(word) => *word,
+        None => 0,
+    }
+}
+
+/// Adds the row of a variable.
+fn put_word_row(page: &mut Page, name: &[u8], first: i64, second: i64) -> Result<(), AllocError> {
+    let (begin, differs): (&'static [u8], &'static [u8]) = if first == second {
+        (b"<tr><th scope=\"row\">", b"")
+    } else {
+        (b"<tr class=\"apart\"><th scope=\"row\">", b"differs")
+    };
     page.put_parts(&[
-        Part::Markup(LEAK),
+        Part::Markup(begin),
+        Part::Text(name),
+        Part::Markup(b"</th><td>"),
+        Part::Word(first),
+        Part::Markup(b"</td><td>"),
+        Part::Word(second),
+        Part::Markup(b"</td><td>"),
+        Part::Markup(differs),
+        Part::Markup(b"</td></tr>\n"),
+    ])
+}
+
+/// Adds the table of two stores.
+fn put_stores(
+    page: &mut Page,
+    caption: &'static [u8],
+    image: &Image,
+    first: &[i64],
+    second: &[i64],
+) -> Result<(), AllocError> {
+    page.put_parts(&[
+        Part::Markup(b"<div class=\"scroll\" tabindex=\"0\"><table class=\"runs\"><caption>"),
+        Part::Markup(caption),
+        Part::Markup(HEAD),
+    ])?;
+    for (index, global) in image.globals.iter().enumerate() {
+        put_word_row(
+            page,
+            &global.0,
+            word_at(first, index),
+            word_at(second, index),
+        )?;
+    }
+    page.put(b"</tbody></table></div>\n")
+}
+
+/// Adds the tables of the final stores and the numbers of instructions, if both runs halt.
+fn put_endings(page: &mut Page, image: &Image, leak: &Leak) -> Result<(), AllocError> {
+    match (&leak.first.ending, &leak.second.ending) {
+        (
+            Ending::Halted {
+                instructions: one,
+                words: first,
+            },
+            Ending::Halted {
+                instructions: other,
+                words: second,
+            },
+        ) => {
+            put_stores(page, b"After the runs", image, first, second)?;
+            page.put_parts(&[
+                Part::Markup(b"<p>The first run takes "),
+                Part::Number(*one as usize),
+                Part::Markup(b" instructions, the second "),
+                Part::Number(*other as usize),
+                Part::Markup(b".</p>\n"),
+            ])
+        }
+        (Ending::Halted { .. }, Ending::OutOfBudget)
+        | (Ending::OutOfBudget, Ending::Halted { .. }) => {
+            page.put(b"<p>One of the runs halts, and the other is out of budget.</p>\n")
+        }
+        (Ending::OutOfBudget, Ending::OutOfBudget) => {
+            page.put(b"<p>Both runs are out of budget.</p>\n")
+        }
+    }
+}
+
+/// Adds a leak: its stores, its endings, and the text of `vsi leak`.
+fn put_shown(
+    page: &mut Page,
+    class: &[u8],
+    image: &Image,
+    leak: &Leak,
+    text: &[u8],
+) -> Result<(), AllocError> {
+    page.put_parts(&[Part::Markup(LEAK), Part::Text(class), Part::Markup(SEES)])?;
+    put_stores(
+        page,
+        b"Before the runs",
+        image,
+        &leak.first.store,
+        &leak.second.store,
+    )?;
+    put_endings(page, image, leak)?;
+    page.put_parts(&[
+        Part::Markup(
+            b"<details><summary>What the observer sees, as <code>vsi leak</code> prints it",
+        ),
+        Part::Markup(b"</summary>\n<pre class=\"leak\" tabindex=\"0\"><code>"),
         Part::Text(text),
-        Part::Markup(b"</code></pre>\n</section>\n"),
+        Part::Markup(b"</code></pre></details>\n</section>\n"),
     ])
 }
 
@@ -95,7 +257,8 @@ judged, not a run, and a text that reveals nothing may be refused.</p></section>
 /// Adds that no leak was found.
 fn put_none(page: &mut Page, pairs: u64) -> Result<(), AllocError> {
     page.put_parts(&[
-        Part::Markup(b"<section><h2>No leak was found</h2>\n<p>In "),
+        Part::Markup(b"<section aria-labelledby=\"leak\">"),
+        Part::Markup(b"<h2 id=\"leak\">No leak was found</h2>\n<p>In "),
         Part::Number(pairs as usize),
         Part::Markup(NO_LEAK),
     ])

@@ -1,43 +1,53 @@
 //! A program and its policy as a page and as pictures.
 //!
 //! The input is a lattice, a source text and a profile. `report_page` makes an HTML page that needs
-//! nothing else: no script, no font, and no picture from elsewhere. `lattice_dot` and `flows_dot`
-//! write its pictures in the language of Graphviz. Every byte of a text or a name enters a page
-//! through `put_escaped`, and the panel of a source text shows the text (`Shows` of
-//! `specs/Reading`).
+//! nothing else: no script, no font, and no picture from elsewhere. The first thing that the page
+//! shows is the compiler's verdict (`HasVerdict` of `specs/Verdict`). `filed_page` makes it with
+//! the names of the files. `lattice_dot` and `flows_dot` write its pictures in the language of
+//! Graphviz. Every byte of a text or a name enters a page through `put_escaped`, and the panel of a
+//! source text shows the text (`Shows` of `specs/Reading`).
 //!
-//! To be believed: `specs/Covering`, `specs/Escape`, `specs/FlowsGraph`, `specs/Graph`,
-//! `specs/Page`, `specs/Reading` and `specs/Size`; the other files of `specs/` are only steps of
-//! proofs.
+//! To be believed: `specs/Banner`, `specs/Covering`, `specs/Escape`, `specs/FlowsGraph`,
+//! `specs/Graph`, `specs/Page`, `specs/Reading`, `specs/Size` and `specs/Verdict`; the other files
+//! of `specs/` are only steps of proofs.
 #![tactic(auto)]
 
 mod bands;
+mod banner;
 mod by_rule;
 mod dot;
 mod error;
 mod escape;
 mod facts;
+mod fault;
+mod filing;
+mod fixing;
 mod flows_graph;
 mod flows_picture;
-mod frame;
 mod lattice_picture;
 mod layout;
 mod leak_section;
+mod marks;
 mod order;
 mod page;
 mod panel;
 mod passage;
+mod reached;
 mod report;
 mod sections;
+mod sides;
 mod size;
 mod source_view;
 mod style;
 mod table;
 mod telling;
+mod verdict;
 mod walking;
+mod warrant;
 
 pub use dot::lattice_dot;
 pub use error::ReportError;
 pub use escape::put_escaped;
+pub use filing::Filing;
 pub use flows_graph::flows_dot;
-pub use report::report_page;
+pub use report::{filed_page, report_page};

@@ -10,12 +10,14 @@ use std::alloc::{AllocError, Global};
 use vsi_lattice::{Class, Classes, Lattice};
 
 /// The classes of a lattice by their numbers: the name of each; the covering pairs, with the lower
-/// class first; and, for each class, the length of the longest chain that leads up to it.
+/// class first; for each class, the length of the longest chain that leads up to it; and, for each
+/// class, the set of the classes at or above it, as bits.
 #[derive(Drop)]
 pub(crate) struct Order {
     pub(crate) names: Vec<Vec<u8>>,
     pub(crate) covers: Vec<(usize, usize)>,
     pub(crate) levels: Vec<usize>,
+    pub(crate) above: Vec<u64>,
 }
 
 /// Whether a class is between two others and differs from both.
@@ -122,6 +124,50 @@ fn levels_of(
     Ok(levels)
 }
 
+/// The set that has one number below 64.
+fn single(number: usize) -> u64 {
+    1u64 << (number % 64)
+}
+
+/// The set of a class.
+fn set_of(above: &[u64], class: usize) -> u64 {
+    match above.get(class) {
+        Some(set) => *set,
+        None => 0,
+    }
+}
+
+/// Adds to the set of the lower class that of the higher one.
+fn widen(above: &mut Vec<u64>, low: usize, high: usize) {
+    let more = set_of(above, high);
+    if let Some(set) = above.get_mut(low) {
+        *set |= more;
+    }
+}
+
+/// For each class the set of the classes at or above it.
+fn sets_above(
+    alloc: Global,
+    count: usize,
+    covers: &[(usize, usize)],
+) -> Result<Vec<u64>, AllocError> {
+    let mut above = Vec::new(alloc);
+    for class in 0..count {
+        above.push(single(class))?;
+    }
+    for _ in 0..count {
+        for pair in covers {
+            widen(&mut above, pair.0, pair.1);
+        }
+    }
+    Ok(above)
+}
+
+/// Whether a class is at or below another.
+pub(crate) fn is_below(order: &Order, low: usize, high: usize) -> bool {
+    set_of(&order.above, low) & single(high) != 0
+}
+
 /// The order of a lattice.
 pub(crate) fn order_of(alloc: Global, lattice: &Lattice) -> Result<Order, AllocError>
     ensures covers { IfOk result
@@ -131,10 +177,12 @@ pub(crate) fn order_of(alloc: Global, lattice: &Lattice) -> Result<Order, AllocE
     let names = class_names(alloc, lattice)?;
     let covers = covering_pairs(alloc, lattice)?;
     let levels = levels_of(alloc, names.len(), &covers)?;
+    let above = sets_above(alloc, names.len(), &covers)?;
     Ok(Order {
         names,
         covers,
         levels,
+        above,
     })
 }
 

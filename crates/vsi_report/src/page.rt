@@ -1,11 +1,13 @@
 //! The parts of a page and the writer that appends them.
 
-ghost use Rattle.std.specs.Prelude.{◌≡◌, ◌++◌, ℕ, List, IfOk, OnOk, decimal};
+ghost use Rattle.std.specs.Prelude.{◌≡◌, ◌++◌, ℕ, List, [], IfOk, OnOk, decimal};
 ghost use Rattle.vsi_report.specs.Escape.{escaped};
 ghost use Rattle.vsi_report.specs.Page.{HasPanel};
 ghost use Rattle.vsi_report.specs.Reading.{Shows};
+ghost use Rattle.vsi_report.specs.Banner.{untagged, HasBanner};
+ghost use Rattle.vsi_report.specs.declared.verdict.Verdict.{Verdict};
 
-use crate::escape::{put_escaped, put_number};
+use crate::escape::{put_escaped, put_number, put_untagged, put_word};
 use std::alloc::{AllocError, Global};
 
 /// A part of a page.
@@ -17,6 +19,8 @@ pub(crate) enum Part<'a> {
     Text(&'a [u8]),
     /// A number, escaped.
     Number(usize),
+    /// A word of the machine, escaped.
+    Word(i64),
     /// A piece of markup, a number after it, and the end of a quoted value.
     Value(&'static [u8], usize),
     /// Two numbers, each with a space after it.
@@ -27,12 +31,14 @@ pub(crate) enum Part<'a> {
 /// writes, and the panel of a source text.
 #[derive(Drop)]
 pub(crate) struct Page {
-    text: Vec<u8>,
+    pub(crate) text: Vec<u8>,
 }
 
 impl Page {
     /// An empty page.
-    pub(crate) fn new(alloc: Global) -> Page {
+    pub(crate) fn new(alloc: Global) -> Page
+        ensures { result.text.items ≡ [] }
+    {
         Page {
             text: Vec::new(alloc),
         }
@@ -50,6 +56,13 @@ impl Page {
         ensures { OnOk result (self.new.text.items ≡ self.old.text.items ++ escaped text.now) }
     {
         put_escaped(&mut self.text, text)
+    }
+
+    /// Adds a style sheet, without the bytes that could begin a tag.
+    pub(crate) fn put_style(&mut self, style: &[u8]) -> Result<(), AllocError>
+        ensures { OnOk result (self.new.text.items ≡ self.old.text.items ++ untagged style.now) }
+    {
+        put_untagged(&mut self.text, style)
     }
 
     /// Adds a number, escaped.
@@ -81,6 +94,7 @@ impl Page {
             Part::Markup(piece) => self.put(piece),
             Part::Text(text) => self.tell(text),
             Part::Number(number) => self.number(number),
+            Part::Word(word) => put_word(&mut self.text, word),
             Part::Value(piece, number) => self.put_value(piece, number),
             Part::Point(x, y) => self.put_point(x, y),
         }
@@ -94,12 +108,21 @@ impl Page {
         Ok(())
     }
 
-    /// The bytes of this part, then the panel of a source text, and then the bytes of another part.
-    pub(crate) fn with_panel(self, panel: &Vec<u8>, after: &Page) -> Result<Vec<u8>, AllocError>
-        ensures { (source : List ℕ) → Shows panel.now.items source
+    /// The bytes of this part and of the next one, then the panel of a source text, and then the
+    /// bytes of the last part.
+    pub(crate) fn with_panel(
+        self,
+        before: &Page,
+        panel: &Vec<u8>,
+        after: &Page,
+    ) -> Result<Vec<u8>, AllocError>
+        ensures panel { (source : List ℕ) → Shows panel.now.items source
             → IfOk result (λ page. HasPanel page.items source) }
+        ensures banner { (v : Verdict) → HasBanner v self.text.items
+            → IfOk result (λ page. HasBanner v page.items) }
     {
         let Page { mut text } = self;
+        text.extend_from_slice(&before.text)?;
         text.extend_from_slice(b"<pre class=\"source\" tabindex=\"0\"><code>")?;
         text.extend_from_slice(panel)?;
         text.extend_from_slice(b"</code></pre>")?;

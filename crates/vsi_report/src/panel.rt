@@ -69,6 +69,16 @@ pub(crate) struct Panel<'a> {
     ghost shows: { Shows page.items (take at source.now) },
 }
 
+/// The text of a panel.
+pub(crate) fn source_of<'a>(panel: &Panel<'a>) -> &'a [u8] {
+    panel.source
+}
+
+/// The position up to which a panel has its text.
+pub(crate) fn place_of(panel: &Panel<'_>) -> usize {
+    panel.at
+}
+
 /// A panel with one more byte.
 fn stepped<'a>(panel: Panel<'a>) -> Result<Panel<'a>, AllocError>
     requires { panel.at < length panel.source.now }

@@ -1,164 +1,141 @@
 //! The page of a text.
 
-ghost use Rattle.std.specs.Prelude.{[], ◌≤◌, length, IfOk};
+ghost use Rattle.std.specs.Prelude.{◌≡◌, ◌≤◌, ℕ, [], length, IfOk};
 ghost use Rattle.vsi_image.specs.Fields.{fields};
 ghost use Rattle.vsi_image.specs.Listing.{listing as listing_of};
+ghost use Rattle.vsi_lattice.specs.LatticeView.{class_named, order};
+ghost use Rattle.vsi_compiler.specs.Acceptance.{IsAccepted};
+ghost use Rattle.vsi_compiler.specs.Refusal.{HasShortestBadWalk, RefusesProgram};
+ghost use Rattle.vsi_report.specs.Banner.{HasBanner};
 ghost use Rattle.vsi_report.specs.Page.{HasPanel};
 ghost use Rattle.vsi_report.specs.Reading.{Shows};
 ghost use Rattle.vsi_report.specs.Size.{IsShort, IsBounded, most_bytes};
+ghost use Rattle.vsi_report.specs.Verdict.{HasVerdict};
+ghost use Rattle.vsi_report.specs.declared.verdict.Verdict.{Verdict as Shown};
+ghost use Rattle.vsi_report.specs.declared.verdict.Verdict.TheVariants as verdicts;
 
 use crate::error::ReportError;
 use crate::facts::{Facts, facts_of};
-use crate::frame::{front, put_behind_source, put_foot, refusal};
-use crate::leak_section::put_leak;
-use crate::order::{Order, order_of};
+use crate::filing::Filing;
+use crate::order::order_of;
 use crate::page::Page;
-use crate::sections::{put_all_flows, put_listing, put_policy, put_promise};
+use crate::sides::{Sides, Subject, accepted_sides, faulty_sides, refused_sides};
 use crate::size::check_size;
 use crate::source_view::{plain_panel, source_panel};
-use crate::telling::put_walk;
+use crate::style::{fault_style, plain_style, walk_style};
+use crate::verdict::{Verdict, begun_page};
 use std::alloc::{AllocError, Global};
 use vsi_compiler::{CompileError, compile_in};
-use vsi_diagnostics::refusal_text;
 use vsi_image::{Verified, listing};
 use vsi_lattice::Lattice;
 use vsi_types::{Profile, Step};
 
-/// The markup between two rows of sections.
-const NEXT_ROW: &[u8] = b"</div>\n<div class=\"beside\">\n";
-
-/// Adds the part after the source of an accepted text.
-fn put_behind_accepted(
-    alloc: Global,
-    page: &mut Page,
-    profile: Profile,
-    order: &Order,
-    facts: &Facts,
-    lines: &[u8],
-) -> Result<(), AllocError> {
-    put_behind_source(page, true)?;
-    put_listing(page, lines)?;
-    page.put(NEXT_ROW)?;
-    put_promise(page, profile)?;
-    put_last(alloc, page, profile, order, facts, &[])
-}
-
-/// Adds the part after the source of a text with a refused flow.
-fn put_behind_refused(
-    alloc: Global,
-    page: &mut Page,
-    profile: Profile,
-    lattice: &Lattice,
-    order: &Order,
-    facts: &Facts,
-    source: &[u8],
-    walk: &[Step],
-) -> Result<(), AllocError> {
-    put_behind_source(page, true)?;
-    put_walk(page, order, facts, source, walk)?;
-    page.put(NEXT_ROW)?;
-    put_leak(alloc, page, profile, lattice, source)?;
-    put_last(alloc, page, profile, order, facts, walk)
-}
-
-/// Adds the lattice, the flows of a program, and the foot of the page.
-fn put_last(
-    alloc: Global,
-    page: &mut Page,
-    profile: Profile,
-    order: &Order,
-    facts: &Facts,
-    walk: &[Step],
-) -> Result<(), AllocError> {
-    put_policy(alloc, page, order)?;
-    page.put(b"</div>\n")?;
-    put_all_flows(alloc, page, profile, order, facts, walk)?;
-    put_foot(page)
-}
-
-/// Adds the part after the source of a text that has no program.
-fn put_behind_faulty(alloc: Global, page: &mut Page, order: &Order) -> Result<(), AllocError> {
-    put_behind_source(page, false)?;
-    put_policy(alloc, page, order)?;
-    put_foot(page)
-}
-
-/// The page made of the part before the panel of its source text, the panel, and the part after it.
+/// The page made of its beginning, the part before the panel of its source text, the panel, and the
+/// part after it.
 fn joined(
-    before: Page,
+    begun: Page,
+    sides: &Sides,
     panel: &Vec<u8>,
-    behind: &Page,
     source: &[u8],
     flows: usize,
-    lines: &[u8],
+    lines: usize,
 ) -> Result<Vec<u8>, ReportError>
     requires { Shows panel.now.items source.now }
     ensures panel { IfOk result (λ page. HasPanel page.items source.now) }
+    ensures banner { (v : Shown) → HasBanner v begun.entry.text.items
+        → IfOk result (λ page. HasBanner v page.items) }
     ensures short { IfOk result (λ page.
-        length page.items ≤ most_bytes (length source.now) flows (length lines.now)) }
+        length page.items ≤ most_bytes (length source.now) flows lines) }
 {
-    let whole = before.with_panel(panel, behind)?;
-    check_size(&whole, source.len(), flows, lines.len())?;
+    let whole = begun.with_panel(&sides.before, panel, &sides.after)?;
+    check_size(&whole, source.len(), flows, lines)?;
     Ok(whole)
 }
 
-/// The page of a program, with the part after its source.
+/// The page of a program with a verdict, with its style sheet and the parts around its source.
 fn program_page(
     alloc: Global,
-    before: Page,
-    behind: &Page,
-    order: &Order,
+    verdict: Verdict,
+    subject: &Subject<'_>,
+    sides: &Sides,
+    style: &[u8],
     facts: &Facts,
     walk: &[Step],
     source: &[u8],
-    lines: &[u8],
+    lines: usize,
 ) -> Result<Vec<u8>, ReportError>
     ensures panel { IfOk result (λ page. HasPanel page.items source.now) }
+    ensures banner { IfOk result (λ page. HasBanner verdict page.items) }
     ensures short { IfOk result (λ page. length page.items
-        ≤ most_bytes (length source.now) (length facts.now.pairs.items) (length lines.now)) }
+        ≤ most_bytes (length source.now) (length facts.now.pairs.items) lines) }
 {
-    let panel = source_panel(alloc, order, facts, walk, source)?;
-    joined(before, &panel, behind, source, facts.pairs.len(), lines)
+    let panel = source_panel(alloc, subject.order, facts, walk, source)?;
+    let begun = begun_page(alloc, verdict, sides.title.as_slice(), style)?;
+    joined(begun, sides, &panel, source, facts.pairs.len(), lines)
 }
 
 /// The page of an accepted text, with the facts of its program and the listing of its image.
 fn page_with_image(
     alloc: Global,
     profile: Profile,
+    filing: &Filing<'_>,
     lattice: &Lattice,
     facts: &Facts,
     source: &[u8],
+    verified: &Verified,
     lines: &[u8],
 ) -> Result<Vec<u8>, ReportError>
     ensures panel { IfOk result (λ page. HasPanel page.items source.now) }
+    ensures banner { IfOk result (λ page. HasBanner verdicts.Accepted page.items) }
     ensures short { IfOk result (λ page. length page.items
         ≤ most_bytes (length source.now) (length facts.now.pairs.items) (length lines.now)) }
 {
     let order = order_of(alloc, lattice)?;
-    let mut behind = Page::new(alloc);
-    put_behind_accepted(alloc, &mut behind, profile, &order, facts, lines)?;
-    let before = front(alloc, true, profile)?;
-    program_page(alloc, before, &behind, &order, facts, &[], source, lines)
+    let subject = Subject {
+        profile,
+        filing,
+        lattice,
+        order: &order,
+        source,
+    };
+    let sides = accepted_sides(alloc, &subject, facts, verified, lines)?;
+    let style = plain_style(alloc)?;
+    program_page(
+        alloc,
+        Verdict::Accepted,
+        &subject,
+        &sides,
+        &style,
+        facts,
+        &[],
+        source,
+        lines.len(),
+    )
 }
 
 /// The page of an accepted text.
 fn accepted_page(
     alloc: Global,
     profile: Profile,
+    filing: &Filing<'_>,
     lattice: &Lattice,
     source: &[u8],
     verified: &Verified,
 ) -> Result<Vec<u8>, ReportError>
     ensures panel { IfOk result (λ page. HasPanel page.items source.now) }
+    ensures verdict { IsAccepted (class_named lattice.now) (order lattice.now) profile source.now
+        → IfOk result (λ page. HasVerdict lattice.now profile source.now page.items) }
     ensures bounded { IfOk result (λ page.
         IsShort lattice.now profile source.now (listing_of (fields verified.now)) page.items) }
 {
     match facts_of(alloc, profile, lattice, source) {
         Ok(facts) => {
             let lines = listing(alloc, verified.image())?;
-            page_with_image(alloc, profile, lattice, &facts, source, &lines)
+            page_with_image(
+                alloc, profile, filing, lattice, &facts, source, verified, &lines,
+            )
         }
-        Err(error) => faulty_page(alloc, profile, lattice, source, &error),
+        Err(error) => faulty_page(alloc, profile, filing, lattice, source, &error),
     }
 }
 
@@ -166,46 +143,59 @@ fn accepted_page(
 fn page_with_walk(
     alloc: Global,
     profile: Profile,
+    filing: &Filing<'_>,
     lattice: &Lattice,
     facts: &Facts,
     source: &[u8],
     walk: &[Step],
 ) -> Result<Vec<u8>, ReportError>
     ensures panel { IfOk result (λ page. HasPanel page.items source.now) }
+    ensures banner { IfOk result (λ page. HasBanner verdicts.Refused page.items) }
     ensures short { IfOk result (λ page. length page.items
         ≤ most_bytes (length source.now) (length facts.now.pairs.items) 0) }
 {
     let order = order_of(alloc, lattice)?;
-    let mut behind = Page::new(alloc);
-    put_behind_refused(
-        alloc,
-        &mut behind,
+    let subject = Subject {
         profile,
+        filing,
         lattice,
-        &order,
-        facts,
+        order: &order,
         source,
+    };
+    let sides = refused_sides(alloc, &subject, facts, walk)?;
+    let style = walk_style(alloc, walk.len())?;
+    program_page(
+        alloc,
+        Verdict::Refused,
+        &subject,
+        &sides,
+        &style,
+        facts,
         walk,
-    )?;
-    let before = front(alloc, false, profile)?;
-    program_page(alloc, before, &behind, &order, facts, walk, source, &[])
+        source,
+        0,
+    )
 }
 
 /// The page of a text with a refused flow.
 fn refused_page(
     alloc: Global,
     profile: Profile,
+    filing: &Filing<'_>,
     lattice: &Lattice,
     source: &[u8],
     walk: &[Step],
 ) -> Result<Vec<u8>, ReportError>
     ensures panel { IfOk result (λ page. HasPanel page.items source.now) }
+    ensures verdict { HasShortestBadWalk (class_named lattice.now) (order lattice.now) profile
+        source.now walk.now
+        → IfOk result (λ page. HasVerdict lattice.now profile source.now page.items) }
     ensures bounded { IfOk result (λ page.
         IsShort lattice.now profile source.now [] page.items) }
 {
     match facts_of(alloc, profile, lattice, source) {
-        Ok(facts) => page_with_walk(alloc, profile, lattice, &facts, source, walk),
-        Err(error) => faulty_page(alloc, profile, lattice, source, &error),
+        Ok(facts) => page_with_walk(alloc, profile, filing, lattice, &facts, source, walk),
+        Err(error) => faulty_page(alloc, profile, filing, lattice, source, &error),
     }
 }
 
@@ -213,31 +203,43 @@ fn refused_page(
 fn page_with_refusal(
     alloc: Global,
     profile: Profile,
+    filing: &Filing<'_>,
     lattice: &Lattice,
     source: &[u8],
-    text: &[u8],
+    error: &CompileError,
 ) -> Result<Vec<u8>, ReportError>
     ensures panel { IfOk result (λ page. HasPanel page.items source.now) }
+    ensures banner { IfOk result (λ page. HasBanner verdicts.NoProgram page.items) }
     ensures short { IfOk result (λ page.
         length page.items ≤ most_bytes (length source.now) 0 0) }
 {
     let order = order_of(alloc, lattice)?;
-    let mut behind = Page::new(alloc);
-    put_behind_faulty(alloc, &mut behind, &order)?;
+    let subject = Subject {
+        profile,
+        filing,
+        lattice,
+        order: &order,
+        source,
+    };
+    let sides = faulty_sides(alloc, &subject, error)?;
+    let style = fault_style(alloc, source, error)?;
     let panel = plain_panel(alloc, source)?;
-    let before = refusal(alloc, profile, text)?;
-    joined(before, &panel, &behind, source, 0, &[])
+    let begun = begun_page(alloc, Verdict::NoProgram, sides.title.as_slice(), &style)?;
+    joined(begun, &sides, &panel, source, 0, 0)
 }
 
 /// The page of a text that has no program.
 fn faulty_page(
     alloc: Global,
     profile: Profile,
+    filing: &Filing<'_>,
     lattice: &Lattice,
     source: &[u8],
     error: &CompileError,
 ) -> Result<Vec<u8>, ReportError>
     ensures panel { IfOk result (λ page. HasPanel page.items source.now) }
+    ensures verdict { RefusesProgram (class_named lattice.now) source.now error.now
+        → IfOk result (λ page. HasVerdict lattice.now profile source.now page.items) }
     ensures short { IfOk result (λ page.
         length page.items ≤ most_bytes (length source.now) 0 0) }
     ensures bounded { IfOk result (λ page.
@@ -246,18 +248,52 @@ fn faulty_page(
     if let CompileError::Memory = error {
         return Err(ReportError::Memory);
     }
-    let text = refusal_text(alloc, lattice, source, error)?;
-    page_with_refusal(alloc, profile, lattice, source, &text)
+    page_with_refusal(alloc, profile, filing, lattice, source, error)
 }
 
-/// The page of a text over a lattice under a profile: the verdict, the source, the lattice and the
-/// flows. The page of an accepted text also has its image and the promises about it; that of a
-/// refused text has the reason for the refusal. Every text has a page.
+/// The page of a text over a lattice under a profile, which names the files of the text and of the
+/// lattice: the verdict, the source, the lattice and the flows. The page of an accepted text also
+/// has its image and the promises about it; that of a refused text has the reason for the refusal.
+/// Every text has a page.
 ///
 /// # Errors
 ///
 /// `TooLong` for a page that is longer than its source, its flows and its listing allow, as
 /// `specs/Size` says, though no measured text has such a page; or `Memory`.
+pub fn filed_page(
+    alloc: Global,
+    profile: Profile,
+    filing: &Filing<'_>,
+    lattice: &Lattice,
+    source: &[u8],
+) -> Result<Vec<u8>, ReportError>
+    ensures panel { IfOk result (λ page. HasPanel page.items source.now) }
+    ensures verdict { IfOk result (λ page.
+        HasVerdict lattice.now profile source.now page.items) }
+    ensures bounded { IfOk result (λ page.
+        IsBounded lattice.now profile source.now page.items) }
+{
+    match compile_in(alloc, profile, lattice, source) {
+        Ok(verified) => accepted_page(alloc, profile, filing, lattice, source, &verified),
+        Err(CompileError::Flow(walk)) => {
+            refused_page(
+                alloc,
+                profile,
+                filing,
+                lattice,
+                source,
+                walk.steps.as_slice(),
+            )
+        }
+        Err(error) => faulty_page(alloc, profile, filing, lattice, source, &error),
+    }
+}
+
+/// The page of a text by `filed_page`, which names no files.
+///
+/// # Errors
+///
+/// Those of `filed_page`.
 pub fn report_page(
     alloc: Global,
     profile: Profile,
@@ -265,14 +301,15 @@ pub fn report_page(
     source: &[u8],
 ) -> Result<Vec<u8>, ReportError>
     ensures panel { IfOk result (λ page. HasPanel page.items source.now) }
+    ensures verdict { IfOk result (λ page.
+        HasVerdict lattice.now profile source.now page.items) }
     ensures bounded { IfOk result (λ page.
         IsBounded lattice.now profile source.now page.items) }
 {
-    match compile_in(alloc, profile, lattice, source) {
-        Ok(verified) => accepted_page(alloc, profile, lattice, source, &verified),
-        Err(CompileError::Flow(walk)) => {
-            refused_page(alloc, profile, lattice, source, walk.steps.as_slice())
-        }
-        Err(error) => faulty_page(alloc, profile, lattice, source, &error),
-    }
+    let filing = Filing {
+        source: b"",
+        lattice: b"",
+        policy: b"",
+    };
+    filed_page(alloc, profile, &filing, lattice, source)
 }

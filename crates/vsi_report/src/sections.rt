@@ -21,6 +21,9 @@ const HIGH: usize = 2_000;
 const POLICY: &[u8] = b"<figcaption>Information may flow upwards, along the lines; each line joins \
 a class and one directly above it.</figcaption>";
 
+/// The heading of the section of the lattice, after the beginning of its tag.
+const LATTICE: &[u8] = b" aria-labelledby=\"lattice\"><h2 id=\"lattice\">Lattice</h2>\n";
+
 /// The beginning of a picture that scrolls within its frame.
 const SCROLL: &[u8] = b"<div class=\"scroll\" tabindex=\"0\">";
 
@@ -31,12 +34,26 @@ pub(crate) fn put_policy(alloc: Global, page: &mut Page, order: &Order) -> Resul
     put_lattice_section(page, order, &layout)
 }
 
+/// Adds the section of the lattice, if its picture is as wide as asked.
+pub(crate) fn put_lattice_if(
+    alloc: Global,
+    page: &mut Page,
+    order: &Order,
+    is_wide: bool,
+) -> Result<(), AllocError> {
+    let layout = lattice_layout(alloc, order)?;
+    if (layout.wide > WIDE) == is_wide {
+        put_lattice_section(page, order, &layout)?;
+    }
+    Ok(())
+}
+
 /// Adds the section of the lattice with this layout.
 fn put_lattice_section(page: &mut Page, order: &Order, layout: &Layout) -> Result<(), AllocError> {
     if layout.wide > WIDE {
-        page.put(b"<section class=\"wide\"><h2>Lattice</h2>\n")?;
+        put_pieces(page, &[b"<section class=\"wide\"", LATTICE])?;
     } else {
-        page.put(b"<section><h2>Lattice</h2>\n")?;
+        put_pieces(page, &[b"<section", LATTICE])?;
     }
     if layout.high > HIGH {
         put_pieces(page, &[b"<figure class=\"high\">", POLICY, b"\n", SCROLL])?;
@@ -78,14 +95,15 @@ LOOP: from a guard to the ending of a loop</li></ul>\n";
 /// The text about the arrows in the picture of the flows.
 const ARROWS: &[u8] = b"<figcaption>Each arrow is a flow of one step; a flow that goes upwards or \
 stays in its band is allowed if the lattice allows it. A flow of a variable into itself isn't \
-drawn. A dashed box is a variable whose class was inferred.";
+drawn. A dashed box is a variable whose class the text doesn't declare.";
 
 /// The text about a picture of the flows without arrows.
 const NO_ARROWS: &[u8] = b"<figcaption>There are more than 2,000 flows of one step, and their \
-arrows aren't drawn. A dashed box is a variable whose class was inferred.";
+arrows aren't drawn. A dashed box is a variable whose class the text doesn't declare.";
 
 /// The text about the arrows of a walk.
-const THICK: &[u8] = b" The thick arrows with numbers are the chain for which the text is refused.";
+const THICK: &[u8] = b" The thick arrows with numbers are the chain for which the text is refused; \
+a thin red arrow goes against the order of the classes.";
 
 /// Adds the text about the picture of the flows.
 fn put_caption(page: &mut Page, has_arrows: bool, has_walk: bool) -> Result<(), AllocError> {
@@ -149,6 +167,10 @@ fn count_shown(profile: Profile, facts: &Facts) -> usize {
     }
 }
 
+/// The heading of the section of the flows.
+const FLOWS: &[u8] =
+    b"<section class=\"wide\" aria-labelledby=\"flows\"><h2 id=\"flows\">Flows</h2>\n";
+
 /// Adds the section of the flows.
 pub(crate) fn put_all_flows(
     alloc: Global,
@@ -158,7 +180,7 @@ pub(crate) fn put_all_flows(
     facts: &Facts,
     walk: &[Step],
 ) -> Result<(), AllocError> {
-    page.put(b"<section><h2>Flows</h2>\n")?;
+    page.put(FLOWS)?;
     if is_drawn(facts) {
         put_drawn(alloc, page, order, facts, count_shown(profile, facts), walk)?;
     } else {
@@ -168,34 +190,43 @@ pub(crate) fn put_all_flows(
     page.put(b"</section>\n")
 }
 
-/// Adds the listing of an image.
+/// The markup before the listing of an image.
+const IMAGE: &[u8] = b"<section class=\"wide\" aria-labelledby=\"image\">\
+<h2 id=\"image\">Image</h2>\n<details><summary>The listing of the image</summary>\n\
+<pre class=\"listing\" tabindex=\"0\"><code>";
+
+/// Adds the listing of an image, which opens on request.
 pub(crate) fn put_listing(page: &mut Page, lines: &[u8]) -> Result<(), AllocError> {
     page.put_parts(&[
-        Part::Markup(b"<section><h2>Image</h2>\n"),
-        Part::Markup(b"<pre class=\"listing\" tabindex=\"0\"><code>"),
+        Part::Markup(IMAGE),
         Part::Text(lines),
-        Part::Markup(b"</code></pre>\n</section>\n"),
+        Part::Markup(b"</code></pre></details>\n</section>\n"),
     ])
 }
 
 /// The promises about an accepted text.
-const PROMISE: &[u8] = b"<section><h2>What is promised</h2>\n<p>The image does what the text says. \
+const PROMISE: &[u8] = b"<section aria-labelledby=\"promise\"><h2 id=\"promise\">What is promised\
+</h2>\n<p>The image does what the text says. \
 Take any class, and two stores that agree on each global whose class is at or below it: if the \
 runs of the image from both halt, their final stores agree on these globals too. So nothing that \
-an observer at the class reads at the end of a run depends on what the observer may not see. The \
-number of instructions that a run takes is not promised";
+an observer at the class reads at the end of a run depends on what the observer may not see.</p>\n";
 
 /// The promise about the ending of runs under the strict profile.
 const ENDINGS: &[u8] =
-    b". Whether a run halts is: from two stores that agree on each global of the \
-least class, either both runs halt or neither does.";
+    b"<p>Whether a run halts is promised too: from two stores that agree on each global of the \
+least class, either both runs halt or neither does. The number of instructions isn't promised by \
+the profile.</p>\n";
 
 /// The remark about the ending of runs under the base profile.
-const NO_ENDINGS: &[u8] = b", and under the base profile neither is whether it halts.";
+const NO_ENDINGS: &[u8] =
+    b"<p>The base profile promises neither whether a run halts nor the number \
+of its instructions.</p>\n";
 
 /// The scope of the promises.
 const PROVED: &[u8] =
-    b" This is proved about the compiler, for every text that it accepts.</p></section>\n";
+    b"<p>This is proved about the compiler, for every text that it accepts. It is about who learns \
+what: the class of a variable says who may read it, and nothing says who may write it.</p>\
+</section>\n";
 
 /// Adds the promises.
 pub(crate) fn put_promise(page: &mut Page, profile: Profile) -> Result<(), AllocError> {

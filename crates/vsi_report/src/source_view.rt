@@ -4,8 +4,9 @@ ghost use Rattle.std.specs.Prelude.{◌≡◌, IfOk};
 ghost use Rattle.vsi_report.specs.Reading.{Shows};
 
 use crate::facts::{Facts, is_inferred, variable_class};
+use crate::marks::{Mark, mark_at};
 use crate::order::{Order, name_of};
-use crate::panel::{Panel, advanced, begun, closed, ended, opened};
+use crate::panel::{Panel, advanced, begun, closed, ended, opened, place_of, source_of};
 use crate::walking::Use;
 use std::alloc::{AllocError, Global};
 use vsi_syntax::{Kind, LexError, Token, lex, put_number};
@@ -112,6 +113,51 @@ fn with_word<'a>(
     closed(panel)
 }
 
+/// The parts of a text from a position up to another.
+fn marks_of(
+    alloc: Global,
+    source: &[u8],
+    from: usize,
+    stop: usize,
+) -> Result<Vec<Mark>, AllocError> {
+    let mut marks = Vec::new(alloc);
+    let mut at = from;
+    let mut is_comment = false;
+    for _ in from..stop {
+        if at >= stop {
+            return Ok(marks);
+        }
+        let (mark, goes_on) = mark_at(source, at, stop, is_comment);
+        is_comment = goes_on;
+        at = mark.stop;
+        if !mark.kind.is_empty() {
+            marks.push(mark)?;
+        }
+    }
+    Ok(marks)
+}
+
+/// A panel with a comment, or with a character that isn't visible.
+fn with_mark<'a>(panel: Panel<'a>, mark: Mark) -> Result<Panel<'a>, AllocError>
+    ensures source { IfOk result (λ p. p.source ≡ panel.entry.source) }
+{
+    let panel = advanced(panel, mark.start)?;
+    with_word(panel, mark.kind, mark.label, b"", mark.stop)
+}
+
+/// A panel with the text up to a token, in which comments and characters that aren't visible are
+/// set apart.
+fn with_gap<'a>(alloc: Global, panel: Panel<'a>, stop: usize) -> Result<Panel<'a>, AllocError>
+    ensures source { IfOk result (λ p. p.source ≡ panel.entry.source) }
+{
+    let marks = marks_of(alloc, source_of(&panel), place_of(&panel), stop)?;
+    let mut panel = panel;
+    for mark in &marks {
+        panel = with_mark(panel, *mark)?;
+    }
+    advanced(panel, stop)
+}
+
 /// A panel with a name of a variable.
 fn with_variable<'a>(
     alloc: Global,
@@ -169,7 +215,7 @@ fn with_token<'a>(
 ) -> Result<Panel<'a>, AllocError>
     ensures source { IfOk result (λ p. p.source ≡ panel.entry.source) }
 {
-    let panel = advanced(panel, token.span.start)?;
+    let panel = with_gap(alloc, panel, token.span.start)?;
     if let Some(variable) = variable {
         return with_variable(alloc, panel, order, facts, walk, variable, token);
     }
@@ -218,6 +264,7 @@ pub(crate) fn source_panel(
         Ok(tokens) => {
             let panel = begun(alloc, source)?;
             let panel = with_tokens(alloc, panel, order, facts, walk, &tokens)?;
+            let panel = with_gap(alloc, panel, source.len())?;
             ended(panel)
         }
         Err(LexError::Memory) => Err(AllocError),
@@ -230,5 +277,6 @@ pub(crate) fn plain_panel(alloc: Global, source: &[u8]) -> Result<Vec<u8>, Alloc
     ensures { IfOk result (λ page. Shows page.items source.now) }
 {
     let panel = begun(alloc, source)?;
+    let panel = with_gap(alloc, panel, source.len())?;
     ended(panel)
 }

@@ -1,5 +1,6 @@
 //! The table of flows of a page.
 
+use crate::banner::{count_refused, number_word};
 use crate::facts::{Facts, number_of};
 use crate::order::Order;
 use crate::page::{Page, Part};
@@ -46,20 +47,75 @@ fn looks(is_allowed: bool) -> (&'static [u8], &'static [u8]) {
     }
 }
 
-/// The markup above the rows of the table.
-const TABLE: &[u8] = b"<div class=\"scroll\"><table>\n<thead><tr><th scope=\"col\">From</th>\
+/// The markup above the rows of a table.
+const TABLE: &[u8] = b"<div class=\"scroll\" tabindex=\"0\"><table>\n\
+<thead><tr><th scope=\"col\">From</th>\
 <th scope=\"col\">To</th><th scope=\"col\">Verdict</th><th scope=\"col\">Fewest steps</th></tr>\
 </thead>\n<tbody>\n";
 
-/// Adds the table of flows.
+/// Adds a table of the pairs that are allowed, or of those that are refused.
+fn put_rows(
+    page: &mut Page,
+    order: &Order,
+    facts: &Facts,
+    is_allowed: bool,
+) -> Result<(), AllocError> {
+    page.put(TABLE)?;
+    for pair in &facts.pairs {
+        if pair.allowed == is_allowed {
+            put_row(page, order, facts, *pair)?;
+        }
+    }
+    page.put(b"</tbody></table></div>\n")
+}
+
+/// Adds the table of the allowed pairs, which opens on request.
+fn put_allowed(
+    page: &mut Page,
+    order: &Order,
+    facts: &Facts,
+    allowed: usize,
+) -> Result<(), AllocError> {
+    page.put_parts(&[
+        Part::Markup(b"<details><summary>"),
+        Part::Number(allowed),
+        Part::Markup(number_word(
+            allowed,
+            b" allowed pair</summary>\n",
+            b" allowed pairs</summary>\n",
+        )),
+    ])?;
+    put_rows(page, order, facts, true)?;
+    page.put(b"</details>\n")
+}
+
+/// Adds the numbers of the pairs.
+fn put_counts(page: &mut Page, all: usize, refused: usize) -> Result<(), AllocError> {
+    page.put_parts(&[
+        Part::Markup(b"<p>"),
+        Part::Number(all),
+        Part::Markup(number_word(all, b" pair: ", b" pairs: ")),
+        Part::Number(refused),
+        Part::Markup(b" refused, "),
+        Part::Number(all.saturating_sub(refused)),
+        Part::Markup(b" allowed.</p>\n"),
+    ])
+}
+
+/// Adds the table of flows: the numbers of the pairs, the refused ones, and the allowed ones.
 pub(crate) fn put_table(page: &mut Page, order: &Order, facts: &Facts) -> Result<(), AllocError> {
     page.put(b"<h3>All flows between declared variables</h3>\n")?;
     if facts.pairs.is_empty() {
         return page.put(b"<p>None: no declared variable flows to another one.</p>\n");
     }
-    page.put(TABLE)?;
-    for pair in &facts.pairs {
-        put_row(page, order, facts, *pair)?;
+    let all = facts.pairs.len();
+    let refused = count_refused(&facts.pairs);
+    put_counts(page, all, refused)?;
+    if refused > 0 {
+        put_rows(page, order, facts, false)?;
     }
-    page.put(b"</tbody></table></div>\n")
+    if refused < all {
+        put_allowed(page, order, facts, all.saturating_sub(refused))?;
+    }
+    Ok(())
 }

@@ -46,7 +46,7 @@ pub(crate) fn put_class_of(
 }
 
 /// Adds a position in the source text, as a link to it.
-fn put_place(page: &mut Page, source: &[u8], at: usize) -> Result<(), AllocError> {
+pub(crate) fn put_place(page: &mut Page, source: &[u8], at: usize) -> Result<(), AllocError> {
     let (line, column) = line_column(source, at);
     page.put_parts(&[
         Part::Value(b"<a href=\"#L", line),
@@ -71,16 +71,16 @@ enum Word {
     Place(usize),
 }
 
-/// The subject of a page's sentences: the lattice, the variables and the source text.
+/// The subject of the sentences about a walk: the lattice, the variables and the source text.
 #[derive(Clone, Copy)]
-struct Subject<'a> {
+struct Told<'a> {
     order: &'a Order,
     facts: &'a Facts,
     source: &'a [u8],
 }
 
 /// Adds a part of a sentence.
-fn put_word(page: &mut Page, subject: &Subject<'_>, word: Word) -> Result<(), AllocError> {
+fn put_word(page: &mut Page, subject: &Told<'_>, word: Word) -> Result<(), AllocError> {
     match word {
         Word::Plain(words) => page.put(words),
         Word::Name(number) => put_name(page, subject.facts, number),
@@ -90,7 +90,7 @@ fn put_word(page: &mut Page, subject: &Subject<'_>, word: Word) -> Result<(), Al
 }
 
 /// Adds a sentence, part by part.
-fn put_words(page: &mut Page, subject: &Subject<'_>, words: &[Word]) -> Result<(), AllocError> {
+fn put_words(page: &mut Page, subject: &Told<'_>, words: &[Word]) -> Result<(), AllocError> {
     for word in words {
         put_word(page, subject, *word)?;
     }
@@ -142,7 +142,7 @@ fn before_source(rule: Rule) -> &'static [u8] {
 /// Adds the heading of a step: its source, its target and its rule.
 fn put_heading(
     page: &mut Page,
-    subject: &Subject<'_>,
+    subject: &Told<'_>,
     source: usize,
     target: usize,
     rule: Rule,
@@ -151,7 +151,7 @@ fn put_heading(
         page,
         subject,
         &[
-            Word::Plain(b"<li><p class=\"step\">"),
+            Word::Plain(b"<p class=\"step\">"),
             Word::Name(source),
             Word::Plain(b" "),
             Word::Class(source),
@@ -169,7 +169,7 @@ fn put_heading(
 /// Adds the position where a step reads its source, and its target.
 fn put_done(
     page: &mut Page,
-    subject: &Subject<'_>,
+    subject: &Told<'_>,
     source: usize,
     target: usize,
     step: &Step,
@@ -190,7 +190,7 @@ fn put_done(
 }
 
 /// Adds the position where a step writes its target; at the ending of a loop nothing is written.
-fn put_written(page: &mut Page, subject: &Subject<'_>, step: &Step) -> Result<(), AllocError> {
+fn put_written(page: &mut Page, subject: &Told<'_>, step: &Step) -> Result<(), AllocError> {
     if step.rule == Rule::Loop {
         return Ok(());
     }
@@ -204,7 +204,7 @@ fn put_written(page: &mut Page, subject: &Subject<'_>, step: &Step) -> Result<()
 /// Adds why a step by a rule reveals its source.
 fn put_why(
     page: &mut Page,
-    subject: &Subject<'_>,
+    subject: &Told<'_>,
     source: usize,
     target: usize,
     rule: Rule,
@@ -217,13 +217,31 @@ fn put_why(
             Word::Name(target),
             Word::Plain(before_source(rule)),
             Word::Name(source),
-            Word::Plain(b".</p></li>\n"),
+            Word::Plain(b".</p>\n"),
         ],
     )
 }
 
+/// Adds the links from a step to the one before it and the one after it.
+fn put_turns(page: &mut Page, number: usize, count: usize) -> Result<(), AllocError> {
+    page.put(b"<p class=\"turn\">")?;
+    if number > 1 {
+        page.put_parts(&[
+            Part::Value(b"<a href=\"#s", number.saturating_sub(1)),
+            Part::Markup(b">previous step</a> "),
+        ])?;
+    }
+    if number < count {
+        page.put_parts(&[
+            Part::Value(b"<a href=\"#s", number.saturating_add(1)),
+            Part::Markup(b">next step</a> "),
+        ])?;
+    }
+    page.put(b"<a href=\"#why\">all steps</a></p></li>\n")
+}
+
 /// Adds a step: its heading, and why it reveals its source.
-fn put_step(page: &mut Page, subject: &Subject<'_>, step: &Step) -> Result<(), AllocError> {
+fn put_step(page: &mut Page, subject: &Told<'_>, step: &Step) -> Result<(), AllocError> {
     let source = number_of(subject.facts, step.source);
     let target = number_of(subject.facts, step.target);
     put_heading(page, subject, source, target, step.rule)?;
@@ -239,7 +257,7 @@ judged, not a run: a branch that is never taken counts too.</p>\n";
 /// Adds why the walk is bad.
 fn put_verdict(
     page: &mut Page,
-    subject: &Subject<'_>,
+    subject: &Told<'_>,
     first: usize,
     last: usize,
 ) -> Result<(), AllocError> {
@@ -265,12 +283,19 @@ fn put_verdict(
 }
 
 /// Adds the steps of a walk.
-fn put_steps(page: &mut Page, subject: &Subject<'_>, walk: &[Step]) -> Result<(), AllocError> {
-    for step in walk {
+fn put_steps(page: &mut Page, subject: &Told<'_>, walk: &[Step]) -> Result<(), AllocError> {
+    for (place, step) in walk.iter().enumerate() {
+        let number = place.saturating_add(1);
+        page.put_parts(&[Part::Value(b"<li id=\"s", number), Part::Markup(b">")])?;
         put_step(page, subject, step)?;
+        put_turns(page, number, walk.len())?;
     }
     Ok(())
 }
+
+/// The heading of the explanation.
+const WHY: &[u8] = b"<section aria-labelledby=\"why\"><h2 id=\"why\">Why it is refused</h2>\n\
+<ol class=\"walk\">\n";
 
 /// Adds the explanation of a bad walk.
 pub(crate) fn put_walk(
@@ -280,12 +305,12 @@ pub(crate) fn put_walk(
     source: &[u8],
     walk: &[Step],
 ) -> Result<(), AllocError> {
-    let subject = Subject {
+    let subject = Told {
         order,
         facts,
         source,
     };
-    page.put(b"<section><h2>Why it is refused</h2>\n<ol class=\"walk\">\n")?;
+    page.put(WHY)?;
     put_steps(page, &subject, walk)?;
     page.put(b"</ol>\n")?;
     if let (Some(first), Some(last)) = (walk.first(), walk.last()) {

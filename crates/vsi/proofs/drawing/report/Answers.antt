@@ -6,13 +6,13 @@ use Rattle.vsi.proofs.drawing.report.Goals as goal
 pub returns-clause-told : goal.returns-clause-told
 returns-clause-told g c =
     record {
-      lattice = c.in_ok-classes.classes;
+      lattice = c.in_ok-read.read.1;
       source = c.in_ok-text.text.items;
       files = record {
-        lattice = c.in_ok-classes.ensures.read;
+        lattice = c.in_ok-read.ensures.read;
         read = subst (λ h. IsReadAt h c.args.compilation.source.now c.in_ok-text.text.items)
-            c.in_ok-classes.ensures.kept c.in_ok-text.ensures.read;
+            c.in_ok-read.ensures.kept c.in_ok-text.ensures.read;
       };
-      is = subst (HasPanel c.in_ok-report_page.field-0.items) c.as_slice.ensures.value
-          c.in_ok-report_page.ensures.panel;
+      is = subst (HasPanel c.in_ok-page_of.field-0.items) c.as_slice.ensures.value
+          c.in_ok-page_of.ensures.panel;
     }

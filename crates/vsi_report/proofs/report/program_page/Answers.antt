@@ -3,6 +3,9 @@ use Rattle.std.specs.Prelude.{IfOk}
 use Rattle.vsi_report.specs.Size.{most_bytes}
 use Rattle.vsi_report.proofs.report.program_page.Goals as goal
 
+pub returns-clause-banner : goal.returns-clause-banner
+returns-clause-banner c = c.joined.ensures.banner c.args.verdict c.in_ok-begun.ensures
+
 pub returns-clause-short : goal.returns-clause-short
 returns-clause-short c =
     let count : c.len.result ≡ c.args.facts.now.pairs.len = c.len.ensures in
@@ -10,5 +13,5 @@ returns-clause-short c =
     let same : c.len.result ≡ length c.args.facts.now.pairs.items = omega arith in
     subst
     (λ n. IfOk c.joined.result (λ page.
-    length page.items ≤ most_bytes (length c.args.source.now) n (length c.args.lines.now)))
+    length page.items ≤ most_bytes (length c.args.source.now) n c.args.lines))
     same c.joined.ensures.short

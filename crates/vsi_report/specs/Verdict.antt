@@ -1,0 +1,36 @@
+-- The verdict that a page shows first.
+use Rattle.std.specs.Prelude.{◌≢◌, ℕ, List}
+use Rattle.vsi_lattice.specs.declared.lattice.Lattice.{Lattice}
+use Rattle.vsi_lattice.specs.LatticeView.{class_named, order}
+use Rattle.vsi_types.specs.declared.rules.Profile.{Profile}
+use Rattle.vsi_types.specs.declared.rules.Step.{Step}
+use Rattle.vsi_compiler.specs.Acceptance.{IsAccepted}
+use Rattle.vsi_compiler.specs.Refusal.{HasShortestBadWalk, RefusesProgram}
+use Rattle.vsi_compiler.specs.declared.error.CompileError.{CompileError}
+use Rattle.vsi_compiler.specs.declared.error.CompileError.TheVariants.{Memory}
+use Rattle.vsi_report.specs.Banner.{HasBanner}
+use Rattle.vsi_report.specs.declared.verdict.Verdict.{Verdict}
+use Rattle.vsi_report.specs.declared.verdict.Verdict.TheVariants.{Accepted, Refused, NoProgram}
+
+-- The steps of a walk for which the text is refused, such that no such walk has fewer steps.
+pub record HasRefusal (l : Lattice) (P : Profile) (text : List ℕ) : Type 0 where
+  pub steps : List Step
+  pub walk : HasShortestBadWalk (class_named l) (order l) P text steps
+
+-- A reason for which the text isn't a program over the lattice.
+pub record HasFault (l : Lattice) (text : List ℕ) : Type 0 where
+  pub error : CompileError
+  pub other : error ≢ Memory
+  pub reason : RefusesProgram (class_named l) text error
+
+-- The verdict is that of the compiler.
+abbrev pub IsVerdict : Lattice → Profile → List ℕ → Verdict → Type 0
+IsVerdict l P text Accepted = IsAccepted (class_named l) (order l) P text
+IsVerdict l P text Refused = HasRefusal l P text
+IsVerdict l P text NoProgram = HasFault l text
+
+-- The first thing that a page shows is the banner for the verdict of the compiler about the text.
+pub record HasVerdict (l : Lattice) (P : Profile) (text page : List ℕ) : Type 0 where
+  pub verdict : Verdict
+  pub is : IsVerdict l P text verdict
+  pub banner : HasBanner verdict page
