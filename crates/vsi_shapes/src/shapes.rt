@@ -1,7 +1,7 @@
 //! The constructs of other languages, and the pieces that belong to each.
 
 use crate::look::Look;
-use crate::sayings::{Saying, call_saying, command_saying, sign_saying};
+use crate::sayings::{Saying, call_saying, character_saying, command_saying, sign_saying};
 use vsi_foreign::{Sort, is_false, is_operator, is_true, number_of};
 
 /// The construct of some pieces.
@@ -89,8 +89,9 @@ const TYPES: [&[u8]; 20] = [
 ];
 
 /// The signs that assign, or declare, after a name.
-const ASSIGNING: [&[u8]; 11] = [
-    b":=", b"=", b":", b",", b"+=", b"-=", b"*=", b"/=", b"%=", b"++", b"--",
+const ASSIGNING: [&[u8]; 16] = [
+    b":=", b"=", b":", b",", b"+=", b"-=", b"*=", b"/=", b"%=", b"++", b"--", b"|=", b"&=", b"^=",
+    b"<<=", b">>=",
 ];
 
 /// The language's own operators between operands.
@@ -179,7 +180,7 @@ fn command_word(look: &Look, at: usize) -> Option<Found> {
     let next = at.saturating_add(1);
     let stop = match saying.0.first() {
         Some([b'e', b'n', b'd', ..]) => {
-            if look.is_keyword(next) && !look.is_first(next) {
+            if look.is(next, b".") || look.is_keyword(next) && !look.is_first(next) {
                 next.saturating_add(1)
             } else {
                 next
@@ -200,7 +201,11 @@ fn command_word(look: &Look, at: usize) -> Option<Found> {
 /// The construct that a name begins.
 fn word(look: &Look, at: usize) -> Option<Found> {
     let text = look.text(at);
-    if look.is_declared(text) || ASSIGNING.contains(&look.text(at.saturating_add(1))) {
+    let next = at.saturating_add(1);
+    if look.is_declared(text) && look.is(next, b"(") && look.touches(next) {
+        return call(look, at);
+    }
+    if look.is_declared(text) || ASSIGNING.contains(&look.text(next)) {
         return None;
     }
     if is_operator(text) {
@@ -351,7 +356,7 @@ fn assignment(look: &Look, at: usize) -> Option<Found> {
         [b':'] if look.is(value, b"=") => {
             assigned(look, at, value.saturating_add(1), Shape::Assign(2))
         }
-        [b':'] => {
+        [b':'] if command_saying(look.text(at)).is_none() => {
             let rest = " with `var`, as in `var x : L;`, at the beginning of the text.";
             Some(make_found(at, look.command_stop(sign), Shape::Say("declare ", rest)))
         }
@@ -393,26 +398,21 @@ fn is_foreign_operator(look: &Look, at: usize) -> bool {
     }
 }
 
-/// The sentence for a character outside of ASCII, if it is a common one.
-fn strange(text: &[u8]) -> Option<Shape> {
-    let sentence = match text {
-        [0xE2, 0x80, 0x90..=0x95] | [0xE2, 0x88, 0x92] => {
-            "write `-` for this dash, as in `x - 1`: outside comments a text is ASCII."
-        }
-        [0xE2, 0x80, 0x98..=0x9F] => {
-            "remove this typographic quote: each variable holds a whole number, as in `x := 1`."
-        }
-        [0xC2, 0xA0] | [0xE2, 0x80, 0x80..=0x8F] | [0xE2, 0x80, 0xAF] | [0xE3, 0x80, 0x80] => {
-            "write an ordinary blank in place of this one, which is another character, as in \
-            `x := 1`."
-        }
-        [0xE2, 0x89, 0xA4] => "write `1 - (b < a)` where `a` should be at most `b`.",
-        [0xE2, 0x89, 0xA5] => "write `1 - (a < b)` where `a` should be at least `b`.",
-        [0xE2, 0x89, 0xA0] => "write `1 - (a = b)` where `a` and `b` should differ.",
-        [0xC3, 0x97] | [0xC2, 0xB7] => "write `*` for the product, as in `2 * x`.",
-        _ => return None,
-    };
-    Some(Shape::Tell(sentence))
+/// The value around a foreign operator, or the operator alone if the value can't be rewritten.
+fn compared(look: &Look, at: usize) -> Found {
+    let next = at.saturating_add(1);
+    let start = look.value_start(at);
+    let stop = look.value_stop(start).max(next);
+    if look.has_lost_sign(start, stop) {
+        return make_found(at, next, Shape::Value(at));
+    }
+    make_found(start, stop, Shape::Value(at))
+}
+
+/// Whether a text between quotes begins with three quotes, as a comment of a function does.
+fn is_documentation(look: &Look, at: usize) -> bool {
+    let next = at.saturating_add(1);
+    look.text(at).len() == 2 && look.has_sort(next, Sort::Quoted) && look.touches(next)
 }
 
 /// The construct that a sign, a number, a text or a comment begins.
@@ -421,7 +421,11 @@ fn sign(look: &Look, at: usize) -> Option<Found> {
     let piece = look.pieces.get(at)?;
     match piece.sort {
         Sort::Comment => Some(make_found(at, next, Shape::Comment)),
-        Sort::Strange => Some(make_found(at, next, strange(piece.text)?)),
+        Sort::Strange => Some(make_found(at, next, Shape::Tell(character_saying(piece.text)?))),
+        Sort::Quoted if is_documentation(look, at) => {
+            let sentence = "begin each line of a comment with `#`, as in `# count`.";
+            Some(make_found(at, at.saturating_add(3), Shape::Tell(sentence)))
+        }
         Sort::Quoted => {
             let rest = ": each variable holds a whole number, as in `x := 1`.";
             Some(make_found(at, next, Shape::Say("there are no strings such as ", rest)))
@@ -434,9 +438,7 @@ fn sign(look: &Look, at: usize) -> Option<Found> {
                 return Some(make_found(at, next, Shape::Tell(sentence)));
             }
             if is_foreign_operator(look, at) {
-                let start = look.value_start(at);
-                let stop = look.value_stop(start).max(next);
-                return Some(make_found(start, stop, Shape::Value(at)));
+                return Some(compared(look, at));
             }
             Some(make_found(at, next, said(sign_saying(piece.text)?)))
         }

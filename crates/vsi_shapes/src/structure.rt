@@ -1,6 +1,7 @@
 //! Keywords and signs of the language that are missing or superfluous.
 
 use crate::look::Look;
+use crate::sayings::command_saying;
 use crate::shapes::{Found, Shape, make_found};
 
 /// The keywords with which an `if` goes on after its first branch.
@@ -74,7 +75,7 @@ fn unended(look: &Look, at: usize) -> Option<Found> {
     if !look.is_first(at) || !look.ends_operand(before) || !is_command(look, at) {
         return None;
     }
-    if is_after_guard(look, at) {
+    if is_after_guard(look, at) || command_saying(look.text(before)).is_some() {
         return None;
     }
     let rest = " with a `;`: it separates two commands, as in `x := 1; y := 2`.";

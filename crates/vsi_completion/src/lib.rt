@@ -1,0 +1,20 @@
+//! Classes and pairs that make a lattice of an order that is none.
+//!
+//! A search proposes them, and the order is read anew with them: each answer makes a lattice
+//! (clause `lattice`), and a completion puts no class below another one that it was not below
+//! (clause `keeps`). Whether there is an answer is only tested.
+//!
+//! To be believed: `specs/Completed`.
+#![tactic(auto)]
+
+mod adding;
+mod check;
+mod linking;
+mod placing;
+mod rows;
+#[cfg(test)]
+mod tests;
+
+pub use adding::{Addition, completion};
+pub use linking::{links, nearest};
+pub use placing::{Placement, Rank, placements};
