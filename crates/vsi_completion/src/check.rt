@@ -31,9 +31,12 @@ pub(crate) fn joined(
 fn are_below(count: usize, pairs: &[(u8, u8)]) -> bool
     ensures { IsTrue result → ArePairsBelow count pairs.now }
 {
-    for pair in pairs {
-        let (low, high) = *pair;
-        if usize::from(low) >= count || usize::from(high) >= count {
+    for i in 0..pairs.len() {
+        let (low, high) = pairs[i];
+        if usize::from(low) >= count {
+            return false;
+        }
+        if usize::from(high) >= count {
             return false;
         }
     }

@@ -56,6 +56,24 @@ fn own_bits(alloc: Global, count: usize) -> Result<Vec<u64>, AllocError>
     Ok(rows)
 }
 
+/// Puts a class of a pair below the other one, if both have rows.
+fn put_pair(rows: &mut Vec<u64>, pairs: &[(u8, u8)], number: usize)
+    requires few { vec_len rows.old ≤ 64 }
+    requires number { number < length pairs.now }
+    requires sound { (a b : ℕ) → row_has rows.old.items a b ≡ true → Leq pairs.now a b }
+    ensures len { vec_len rows.new ≡ vec_len rows.old }
+    ensures sound { (a b : ℕ) → row_has rows.new.items a b ≡ true → Leq pairs.now a b }
+{
+    let (low, high) = pairs[number];
+    if usize::from(low) >= rows.len() {
+        return;
+    }
+    if usize::from(high) >= rows.len() {
+        return;
+    }
+    add(rows, low, high);
+}
+
 /// The order that the pairs of the classes declare.
 pub(crate) fn rows_of(
     alloc: Global,
@@ -68,11 +86,8 @@ pub(crate) fn rows_of(
         (λ rows. (a b : ℕ) → row_has rows.items a b ≡ true → Leq pairs.now a b) }
 {
     let mut rows = own_bits(alloc, count)?;
-    for pair in pairs {
-        let (low, high) = *pair;
-        if usize::from(low) < count && usize::from(high) < count {
-            add(&mut rows, low, high);
-        }
+    for i in 0..pairs.len() {
+        put_pair(&mut rows, pairs, i);
     }
     Ok(rows)
 }

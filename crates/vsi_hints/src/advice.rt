@@ -302,7 +302,7 @@ fn undeclared<'a>(
         if names.len() >= MOST || names.contains(&name) || gets_declared(look, shapes, name) {
             continue;
         }
-        if is_true(name) || is_false(name) || name == b"default" {
+        if is_true(name) || is_false(name) || name == b"default".as_slice() {
             continue;
         }
         names.push(name)?;
