@@ -103,10 +103,11 @@ pub fn links(
         (λ pair. IsLatticeWith count pairs.now 0 (pair ∷ [])) found.items) }
 {
     let ends = candidates(alloc, count, pairs, a, b, is_up)?;
+    let [one, other] = ends.as_slice() else {
+        return Ok(Vec::new(alloc));
+    };
     let mut found = Vec::new(alloc);
-    if let [one, other] = ends.as_slice() {
-        put_link(alloc, &mut found, count, pairs, *one, *other)?;
-        put_link(alloc, &mut found, count, pairs, *other, *one)?;
-    }
+    put_link(alloc, &mut found, count, pairs, *one, *other)?;
+    put_link(alloc, &mut found, count, pairs, *other, *one)?;
     Ok(found)
 }

@@ -89,6 +89,26 @@ fn proposed(
     }
 }
 
+/// Adds pairs that place a class, if the order with them is a lattice.
+fn put_placement(
+    alloc: Global,
+    found: &mut Vec<Placement>,
+    count: usize,
+    pairs: &[(u8, u8)],
+    rank: Rank,
+    added: Vec<(u8, u8)>,
+) -> Result<(), AllocError>
+    requires { All (λ placed. IsLatticeWith count pairs.now 0 placed.pairs.items)
+        found.old.items }
+    ensures { All (λ placed. IsLatticeWith count pairs.now 0 placed.pairs.items)
+        found.new.items }
+{
+    if is_lattice_with(alloc, count, pairs, 0, &added)? {
+        found.push(Placement { rank, pairs: added })?;
+    }
+    Ok(())
+}
+
 /// The pairs that place a class so that the order is a lattice.
 pub fn placements(
     alloc: Global,
@@ -102,9 +122,7 @@ pub fn placements(
     let mut found = Vec::new(alloc);
     for rank in RANKS {
         let added = proposed(alloc, count, pairs, class, rank)?;
-        if is_lattice_with(alloc, count, pairs, 0, &added)? {
-            found.push(Placement { rank, pairs: added })?;
-        }
+        put_placement(alloc, &mut found, count, pairs, rank, added)?;
     }
     Ok(found)
 }
