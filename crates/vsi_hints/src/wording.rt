@@ -1,6 +1,6 @@
 //! Hints, and their sentences.
 
-ghost use Rattle.std.specs.Prelude.{◌≡◌, ◌++◌, IfOk, OnOk, codes, is_some};
+ghost use Rattle.std.specs.Prelude.{◌≡◌, ◌++◌, IfOk, OnOk, codes, is_some, take};
 ghost use Rattle.vsi_hints.specs.Hints as spec;
 
 use std::alloc::AllocError;
@@ -32,13 +32,26 @@ pub enum Hint<'s> {
     Plain(&'static str),
 }
 
+/// A text, or its beginning if it is long.
+#[tactic(auto, using(std::proofs::lemmas::List::take_all))]
+fn beginning(text: &[u8]) -> &[u8]
+    ensures { result.now ≡ take 120 text.now }
+{
+    if text.len() > LONGEST {
+        &text[..LONGEST]
+    } else {
+        text
+    }
+}
+
 /// Adds a text between back quotes, or its beginning if it is long.
 fn put_quoted(words: &mut Vec<u8>, text: &[u8]) -> Result<(), AllocError>
     ensures { OnOk result (words.new.items ≡ words.old.items ++ spec.quoted text.now) }
 {
     words.extend_from_slice(b"`")?;
-    words.extend_from_slice(&text[..text.len().min(LONGEST)])?;
-    words.extend_from_slice(b"`")
+    words.extend_from_slice(beginning(text))?;
+    words.extend_from_slice(b"`")?;
+    Ok(())
 }
 
 /// Adds the reason why a text is offered.
@@ -62,7 +75,8 @@ fn put_replacing(words: &mut Vec<u8>, new: &[u8], old: &[u8]) -> Result<(), Allo
     words.extend_from_slice(b"write ")?;
     put_quoted(words, new)?;
     words.extend_from_slice(b" in place of ")?;
-    put_quoted(words, old)
+    put_quoted(words, old)?;
+    Ok(())
 }
 
 /// Adds the form of this language for a sign.
