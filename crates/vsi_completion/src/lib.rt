@@ -2,7 +2,7 @@
 //!
 //! A search proposes them, and the order is read anew with them: each answer makes a lattice
 //! (clause `lattice`), and a completion puts no class below another one that it was not below
-//! (clause `keeps`). Whether there is an answer is only tested.
+//! (clause `keeps`). That there is an answer is only tested, by transcripts.
 //!
 //! To be believed: `specs/Completed`.
 #![tactic(auto)]
@@ -12,8 +12,6 @@ mod check;
 mod linking;
 mod placing;
 mod rows;
-#[cfg(test)]
-mod tests;
 
 pub use adding::{Addition, completion};
 pub use linking::{links, nearest};

@@ -181,7 +181,7 @@ const COMMANDS: [Saying; 12] = [
 ];
 
 /// The signs between or before operands.
-const SIGNS: [Saying; 13] = [
+const SIGNS: [Saying; 14] = [
     (
         &[b"<<", b"<<="],
         NONE,
@@ -240,13 +240,27 @@ const SIGNS: [Saying; 13] = [
         NONE,
         ": write `0 - 1 - x` for the number with each bit of `x` inverted.",
     ),
-    (&[b"**=", b"^", b"**"], NONE, ": multiply, as in `x * x`."),
+    (&[b"**=", b"**"], NONE, ": multiply, as in `x * x`."),
+    (
+        &[b"^"],
+        NONE,
+        ": multiply for a power, as in `x * x`; write `1 - (a = b)` for the exclusive or of two \
+        values that are 0 or 1.",
+    ),
     (
         &[b"xor", b"XOR"],
         NONE,
         ": write `1 - (a = b)` where both are 0 or 1.",
     ),
 ];
+
+/// A sign between numbers whose bits it joins.
+pub(crate) const BITS: Saying = (
+    &[b"&", b"|"],
+    NONE,
+    ": a number has no bits here. What `while 1 < r do r := r - 2` leaves of `r` is its lowest bit; \
+    write `a * b` where both are 0 or 1, and `0 < a + b` where one is enough.",
+);
 
 /// The sentence for a name or a sign in a table.
 fn saying_in(sayings: &[Saying], word: &[u8]) -> Option<Saying> {

@@ -2,6 +2,7 @@
 
 use crate::look::Look;
 use crate::sayings::{Saying, call_saying, character_saying, command_saying, sign_saying};
+use crate::signs::{has_unwritten, is_foreign_operator, unwritten};
 use vsi_foreign::{Sort, is_false, is_operator, is_true, number_of};
 
 /// The construct of some pieces.
@@ -53,7 +54,7 @@ pub(crate) fn make_found(first: usize, next: usize, shape: Shape) -> Found {
 }
 
 /// Names for an `if` in an `else`.
-const ELSE_IF: [&[u8]; 3] = [b"elif", b"elsif", b"elseif"];
+pub(crate) const ELSE_IF: [&[u8]; 3] = [b"elif", b"elsif", b"elseif"];
 
 /// Names that begin a block.
 const BEGIN: [&[u8]; 2] = [b"begin", b"BEGIN"];
@@ -93,9 +94,6 @@ const ASSIGNING: [&[u8]; 16] = [
     b":=", b"=", b":", b",", b"+=", b"-=", b"*=", b"/=", b"%=", b"++", b"--", b"|=", b"&=", b"^=",
     b"<<=", b">>=",
 ];
-
-/// The language's own operators between operands.
-const OWN: [&[u8]; 5] = [b"+", b"-", b"*", b"=", b"<"];
 
 /// The sentence with a saying's parts.
 fn said(saying: Saying) -> Shape {
@@ -322,6 +320,7 @@ fn is_division(look: &Look, at: usize) -> bool {
 fn is_beyond(look: &Look, at: usize, stop: usize) -> bool {
     for place in at..stop {
         if sign_saying(look.text(place)).is_some()
+            || unwritten(look, place).is_some()
             || look.is(place.saturating_add(1), b"(") && look.is_name(place)
         {
             return true;
@@ -365,36 +364,17 @@ fn assignment(look: &Look, at: usize) -> Option<Found> {
         [b'*', b'='] => assigned(look, at, value, Shape::Compound(" * ")),
         [b'+', b'+'] => Some(make_found(at, value, Shape::Step(" + 1"))),
         [b'-', b'-'] => Some(make_found(at, value, Shape::Step(" - 1"))),
-        [b','] if is_swap(look, at) => Some(make_found(at, look.command_stop(at), Shape::Swap)),
-        _ => None,
-    }
-}
-
-/// Whether a sign compares an operand that the sign before it has already compared.
-fn is_chained(look: &Look, at: usize) -> bool {
-    let mut open: usize = 0;
-    for place in look.value_start(at)..at {
-        match look.text(place) {
-            [b'('] => open = open.saturating_add(1),
-            [b')'] => open = open.saturating_sub(1),
-            [b'<'] | [b'='] if open == 0 => return true,
-            _ => {}
+        [b','] if is_swap(look, at) => {
+            let values = at.saturating_add(4);
+            let stop = look.command_stop(at);
+            let next = if is_beyond(look, values, stop) {
+                values
+            } else {
+                stop
+            };
+            Some(make_found(at, next, Shape::Swap))
         }
-    }
-    false
-}
-
-/// Whether a piece is an operator that the language lacks in this position.
-fn is_foreign_operator(look: &Look, at: usize) -> bool {
-    let text = look.text(at);
-    let is_after_operand = match at.checked_sub(1) {
-        Some(before) => look.ends_operand(before),
-        None => false,
-    };
-    match text {
-        [b'-'] => !is_after_operand,
-        [b'<'] | [b'='] => is_after_operand && is_chained(look, at),
-        _ => is_operator(text) && !OWN.contains(&text),
+        _ => None,
     }
 }
 
@@ -403,7 +383,7 @@ fn compared(look: &Look, at: usize) -> Found {
     let next = at.saturating_add(1);
     let start = look.value_start(at);
     let stop = look.value_stop(start).max(next);
-    if look.has_lost_sign(start, stop) {
+    if look.has_lost_sign(start, stop) || has_unwritten(look, start, stop) {
         return make_found(at, next, Shape::Value(at));
     }
     make_found(start, stop, Shape::Value(at))
@@ -436,6 +416,9 @@ fn sign(look: &Look, at: usize) -> Option<Found> {
                 let sentence =
                     "numbers are whole, so count in a smaller unit, such as 50 cents for .50.";
                 return Some(make_found(at, next, Shape::Tell(sentence)));
+            }
+            if let Some(saying) = unwritten(look, at) {
+                return Some(make_found(at, next, said(saying)));
             }
             if is_foreign_operator(look, at) {
                 return Some(compared(look, at));

@@ -2,7 +2,7 @@
 
 use crate::look::Look;
 use crate::sayings::command_saying;
-use crate::shapes::{Found, Shape, make_found};
+use crate::shapes::{ELSE_IF, Found, Shape, make_found};
 
 /// The keywords with which an `if` goes on after its first branch.
 const ELSE: [&[u8]; 5] = [b"else", b"elif", b"elsif", b"elseif", b"ELSE"];
@@ -158,6 +158,21 @@ fn halved(look: &Look, at: usize) -> Option<Found> {
     Some(make_found(at, stop, Shape::Say("give this ", rest)))
 }
 
+/// An `if` after a value that is assigned, as other languages choose between two values.
+fn conditional(look: &Look, at: usize) -> Option<Found> {
+    let before = at.checked_sub(1)?;
+    if !look.is(at, b"if") || !look.ends_operand(before) || look.is_first(at) {
+        return None;
+    }
+    let sign = look.value_start(before).checked_sub(1)?;
+    if !matches!(look.text(sign), [b'='] | [b':', b'=']) {
+        return None;
+    }
+    let rest = " in an expression: choose with `if a < b then x := a else x := b`.";
+    let next = at.saturating_add(1);
+    Some(make_found(at, next, Shape::Say("there is no ", rest)))
+}
+
 /// A guard without the keyword after it.
 fn unguarded(look: &Look, at: usize, word: &'static str) -> Option<Found> {
     let stop = look.value_stop(at.saturating_add(1));
@@ -185,6 +200,9 @@ pub fn structure_at(look: &Look, at: usize) -> Option<Found> {
     if look.is_before(at, b"var") || look.is_before(at, b"letvar") {
         return None;
     }
+    if let Some(found) = conditional(look, at) {
+        return Some(found);
+    }
     match look.text(at) {
         [b'l', b'e', b't', b'v', b'a', b'r'] => unbound(look, at),
         [b';'] => superfluous(look, at),
@@ -201,7 +219,9 @@ pub fn structure_at(look: &Look, at: usize) -> Option<Found> {
 
 /// An `if` without an `else` at a piece.
 pub fn halved_at(look: &Look, at: usize) -> Option<Found> {
-    if look.is(at, b"if") {
+    let text = look.text(at);
+    let is_if = text == b"if".as_slice() || ELSE_IF.contains(&text);
+    if is_if && conditional(look, at).is_none() {
         halved(look, at)
     } else {
         None
