@@ -2,7 +2,7 @@
 //!
 //! A search proposes them, and the order is read anew with them: each answer makes a lattice
 //! (clause `lattice`), and a completion puts no class below another one that it was not below
-//! (clause `keeps`). That there is an answer is only tested, by transcripts.
+//! (clause `keeps`). Only transcripts show that there is an answer.
 //!
 //! To be believed: `specs/Completed`.
 #![tactic(auto)]

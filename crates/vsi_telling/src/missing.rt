@@ -221,6 +221,15 @@ fn base_name(pairs: &[(u8, u8)], class: u8) -> &'static [u8] {
     }
 }
 
+/// Adds a name, with the number of the turn after the first one.
+fn put_name(name: &mut Vec<u8>, base: &[u8], turn: usize) -> Result<(), AllocError> {
+    if turn == 1 {
+        name.extend_from_slice(base)
+    } else {
+        put_parts(name, &[Part::Text(base), Part::Number(turn)])
+    }
+}
+
 /// A name for an added class that no class has.
 fn fresh_name(
     alloc: Global,
@@ -230,8 +239,7 @@ fn fresh_name(
 ) -> Result<Vec<u8>, AllocError> {
     for turn in 1..MOST_TRIED {
         let mut name = Vec::new(alloc);
-        let parts = [Part::Text(base), Part::Number(turn)];
-        put_parts(&mut name, if turn == 1 { &parts[..1] } else { &parts })?;
+        put_name(&mut name, base, turn)?;
         if !has_name(names, fresh, &name) {
             return Ok(name);
         }
@@ -264,13 +272,15 @@ fn put_addition(
     addition: &Addition,
 ) -> Result<(), AllocError> {
     let fresh = fresh_names(alloc, names, addition)?;
+    let mut added = Vec::new(alloc);
     let mut all = Vec::new(alloc);
     all.extend_from_slice(names)?;
     for name in &fresh {
+        added.push(name.as_slice())?;
         all.push(name.as_slice())?;
     }
     words.extend_from_slice(begin)?;
-    put_names(words, &all[names.len()..])?;
+    put_names(words, &added)?;
     words.extend_from_slice(b" to `classes`, and ")?;
     put_pairs(words, &all, &addition.pairs)?;
     words.extend_from_slice(b" to `below`.\n")
@@ -308,12 +318,12 @@ fn put_remedies(
     alloc: Global,
     words: &mut Vec<u8>,
     names: &[&[u8]],
-    addition: Option<Addition>,
+    addition: &Option<Addition>,
     found: &[(u8, u8)],
 ) -> Result<(), AllocError> {
     match addition {
         Some(addition) => {
-            put_addition(alloc, words, names, b"Hint: add ", &addition)?;
+            put_addition(alloc, words, names, b"Hint: add ", addition)?;
             put_links(words, names, b"Or add ", found)
         }
         None if found.is_empty() => words.extend_from_slice(
@@ -337,7 +347,7 @@ fn put_all(
     put_lack(words, names, lack, &near)?;
     let addition = completion(alloc, count, pairs)?;
     let found = links(alloc, count, pairs, lack.a, lack.b, lack.is_up)?;
-    put_remedies(alloc, words, names, addition, &found)
+    put_remedies(alloc, words, names, &addition, &found)
 }
 
 /// Adds which class above two others is missing if `is_up`, otherwise which class below them, and
