@@ -165,7 +165,8 @@ fn conditional(look: &Look, at: usize) -> Option<Found> {
         return None;
     }
     let sign = look.value_start(before).checked_sub(1)?;
-    if !matches!(look.text(sign), [b'='] | [b':', b'=']) {
+    let stop = look.value_stop(at.saturating_add(1));
+    if !matches!(look.text(sign), [b'='] | [b':', b'=']) || !look.is(stop, b"else") {
         return None;
     }
     let rest = " in an expression: choose with `if a < b then x := a else x := b`.";
