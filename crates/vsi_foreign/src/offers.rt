@@ -105,7 +105,8 @@ pub fn expression_alone(alloc: Global, text: Vec<u8>) -> Result<Option<Vec<u8>>,
 
 /// The text, if it is a program.
 pub fn program_alone(alloc: Global, text: Vec<u8>) -> Result<Option<Vec<u8>>, AllocError>
-    ensures { IfOk result (λ found. IfSome found (λ text. IsProgramText text.items)) }
+    ensures read { IfOk result (λ found. IfSome found (λ text. IsProgramText text.items)) }
+    ensures same { IfOk result (λ found. IfSome found (λ read. read.items ≡ text.items)) }
 {
     if is_program(alloc, &text)? {
         Ok(Some(text))

@@ -33,9 +33,10 @@ pub struct Piece<'a> {
 }
 
 /// The signs of more than one byte, longer ones first.
-const SIGNS: [&[u8]; 24] = [
-    b"===", b"!==", b"**=", b"//=", b":=", b"==", b"!=", b"<>", b"~=", b"<=", b">=", b"=<", b"=>",
-    b"&&", b"||", b"**", b"++", b"--", b"+=", b"-=", b"*=", b"/=", b"%=", b"->",
+const SIGNS: [&[u8]; 33] = [
+    b">>>=", b"===", b"!==", b"**=", b"//=", b"<<=", b">>=", b">>>", b"<<", b">>", b"|=", b"&=",
+    b"^=", b":=", b"==", b"!=", b"<>", b"~=", b"<=", b">=", b"=<", b"=>", b"&&", b"||", b"**",
+    b"++", b"--", b"+=", b"-=", b"*=", b"/=", b"%=", b"->",
 ];
 
 /// Whether a byte belongs to a name.

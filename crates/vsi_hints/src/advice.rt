@@ -1,8 +1,12 @@
-//! Sentences about the constructs of other languages in a text.
+//! Hints for the constructs of other languages in a text.
 
-use crate::telling::put_found;
+ghost use Rattle.std.specs.Prelude.{IfOk, IfSome};
+ghost use Rattle.vsi_hints.specs.Hints.{OffersRead};
+
+use crate::choice::hint_of;
+use crate::wording::{Hint, put_sentence};
 use std::alloc::{AllocError, Global};
-use vsi_foreign::pieces_of;
+use vsi_foreign::{is_false, is_true, pieces_of};
 use vsi_shapes::{Found, Look, Shape, halved_at, shape_at, structure_at};
 use vsi_syntax::put_place;
 
@@ -69,28 +73,21 @@ fn covering(shapes: &[Found], piece: usize) -> Option<Found> {
     last
 }
 
-/// Adds a hint for the construct of another language at a position in a text, and returns whether
-/// there is one.
-pub fn put_hint(
+/// The hint for the construct of another language at a place of a text, if there is one.
+pub fn hint_at<'s>(
     alloc: Global,
-    words: &mut Vec<u8>,
-    source: &[u8],
+    source: &'s [u8],
     at: usize,
-) -> Result<bool, AllocError> {
+) -> Result<Option<Hint<'s>>, AllocError>
+    ensures read { IfOk result (λ hint. IfSome hint OffersRead) }
+{
     let pieces = pieces_of(alloc, source)?;
     let look = Look { pieces: &pieces };
     let shapes = all_shapes(alloc, &look)?;
-    let Some(found) = covering(&shapes, piece_number(&look, at)) else {
-        return Ok(false);
-    };
-    let mut sentence = Vec::new(alloc);
-    if !put_found(alloc, &mut sentence, source, &look, &found)? {
-        return Ok(false);
+    match covering(&shapes, piece_number(&look, at)) {
+        Some(found) => hint_of(alloc, source, &look, &found),
+        None => Ok(None),
     }
-    words.extend_from_slice(b"Hint: ")?;
-    words.extend_from_slice(&sentence)?;
-    words.extend_from_slice(b"\n")?;
-    Ok(true)
 }
 
 /// The key of a construct. Constructs with the same key have the same advice.
@@ -130,33 +127,32 @@ fn sum(text: &[u8]) -> usize {
 }
 
 /// Adds one further place.
-fn put_further_place(
+fn put_further_place<'s>(
     alloc: Global,
     words: &mut Vec<u8>,
-    source: &[u8],
-    look: &Look,
+    source: &'s [u8],
+    look: &Look<'s, '_>,
     found: &Found,
 ) -> Result<(), AllocError> {
-    let mut sentence = Vec::new(alloc);
-    if !put_found(alloc, &mut sentence, source, look, found)? {
+    let Some(hint) = hint_of(alloc, source, look, found)? else {
         return Ok(());
-    }
+    };
     let Some(piece) = look.pieces.get(found.first) else {
         return Ok(());
     };
     words.extend_from_slice(b"Also at ")?;
     put_place(words, source, piece.at)?;
     words.extend_from_slice(b": ")?;
-    words.extend_from_slice(&sentence)?;
+    put_sentence(words, &hint)?;
     words.extend_from_slice(b"\n")
 }
 
 /// Adds the places of those that need advice of their own; `keys` has the advice already given.
-fn put_each(
+fn put_each<'s>(
     alloc: Global,
     words: &mut Vec<u8>,
-    source: &[u8],
-    look: &Look,
+    source: &'s [u8],
+    look: &Look<'s, '_>,
     shapes: &[Found],
     is_within: bool,
     piece: usize,
@@ -304,6 +300,9 @@ fn undeclared<'a>(
             continue;
         }
         if names.len() >= MOST || names.contains(&name) || gets_declared(look, shapes, name) {
+            continue;
+        }
+        if is_true(name) || is_false(name) || name == b"default".as_slice() {
             continue;
         }
         names.push(name)?;

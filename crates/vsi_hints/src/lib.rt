@@ -1,12 +1,16 @@
 //! Hints for constructs of other languages in a text: what to write instead.
 //!
-//! `put_hint` is about the construct at a refused position, and `put_further` about the others in
-//! the text. The reader of the language has read every text that is offered as a replacement.
+//! `hint_at` finds the hint for a refused place, and `put_further` writes those for the rest of the
+//! text. A text that a hint offers has been read by the reader of the language (`OffersRead`), and
+//! `put_hint` writes exactly the line of a hint (`hint_line`). Which hint is chosen is only tested.
 //!
-//! To be believed: `specs/Offered` of vsi_foreign.
+//! To be believed: `specs/Hints`, and `specs/Offered` of vsi_foreign.
 #![tactic(auto)]
 
 mod advice;
-mod telling;
+mod choice;
+mod offers;
+mod wording;
 
-pub use advice::{put_further, put_hint};
+pub use advice::{hint_at, put_further};
+pub use wording::{Hint, Reason, put_hint};

@@ -9,6 +9,7 @@
 mod look;
 mod sayings;
 mod shapes;
+mod signs;
 mod structure;
 
 pub use look::Look;

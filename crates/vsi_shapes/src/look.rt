@@ -1,5 +1,6 @@
 //! The pieces around a position in a text.
 
+use crate::sayings::sign_saying;
 use vsi_foreign::{Piece, Sort, is_no_operand, is_operator};
 
 /// The pieces of a text.
@@ -234,6 +235,17 @@ impl<'a, 't> Look<'a, 't> {
             }
         }
         self.pieces.len()
+    }
+
+    /// Whether pieces have a sign that no rewriting gives a meaning to.
+    pub(crate) fn has_lost_sign(&self, start: usize, stop: usize) -> bool {
+        for at in start..stop {
+            let text = self.text(at);
+            if sign_saying(text).is_some() && !is_operator(text) {
+                return true;
+            }
+        }
+        false
     }
 
     /// The piece after the bracket that closes the one at a piece, or the end of the command.

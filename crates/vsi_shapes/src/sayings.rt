@@ -181,7 +181,22 @@ const COMMANDS: [Saying; 12] = [
 ];
 
 /// The signs between or before operands.
-const SIGNS: [Saying; 10] = [
+const SIGNS: [Saying; 14] = [
+    (
+        &[b"<<", b"<<="],
+        NONE,
+        ": double the value for each place, as in `x := x * 2`.",
+    ),
+    (
+        &[b">>", b">>=", b">>>", b">>>="],
+        NONE,
+        ": halve the value for each place, as `while 1 < r do { r := r - 2; q := q + 1 }` does.",
+    ),
+    (
+        &[b"|=", b"&=", b"^="],
+        NONE,
+        ": write the new value after `:=`, as in `x := 0 < x + y` where both are 0 or 1.",
+    ),
     (
         &[b"/", b"//", b"div", b"DIV", b"/=", b"//="],
         NONE,
@@ -225,13 +240,27 @@ const SIGNS: [Saying; 10] = [
         NONE,
         ": write `0 - 1 - x` for the number with each bit of `x` inverted.",
     ),
-    (&[b"**=", b"^", b"**"], NONE, ": multiply, as in `x * x`."),
+    (&[b"**=", b"**"], NONE, ": multiply, as in `x * x`."),
+    (
+        &[b"^"],
+        NONE,
+        ": multiply for a power, as in `x * x`; write `1 - (a = b)` for the exclusive or of two \
+        values that are 0 or 1.",
+    ),
     (
         &[b"xor", b"XOR"],
         NONE,
         ": write `1 - (a = b)` where both are 0 or 1.",
     ),
 ];
+
+/// A sign between numbers whose bits it joins.
+pub(crate) const BITS: Saying = (
+    &[b"&", b"|"],
+    NONE,
+    ": a number has no bits here. What `while 1 < r do r := r - 2` leaves of `r` is its lowest bit; \
+    write `a * b` where both are 0 or 1, and `0 < a + b` where one is enough.",
+);
 
 /// The sentence for a name or a sign in a table.
 fn saying_in(sayings: &[Saying], word: &[u8]) -> Option<Saying> {
@@ -256,4 +285,26 @@ pub(crate) fn command_saying(word: &[u8]) -> Option<Saying> {
 /// The sentence for a sign between or before operands.
 pub(crate) fn sign_saying(sign: &[u8]) -> Option<Saying> {
     saying_in(&SIGNS, sign)
+}
+
+/// The sentence for a character outside of ASCII, if it is a common one.
+pub(crate) fn character_saying(text: &[u8]) -> Option<&'static str> {
+    let sentence = match text {
+        [0xE2, 0x80, 0x90..=0x95] | [0xE2, 0x88, 0x92] => {
+            "write `-` for this dash, as in `x - 1`: outside comments a text is ASCII."
+        }
+        [0xE2, 0x80, 0x98..=0x9F] => {
+            "remove this typographic quote: each variable holds a whole number, as in `x := 1`."
+        }
+        [0xC2, 0xA0] | [0xE2, 0x80, 0x80..=0x8F] | [0xE2, 0x80, 0xAF] | [0xE3, 0x80, 0x80] => {
+            "write an ordinary blank in place of this one, which is another character, as in \
+            `x := 1`."
+        }
+        [0xE2, 0x89, 0xA4] => "write `1 - (b < a)` where `a` should be at most `b`.",
+        [0xE2, 0x89, 0xA5] => "write `1 - (a < b)` where `a` should be at least `b`.",
+        [0xE2, 0x89, 0xA0] => "write `1 - (a = b)` where `a` and `b` should differ.",
+        [0xC3, 0x97] | [0xC2, 0xB7] => "write `*` for the product, as in `2 * x`.",
+        _ => return None,
+    };
+    Some(sentence)
 }

@@ -1,7 +1,8 @@
 //! The constructs of other languages, and the pieces that belong to each.
 
 use crate::look::Look;
-use crate::sayings::{Saying, call_saying, command_saying, sign_saying};
+use crate::sayings::{Saying, call_saying, character_saying, command_saying, sign_saying};
+use crate::signs::{has_unwritten, is_foreign_operator, unwritten};
 use vsi_foreign::{Sort, is_false, is_operator, is_true, number_of};
 
 /// The construct of some pieces.
@@ -53,7 +54,7 @@ pub(crate) fn make_found(first: usize, next: usize, shape: Shape) -> Found {
 }
 
 /// Names for an `if` in an `else`.
-const ELSE_IF: [&[u8]; 3] = [b"elif", b"elsif", b"elseif"];
+pub(crate) const ELSE_IF: [&[u8]; 3] = [b"elif", b"elsif", b"elseif"];
 
 /// Names that begin a block.
 const BEGIN: [&[u8]; 2] = [b"begin", b"BEGIN"];
@@ -89,12 +90,10 @@ const TYPES: [&[u8]; 20] = [
 ];
 
 /// The signs that assign, or declare, after a name.
-const ASSIGNING: [&[u8]; 11] = [
-    b":=", b"=", b":", b",", b"+=", b"-=", b"*=", b"/=", b"%=", b"++", b"--",
+const ASSIGNING: [&[u8]; 16] = [
+    b":=", b"=", b":", b",", b"+=", b"-=", b"*=", b"/=", b"%=", b"++", b"--", b"|=", b"&=", b"^=",
+    b"<<=", b">>=",
 ];
-
-/// The language's own operators between operands.
-const OWN: [&[u8]; 5] = [b"+", b"-", b"*", b"=", b"<"];
 
 /// The sentence with a saying's parts.
 fn said(saying: Saying) -> Shape {
@@ -179,7 +178,7 @@ fn command_word(look: &Look, at: usize) -> Option<Found> {
     let next = at.saturating_add(1);
     let stop = match saying.0.first() {
         Some([b'e', b'n', b'd', ..]) => {
-            if look.is_keyword(next) && !look.is_first(next) {
+            if look.is(next, b".") || look.is_keyword(next) && !look.is_first(next) {
                 next.saturating_add(1)
             } else {
                 next
@@ -200,7 +199,11 @@ fn command_word(look: &Look, at: usize) -> Option<Found> {
 /// The construct that a name begins.
 fn word(look: &Look, at: usize) -> Option<Found> {
     let text = look.text(at);
-    if look.is_declared(text) || ASSIGNING.contains(&look.text(at.saturating_add(1))) {
+    let next = at.saturating_add(1);
+    if look.is_declared(text) && look.is(next, b"(") && look.touches(next) {
+        return call(look, at);
+    }
+    if look.is_declared(text) || ASSIGNING.contains(&look.text(next)) {
         return None;
     }
     if is_operator(text) {
@@ -317,6 +320,7 @@ fn is_division(look: &Look, at: usize) -> bool {
 fn is_beyond(look: &Look, at: usize, stop: usize) -> bool {
     for place in at..stop {
         if sign_saying(look.text(place)).is_some()
+            || unwritten(look, place).is_some()
             || look.is(place.saturating_add(1), b"(") && look.is_name(place)
         {
             return true;
@@ -351,7 +355,7 @@ fn assignment(look: &Look, at: usize) -> Option<Found> {
         [b':'] if look.is(value, b"=") => {
             assigned(look, at, value.saturating_add(1), Shape::Assign(2))
         }
-        [b':'] => {
+        [b':'] if command_saying(look.text(at)).is_none() => {
             let rest = " with `var`, as in `var x : L;`, at the beginning of the text.";
             Some(make_found(at, look.command_stop(sign), Shape::Say("declare ", rest)))
         }
@@ -360,59 +364,35 @@ fn assignment(look: &Look, at: usize) -> Option<Found> {
         [b'*', b'='] => assigned(look, at, value, Shape::Compound(" * ")),
         [b'+', b'+'] => Some(make_found(at, value, Shape::Step(" + 1"))),
         [b'-', b'-'] => Some(make_found(at, value, Shape::Step(" - 1"))),
-        [b','] if is_swap(look, at) => Some(make_found(at, look.command_stop(at), Shape::Swap)),
+        [b','] if is_swap(look, at) => {
+            let values = at.saturating_add(4);
+            let stop = look.command_stop(at);
+            let next = if is_beyond(look, values, stop) {
+                values
+            } else {
+                stop
+            };
+            Some(make_found(at, next, Shape::Swap))
+        }
         _ => None,
     }
 }
 
-/// Whether a sign compares an operand that the sign before it has already compared.
-fn is_chained(look: &Look, at: usize) -> bool {
-    let mut open: usize = 0;
-    for place in look.value_start(at)..at {
-        match look.text(place) {
-            [b'('] => open = open.saturating_add(1),
-            [b')'] => open = open.saturating_sub(1),
-            [b'<'] | [b'='] if open == 0 => return true,
-            _ => {}
-        }
+/// The value around a foreign operator, or the operator alone if the value can't be rewritten.
+fn compared(look: &Look, at: usize) -> Found {
+    let next = at.saturating_add(1);
+    let start = look.value_start(at);
+    let stop = look.value_stop(start).max(next);
+    if look.has_lost_sign(start, stop) || has_unwritten(look, start, stop) {
+        return make_found(at, next, Shape::Value(at));
     }
-    false
+    make_found(start, stop, Shape::Value(at))
 }
 
-/// Whether a piece is an operator that the language lacks in this position.
-fn is_foreign_operator(look: &Look, at: usize) -> bool {
-    let text = look.text(at);
-    let is_after_operand = match at.checked_sub(1) {
-        Some(before) => look.ends_operand(before),
-        None => false,
-    };
-    match text {
-        [b'-'] => !is_after_operand,
-        [b'<'] | [b'='] => is_after_operand && is_chained(look, at),
-        _ => is_operator(text) && !OWN.contains(&text),
-    }
-}
-
-/// The sentence for a character outside of ASCII, if it is a common one.
-fn strange(text: &[u8]) -> Option<Shape> {
-    let sentence = match text {
-        [0xE2, 0x80, 0x90..=0x95] | [0xE2, 0x88, 0x92] => {
-            "write `-` for this dash, as in `x - 1`: outside comments a text is ASCII."
-        }
-        [0xE2, 0x80, 0x98..=0x9F] => {
-            "remove this typographic quote: each variable holds a whole number, as in `x := 1`."
-        }
-        [0xC2, 0xA0] | [0xE2, 0x80, 0x80..=0x8F] | [0xE2, 0x80, 0xAF] | [0xE3, 0x80, 0x80] => {
-            "write an ordinary blank in place of this one, which is another character, as in \
-            `x := 1`."
-        }
-        [0xE2, 0x89, 0xA4] => "write `1 - (b < a)` where `a` should be at most `b`.",
-        [0xE2, 0x89, 0xA5] => "write `1 - (a < b)` where `a` should be at least `b`.",
-        [0xE2, 0x89, 0xA0] => "write `1 - (a = b)` where `a` and `b` should differ.",
-        [0xC3, 0x97] | [0xC2, 0xB7] => "write `*` for the product, as in `2 * x`.",
-        _ => return None,
-    };
-    Some(Shape::Tell(sentence))
+/// Whether a text between quotes begins with three quotes, as a comment of a function does.
+fn is_documentation(look: &Look, at: usize) -> bool {
+    let next = at.saturating_add(1);
+    look.text(at).len() == 2 && look.has_sort(next, Sort::Quoted) && look.touches(next)
 }
 
 /// The construct that a sign, a number, a text or a comment begins.
@@ -421,7 +401,11 @@ fn sign(look: &Look, at: usize) -> Option<Found> {
     let piece = look.pieces.get(at)?;
     match piece.sort {
         Sort::Comment => Some(make_found(at, next, Shape::Comment)),
-        Sort::Strange => Some(make_found(at, next, strange(piece.text)?)),
+        Sort::Strange => Some(make_found(at, next, Shape::Tell(character_saying(piece.text)?))),
+        Sort::Quoted if is_documentation(look, at) => {
+            let sentence = "begin each line of a comment with `#`, as in `# count`.";
+            Some(make_found(at, at.saturating_add(3), Shape::Tell(sentence)))
+        }
         Sort::Quoted => {
             let rest = ": each variable holds a whole number, as in `x := 1`.";
             Some(make_found(at, next, Shape::Say("there are no strings such as ", rest)))
@@ -433,10 +417,11 @@ fn sign(look: &Look, at: usize) -> Option<Found> {
                     "numbers are whole, so count in a smaller unit, such as 50 cents for .50.";
                 return Some(make_found(at, next, Shape::Tell(sentence)));
             }
+            if let Some(saying) = unwritten(look, at) {
+                return Some(make_found(at, next, said(saying)));
+            }
             if is_foreign_operator(look, at) {
-                let start = look.value_start(at);
-                let stop = look.value_stop(start).max(next);
-                return Some(make_found(start, stop, Shape::Value(at)));
+                return Some(compared(look, at));
             }
             Some(make_found(at, next, said(sign_saying(piece.text)?)))
         }

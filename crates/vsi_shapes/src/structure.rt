@@ -1,7 +1,8 @@
 //! Keywords and signs of the language that are missing or superfluous.
 
 use crate::look::Look;
-use crate::shapes::{Found, Shape, make_found};
+use crate::sayings::command_saying;
+use crate::shapes::{ELSE_IF, Found, Shape, make_found};
 
 /// The keywords with which an `if` goes on after its first branch.
 const ELSE: [&[u8]; 5] = [b"else", b"elif", b"elsif", b"elseif", b"ELSE"];
@@ -74,7 +75,7 @@ fn unended(look: &Look, at: usize) -> Option<Found> {
     if !look.is_first(at) || !look.ends_operand(before) || !is_command(look, at) {
         return None;
     }
-    if is_after_guard(look, at) {
+    if is_after_guard(look, at) || command_saying(look.text(before)).is_some() {
         return None;
     }
     let rest = " with a `;`: it separates two commands, as in `x := 1; y := 2`.";
@@ -157,6 +158,22 @@ fn halved(look: &Look, at: usize) -> Option<Found> {
     Some(make_found(at, stop, Shape::Say("give this ", rest)))
 }
 
+/// An `if` after a value that is assigned, as other languages choose between two values.
+fn conditional(look: &Look, at: usize) -> Option<Found> {
+    let before = at.checked_sub(1)?;
+    if !look.is(at, b"if") || !look.ends_operand(before) || look.is_first(at) {
+        return None;
+    }
+    let sign = look.value_start(before).checked_sub(1)?;
+    let stop = look.value_stop(at.saturating_add(1));
+    if !matches!(look.text(sign), [b'='] | [b':', b'=']) || !look.is(stop, b"else") {
+        return None;
+    }
+    let rest = " in an expression: choose with `if a < b then x := a else x := b`.";
+    let next = at.saturating_add(1);
+    Some(make_found(at, next, Shape::Say("there is no ", rest)))
+}
+
 /// A guard without the keyword after it.
 fn unguarded(look: &Look, at: usize, word: &'static str) -> Option<Found> {
     let stop = look.value_stop(at.saturating_add(1));
@@ -184,6 +201,9 @@ pub fn structure_at(look: &Look, at: usize) -> Option<Found> {
     if look.is_before(at, b"var") || look.is_before(at, b"letvar") {
         return None;
     }
+    if let Some(found) = conditional(look, at) {
+        return Some(found);
+    }
     match look.text(at) {
         [b'l', b'e', b't', b'v', b'a', b'r'] => unbound(look, at),
         [b';'] => superfluous(look, at),
@@ -200,7 +220,9 @@ pub fn structure_at(look: &Look, at: usize) -> Option<Found> {
 
 /// An `if` without an `else` at a piece.
 pub fn halved_at(look: &Look, at: usize) -> Option<Found> {
-    if look.is(at, b"if") {
+    let text = look.text(at);
+    let is_if = text == b"if".as_slice() || ELSE_IF.contains(&text);
+    if is_if && conditional(look, at).is_none() {
         halved(look, at)
     } else {
         None

@@ -1,8 +1,9 @@
 //! The explanation of a refused lattice file.
 
 use crate::finding::{bare_place, key_place, quoted_place};
+use crate::missing::put_missing;
 use crate::names::{Part, put_parts};
-use crate::orders::{Order, put_missing, put_ring};
+use crate::orders::{Order, put_ring};
 use crate::tables::{array_in, table_in, value_in};
 use std::alloc::{AllocError, Global};
 use toml::{Table, Value};

@@ -4,7 +4,7 @@ use crate::hints::file_hint;
 use crate::names::{Part, part_of, put_parts};
 use crate::operands::{put_division, put_operator};
 use std::alloc::{AllocError, Global};
-use vsi_hints::put_hint;
+use vsi_hints::{hint_at, put_hint};
 use vsi_syntax::{LexError, Span};
 
 /// The largest number of bytes of a name.
@@ -82,7 +82,7 @@ fn put_byte(
     if let Some(hint) = file_hint(source) {
         return words.extend_from_slice(hint.as_bytes());
     }
-    if put_hint(alloc, words, source, at)? {
+    if put_hint(words, &hint_at(alloc, source, at)?)? {
         return Ok(());
     }
     if put_operator(words, source, sign_of(byte, next), at)? {
@@ -109,7 +109,7 @@ fn put_word(
         Part::Text(b" isn't a name, a keyword or a number.\n"),
     ];
     put_parts(words, &parts)?;
-    if put_hint(alloc, words, source, span.start)? {
+    if put_hint(words, &hint_at(alloc, source, span.start)?)? {
         return Ok(());
     }
     match word.first() {

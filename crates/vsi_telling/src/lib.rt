@@ -14,6 +14,7 @@ mod hints;
 mod images;
 mod lattices;
 mod lexical;
+mod missing;
 pub mod names;
 pub mod nearest;
 mod operands;

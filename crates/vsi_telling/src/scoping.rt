@@ -10,7 +10,7 @@ use crate::names::{
 };
 use crate::nearest::{put_nearest, put_nearest_or};
 use std::alloc::{AllocError, Global};
-use vsi_hints::put_hint;
+use vsi_hints::{hint_at, put_hint};
 use vsi_lattice::{Classes, Lattice};
 use vsi_scope::ScopeError;
 use vsi_syntax::{Kind, Span, Token};
@@ -203,7 +203,7 @@ fn put_unbound(
     let name = part_of(source, span);
     put_word_between(words, b"", name, b" isn't declared here.\n")?;
     let Some(local) = declaration(tokens, Kind::Letvar, name) else {
-        if put_hint(alloc, words, source, span.start)? {
+        if put_hint(words, &hint_at(alloc, source, span.start)?)? {
             return Ok(());
         }
         return put_choices(alloc, words, tokens, name);

@@ -9,7 +9,7 @@ use crate::operands::put_operator;
 use crate::spot::{Spot, spot_at};
 use std::alloc::{AllocError, Global};
 use vsi_expected::expected_after;
-use vsi_hints::put_hint;
+use vsi_hints::{hint_at, put_hint};
 use vsi_syntax::{Kind, ParseError, Span, Token};
 
 /// Whether an `if` among the tokens, in the block that they end in, still wants its `else`.
@@ -250,7 +250,7 @@ fn put_advice(
     if let Some(hint) = file_hint(source) {
         return words.extend_from_slice(hint.as_bytes());
     }
-    if put_hint(alloc, words, source, spot.place())? {
+    if put_hint(words, &hint_at(alloc, source, spot.place())?)? {
         return Ok(());
     }
     if put_foreign(words, source, spot, spot.here())? {

@@ -1,31 +1,13 @@
-//! Sentences about constructs of other languages.
+//! Texts that may replace constructs of other languages.
 
 ghost use Rattle.std.specs.Prelude.{IfOk, IfSome};
-ghost use Rattle.vsi_foreign.specs.Offered.{IsExpression, IsProgramText};
+ghost use Rattle.vsi_hints.specs.Hints.{IsRead};
 
+use crate::wording::LONGEST;
 use std::alloc::{AllocError, Global};
-use vsi_foreign::{expression_alone, number_of, operator_text, program_alone, rewritten};
+use vsi_foreign::{expression_alone, number_of, program_alone, rewritten};
 use vsi_shapes::{Found, Look, Shape};
 use vsi_syntax::put_number;
-
-/// The largest number of bytes of a text that are shown.
-const LONGEST: usize = 120;
-
-/// Adds a text between back quotes, or only its beginning if it is long.
-fn put_quoted(words: &mut Vec<u8>, text: &[u8]) -> Result<(), AllocError> {
-    words.extend_from_slice(b"`")?;
-    words.extend_from_slice(&text[..text.len().min(LONGEST)])?;
-    words.extend_from_slice(b"`")
-}
-
-/// The part of a text that these pieces cover.
-fn part<'s>(source: &'s [u8], look: &Look, first: usize, next: usize) -> &'s [u8] {
-    let (Some(piece), Some(last)) = (look.pieces.get(first), next.checked_sub(1)) else {
-        return b"";
-    };
-    let stop = look.stop(last).min(source.len());
-    &source[piece.at.min(stop)..stop]
-}
 
 /// The expression of these pieces, written in this language at least at a level, if possible.
 fn value_text(
@@ -62,12 +44,32 @@ fn put_value(
     }
 }
 
-/// The text, if it could be written and is a program.
+/// The text, if it is commands.
+fn commands(alloc: Global, text: Vec<u8>) -> Result<Option<Vec<u8>>, AllocError>
+    ensures { IfOk result (λ found. IfSome found (λ text. IsRead text.items)) }
+{
+    match program_alone(alloc, text)? {
+        Some(text) => Ok(Some(text)),
+        None => Ok(None),
+    }
+}
+
+/// The text, if it is an expression.
+fn expression(alloc: Global, text: Vec<u8>) -> Result<Option<Vec<u8>>, AllocError>
+    ensures { IfOk result (λ found. IfSome found (λ text. IsRead text.items)) }
+{
+    match expression_alone(alloc, text)? {
+        Some(text) => Ok(Some(text)),
+        None => Ok(None),
+    }
+}
+
+/// The text, where it could be written and is commands.
 fn program_if(alloc: Global, text: Vec<u8>, is_written: bool) -> Result<Option<Vec<u8>>, AllocError>
-    ensures { IfOk result (λ found. IfSome found (λ text. IsProgramText text.items)) }
+    ensures { IfOk result (λ found. IfSome found (λ text. IsRead text.items)) }
 {
     if is_written && text.len() <= LONGEST {
-        program_alone(alloc, text)
+        commands(alloc, text)
     } else {
         Ok(None)
     }
@@ -81,7 +83,7 @@ fn assignment(
     value: usize,
     operator: &[u8],
 ) -> Result<Option<Vec<u8>>, AllocError>
-    ensures { IfOk result (λ found. IfSome found (λ text. IsProgramText text.items)) }
+    ensures { IfOk result (λ found. IfSome found (λ text. IsRead text.items)) }
 {
     let name = look.text(found.first);
     let mut text = Vec::new(alloc);
@@ -124,7 +126,7 @@ fn fresh(look: &Look, names: &[&'static [u8]]) -> &'static [u8] {
 
 /// The commands that assign two values to two names at once.
 fn swap(alloc: Global, look: &Look, found: &Found) -> Result<Option<Vec<u8>>, AllocError>
-    ensures { IfOk result (λ found. IfSome found (λ text. IsProgramText text.items)) }
+    ensures { IfOk result (λ found. IfSome found (λ text. IsRead text.items)) }
 {
     let first = found.first.saturating_add(4);
     let comma = look.value_stop(first);
@@ -160,7 +162,7 @@ const REMAINDER: &[u8] = b"letvar R := P in { while Q - 1 < R do R := R - Q; N :
 
 /// The commands that divide an operand by another one through repeated subtraction.
 fn division(alloc: Global, look: &Look, found: &Found) -> Result<Option<Vec<u8>>, AllocError>
-    ensures { IfOk result (λ found. IfSome found (λ text. IsProgramText text.items)) }
+    ensures { IfOk result (λ found. IfSome found (λ text. IsRead text.items)) }
 {
     let at = found.first;
     let pattern = match look.text(at.saturating_add(3)) {
@@ -188,7 +190,7 @@ fn step(
     found: &Found,
     operator: &str,
 ) -> Result<Option<Vec<u8>>, AllocError>
-    ensures { IfOk result (λ found. IfSome found (λ text. IsProgramText text.items)) }
+    ensures { IfOk result (λ found. IfSome found (λ text. IsRead text.items)) }
 {
     let name = look.text(found.first);
     let mut text = Vec::new(alloc);
@@ -201,19 +203,19 @@ fn step(
 
 /// The number of a piece, in the digits of this language.
 fn number(alloc: Global, look: &Look, found: &Found) -> Result<Option<Vec<u8>>, AllocError>
-    ensures { IfOk result (λ found. IfSome found (λ text. IsExpression text.items)) }
+    ensures { IfOk result (λ found. IfSome found (λ text. IsRead text.items)) }
 {
     let Some(value) = number_of(look.text(found.first)) else {
         return Ok(None);
     };
     let mut text = Vec::new(alloc);
     put_number(&mut text, value as usize)?;
-    expression_alone(alloc, text)
+    expression(alloc, text)
 }
 
 /// A name in place of one that isn't valid here.
 fn renamed(alloc: Global, look: &Look, found: &Found) -> Result<Option<Vec<u8>>, AllocError>
-    ensures { IfOk result (λ found. IfSome found (λ text. IsExpression text.items)) }
+    ensures { IfOk result (λ found. IfSome found (λ text. IsRead text.items)) }
 {
     let mut text = Vec::new(alloc);
     text.extend_from_slice(look.text(found.first))?;
@@ -223,11 +225,13 @@ fn renamed(alloc: Global, look: &Look, found: &Found) -> Result<Option<Vec<u8>>,
     } else {
         text.extend_from_slice(look.text(found.next.saturating_sub(1)))?;
     }
-    expression_alone(alloc, text)
+    expression(alloc, text)
 }
 
 /// The declarations of names, each with the class at the end of the pieces.
-fn declarations(alloc: Global, look: &Look, found: &Found) -> Result<Option<Vec<u8>>, AllocError> {
+fn declarations(alloc: Global, look: &Look, found: &Found) -> Result<Option<Vec<u8>>, AllocError>
+    ensures { IfOk result (λ found. IfSome found (λ text. IsRead text.items)) }
+{
     let class = look.text(found.next.saturating_sub(1));
     let mut text = Vec::new(alloc);
     for at in found.first..found.next {
@@ -249,7 +253,9 @@ fn declarations(alloc: Global, look: &Look, found: &Found) -> Result<Option<Vec<
 }
 
 /// The text, if it declares variables.
-fn declaring(alloc: Global, text: Vec<u8>) -> Result<Option<Vec<u8>>, AllocError> {
+fn declaring(alloc: Global, text: Vec<u8>) -> Result<Option<Vec<u8>>, AllocError>
+    ensures { IfOk result (λ found. IfSome found (λ text. IsRead text.items)) }
+{
     let mut program = Vec::new(alloc);
     program.extend_from_slice(&text)?;
     program.extend_from_slice(b"; x := 1")?;
@@ -260,7 +266,9 @@ fn declaring(alloc: Global, text: Vec<u8>) -> Result<Option<Vec<u8>>, AllocError
 }
 
 /// The declaration at the beginning of the pieces, without a value.
-fn valueless(alloc: Global, look: &Look, found: &Found) -> Result<Option<Vec<u8>>, AllocError> {
+fn valueless(alloc: Global, look: &Look, found: &Found) -> Result<Option<Vec<u8>>, AllocError>
+    ensures { IfOk result (λ found. IfSome found (λ text. IsRead text.items)) }
+{
     let mut text = Vec::new(alloc);
     text.extend_from_slice(b"var ")?;
     text.extend_from_slice(look.text(found.first.saturating_add(1)))?;
@@ -271,16 +279,22 @@ fn valueless(alloc: Global, look: &Look, found: &Found) -> Result<Option<Vec<u8>
 
 /// The expression that pieces mean, if it is an expression and short.
 fn value(alloc: Global, look: &Look, found: &Found) -> Result<Option<Vec<u8>>, AllocError>
-    ensures { IfOk result (λ found. IfSome found (λ text. IsExpression text.items)) }
+    ensures { IfOk result (λ found. IfSome found (λ text. IsRead text.items)) }
 {
     match value_text(alloc, look, found.first, found.next, 0)? {
-        Some(text) if text.len() <= LONGEST => expression_alone(alloc, text),
+        Some(text) if text.len() <= LONGEST => expression(alloc, text),
         _ => Ok(None),
     }
 }
 
 /// The text that may replace pieces, if there is one.
-fn offer(alloc: Global, look: &Look, found: &Found) -> Result<Option<Vec<u8>>, AllocError> {
+pub(crate) fn offer(
+    alloc: Global,
+    look: &Look,
+    found: &Found,
+) -> Result<Option<Vec<u8>>, AllocError>
+    ensures { IfOk result (λ found. IfSome found (λ text. IsRead text.items)) }
+{
     match found.shape {
         Shape::Value(_) => value(alloc, look, found),
         Shape::Assign(count) => {
@@ -300,128 +314,4 @@ fn offer(alloc: Global, look: &Look, found: &Found) -> Result<Option<Vec<u8>>, A
         Shape::Initial => valueless(alloc, look, found),
         _ => Ok(None),
     }
-}
-
-/// The reason why a text is offered as a replacement for pieces.
-fn put_reason(words: &mut Vec<u8>, look: &Look, shape: Shape) -> Result<(), AllocError> {
-    let reason: &[u8] = match shape {
-        Shape::Value(cause) => match look.text(cause) {
-            [b'-'] => b": a number has no sign before it.",
-            [b'<'] | [b'='] => b": a comparison has two sides.",
-            text => {
-                words.extend_from_slice(b": there is no ")?;
-                put_quoted(words, text)?;
-                b"."
-            }
-        },
-        Shape::Assign(_) => b": `:=` assigns, and `=` compares.",
-        Shape::Compound(_) | Shape::Step(_) => b": a command assigns with `:=` only.",
-        Shape::Swap => b": a command assigns to one variable.",
-        Shape::Divide => b": subtract as often as you can, for a divisor above 0.",
-        Shape::Number => b": a number has only digits.",
-        Shape::Hyphen => b": a name has only letters, digits and `_`.",
-        Shape::Keyword => b": a keyword can't be a name.",
-        Shape::Listed => b": each `var` declares one variable.",
-        Shape::Initial => b": a global gets its value from the store.",
-        _ => b".",
-    };
-    words.extend_from_slice(reason)
-}
-
-/// Adds the replacement for a part of a text.
-fn put_replacing(words: &mut Vec<u8>, text: &[u8], part: &[u8]) -> Result<(), AllocError> {
-    words.extend_from_slice(b"write ")?;
-    put_quoted(words, text)?;
-    words.extend_from_slice(b" in place of ")?;
-    put_quoted(words, part)
-}
-
-/// Whether a part of a text can be shown between back quotes in a line.
-fn can_show(part: &[u8]) -> bool {
-    for byte in part {
-        if !matches!(*byte, 32..=126) || *byte == b'`' {
-            return false;
-        }
-    }
-    part.len() <= LONGEST
-}
-
-/// Adds the sentence for a comment.
-fn put_comment(words: &mut Vec<u8>, text: &[u8]) -> Result<(), AllocError> {
-    let mark: &[u8] = match text {
-        [b'/', b'*', ..] => {
-            return words.extend_from_slice(
-                b"begin each line of a comment with `#`, as in `# count`: it ends with its line, \
-                and there is no `/*`.",
-            );
-        }
-        [b'/', ..] => b"//",
-        _ => b"--",
-    };
-    put_replacing(words, b"#", mark)?;
-    words.extend_from_slice(b": a comment ends with its line, as in `# count`.")
-}
-
-/// Adds the sentence for an operator whose operands aren't offered, and returns whether there is
-/// one.
-fn put_operator(words: &mut Vec<u8>, sign: &[u8]) -> Result<bool, AllocError> {
-    let Some(text) = operator_text(sign) else {
-        return Ok(false);
-    };
-    words.extend_from_slice(b"write ")?;
-    put_quoted(words, text)?;
-    words.extend_from_slice(b" for `P ")?;
-    words.extend_from_slice(sign)?;
-    words.extend_from_slice(b" Q`.")?;
-    Ok(true)
-}
-
-/// Adds the sentence for pieces without a replacement, and returns whether there is one.
-fn put_plain(words: &mut Vec<u8>, look: &Look, found: &Found) -> Result<bool, AllocError> {
-    let text = look.text(found.first);
-    match found.shape {
-        Shape::Say(before, after) => {
-            words.extend_from_slice(before.as_bytes())?;
-            put_quoted(words, text)?;
-            words.extend_from_slice(after.as_bytes())?;
-        }
-        Shape::Tell(sentence) => words.extend_from_slice(sentence.as_bytes())?,
-        Shape::Put(replacing, rest) => {
-            put_replacing(words, replacing.as_bytes(), text)?;
-            words.extend_from_slice(rest.as_bytes())?;
-        }
-        Shape::Comment => put_comment(words, text)?,
-        Shape::Value(cause) => return put_operator(words, look.text(cause)),
-        Shape::Assign(_) => words.extend_from_slice(b"write `:=` to assign, as in `x := 1`.")?,
-        Shape::Compound(_) => words.extend_from_slice(b"assign with `:=`, as in `x := x + 1`.")?,
-        Shape::Swap => words.extend_from_slice(
-            b"assign to one variable at a time, as in `letvar t := x in { x := y; y := t }`.",
-        )?,
-        Shape::Divide => words.extend_from_slice(
-            b"divide in a loop, as `while 1 < r do { r := r - 2; q := q + 1 }` does for half of r.",
-        )?,
-        Shape::Initial => words.extend_from_slice(b"declare a global without a value.")?,
-        Shape::Listed => words.extend_from_slice(b"declare each variable on its own.")?,
-        _ => return Ok(false),
-    }
-    Ok(true)
-}
-
-/// Adds the sentence for pieces, and returns whether there is one.
-pub(crate) fn put_found(
-    alloc: Global,
-    words: &mut Vec<u8>,
-    source: &[u8],
-    look: &Look,
-    found: &Found,
-) -> Result<bool, AllocError> {
-    let replaced = part(source, look, found.first, found.next);
-    if can_show(replaced) {
-        if let Some(text) = offer(alloc, look, found)? {
-            put_replacing(words, &text, replaced)?;
-            put_reason(words, look, found.shape)?;
-            return Ok(true);
-        }
-    }
-    put_plain(words, look, found)
 }

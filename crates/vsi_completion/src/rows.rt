@@ -1,0 +1,170 @@
+//! An order as rows of bits: row `a` has bit `b` where class `a` is at or below class `b`.
+
+ghost use Rattle.std.specs.Prelude.{◌≡◌, ℕ, ◌<◌, ◌≤◌, ◌&&◌, ◌==◌, nat_lt, length, vec_len, IfOk, IsTrue, true};
+ghost use Rattle.vsi_lattice.specs.Pairs.{Leq};
+ghost use Rattle.vsi_lattice.specs.Rows.{row_has, widened, AddsPair};
+
+use std::alloc::{AllocError, Global};
+
+/// The row, with all of `reached` too where it has bit `low`.
+#[tactic(auto, unfolding(vsi_lattice::specs::Rows::widened), using(std::proofs::lemmas::Nat::Bits::shr_and_one))]
+fn widen(row: u64, low: u8, reached: u64) -> u64
+    requires { low < 64 }
+    ensures { result ≡ widened low reached row }
+{
+    if row >> low & 1 != 0 {
+        row | reached
+    } else {
+        row
+    }
+}
+
+/// Puts each class that is below `low` below all that `high` is below.
+fn add_pair(rows: &mut [u64], low: u8, high: u8)
+    requires low { low < 64 }
+    requires high { high < length rows.old }
+    ensures { AddsPair (row_has rows.old) (row_has rows.new) low high }
+{
+    let reached = rows[high as usize];
+    for row in rows.iter_mut() {
+        *row = widen(*row, low, reached);
+    }
+}
+
+/// Puts `low` below `high`, with all that follows.
+fn add(rows: &mut Vec<u64>, low: u8, high: u8)
+    requires few { vec_len rows.old ≤ 64 }
+    requires low { low < vec_len rows.old }
+    requires high { high < vec_len rows.old }
+    ensures len { vec_len rows.new ≡ vec_len rows.old }
+    ensures adds { AddsPair (row_has rows.old.items) (row_has rows.new.items) low high }
+{
+    add_pair(rows, low, high);
+}
+
+/// The order in which each class is below itself alone.
+fn own_bits(alloc: Global, count: usize) -> Result<Vec<u64>, AllocError>
+    requires { count ≤ 64 }
+    ensures len { IfOk result (λ rows. vec_len rows ≡ count) }
+    ensures bits { IfOk result
+        (λ rows. (a b : ℕ) → row_has rows.items a b ≡ (nat_lt a count && (a == b))) }
+{
+    let mut rows = Vec::with_capacity(alloc, count)?;
+    for a in 0..count {
+        rows.push(1u64 << a)?;
+    }
+    Ok(rows)
+}
+
+/// Puts a class of a pair below the other one, if both have rows.
+fn put_pair(rows: &mut Vec<u64>, pairs: &[(u8, u8)], number: usize)
+    requires few { vec_len rows.old ≤ 64 }
+    requires number { number < length pairs.now }
+    requires sound { (a b : ℕ) → row_has rows.old.items a b ≡ true → Leq pairs.now a b }
+    ensures len { vec_len rows.new ≡ vec_len rows.old }
+    ensures sound { (a b : ℕ) → row_has rows.new.items a b ≡ true → Leq pairs.now a b }
+{
+    let (low, high) = pairs[number];
+    if usize::from(low) >= rows.len() {
+        return;
+    }
+    if usize::from(high) >= rows.len() {
+        return;
+    }
+    add(rows, low, high);
+}
+
+/// The order that the pairs of the classes declare.
+pub(crate) fn rows_of(
+    alloc: Global,
+    count: usize,
+    pairs: &[(u8, u8)],
+) -> Result<Vec<u64>, AllocError>
+    requires { count ≤ 64 }
+    ensures len { IfOk result (λ rows. vec_len rows ≡ count) }
+    ensures sound { IfOk result
+        (λ rows. (a b : ℕ) → row_has rows.items a b ≡ true → Leq pairs.now a b) }
+{
+    let mut rows = own_bits(alloc, count)?;
+    for i in 0..pairs.len() {
+        put_pair(&mut rows, pairs, i);
+    }
+    Ok(rows)
+}
+
+/// Whether the second class is in the row of the first one.
+#[tactic(auto, unfolding(vsi_lattice::specs::Rows::row_has), using(std::proofs::lemmas::Nat::Bits::shr_and_one))]
+pub(crate) fn is_in(rows: &[u64], low: usize, high: usize) -> bool
+    requires low { low < length rows.now }
+    requires high { high < 64 }
+    ensures { result ≡ row_has rows.now low high }
+{
+    rows[low] >> high & 1 != 0
+}
+
+/// Whether the second class is in the row of the first one, if both are classes.
+pub(crate) fn reaches(rows: &[u64], low: u8, high: u8) -> bool
+    ensures { IsTrue result → row_has rows.now low high ≡ true }
+{
+    let (low, high) = (usize::from(low), usize::from(high));
+    if low >= rows.len() || high >= 64 {
+        return false;
+    }
+    is_in(rows, low, high)
+}
+
+/// The order from the other side: row `a` has bit `b` where class `b` is at or below class `a`.
+pub(crate) fn turned(alloc: Global, rows: &[u64]) -> Result<Vec<u64>, AllocError> {
+    let mut turned = Vec::new(alloc);
+    for class in 0..rows.len() {
+        let mut row = 0u64;
+        for other in 0..rows.len() {
+            if has(rows[other], class) {
+                row |= bit(other);
+            }
+        }
+        turned.push(row)?;
+    }
+    Ok(turned)
+}
+
+/// The bit of a class.
+pub(crate) fn bit(class: usize) -> u64 {
+    1u64 << (class % 64)
+}
+
+/// Whether a row has the bit of a class.
+pub(crate) fn has(row: u64, class: usize) -> bool {
+    row & bit(class) != 0
+}
+
+/// The bits of all classes.
+pub(crate) fn all_bits(count: usize) -> u64 {
+    let mut all = 0u64;
+    for class in 0..count {
+        all |= bit(class);
+    }
+    all
+}
+
+/// The classes of a set that no other class of it reaches, by rows.
+pub(crate) fn ends(alloc: Global, rows: &[u64], set: u64) -> Result<Vec<u8>, AllocError> {
+    let mut found = Vec::new(alloc);
+    for class in 0..rows.len().min(64) {
+        if has(set, class) && rows[class] & set == bit(class) {
+            found.push(class as u8)?;
+        }
+    }
+    Ok(found)
+}
+
+/// The classes that each class of a set reaches, by rows; all where the set is empty.
+pub(crate) fn common(rows: &[u64], set: u64) -> u64 {
+    let mut found = all_bits(rows.len());
+    for class in 0..rows.len() {
+        if has(set, class) {
+            found &= rows[class];
+        }
+    }
+    found
+}
