@@ -31,6 +31,7 @@ pub mod laws;
 mod leaking;
 mod loaded;
 mod obeying;
+mod ordering;
 mod paths;
 mod performing;
 mod reading;

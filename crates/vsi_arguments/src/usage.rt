@@ -123,7 +123,7 @@ const SUBCOMMANDS: [Subcommand; 20] = [
         line: "Runs an image once for each line of standard input",
         whole: run_help::DRIVE,
         example: run_help::DRIVE_EXAMPLE,
-        arguments: &[IMAGE, BUDGET, STORE, LATTICE, CLASS, SAVE],
+        arguments: &[LATTICE, CLASS, IMAGE, BUDGET, STORE, SAVE],
     },
     Subcommand {
         name: "compare",

@@ -171,8 +171,8 @@ fn asks_drive(words: &[String], driving: &Driving<'_>) -> bool
     ensures { result ≡ true → spec.Spells words.now (request.Drive driving.now) }
 {
     let operands = [
-        driving.execution.image.as_bytes(),
         driving.lattice.as_bytes(),
+        driving.execution.image.as_bytes(),
     ];
     let Some(rest) = behind(words, "drive", operands.as_slice(), &[]) else {
         return false;
