@@ -34,6 +34,7 @@ mod obeying;
 mod ordering;
 mod paths;
 mod performing;
+mod policies;
 mod reading;
 mod running;
 mod shaping;

@@ -10,7 +10,7 @@ use crate::own::has_own_alone;
 use crate::reading::{has_flag, has_operands, has_values};
 use vsi_arguments::{
     Attempt, Audit, Bounding, Comparison, Compilation, Conformance, Drawing, Driving, Emission,
-    Execution, Judging, Mending, Outset, Request, SEARCH, Search, TRY_BUDGET,
+    Execution, Judging, Looking, Mending, Outset, Request, SEARCH, Search, TRY_BUDGET,
 };
 use vsi_explain::{page, subject_page};
 
@@ -235,6 +235,19 @@ fn asks_draw(words: &[String], drawing: &Drawing<'_>) -> bool
     }
 }
 
+/// Whether the arguments request a look at a policy.
+fn asks_policy(words: &[String], looking: &Looking<'_>) -> bool
+    ensures { result ≡ true → spec.Spells words.now (request.Policy looking.now) }
+{
+    match looking.old {
+        Some(old) => {
+            let operands = [looking.lattice.as_bytes(), old.as_bytes()];
+            asks(words, "policy", operands.as_slice(), &[])
+        }
+        None => asks_file(words, "policy", looking.lattice),
+    }
+}
+
 /// Whether the arguments request a judgement of a source text.
 fn asks_check(words: &[String], judging: &Judging<'_>) -> bool
     ensures { result ≡ true → spec.Spells words.now (request.Check judging.now) }
@@ -407,6 +420,7 @@ fn spells(words: &[String], request: &Request<'_>) -> bool
         Request::Leak(search) => asks_leak(words, search),
         Request::Report(compilation) => asks_judged(words, "report", compilation),
         Request::Draw(drawing) => asks_draw(words, drawing),
+        Request::Policy(looking) => asks_policy(words, looking),
         Request::Format(source) => asks_file(words, "fmt", source),
         Request::Lattice(arguments) => asks(words, "lattice", arguments.as_slice(), &[]),
         Request::Explain(text) => asks_page(words, text),
