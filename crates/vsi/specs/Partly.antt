@@ -22,8 +22,9 @@ use Rattle.vsi.specs.declared.stop.Stop.{Stop}
 use Rattle.vsi.specs.declared.stop.Stop.TheVariants.{Differs}
 use Rattle.vsi.specs.Driven.{lines_of}
 use Rattle.vsi.specs.Holding.{Holding, IsImageAt}
-use Rattle.vsi.specs.Performed.{AuditsFiles, BeginsAt, BoundsFile, ComparesFiles, ConformsFiles, DrawsFiles, EmitsFile, IsBudgetOf, IsStoredAt, LooksAt, OfFile, OfFiles, RunsFiles, SearchesFiles, SeesFiles, SourceOfFile, ToldAccepted, ToldCanonical, ToldClasses, ToldFlows, ToldJson, ToldListing, ToldPage, ToldRaises, ViewsFiles, control_of, judgement_of, shown}
+use Rattle.vsi.specs.Performed.{AuditsFiles, BeginsAt, BoundsFile, ComparesFiles, ConformsFiles, DrawsFiles, EmitsFile, IsBudgetOf, IsStoredAt, LooksAt, OfFile, OfFiles, RunsFiles, SearchesFiles, SourceOfFile, ToldAccepted, ToldCanonical, ToldClasses, ToldFlows, ToldJson, ToldListing, ToldPage, ToldRaises, ViewsFiles, control_of, judgement_of, shown}
 use Rattle.vsi.specs.Reasons.{ToldRefusal}
+use Rattle.vsi.specs.Seeing.{SeesFiles}
 use Rattle.vsi.specs.Shaping.{ShapedText}
 use Rattle.vsi.specs.Stops.{status_of}
 use Rattle.vsi.specs.Tried.{TriesFile}

@@ -27,7 +27,6 @@ use Rattle.vsi_drive.specs.Control.{Control}
 use Rattle.vsi_drive.specs.Starts.{Begins}
 use Rattle.vsi_devices.specs.Running.{RunsApart}
 use Rattle.vsi_leak.specs.declared.whole.Wanted.{Wanted}
-use Rattle.vsi_policy.specs.Seen.{seen_changes, seen_table}
 use Rattle.vsi_audit.specs.Standing.{HasKnownClasses}
 use Rattle.vsi_audit.specs.Text.{IsSourceText}
 use Rattle.vsi_report.specs.FlowsGraph.{IsFlowsGraph}
@@ -63,7 +62,6 @@ use Rattle.vsi_arguments.specs.declared.request.Driving.{Driving}
 use Rattle.vsi_arguments.specs.declared.request.Emission.{Emission}
 use Rattle.vsi_arguments.specs.declared.request.Execution.{Execution}
 use Rattle.vsi_arguments.specs.declared.request.Judging.{Judging}
-use Rattle.vsi_arguments.specs.declared.request.Looking.{Looking}
 use Rattle.vsi_arguments.specs.declared.request.Outset.{Outset}
 use Rattle.vsi_arguments.specs.declared.request.Search.{Search}
 use Rattle.vsi_arguments.specs.declared.request.Request.{Request}
@@ -71,6 +69,7 @@ use Rattle.vsi_arguments.specs.declared.request.Request.TheVariants as request
 use Rattle.vsi.specs.Driven.{DrivesInput}
 use Rattle.vsi.specs.Holding.{Delivers, Fills, Holding, IsImageAt, IsLatticeAt, IsReadAt, IsStoreAt}
 use Rattle.vsi.specs.Naming.{function_name}
+use Rattle.vsi.specs.Seeing.{SeesFiles}
 use Rattle.vsi.specs.Shaping.{ShapedText}
 use Rattle.vsi.specs.Tried.{TriesFile}
 
@@ -263,17 +262,6 @@ pub record DrawsFiles (holds : Holding) (d : Drawing) (text : Vec ℕ) : Type 0 
   pub flows : List ℕ
   pub of_flows : ToldFlowsGraph holds d.source d.is_strict lattice flows
   pub parts : text.items ≡ classes ++ flows
-
--- The table of a lattice, or what differs between it and that of an older file.
-abbrev pub ToldPolicy : Holding → Option (Bor (List ℕ)) → Lattice → List ℕ → Type 0
-ToldPolicy holds None l text = text ≡ seen_table l
-ToldPolicy holds (Some path) l text = (old : Lattice) × IsLatticeAt holds path.now old × (text ≡ seen_changes l old)
-
--- Who sees what under the lattice of a file.
-pub record SeesFiles (holds : Holding) (p : Looking) (text : Vec ℕ) : Type 0 where
-  pub lattice : Lattice
-  pub declared : IsLatticeAt holds p.lattice.now lattice
-  pub told : ToldPolicy holds p.old lattice text.items
 
 -- A search is at this class: that of the name that is given, or each class if none is given.
 abbrev pub LooksFor : Lattice → Option (Bor (List ℕ)) → Option ℕ → Type 0

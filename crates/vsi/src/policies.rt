@@ -1,8 +1,8 @@
-//! Who sees what under a lattice.
+//! The classes that each class sees under a lattice.
 
 ghost use Rattle.std.specs.Prelude.{◌≡◌, ◌⊎◌, Some, IfErr, IfOk, IsSomeAnd};
-ghost use Rattle.vsi.specs.Performed.{SeesFiles, ToldPolicy};
 ghost use Rattle.vsi.specs.Reasons.{NoOther, RefusesLattice, StopsBy, WhyPolicy};
+ghost use Rattle.vsi.specs.Seeing.{SeesFiles, ToldPolicy};
 
 use crate::desk::Desk;
 use crate::files::Files;
@@ -12,7 +12,7 @@ use vsi_arguments::Looking;
 use vsi_lattice::Lattice;
 use vsi_policy::{policy_warnings, seen_changes, seen_table};
 
-/// What differs between a lattice and that of an older file.
+/// The differences of a lattice from that of an older file.
 fn changes<'a, F: Files>(
     desk: &mut Desk,
     classes: &Lattice,
@@ -29,7 +29,7 @@ fn changes<'a, F: Files>(
     Ok(seen_changes(desk.alloc, classes, &before)?)
 }
 
-/// The table of a lattice, or what differs between it and that of an older file.
+/// The table of a lattice, or its differences from that of an older file.
 fn answered<'a, F: Files>(
     desk: &mut Desk,
     classes: &Lattice,
@@ -48,7 +48,7 @@ fn answered<'a, F: Files>(
     }
 }
 
-/// Who sees what under the lattice of a file, or what changed since an older one. The note gets the
+/// The table of the lattice of a file, or its differences from an older one. The note gets the
 /// warnings about the lattice.
 pub(crate) fn policy<'a, F: Files>(
     desk: &mut Desk,

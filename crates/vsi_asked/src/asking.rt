@@ -244,7 +244,12 @@ fn asks_policy(words: &[String], looking: &Looking<'_>) -> bool
             let operands = [looking.lattice.as_bytes(), old.as_bytes()];
             asks(words, "policy", operands.as_slice(), &[])
         }
-        None => asks_file(words, "policy", looking.lattice),
+        None => asks(
+            words,
+            "policy",
+            [looking.lattice.as_bytes()].as_slice(),
+            &[],
+        ),
     }
 }
 

@@ -1,4 +1,4 @@
--- Who sees what: the table of a lattice, and what differs between two lattices.
+-- The classes that each class sees: the table of a lattice, and the differences of two lattices.
 use Rattle.std.specs.Prelude.{ℕ, zero, suc, ◌++◌, Bool, false, ◌&&◌, not, List, [], ◌∷◌, get_or, codes, if◌then◌else◌}
 use Rattle.std.specs.Option.{option_map_or}
 use Rattle.vsi_lattice.specs.LatticeView.{class_named, names, order}
@@ -66,6 +66,6 @@ abbrev pub or_unchanged : List ℕ → List ℕ
 or_unchanged [] = codes "no class sees more or less than before\n"
 or_unchanged (byte ∷ lines) = byte ∷ lines
 
--- What differs between a lattice and an older one.
+-- The differences of a lattice from an older one.
 abbrev pub seen_changes : Lattice → Lattice → List ℕ
 seen_changes l old = or_unchanged (changed_lines l old)

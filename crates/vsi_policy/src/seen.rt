@@ -1,4 +1,4 @@
-//! Who sees what under a lattice, and what changes from one lattice to another.
+//! The classes that each class sees under a lattice, and the differences of two lattices.
 
 ghost use Rattle.std.specs.Prelude.{◌≡◌, ◌++◌, IfOk, OnOk};
 ghost use Rattle.vsi_lattice.specs.LatticeView.{order};
@@ -175,7 +175,7 @@ fn changed_lines(alloc: Global, lattice: &Lattice, old: &Lattice) -> Result<Vec<
     Ok(text)
 }
 
-/// What differs between a lattice and an older one: a line for each viewer and each class that only
+/// The differences of a lattice from an older one: a line for each viewer and each class that only
 /// one of them lets it see, by their names.
 ///
 /// # Errors
