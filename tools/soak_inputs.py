@@ -382,7 +382,7 @@ class Input:
         self.files["image"], self.files["lattice"] = some_image(rng), a_lattice(rng)
         lines = b"".join(rng.choice(LINES) for _ in range(rng.choice((0, 1, 3, 10))))
         self.files["source"] = changed(rng, lines, SOURCE) if lines and rng.random() < 0.4 else lines
-        self.words += ["image", "lattice", "--class", a_class(rng), "--budget", a_budget(rng)]
+        self.words += ["lattice", "image", "--class", a_class(rng), "--budget", a_budget(rng)]
         if rng.random() < 0.35:
             self.files["store"] = a_store(rng)
             self.words += ["--store", "store"]

@@ -57,6 +57,7 @@ cut_within (request.Compare comparison) = omega arith
 cut_within (request.Leak search) = omega arith
 cut_within (request.Report c) = omega arith
 cut_within (request.Draw drawing) = omega arith
+cut_within (request.Policy looking) = omega arith
 cut_within (request.Format source) = omega arith
 cut_within (request.Try attempt) = omega arith
 cut_within (request.Lattice arguments) = omega arith

@@ -8,6 +8,7 @@ pub mod Driven
 pub mod Naming
 pub mod Tried
 pub mod Shaping
+pub mod Seeing
 pub mod Performed
 pub mod Reasons
 pub mod Partly

@@ -24,6 +24,7 @@ use Rattle.vsi.specs.Driven.{lines_of}
 use Rattle.vsi.specs.Holding.{Holding, IsImageAt}
 use Rattle.vsi.specs.Performed.{AuditsFiles, BeginsAt, BoundsFile, ComparesFiles, ConformsFiles, DrawsFiles, EmitsFile, IsAdmitted, IsBudgetOf, IsStoredAt, LooksAt, OfFile, OfFiles, RunsFiles, SearchesFiles, SourceOfFile, ToldAccepted, ToldCanonical, ToldClasses, ToldFlows, ToldJson, ToldListing, ToldPage, ToldRaises, ViewsFiles, control_of, judgement_of, shown}
 use Rattle.vsi.specs.Reasons.{ToldRefusal}
+use Rattle.vsi.specs.Seeing.{SeesFiles}
 use Rattle.vsi.specs.Shaping.{ShapedText}
 use Rattle.vsi.specs.Stops.{status_of}
 use Rattle.vsi.specs.Tried.{TriesFile}
@@ -128,6 +129,7 @@ Answers holds given (request.Compare comparison) = AnswersCompare holds comparis
 Answers holds given (request.Leak search) = BytesOf (SearchesFiles holds search)
 Answers holds given (request.Report c) = BytesOf (OfFiles holds c ToldPage)
 Answers holds given (request.Draw drawing) = BytesOf (DrawsFiles holds drawing)
+Answers holds given (request.Policy looking) = BytesOf (SeesFiles holds looking)
 Answers holds given (request.Format source) = BytesOf (OfFile holds source.now ToldCanonical)
 Answers holds given (request.Lattice arguments) = BytesOf (ShapedText arguments.items)
 Answers holds given (request.Explain page) = λ bytes. bytes ≡ page.now

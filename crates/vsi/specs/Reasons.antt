@@ -417,6 +417,12 @@ WhyDraw holds lattice None reason = RefusesLattice holds lattice reason
 WhyDraw holds lattice (Some source) reason =
     RefusesLattice holds lattice reason ⊎ RefusesSource holds lattice source.now reason
 
+-- `policy`: a lattice is refused, or the older one.
+abbrev pub WhyPolicy : Holding → List ℕ → Option (Bor (List ℕ)) → Unanswered → Type 0
+WhyPolicy holds lattice None reason = RefusesLattice holds lattice reason
+WhyPolicy holds lattice (Some old) reason =
+    RefusesLattice holds lattice reason ⊎ RefusesLattice holds old.now reason
+
 -- `drive`: the lattice lacks the class of a global of the image.
 pub record RefusesController (holds : Holding) (d : Driving) (reason : Unanswered) : Type 0 where
   pub lattice : Lattice
@@ -561,6 +567,7 @@ Why holds (request.Leak search) old new =
     (OtherLeak holds search)
 Why holds (request.Report c) old new = StopsBy (RefusesLattice holds c.lattice.now) NoOther
 Why holds (request.Draw drawing) old new = StopsBy (WhyDraw holds drawing.lattice.now drawing.source) NoOther
+Why holds (request.Policy looking) old new = StopsBy (WhyPolicy holds looking.lattice.now looking.old) NoOther
 Why holds (request.Format source) old new = StopsBy (RefusesFile holds source.now AsksCanonical) NoOther
 Why holds (request.Lattice arguments) old new = StopsBy (λ reason. ⊥) NoOther
 Why holds (request.Explain page) old new = StopsBy (λ reason. ⊥) NoOther

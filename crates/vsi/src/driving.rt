@@ -22,7 +22,8 @@ use crate::budgets::budget_of;
 use crate::desk::Desk;
 use crate::files::Files;
 use crate::filling::replace;
-use crate::reading::{faulty, policy_and_image, store_in};
+use crate::ordering::policy_before_image;
+use crate::reading::{faulty, store_in};
 use crate::stop::{STREAM, Stop, write};
 use std::alloc::Global;
 use std::io::{Read, Write};
@@ -62,7 +63,7 @@ pub(crate) fn drive<'a, F: Files, R: Read, W: Write>(
     ensures stopped { IfErr result (StopsBy (WhyDrive (F.holds files.old) driving.entry)
         (LacksDrive (F.holds files.old) driving.entry)) }
 {
-    let (classes, driver, verified) = policy_and_image(
+    let (classes, driver, verified) = policy_before_image(
         desk,
         driving.lattice,
         driving.class,

@@ -8,8 +8,8 @@
 //! such as `LexError` or a `Walk` of `Step`s, are exported here too.
 //!
 //! To be believed: of `specs/` `Words`, `Holding`, `Loading`, `Driven`, `Tried`, `Shaping`,
-//! `Performed`, `Reasons`, `Partly`, `Done`, `Screen`, `Input` and `Laws`, and of `Stops` all but `StopsFor`;
-//! `Diagnosing` is a stepping stone of proofs.
+//! `Seeing`, `Performed`, `Reasons`, `Partly`, `Done`, `Screen`, `Input` and `Laws`, and of `Stops`
+//! all but `StopsFor`; `Diagnosing` is a stepping stone of proofs.
 #![tactic(auto)]
 
 mod admitting;
@@ -32,8 +32,10 @@ pub mod laws;
 mod leaking;
 mod loaded;
 mod obeying;
+mod ordering;
 mod paths;
 mod performing;
+mod policies;
 mod reading;
 mod running;
 mod screen;

@@ -41,6 +41,7 @@ pub(crate) fn paths_of<'a>(request: &Request<'a>) -> [Option<&'a str>; MOST_READ
         ],
         Request::Leak(asked) => two(asked.lattice, asked.source),
         Request::Draw(asked) => [Some(asked.lattice), asked.source, None, None],
+        Request::Policy(asked) => [Some(asked.lattice), asked.old, None, None],
         Request::Try(asked) => [Some(asked.source), asked.lattice, None, None],
         Request::Lattice(_) | Request::Explain(_) => [None; MOST_READ],
     }

@@ -19,6 +19,7 @@ use crate::driving::drive;
 use crate::emitting::emit;
 use crate::files::Files;
 use crate::leaking::leak;
+use crate::policies::policy;
 use crate::running::{Running, run, view};
 use crate::shaping::lattice;
 use crate::stop::{Stop, write};
@@ -168,6 +169,7 @@ pub(crate) fn perform<'a, F: Files, R: Read, W: Write>(
         Request::Leak(search) => put(leak(desk, search, files), output),
         Request::Report(compilation) => put(report(desk, compilation, files), output),
         Request::Draw(drawing) => put(draw(desk, drawing, files), output),
+        Request::Policy(looking) => { put(policy(desk, looking, files, &mut told.note), output) }
         Request::Format(source) => put(format(desk, source, files), output),
         Request::Try(attempt) => put(try_source(desk, &attempt, files), output),
         Request::Lattice(arguments) => put(lattice(desk.alloc, arguments.as_slice()), output),

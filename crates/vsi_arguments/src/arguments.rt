@@ -24,6 +24,13 @@ pub(crate) const DRAWN_SOURCE: Argument = Argument {
     whole: word_help::SOURCE,
 };
 
+pub(crate) const OLD_LATTICE: Argument = Argument {
+    name: "OLD",
+    form: Form::FreePlace,
+    line: "An older lattice file, to show what changed",
+    whole: word_help::OLD_LATTICE,
+};
+
 pub(crate) const TRIED: Argument = Argument {
     name: "SOURCE",
     form: Form::Place,

@@ -354,6 +354,26 @@ Example:
     \"L\" -> \"H\";
   }";
 
+/// The long help of `policy`.
+pub(crate) const POLICY: &str = "\
+Prints who sees what under a lattice, or what changed.
+
+Reads and judges the lattice file, and prints a row for each class with exactly
+the classes that it sees: those at or below it. With an older lattice file, which
+is judged too, prints a line for each class that another now sees, and then one
+for each that it no longer sees, by their names. Standard error has a warning if
+there is only one class, if two classes have names that look alike, or if a class
+with a name for secrets is below one with a name for the public.
+
+Statuses: 0 printed, 1 refused, 2 usage, 4 file fault, 5 out of memory.";
+
+/// An example of `policy`.
+pub(crate) const POLICY_EXAMPLE: &str = "\
+Example:
+  $ vsi policy two.toml
+  L sees L
+  H sees L H";
+
 /// The long help of `fmt`.
 pub(crate) const FORMAT: &str = "\
 Prints a source text in its canonical form.

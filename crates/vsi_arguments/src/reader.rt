@@ -177,6 +177,7 @@ fn requested<'a>(name: &str, inner: &ArgMatches<'a>) -> Request<'a> {
         "leak" => Request::Leak(search_in(inner)),
         "report" => Request::Report(compilation_in(inner)),
         "draw" => Request::Draw(drawing_in(inner)),
+        "policy" => Request::Policy(looking_in(inner)),
         _ => Request::Format(text(inner, "SOURCE")),
     }
 }
@@ -314,6 +315,13 @@ fn drawing_in<'a>(matches: &ArgMatches<'a>) -> Drawing<'a> {
         lattice: text(matches, "LATTICE"),
         source: matches.get_str("SOURCE"),
         is_strict: matches.get_flag("strict"),
+    }
+}
+
+fn looking_in<'a>(matches: &ArgMatches<'a>) -> Looking<'a> {
+    Looking {
+        lattice: text(matches, "LATTICE"),
+        old: matches.get_str("OLD"),
     }
 }
 

@@ -102,6 +102,13 @@ pub struct Drawing<'a> {
     pub is_strict: bool,
 }
 
+/// A look at a policy: the paths of a lattice file and, if it is compared with an older one, of that.
+#[derive(Clone, Copy)]
+pub struct Looking<'a> {
+    pub lattice: &'a str,
+    pub old: Option<&'a str>,
+}
+
 /// An emission of C: the path of an image, or of a source text together with the path of a lattice
 /// file; the prefix of the function's name, if one is given; whether the header is written; and
 /// whether the function takes no budget.
@@ -210,6 +217,7 @@ pub enum Request<'a> {
     Leak(Search<'a>),
     Report(Compilation<'a>),
     Draw(Drawing<'a>),
+    Policy(Looking<'a>),
     Format(&'a str),
     /// With the shape of a lattice and the names given for its classes.
     Lattice(Vec<&'a [u8]>),

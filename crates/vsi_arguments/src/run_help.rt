@@ -91,7 +91,7 @@ Statuses: 0 standard input has ended, 1 refused, 2 usage or no such class,
 pub(crate) const DRIVE_EXAMPLE: &str = "\
 Example:
   $ printf 'l = 4\\n\\nh = 1\\n' > lines
-  $ vsi drive add.image two.toml --class L < lines
+  $ vsi drive two.toml add.image --class L < lines
   l = 5
   l = 6
   refused: 47 AboveClass 0";

@@ -19,7 +19,7 @@ struct Subcommand {
 }
 
 /// The subcommands whose refusals can be explained, in the order of the help.
-const SUBCOMMANDS: [Subcommand; 20] = [
+const SUBCOMMANDS: [Subcommand; 21] = [
     Subcommand {
         name: "try",
         line: "Judges a source text and runs it",
@@ -123,7 +123,7 @@ const SUBCOMMANDS: [Subcommand; 20] = [
         line: "Runs an image once for each line of standard input",
         whole: run_help::DRIVE,
         example: run_help::DRIVE_EXAMPLE,
-        arguments: &[IMAGE, DRIVE_BUDGET, UNBOUNDED, STORE, LATTICE, CLASS, SAVE],
+        arguments: &[LATTICE, CLASS, IMAGE, DRIVE_BUDGET, UNBOUNDED, STORE, SAVE],
     },
     Subcommand {
         name: "compare",
@@ -154,6 +154,13 @@ const SUBCOMMANDS: [Subcommand; 20] = [
         whole: help::DRAW,
         example: help::DRAW_EXAMPLE,
         arguments: &[LATTICE, DRAWN_SOURCE, STRICT],
+    },
+    Subcommand {
+        name: "policy",
+        line: "Prints who sees what under a lattice, or what changed",
+        whole: help::POLICY,
+        example: help::POLICY_EXAMPLE,
+        arguments: &[LATTICE, OLD_LATTICE],
     },
     Subcommand {
         name: "fmt",

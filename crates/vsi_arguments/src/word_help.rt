@@ -7,6 +7,12 @@ with two keys: `classes`, an array of 1 to 64 names, and `below`, an
 array of pairs [low, high] of them. Every two classes must have a
 least class above both and a greatest class below both.";
 
+/// An older lattice file.
+pub(crate) const OLD_LATTICE: &str = "\
+The path of an older lattice file, of the same form. With it the answer is
+what the classes of one name see now and didn't see then, and the other
+way round.";
+
 /// A source text.
 pub(crate) const SOURCE: &str = "\
 The path of the source text, of at most 1048576 bytes.";

@@ -11,7 +11,7 @@ use Rattle.vsi_arguments.specs.declared.request.Compilation.{Compilation}
 use Rattle.vsi_arguments.specs.declared.request.Execution.{Execution}
 use Rattle.vsi_arguments.specs.declared.request.Outset.{Outset}
 use Rattle.vsi_arguments.specs.declared.request.Request.{Request}
-use Rattle.vsi_arguments.specs.declared.request.Request.TheVariants.{Try, Check, Conform, Classes, Flows, Mend, Build, List as Listing, Audit, Source, EmitC, Bound, Run, View, Drive, Compare, Leak, Report, Draw, Format, Lattice as Shaped, Explain}
+use Rattle.vsi_arguments.specs.declared.request.Request.TheVariants.{Try, Check, Conform, Classes, Flows, Mend, Build, List as Listing, Audit, Source, EmitC, Bound, Run, View, Drive, Compare, Leak, Report, Draw, Policy, Format, Lattice as Shaped, Explain}
 use Rattle.vsi_arguments.specs.declared.request.TheConstants.{SEARCH, TRY_BUDGET}
 use Rattle.vsi_explain.specs.Pages.{page_of}
 use Rattle.vsi_explain.specs.Subjects.{subject_page}
@@ -39,6 +39,7 @@ name_of (Compare comparison) = codes "compare"
 name_of (Leak search) = codes "leak"
 name_of (Report compilation) = codes "report"
 name_of (Draw drawing) = codes "draw"
+name_of (Policy looking) = codes "policy"
 name_of (Format source) = codes "fmt"
 name_of (Shaped arguments) = codes "lattice"
 name_of (Explain page) = codes "explain"
@@ -68,11 +69,12 @@ operands_of (EmitC emission) = emission.file.now ∷ []
 operands_of (Bound bounding) = given bounding.lattice ++ bounding.file.now ∷ []
 operands_of (Run execution outset has_trace has_count) = execution.image.now ∷ []
 operands_of (View lattice class execution outset) = lattice.now ∷ execution.image.now ∷ []
-operands_of (Drive driving) = driving.execution.image.now ∷ driving.lattice.now ∷ []
+operands_of (Drive driving) = driving.lattice.now ∷ driving.execution.image.now ∷ []
 operands_of (Compare comparison) = comparison.lattice.now ∷ comparison.image.now ∷ []
 operands_of (Leak search) = search.lattice.now ∷ search.source.now ∷ []
 operands_of (Report compilation) = compiled compilation
 operands_of (Draw drawing) = drawing.lattice.now ∷ given drawing.source
+operands_of (Policy looking) = looking.lattice.now ∷ given looking.old
 operands_of (Format source) = source.now ∷ []
 operands_of (Shaped arguments) = shown arguments.items
 operands_of (Explain page) = []
@@ -104,6 +106,7 @@ flags_of (Compare comparison) = []
 flags_of (Leak search) = (codes "--endings", search.has_endings) ∷ (codes "--steps", search.has_steps) ∷ []
 flags_of (Report compilation) = (codes "--strict", compilation.is_strict) ∷ []
 flags_of (Draw drawing) = (codes "--strict", drawing.is_strict) ∷ []
+flags_of (Policy looking) = []
 flags_of (Format source) = []
 flags_of (Shaped arguments) = []
 flags_of (Explain page) = []

@@ -10,7 +10,7 @@ use crate::own::has_own_alone;
 use crate::reading::{has_flag, has_operands, has_values};
 use vsi_arguments::{
     Attempt, Audit, Bounding, Comparison, Compilation, Conformance, Drawing, Driving, Emission,
-    Execution, Judging, Mending, Outset, Request, SEARCH, Search, TRY_BUDGET,
+    Execution, Judging, Looking, Mending, Outset, Request, SEARCH, Search, TRY_BUDGET,
 };
 use vsi_explain::{page, subject_page};
 
@@ -171,8 +171,8 @@ fn asks_drive(words: &[String], driving: &Driving<'_>) -> bool
     ensures { result ≡ true → spec.Spells words.now (request.Drive driving.now) }
 {
     let operands = [
-        driving.execution.image.as_bytes(),
         driving.lattice.as_bytes(),
+        driving.execution.image.as_bytes(),
     ];
     let flags = [("--unbounded", driving.is_unbounded)];
     let Some(rest) = behind(words, "drive", operands.as_slice(), flags.as_slice()) else {
@@ -232,6 +232,24 @@ fn asks_draw(words: &[String], drawing: &Drawing<'_>) -> bool
             "draw",
             [drawing.lattice.as_bytes()].as_slice(),
             flags.as_slice(),
+        ),
+    }
+}
+
+/// Whether the arguments request a look at a policy.
+fn asks_policy(words: &[String], looking: &Looking<'_>) -> bool
+    ensures { result ≡ true → spec.Spells words.now (request.Policy looking.now) }
+{
+    match looking.old {
+        Some(old) => {
+            let operands = [looking.lattice.as_bytes(), old.as_bytes()];
+            asks(words, "policy", operands.as_slice(), &[])
+        }
+        None => asks(
+            words,
+            "policy",
+            [looking.lattice.as_bytes()].as_slice(),
+            &[],
         ),
     }
 }
@@ -408,6 +426,7 @@ fn spells(words: &[String], request: &Request<'_>) -> bool
         Request::Leak(search) => asks_leak(words, search),
         Request::Report(compilation) => asks_judged(words, "report", compilation),
         Request::Draw(drawing) => asks_draw(words, drawing),
+        Request::Policy(looking) => asks_policy(words, looking),
         Request::Format(source) => asks_file(words, "fmt", source),
         Request::Lattice(arguments) => asks(words, "lattice", arguments.as_slice(), &[]),
         Request::Explain(text) => asks_page(words, text),

@@ -122,7 +122,7 @@ once.
   $ printf 'classes = [\"L\", \"H\"]\\nbelow = [[\"L\", \"H\"]]\\n' > two.toml
   $ printf 'var x : L; var h : H; x := x + 2' > add.vsi
   $ vsi build two.toml add.vsi add.image
-  $ printf '%065537d\\n' 0 | vsi drive add.image two.toml --class L --budget 9
+  $ printf '%065537d\\n' 0 | vsi drive two.toml add.image --class L --budget 9
   refused: 44 LineTooLong
 ";
 
@@ -175,7 +175,7 @@ into the store file, once, before the drive begins.
   $ printf 'var x : L; var h : H; x := x + 2' > add.vsi
   $ vsi build two.toml add.vsi add.image
   $ printf 'h = 1\\n' > lines
-  $ vsi drive add.image two.toml --class L --budget 9 < lines
+  $ vsi drive two.toml add.image --class L --budget 9 < lines
   refused: 47 AboveClass 0
 ";
 

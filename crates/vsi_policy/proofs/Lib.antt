@@ -1,3 +1,4 @@
+mod Below
 mod Digits
 mod First
 mod Shaped

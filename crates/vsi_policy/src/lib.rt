@@ -11,9 +11,13 @@ mod fault;
 mod making;
 mod naming;
 mod order;
+mod seen;
 mod shape;
+mod warnings;
 
 pub use fault::ShapeError;
 pub use making::lattice_text;
 pub use naming::named_policy;
+pub use seen::{seen_changes, seen_table};
 pub use shape::Shape;
+pub use warnings::policy_warnings;

@@ -4,7 +4,7 @@ use Rattle.std.specs.Io.KnownBytes.{Appends}
 use Rattle.vsi_devices.specs.Counted.{device_of}
 use Rattle.vsi_answers.specs.Requests.{ListsTo}
 use Rattle.vsi.specs.Shaping.{ShapedText}
-use Rattle.vsi.specs.Reasons.{AsksCanonical, AsksClasses, AsksFlows, AsksMend, HasNoText, LacksEmitBound, LacksTried, NoOther, OtherLeak, RefusesAudit, RefusesFile, RefusesFiles, RefusesImage, RefusesLattice, RefusesSource, WhyDraw, WhyEmit, WhyTry}
+use Rattle.vsi.specs.Reasons.{AsksCanonical, AsksClasses, AsksFlows, AsksMend, HasNoText, LacksEmitBound, LacksTried, NoOther, OtherLeak, RefusesAudit, RefusesFile, RefusesFiles, RefusesImage, RefusesLattice, RefusesSource, WhyDraw, WhyEmit, WhyPolicy, WhyTry}
 use Rattle.vsi.proofs.Filled.{alone, each_done}
 use Rattle.vsi.proofs.Obeyed.{put_stops}
 use Rattle.vsi.proofs.Unrun.{Unseen, fault_stopped}
@@ -58,6 +58,11 @@ pub returns-in-Draw-clause-performed : goal.returns-in-Draw-clause-performed
 returns-in-Draw-clause-performed g c = rw c.in-Draw.is
     (put_alone _ _ _ _ _ c.draw.result c.put-in-Draw.result c.draw.ensures.kept c.draw.ensures.told
     c.put-in-Draw.ensures.done)
+
+pub returns-in-Policy-clause-performed : goal.returns-in-Policy-clause-performed
+returns-in-Policy-clause-performed g c = rw c.in-Policy.is
+    (put_alone _ _ _ _ _ c.policy.result c.put-in-Policy.result c.policy.ensures.kept c.policy.ensures.told
+    c.put-in-Policy.ensures.done)
 
 pub returns-in-Format-clause-performed : goal.returns-in-Format-clause-performed
 returns-in-Format-clause-performed g c = rw c.in-Format.is
@@ -155,6 +160,10 @@ returns-in-Report-clause-left g c = rw c.in-Report.is
 pub returns-in-Draw-clause-left : goal.returns-in-Draw-clause-left
 returns-in-Draw-clause-left g c = rw c.in-Draw.is
     (put_leaves _ _ _ c.draw.result c.put-in-Draw.result c.draw.ensures.told c.put-in-Draw.ensures.left)
+
+pub returns-in-Policy-clause-left : goal.returns-in-Policy-clause-left
+returns-in-Policy-clause-left g c = rw c.in-Policy.is
+    (put_leaves _ _ _ c.policy.result c.put-in-Policy.result c.policy.ensures.told c.put-in-Policy.ensures.left)
 
 pub returns-in-Format-clause-left : goal.returns-in-Format-clause-left
 returns-in-Format-clause-left g c = rw c.in-Format.is
@@ -258,6 +267,12 @@ pub returns-in-Draw-clause-stopped : goal.returns-in-Draw-clause-stopped
 returns-in-Draw-clause-stopped g c = rw c.in-Draw.is
     (put_stops (WhyDraw (g.F.Files.holds c.args.files.now) c.in-Draw.drawing.lattice.now c.in-Draw.drawing.source) NoOther
     c.draw.result c.put-in-Draw.result c.draw.ensures.stopped c.put-in-Draw.ensures.stopped)
+
+pub returns-in-Policy-clause-stopped : goal.returns-in-Policy-clause-stopped
+returns-in-Policy-clause-stopped g c = rw c.in-Policy.is
+    (put_stops (WhyPolicy (g.F.Files.holds c.args.files.now) c.in-Policy.looking.lattice.now c.in-Policy.looking.old)
+    NoOther
+    c.policy.result c.put-in-Policy.result c.policy.ensures.stopped c.put-in-Policy.ensures.stopped)
 
 pub returns-in-Format-clause-stopped : goal.returns-in-Format-clause-stopped
 returns-in-Format-clause-stopped g c = rw c.in-Format.is

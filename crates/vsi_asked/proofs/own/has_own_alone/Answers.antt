@@ -20,6 +20,10 @@ pub returns-in-Draw : goal.returns-in-Draw
 returns-in-Draw c =
     rw c.in-Draw.is (rw (c.as_slice-in-Draw.ensures, c.as_slice-in-Draw-2.ensures) at c.are_own-in-Draw.ensures)
 
+pub returns-in-Policy : goal.returns-in-Policy
+returns-in-Policy c =
+    rw c.in-Policy.is (rw (c.as_slice-in-Policy.ensures, c.as_slice-in-Policy-2.ensures) at c.are_own-in-Policy.ensures)
+
 pub returns-in-Flows : goal.returns-in-Flows
 returns-in-Flows c =
     rw c.in-Flows.is (rw (c.as_slice-in-Flows.ensures, c.as_slice-in-Flows-2.ensures) at c.are_own-in-Flows.ensures)

@@ -1,0 +1,19 @@
+-- Why nothing is said of who sees what.
+use Rattle.std.proofs.Common.{ℕ, List, inl, inr}
+use Rattle.std.specs.Prelude.{IsSomeAnd, Option, Some, None}
+use Rattle.std.specs.Borrow.{Bor}
+use Rattle.vsi_answers.specs.declared.unanswered.Unanswered.{Unanswered}
+use Rattle.vsi.specs.Holding.{Holding}
+use Rattle.vsi.specs.Reasons.{RefusesLattice, WhyPolicy}
+
+-- A lattice file that is refused is a reason.
+pub policy_lattice : (holds : Holding) (lattice : List ℕ) (old : Option (Bor (List ℕ))) (reason : Unanswered) →
+    RefusesLattice holds lattice reason → WhyPolicy holds lattice old reason
+policy_lattice holds lattice None reason is = is
+policy_lattice holds lattice (Some path) reason is = inl is
+
+-- An older lattice file that is refused is one too.
+pub policy_old : (holds : Holding) (lattice : List ℕ) (old : Option (Bor (List ℕ))) (reason : Unanswered) →
+    IsSomeAnd old (λ path. RefusesLattice holds path.now reason) → WhyPolicy holds lattice old reason
+policy_old holds lattice None reason is = absurd is
+policy_old holds lattice (Some path) reason is = inr is

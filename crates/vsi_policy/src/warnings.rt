@@ -1,0 +1,176 @@
+//! Warnings about a lattice that says, by its names, something else than its author may mean. A
+//! lattice with a warning is as good as any other.
+
+ghost use Rattle.vsi_lattice.specs.LatticeView.{order};
+ghost use Rattle.vsi_lattice.specs.Order.{IsClass};
+
+use std::alloc::{AllocError, Global};
+use vsi_lattice::{Class, Classes, Lattice};
+
+/// Names for classes that everyone sees, in small letters.
+const LOW: [&[u8]; 8] = [
+    b"l",
+    b"low",
+    b"public",
+    b"open",
+    b"everyone",
+    b"guest",
+    b"unclassified",
+    b"bottom",
+];
+
+/// Names for classes that few see, in small letters.
+const HIGH: [&[u8]; 9] = [
+    b"h",
+    b"high",
+    b"secret",
+    b"topsecret",
+    b"private",
+    b"confidential",
+    b"owner",
+    b"admin",
+    b"top",
+];
+
+/// A letter as it is compared: small, and the same for those that look alike. `_` has none.
+fn plain_letter(letter: u8) -> Option<u8> {
+    match letter {
+        b'_' => None,
+        b'0' | b'O' | b'o' => Some(b'o'),
+        b'1' | b'I' | b'i' | b'L' | b'l' => Some(b'l'),
+        b'5' | b'S' | b's' => Some(b's'),
+        b'2' | b'Z' | b'z' => Some(b'z'),
+        b'8' | b'B' | b'b' => Some(b'b'),
+        other => Some(other.to_ascii_lowercase()),
+    }
+}
+
+/// A name as it is compared with others.
+fn plain_name(alloc: Global, name: &[u8]) -> Result<Vec<u8>, AllocError> {
+    let mut plain = Vec::new(alloc);
+    for letter in name {
+        if let Some(letter) = plain_letter(*letter) {
+            plain.push(letter)?;
+        }
+    }
+    Ok(plain)
+}
+
+/// Whether a name is one of these, in small letters and without `_`.
+fn is_one_of(name: &[u8], words: &[&[u8]]) -> bool {
+    for word in words {
+        if is_word(name, word) {
+            return true;
+        }
+    }
+    false
+}
+
+/// Whether a name is this word, whatever the size of its letters and where its `_` are.
+fn is_word(name: &[u8], word: &[u8]) -> bool {
+    let mut rest = word;
+    for letter in name {
+        if *letter == b'_' {
+            continue;
+        }
+        match rest {
+            [first, more @ ..] if *first == letter.to_ascii_lowercase() => rest = more,
+            _ => return false,
+        }
+    }
+    rest.is_empty()
+}
+
+/// Adds a warning about two names.
+fn put_warning(
+    text: &mut Vec<u8>,
+    first: &[u8],
+    between: &[u8],
+    second: &[u8],
+    last: &[u8],
+) -> Result<(), AllocError> {
+    text.extend_from_slice(b"warning: ")?;
+    text.extend_from_slice(first)?;
+    text.extend_from_slice(between)?;
+    text.extend_from_slice(second)?;
+    text.extend_from_slice(last)
+}
+
+/// Whether two names look alike.
+fn are_alike(alloc: Global, first: &[u8], second: &[u8]) -> Result<bool, AllocError> {
+    let plain = plain_name(alloc, first)?;
+    let other = plain_name(alloc, second)?;
+    Ok(plain.as_slice() == other.as_slice())
+}
+
+/// Adds the warnings about two classes, the one that comes first in the file first.
+fn put_pair(
+    text: &mut Vec<u8>,
+    alloc: Global,
+    first: &[u8],
+    second: &[u8],
+) -> Result<(), AllocError> {
+    if are_alike(alloc, first, second)? {
+        put_warning(
+            text,
+            first,
+            b" and ",
+            second,
+            b" are different classes with names that look alike\n",
+        )?;
+    }
+    Ok(())
+}
+
+/// Adds the warning about a viewer that sees another class although their names say the opposite.
+fn put_reversed(text: &mut Vec<u8>, viewer: &[u8], class: &[u8]) -> Result<(), AllocError> {
+    if is_one_of(viewer, LOW.as_slice()) && is_one_of(class, HIGH.as_slice()) {
+        put_warning(
+            text,
+            viewer,
+            b" sees ",
+            class,
+            b": is the order reversed?\n",
+        )?;
+    }
+    Ok(())
+}
+
+/// Adds the warnings about a class and those after it.
+fn put_class(
+    text: &mut Vec<u8>,
+    alloc: Global,
+    lattice: &Lattice,
+    class: usize,
+) -> Result<(), AllocError>
+    requires { IsClass (order lattice.now) class }
+{
+    let name = lattice.name(Class::at(class as u8));
+    for other in 0..lattice.count() {
+        let second = lattice.name(Class::at(other as u8));
+        if class < other {
+            put_pair(text, alloc, name, second)?;
+        }
+        if lattice.leq(Class::at(other as u8), Class::at(class as u8)) {
+            put_reversed(text, name, second)?;
+        }
+    }
+    Ok(())
+}
+
+/// The warnings about a lattice: that it has one class alone, that two names look alike, and that a
+/// class with a name for secrets is at or below one with a name for the public.
+///
+/// # Errors
+///
+/// Only if memory runs out.
+pub fn policy_warnings(alloc: Global, lattice: &Lattice) -> Result<Vec<u8>, AllocError> {
+    let mut text = Vec::new(alloc);
+    if lattice.count() == 1 {
+        text.extend_from_slice(b"warning: there is only one class, so every flow is allowed\n")?;
+    }
+    for class in 0..lattice.count() {
+        put_class(&mut text, alloc, lattice, class)?;
+    }
+    Ok(text)
+}
