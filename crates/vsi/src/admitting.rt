@@ -70,8 +70,8 @@ fn judged(
     }
 }
 
-/// Lets a drive go on with a budget that is enough, or with any if that is asked for; then the note
-/// gets the line that says that it isn't enough.
+/// Lets a drive go on with a budget that is enough, or with any budget if that is requested. The note
+/// then gets the line that says that it isn't enough.
 pub(crate) fn admit<'a>(
     alloc: Global,
     is_unbounded: bool,
