@@ -7,9 +7,11 @@ pub mod Driven
 pub mod Naming
 pub mod Tried
 pub mod Shaping
+pub mod Admitted
 pub mod Performed
 pub mod Reasons
 pub mod Partly
 pub mod Done
 pub mod Laws
+pub mod Admitted
 pub mod Diagnosing
