@@ -9,10 +9,12 @@ pub mod Naming
 pub mod Tried
 pub mod Shaping
 pub mod Seeing
+pub mod Admitted
 pub mod Performed
 pub mod Reasons
 pub mod Partly
 pub mod Done
 pub mod Noted
 pub mod Laws
+pub mod Admitted
 pub mod Diagnosing

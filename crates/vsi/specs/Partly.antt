@@ -20,9 +20,10 @@ use Rattle.vsi_arguments.specs.declared.request.Request.{Request}
 use Rattle.vsi_arguments.specs.declared.request.Request.TheVariants as request
 use Rattle.vsi.specs.declared.stop.Stop.{Stop}
 use Rattle.vsi.specs.declared.stop.Stop.TheVariants.{Differs}
+use Rattle.vsi.specs.Admitted.{IsAdmitted}
 use Rattle.vsi.specs.Driven.{lines_of}
 use Rattle.vsi.specs.Holding.{Holding, IsImageAt}
-use Rattle.vsi.specs.Performed.{AuditsFiles, BeginsAt, BoundsFile, ComparesFiles, ConformsFiles, DrawsFiles, EmitsFile, IsAdmitted, IsBudgetOf, IsStoredAt, LooksAt, OfFile, OfFiles, RunsFiles, SearchesFiles, SourceOfFile, ToldAccepted, ToldCanonical, ToldClasses, ToldFlows, ToldJson, ToldListing, ToldPage, ToldRaises, ViewsFiles, control_of, judgement_of, shown}
+use Rattle.vsi.specs.Performed.{AuditsFiles, BeginsAt, BoundsFile, ComparesFiles, ConformsFiles, DrawsFiles, EmitsFile, IsBudgetOf, IsStoredAt, LooksAt, OfFile, OfFiles, RunsFiles, SearchesFiles, SourceOfFile, ToldAccepted, ToldCanonical, ToldClasses, ToldFlows, ToldJson, ToldListing, ToldPage, ToldRaises, ViewsFiles, control_of, judgement_of, shown}
 use Rattle.vsi.specs.Reasons.{ToldRefusal}
 use Rattle.vsi.specs.Seeing.{SeesFiles}
 use Rattle.vsi.specs.Shaping.{ShapedText}

@@ -1,5 +1,5 @@
 -- The output of each subcommand that ends well, given the contents of its files.
-use Rattle.std.specs.Prelude.{◌≡◌, ◌≤◌, ◌⊎◌, ℕ, ◌++◌, ℤ, Bool, true, false, List, [], Option, Some, None, Ok, codes, decimal, if◌then◌else◌, IsSomeAnd}
+use Rattle.std.specs.Prelude.{◌≡◌, ℕ, ◌++◌, ℤ, Bool, true, false, List, [], Option, Some, None, Ok, codes, decimal, if◌then◌else◌, IsSomeAnd}
 use Rattle.std.specs.Borrow.{Bor}
 use Rattle.std.specs.Global.{Vec}
 use Rattle.std.specs.Io.KnownBytes.{Appends, Keeps}
@@ -66,6 +66,7 @@ use Rattle.vsi_arguments.specs.declared.request.Outset.{Outset}
 use Rattle.vsi_arguments.specs.declared.request.Search.{Search}
 use Rattle.vsi_arguments.specs.declared.request.Request.{Request}
 use Rattle.vsi_arguments.specs.declared.request.Request.TheVariants as request
+use Rattle.vsi.specs.Admitted.{IsAdmitted}
 use Rattle.vsi.specs.Driven.{DrivesInput}
 use Rattle.vsi.specs.Holding.{Delivers, Fills, Holding, IsImageAt, IsLatticeAt, IsReadAt, IsStoreAt}
 use Rattle.vsi.specs.Naming.{function_name}
@@ -127,23 +128,10 @@ pub record LooksAt (holds : Holding) (path name : List ℕ) (l : Lattice) (class
   pub named : class_named l name ≡ Some class
   pub is : IsClass (order l) class
 
--- The number of instructions of a budget: the given one, or with `auto` one within which the image halts from every
--- store.
+-- The number of a budget: the given one, or with `auto` one within which the image halts from every store.
 abbrev pub IsBudgetOf : Budget → Image → ℕ → Type 0
 IsBudgetOf (Number given) image number = number ≡ given
 IsBudgetOf Auto image number = IsBound image number
-
--- A budget is enough for the runs of an image: the image has a bound, and the budget isn't below it or the image is
--- steady. Then whether a run is out of budget reveals nothing.
-pub record IsEnough (l : Lattice) (image : Image) (budget : ℕ) : Type 0 where
-  pub most : ℕ
-  pub halts : IsBound image most
-  pub covers : (most ≤ budget) ⊎ IsSteady (class_named l) (order l) image
-
--- A drive takes a budget that is enough, and with `--unbounded` any.
-abbrev pub IsAdmitted : Bool → Lattice → Image → ℕ → Type 0
-IsAdmitted true l image budget = Unit {0}
-IsAdmitted false l image budget = IsEnough l image budget
 
 -- ---- the output.
 
@@ -484,8 +472,7 @@ abbrev pub Alone : (Option (List ℕ) → Option (List ℕ) → Type 0) → Hold
     Option (List ℕ) → Type 0
 Alone Does holds left old new = (left ≡ holds) × Does old new
 
--- The effect of a request that ends well: its output, given the contents of its files and the input, and the contents
--- of the files afterwards.
+-- The effect of a request that ends well: its output and the files afterwards, given its files and the input.
 abbrev pub Performs : Holding → Option (List ℕ) → Request → Holding → Option (List ℕ) → Option (List ℕ) → Type 0
 Performs holds given (request.Try attempt) left = Alone (Writes (TriesFile holds attempt)) holds left
 Performs holds given (request.Check asked) left = Alone (PerformsCheck asked.is_json holds asked) holds left

@@ -1,5 +1,5 @@
 -- The reason why a request has stopped early, given the contents of its files.
-use Rattle.std.specs.Prelude.{◌≡◌, ◌≢◌, ◌<◌, ◌⊎◌, ◌++◌, ℕ, ℤ, Bool, true, false, List, Option, Some, None, Result, Err, IsSomeAnd, codes, decimal}
+use Rattle.std.specs.Prelude.{◌≡◌, ◌≢◌, ◌⊎◌, ℕ, ℤ, Bool, true, false, List, Option, Some, None, Result, Err, IsSomeAnd}
 use Rattle.std.specs.Global.{Vec}
 use Rattle.std.specs.Borrow.{Bor}
 use Rattle.std.specs.Io.KnownBytes.{Appends}
@@ -22,8 +22,6 @@ use Rattle.vsi_audit.specs.Telling.{IsAuditText}
 use Rattle.vsi_audit.specs.declared.error.AuditError.{AuditError}
 use Rattle.vsi_steady.specs.Refusal as steady
 use Rattle.vsi_steady.specs.Telling.{IsUnsteadyText}
-use Rattle.vsi_steady.specs.declared.error.SteadyError.{SteadyError}
-use Rattle.vsi_steady.specs.declared.error.SteadyError.TheVariants as unsteady
 use Rattle.vsi_leak.specs.Leaks.{IsLeak, IsWanted}
 use Rattle.vsi_leak.specs.Texts.{IsLeakText}
 use Rattle.vsi_leak.specs.declared.found.Finding.TheVariants as finding
@@ -37,7 +35,6 @@ use Rattle.vsi_conform.specs.declared.reader.Policy.TheVariants.{File, Tables}
 use Rattle.vsi_conform.specs.Checking.{TellsRefused}
 use Rattle.vsi_answers.specs.Answers.{Because}
 use Rattle.vsi_answers.specs.Bounds as bounds
-use Rattle.vsi_answers.specs.Bounds.{IsBound}
 use Rattle.vsi_answers.specs.Judged.{Declares, IsProgramFault, IsStoreFault, IsViewFault, TellsFault, TellsSource}
 use Rattle.vsi_answers.specs.Requests.{Answer, AppliesTo, BeginsWith, BuildsTo, ChecksSteadyTo, ChecksTo, ClassesTo, ComparesTo, FlowsTo, FormatsTo, ListsTo, MendsTo, ReadsImage, ReadsLattice, ViewsTo, WalksTo}
 use Rattle.vsi_answers.specs.declared.unanswered.Unanswered.{Unanswered}
@@ -63,6 +60,7 @@ use Rattle.vsi_arguments.specs.declared.request.Request.{Request}
 use Rattle.vsi_arguments.specs.declared.request.Request.TheVariants as request
 use Rattle.vsi.specs.declared.stop.Stop.{Stop}
 use Rattle.vsi.specs.declared.stop.Stop.TheVariants as stops
+use Rattle.vsi.specs.Admitted.{IsShort}
 use Rattle.vsi.specs.Holding.{Holding, IsImageAt, IsLatticeAt, IsReadAt, IsStoreAt}
 use Rattle.vsi.specs.Input.{two_classes}
 use Rattle.vsi.specs.Tried.{AreTried, BeginsSet, IsMade, IsTriedUnder, RunsMade, policy_path}
@@ -438,25 +436,6 @@ abbrev pub WhyDrive : Holding → Driving → Unanswered → Type 0
 WhyDrive holds d reason =
     RefusesLattice holds d.lattice.now reason ⊎ RefusesImage holds d.execution.image.now reason
     ⊎ RefusesStore holds d.execution.image.now d.execution.store reason ⊎ RefusesController holds d reason
-
--- The line of a budget below a bound.
-abbrev pub short_line : ℕ → ℕ → List ℕ
-short_line budget most =
-    codes "budget below the bound: " ++ decimal budget ++ codes " of " ++ decimal most ++ codes " instructions\n"
-
--- The line says that a budget is below the bound of an image, which is refused as not steady.
-pub record IsBelow (l : Lattice) (image : Image) (budget : ℕ) (line : List ℕ) : Type 0 where
-  pub most : ℕ
-  pub halts : IsBound image most
-  pub below : budget < most
-  pub error : SteadyError
-  pub known : error ≢ unsteady.Memory
-  pub refused : steady.Refuses (class_named l) (order l) image error
-  pub says : line ≡ short_line budget most
-
--- The line says why a budget isn't enough: no bound was found for the image, or the budget is below it.
-abbrev pub IsShort : Lattice → Image → ℕ → List ℕ → Type 0
-IsShort l image budget line = bounds.LacksBound image line ⊎ IsBelow l image budget line
 
 -- The text of the stop says why a budget isn't enough.
 abbrev pub SaysShort : Lattice → Image → ℕ → Stop → Type 0

@@ -1,8 +1,8 @@
 //! Whether a drive may go on with its budget.
 
-ghost use Rattle.std.specs.Prelude.{◌≡◌, ◌≢◌, false, IfErr, IfOk, MatchResult, OnOk};
-ghost use Rattle.vsi.specs.Performed.{IsAdmitted, IsEnough};
-ghost use Rattle.vsi.specs.Reasons.{IsShort, SaysShort, StopsBy, short_line};
+ghost use Rattle.std.specs.Prelude.{◌≡◌, false, IfErr, IfOk, MatchResult, OnOk};
+ghost use Rattle.vsi.specs.Admitted.{IsAdmitted, IsEnough, IsShort, short_line};
+ghost use Rattle.vsi.specs.Reasons.{SaysShort, StopsBy};
 ghost use Rattle.vsi_answers.specs.Bounds.{IsBound};
 
 use crate::stop::Stop;
@@ -70,8 +70,8 @@ fn judged(
     }
 }
 
-/// Lets a drive go on with a budget that is enough, or with any if that is asked for; then the note
-/// gets the line that says that it isn't enough.
+/// Lets a drive go on with a budget that is enough, or with any budget if that is requested. The
+/// note then gets the line that says that it isn't enough.
 pub(crate) fn admit<'a>(
     alloc: Global,
     is_unbounded: bool,

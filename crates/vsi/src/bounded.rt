@@ -11,8 +11,8 @@ use vsi_answers::enough_budget;
 use vsi_emit::{emit_bounded, emit_bounded_header};
 use vsi_image::Verified;
 
-/// The most instructions of an image's runs, or the stop with the line of `bound` that says why there
-/// is no such number.
+/// The most instructions of an image's runs, or the stop with the line of `bound` that says why
+/// there is no such number.
 fn most_of<'a>(alloc: Global, verified: &Verified) -> Result<u64, Stop<'a>>
     ensures told { IfOk result (IsBound verified.now) }
     ensures stopped { IfErr result (StopsBy (λ reason. ⊥) (IsUnbounded verified.now)) }

@@ -194,8 +194,8 @@ fn emitted<'a, F: Files>(
     )
 }
 
-/// Stops with the line of `bound` if a function without a budget is requested and no bound was found
-/// for the image.
+/// Stops with the line of `bound` if a function without a budget is requested and no bound was
+/// found for the image.
 fn check_bound<'a, F: Files>(
     desk: &mut Desk,
     asked: Emission<'a>,
