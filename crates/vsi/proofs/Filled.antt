@@ -12,11 +12,6 @@ pub alone : {T : Type 0} (A : Type 0) (result : Result T Stop) (left holds : Hol
 alone A (Ok x) left holds same does = (same, does)
 alone A (Err stop) left holds same does = tt
 
--- A fact is a fact after every deed.
-pub each_done : {T : Type 0} (A : Type 0) (result : Result T Stop) → A → OnOk result A
-each_done A (Ok x) fact = fact
-each_done A (Err stop) fact = tt
-
 -- Two properties of one result hold together.
 pub both_done : {T : Type 0} (A B : Type 0) (result : Result T Stop) → OnOk result A → OnOk result B → OnOk result
     (A × B)

@@ -7,7 +7,6 @@ pub mod Cut
 pub mod Leaving
 pub mod Filled
 pub mod Driven
-pub mod ScreenLemmas
 pub mod Stopped
 pub mod Checked
 pub mod Obeyed

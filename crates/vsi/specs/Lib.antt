@@ -1,5 +1,4 @@
 pub mod Stops
-pub mod Screen
 pub mod Input
 pub mod Words
 pub mod Holding
@@ -14,7 +13,5 @@ pub mod Performed
 pub mod Reasons
 pub mod Partly
 pub mod Done
-pub mod Noted
 pub mod Laws
-pub mod Admitted
 pub mod Diagnosing

@@ -5,8 +5,6 @@ ghost use Rattle.std.specs.Io.KnownBytes.{Keeps};
 ghost use Rattle.vsi.specs.Done.{Done, Stopped, StopsAt};
 ghost use Rattle.vsi.specs.Input.{AnswersInput, RefusesRun, SpendsRun, StopsRun, TellsStop, WritesRun, WritesRunOf};
 ghost use Rattle.vsi.specs.Partly.{BytesOf, Partly};
-ghost use Rattle.vsi.specs.Noted.{NotesOf, TellsNotes};
-ghost use Rattle.vsi.specs.Screen.{tamed};
 ghost use Rattle.vsi.specs.Stops.{note_behind, status_of, text_of_stop, Gets, IsStreamFault, StopsFor, TellsFault};
 ghost use Rattle.vsi.specs.Words as spec;
 ghost use Rattle.vsi_answers.specs.Requests.{RunsSourceTo};
@@ -76,8 +74,6 @@ pub fn command<F: Files, R: Read, W: Write, E: Write>(
         (spec.given_to words.now (R.remaining (device_of input.old))) words.now
         (W.contents (device_of output.old)) (W.contents (device_of output.new)))
         result E.contents error.old error.new }
-    ensures counted { words.now ≢ [] → result ≡ 0 → TellsNotes (F.holds files.old) words.now
-        (Gets E.contents error.old error.new) }
     ensures done { words.now ≢ [] → result ≡ 0
         → Done (F.holds files.old) (spec.given_to words.now (R.remaining (device_of input.old)))
         words.now (F.holds files.new)
@@ -138,8 +134,6 @@ fn obeyed<'a, F: Files, R: Read, W: Write>(
 ) -> Result<(), Stop<'a>>
     requires input { faults_of input.old < u64.MAX }
     requires output { faults_of output.old < u64.MAX }
-    requires unnoted { told.old.note.items ≡ [] }
-    ensures noted { OnOk result (NotesOf (F.holds files.old) words.now told.new.note.items) }
     ensures input_fault { TellsFault (faults_of input.old) (faults_of input.new) result }
     ensures output_fault { TellsFault (faults_of output.old) (faults_of output.new) result }
     ensures unread { spec.reads_input words.now ≡ false → input.new ≡ input.old }
@@ -168,7 +162,7 @@ fn ended<E: Write>(answer: Result<(), Stop<'_>>, told: &Told, error: &mut Counte
     ensures noted { IfOk answer.entry
         (λ _. Gets E.contents error.old error.new told.now.note.items) }
     ensures told { IfErr answer.entry (λ stop. Gets E.contents error.old error.new
-        (text_of_stop stop ++ note_behind stop (tamed told.now.note.items))) }
+        (text_of_stop stop ++ note_behind stop told.now.note.items)) }
     ensures memory { result ≡ 5
         → Gets E.contents error.old error.new (codes "out of memory\n") }
 {
@@ -180,7 +174,7 @@ fn ended<E: Write>(answer: Result<(), Stop<'_>>, told: &Told, error: &mut Counte
         Err(stop) => {
             tell_stop(&stop, error);
             if !stop.wants_memory() {
-                told.explain(error);
+                told.tell(error);
             }
             stop.status()
         }

@@ -8,7 +8,7 @@
 //! such as `LexError` or a `Walk` of `Step`s, are exported here too.
 //!
 //! To be believed: of `specs/` `Words`, `Holding`, `Loading`, `Driven`, `Tried`, `Shaping`,
-//! `Seeing`, `Performed`, `Reasons`, `Partly`, `Done`, `Screen`, `Input` and `Laws`, and of `Stops`
+//! `Seeing`, `Admitted`, `Performed`, `Reasons`, `Partly`, `Done`, `Input` and `Laws`, and of `Stops`
 //! all but `StopsFor`; `Diagnosing` is a stepping stone of proofs.
 #![tactic(auto)]
 
@@ -38,7 +38,6 @@ mod performing;
 mod policies;
 mod reading;
 mod running;
-mod screen;
 mod shaping;
 mod stop;
 mod subcommands;

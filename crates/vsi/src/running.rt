@@ -1,7 +1,6 @@
 //! Runs of images.
 
-ghost use Rattle.std.specs.Prelude.{◌≡◌, ◌<◌, ◌⊎◌, [], true, length, IfOk, IfErr, OnOk, Ok, Err};
-ghost use Rattle.vsi.specs.Noted.{Counts, CountsRun};
+ghost use Rattle.std.specs.Prelude.{◌≡◌, ◌<◌, ◌⊎◌, length, IfOk, IfErr, OnOk, Ok, Err};
 ghost use Rattle.vsi.specs.Performed.{BeginsAt, PerformsRun, PerformsView, ViewsFiles};
 ghost use Rattle.vsi.specs.Partly.{AnswersRun, AnswersView, Leaves};
 ghost use Rattle.vsi.specs.Stops.{TellsFault, status_of};
@@ -9,8 +8,6 @@ ghost use Rattle.vsi.specs.declared.stop.Stop.TheVariants.{Memory};
 ghost use Rattle.vsi_answers.specs.Requests.{BeginsWith};
 ghost use Rattle.vsi_devices.specs.Counted.{device_of, faults_of};
 ghost use Rattle.vsi_lattice.specs.NamePlaces.{texts};
-ghost use Rattle.vsi_machine.specs.Counting.{Halts};
-ghost use Rattle.vsi_machine.specs.Runs.{run_of};
 ghost use Rattle.vsi.specs.Reasons.{LacksBoundAt, LacksEither, NoOther, RefusesImage, RefusesStart, StopsBy, WhyRun, WhyView};
 
 use crate::budgets::budget_of;
@@ -98,9 +95,7 @@ fn count_lines<'a>(
     words: &[i64],
     budget: u64,
 ) -> Result<Vec<u8>, Stop<'a>>
-    ensures memory { IfErr result (λ stop. stop ≡ Memory) }
-    ensures counted { Halts (run_of verified.now words.now budget)
-        → IfOk result (λ text. Counts true verified.now words.now text.items) }
+    ensures { IfErr result (λ stop. stop ≡ Memory) }
 {
     let Ok(count) = counted(alloc, verified, words, budget) else {
         return Err(Stop::Memory);
@@ -120,9 +115,7 @@ fn put_count<'a>(
     budget: u64,
     note: &mut Vec<u8>,
 ) -> Result<(), Stop<'a>>
-    ensures memory { IfErr result (λ stop. stop ≡ Memory) }
-    ensures counted { note.old.items ≡ [] → Halts (run_of verified.now words.now budget)
-        → OnOk result (Counts is_asked verified.now words.now note.new.items) }
+    ensures { IfErr result (λ stop. stop ≡ Memory) }
 {
     if is_asked {
         let lines = count_lines(alloc, verified, words, budget)?;
@@ -154,8 +147,6 @@ pub(crate) fn run<'a, F: Files, W: Write>(
         (W.contents (device_of output.old)) (W.contents (device_of output.new)))
         (LacksBoundAt (F.holds files.old) asked.now.execution.image.now
         asked.now.execution.budget)) }
-    ensures counted { note.old.items ≡ [] → OnOk result (CountsRun (F.holds files.old)
-        asked.now.execution asked.now.outset asked.now.has_count note.new.items) }
 {
     let (verified, words) = image_and_words(desk, asked.execution, &asked.outset, files)?;
     let budget = budget_of(desk.alloc, asked.execution.budget, &verified)?;

@@ -1,11 +1,9 @@
 //! The note on standard error besides the text of a stop.
 
 ghost use Rattle.std.specs.Prelude.{◌≡◌, ◌≤◌, []};
-ghost use Rattle.vsi.specs.Screen.{tamed as tamed_text};
 ghost use Rattle.vsi.specs.Stops.{Gets, text_of_stop};
 ghost use Rattle.vsi_devices.specs.Counted.{faults_of};
 
-use crate::screen::tamed;
 use crate::stop::Stop;
 use std::alloc::{AllocError, Global};
 use std::io::Write;
@@ -40,18 +38,6 @@ impl Told {
     {
         if !self.note.is_empty() {
             say(&self.note, error);
-        }
-    }
-
-    /// Writes the note after the text of a stop, if no byte of it controls a terminal except for
-    /// its colours.
-    pub(crate) fn explain<E: Write>(&self, error: &mut Counted<E>)
-        ensures count { faults_of error.old ≤ faults_of error.new }
-        ensures told { Gets E.contents error.old error.new (tamed_text self.now.note.items) }
-    {
-        let text = tamed(&self.note);
-        if !text.is_empty() {
-            say(text, error);
         }
     }
 }

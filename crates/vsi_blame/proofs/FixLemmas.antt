@@ -6,7 +6,7 @@ use Rattle.std.specs.List.{IsLastBest, find, list_any}
 use Rattle.std.specs.Cmp.{IsStrictWeakOrder}
 use Rattle.std.proofs.Math.Seq.{split_at}
 use Rattle.std.proofs.lemmas.Bool.{lt-ltb, le-ltb}
-use Rattle.std.proofs.lemmas.List.{get_or_default, take_more}
+use Rattle.std.proofs.lemmas.List.{take_more}
 use Rattle.std.proofs.lemmas.List.Folds.{find-append, list_any_at, list_any_more}
 use Rattle.std.proofs.lemmas.List.MinMax.{IsStrictWeakOrder-by_number, IsStrictWeakOrder-flip, IsLastBest-keeps, IsLastBest-takes}
 use Rattle.vsi_lattice.specs.declared.lattice.Lattice.{Lattice}
@@ -24,24 +24,20 @@ pub busier_order : (walks : List Walked) → IsStrictWeakOrder (is_busier walks)
 busier_order walks =
     IsStrictWeakOrder-flip (λ s t. nat_lt (passing walks s) (passing walks t)) (IsStrictWeakOrder-by_number (passing walks))
 
-module _ (walks : List Walked) (steps : List Step) (i b : ℕ) (s t : Step) (most count : ℕ) where
+module _ (walks : List Walked) (steps : List Step) (i b : ℕ) (x y : Step) (most count : ℕ) where
   -- The best step so far stays the best one if more walks pass it than the next one.
-  pub busier_keeps : IsLastBest (is_busier walks) steps i b → i < length steps → most ≡ passing walks (get_or steps b t)
-      → count ≡ passing walks (get_or steps i s) → count < most → IsLastBest (is_busier walks) steps (i + 1) b
-  busier_keeps best within m n less =
-      IsLastBest-keeps (busier_order walks) steps i b (get_or steps i s) (get_or steps b t) best within
-      (get_or_default steps i s (get_or steps i s) within)
-      (get_or_default steps b t (get_or steps b t) (omega (arith, best.0)))
-      (ap (λ k. nat_lt k (passing walks (get_or steps b t))) (sym n) ∙ ap (nat_lt count) (sym m) ∙ lt-ltb count most less)
+  pub busier_keeps : IsLastBest (is_busier walks) steps i b → i < length steps → x ≡ get_or steps i x → y ≡ get_or steps b y
+      → most ≡ passing walks y → count ≡ passing walks x → count < most → IsLastBest (is_busier walks) steps (i + 1) b
+  busier_keeps best within p q m n less =
+      IsLastBest-keeps (busier_order walks) steps i b x y best within p q
+      (ap (λ k. nat_lt k (passing walks y)) (sym n) ∙ ap (nat_lt count) (sym m) ∙ lt-ltb count most less)
 
   -- The next step is the best one if at least as many walks pass it.
-  pub busier_takes : IsLastBest (is_busier walks) steps i b → i < length steps → most ≡ passing walks (get_or steps b t)
-      → count ≡ passing walks (get_or steps i s) → most ≤ count → IsLastBest (is_busier walks) steps (i + 1) i
-  busier_takes best within m n less =
-      IsLastBest-takes (busier_order walks) steps i b (get_or steps i s) (get_or steps b t) best within
-      (get_or_default steps i s (get_or steps i s) within)
-      (get_or_default steps b t (get_or steps b t) (omega (arith, best.0)))
-      (ap (λ k. nat_lt k (passing walks (get_or steps b t))) (sym n) ∙ ap (nat_lt count) (sym m) ∙ le-ltb count most less)
+  pub busier_takes : IsLastBest (is_busier walks) steps i b → i < length steps → x ≡ get_or steps i x → y ≡ get_or steps b y
+      → most ≡ passing walks y → count ≡ passing walks x → most ≤ count → IsLastBest (is_busier walks) steps (i + 1) i
+  busier_takes best within p q m n less =
+      IsLastBest-takes (busier_order walks) steps i b x y best within p q
+      (ap (λ k. nat_lt k (passing walks y)) (sym n) ∙ ap (nat_lt count) (sym m) ∙ le-ltb count most less)
 
 -- An element that passes a test is found.
 pub any_here : {X : Type 0} (p : X → Bool) (xs : List X) (i : ℕ) (x : X) → i < length xs → x ≡ get_or xs i x

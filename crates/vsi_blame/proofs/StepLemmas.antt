@@ -12,7 +12,7 @@ use Rattle.vsi_caret.specs.Place.{placed}
 use Rattle.vsi_lattice.specs.declared.lattice.Lattice.{Lattice}
 use Rattle.vsi_scope.specs.Program.{Resolved}
 use Rattle.vsi_types.specs.declared.rules.Rule.{Rule}
-use Rattle.vsi_types.specs.declared.rules.Rule.TheVariants.{Assign, Letvar, Loop}
+use Rattle.vsi_types.specs.declared.rules.Rule.TheVariants.{Assign, If, While, Letvar, Loop}
 use Rattle.vsi_types.specs.declared.rules.Step.{Step}
 use Rattle.vsi_blame.specs.Steps.{Shown, IsShown, sentence, consequence, guarded_prose, learns_prose, step_prose, inherited_prose, step_lines, AreLines, near_start, near_end, left_out, IsWalkText}
 use Rattle.vsi_blame.proofs.PartLemmas.{two_parts, three_parts}
@@ -52,6 +52,20 @@ module _ (path source : List ℕ) (r : Resolved) (step : Step) where
       by (inl e) = none Assign _ e refl
       by (inr (inl e)) = none Letvar _ e refl
       by (inr (inr e)) = none Loop _ e refl
+
+  -- A step under a guard reveals what the text about the guard says.
+  pub guard_reveals : (old new : List ℕ) (rule : Rule) → (rule ≡ If) ⊎ (rule ≡ While)
+      → ((v : Window) × (IsWindow source step.written.start v × (new ≡ old ++ guarded_prose path source r step v)))
+      → (v : Window) × (IsWindow source step.written.start v
+      × (new ≡ old ++ consequence rule (guarded_prose path source r step v)))
+  guard_reveals old new rule e p = (p.0, (p.1.0, by e))
+    where
+      g : List ℕ
+      g = guarded_prose path source r step p.0
+
+      by : (rule ≡ If) ⊎ (rule ≡ While) → new ≡ old ++ consequence rule g
+      by (inl e) = p.1.1 ∙ ap (λ (q : Rule). old ++ consequence q g) (sym e)
+      by (inr e) = p.1.1 ∙ ap (λ (q : Rule). old ++ consequence q g) (sym e)
 
   -- The sentence about a guard and the position of the assignment are added.
   pub guarded_more : (old m new : List ℕ) → m ≡ old ++ learns_prose r step

@@ -257,9 +257,10 @@ fn put_declare(
         × (text.new.items ≡ text.old.items
         ++ spec.declare_prose lattice.now program.now pair.target advised))) }
 {
+    let target = pair.target;
     match raised(lattice, program, pair) {
-        Some(class) => put_declared(text, lattice, program, pair.target, class),
-        None => put_fixed(text, program, pair.target),
+        Some(class) => put_declared(text, lattice, program, target, class),
+        None => put_fixed(text, program, target),
     }
 }
 
@@ -303,19 +304,19 @@ pub(crate) fn put_fixes(
     page: &Page<'_, '_>,
     program: &Resolved<'_>,
     walks: &[Walked],
-    pair: Pair,
+    entry: &Walked,
     near: &[Step],
 ) -> Result<(), AllocError>
     requires globals { All (IsClass (order lattice.now)) (program_of program.now).globals }
     requires declared { AreClasses (order lattice.now) (program_of program.now).declared }
     ensures { OnOk result ((busiest : Option Step) × ((advised : Option ℕ)
         × (spec.IsBusiest walks.now near.now busiest
-        × (spec.IsAdvised (order lattice.now) (program_of program.now) pair advised
+        × (spec.IsAdvised (order lattice.now) (program_of program.now) entry.now.pair advised
         × (text.new.items ≡ text.old.items ++ spec.fix_prose lattice.now page.now.path.now
-        page.now.source.now program.now walks.now pair busiest advised))))) }
+        page.now.source.now program.now walks.now entry.now.pair busiest advised))))) }
 {
     text.extend_from_slice(b"What would fix it:\n")?;
     put_change(text, page, program, walks, near)?;
-    put_declare(text, lattice, program, pair)?;
-    put_warning(text, program, walks, pair)
+    put_declare(text, lattice, program, entry.pair)?;
+    put_warning(text, program, walks, entry.pair)
 }

@@ -53,7 +53,7 @@ fn put_paragraph(
     let near = near_ends_of(alloc, steps)?;
     put_odds(text, lattice, program, pair.source, pair.target)?;
     put_walk(text, lattice, page, program, pair.source, steps)?;
-    put_fixes(text, lattice, page, program, walks, pair, near.as_slice())?;
+    put_fixes(text, lattice, page, program, walks, entry, near.as_slice())?;
     text.extend_from_slice(b"\n")
 }
 

@@ -5,7 +5,7 @@ use Rattle.vsi_devices.specs.Counted.{device_of}
 use Rattle.vsi_answers.specs.Requests.{ListsTo}
 use Rattle.vsi.specs.Shaping.{ShapedText}
 use Rattle.vsi.specs.Reasons.{AsksCanonical, AsksClasses, AsksFlows, AsksMend, HasNoText, LacksEmitBound, LacksTried, NoOther, OtherLeak, RefusesAudit, RefusesFile, RefusesFiles, RefusesImage, RefusesLattice, RefusesSource, WhyDraw, WhyEmit, WhyPolicy, WhyTry}
-use Rattle.vsi.proofs.Filled.{alone, each_done}
+use Rattle.vsi.proofs.Filled.{alone}
 use Rattle.vsi.proofs.Obeyed.{put_stops}
 use Rattle.vsi.proofs.Unrun.{Unseen, fault_stopped}
 use Rattle.vsi.proofs.Partly.{accept_leaves, fault_leaves, kept_leaves, put_leaves}
@@ -323,71 +323,3 @@ returns-in-Compare-clause-stopped g c = rw c.in-Compare.is c.compare.ensures.sto
 pub returns-in-Explain-clause-stopped : goal.returns-in-Explain-clause-stopped
 returns-in-Explain-clause-stopped g c = rw c.in-Explain.is
     (fault_stopped (λ reason. ⊥) NoOther c.write.result c.write.ensures.stop)
-
--- ---- what is noted.
-
-pub returns-in-Run-clause-noted : goal.returns-in-Run-clause-noted
-returns-in-Run-clause-noted g c = rw c.in-Run.is (c.run.ensures.counted c.requires.unnoted)
-
-pub returns-in-Classes-clause-noted : goal.returns-in-Classes-clause-noted
-returns-in-Classes-clause-noted g c = rw c.in-Classes.is (each_done _ c.put.result c.requires.unnoted)
-
-pub returns-in-Flows-clause-noted : goal.returns-in-Flows-clause-noted
-returns-in-Flows-clause-noted g c = rw c.in-Flows.is (each_done _ c.put-in-Flows.result c.requires.unnoted)
-
-pub returns-in-Mend-clause-noted : goal.returns-in-Mend-clause-noted
-returns-in-Mend-clause-noted g c = rw c.in-Mend.is (each_done _ c.put-in-Mend.result c.requires.unnoted)
-
-pub returns-in-List-clause-noted : goal.returns-in-List-clause-noted
-returns-in-List-clause-noted g c = rw c.in-List.is (each_done _ c.put-in-List.result c.requires.unnoted)
-
-pub returns-in-Source-clause-noted : goal.returns-in-Source-clause-noted
-returns-in-Source-clause-noted g c = rw c.in-Source.is (each_done _ c.put-in-Source.result c.requires.unnoted)
-
-pub returns-in-EmitC-clause-noted : goal.returns-in-EmitC-clause-noted
-returns-in-EmitC-clause-noted g c = rw c.in-EmitC.is (each_done _ c.put-in-EmitC.result c.requires.unnoted)
-
-pub returns-in-Leak-clause-noted : goal.returns-in-Leak-clause-noted
-returns-in-Leak-clause-noted g c = rw c.in-Leak.is (each_done _ c.put-in-Leak.result c.requires.unnoted)
-
-pub returns-in-Report-clause-noted : goal.returns-in-Report-clause-noted
-returns-in-Report-clause-noted g c = rw c.in-Report.is (each_done _ c.put-in-Report.result c.requires.unnoted)
-
-pub returns-in-Draw-clause-noted : goal.returns-in-Draw-clause-noted
-returns-in-Draw-clause-noted g c = rw c.in-Draw.is (each_done _ c.put-in-Draw.result c.requires.unnoted)
-
-pub returns-in-Format-clause-noted : goal.returns-in-Format-clause-noted
-returns-in-Format-clause-noted g c = rw c.in-Format.is (each_done _ c.put-in-Format.result c.requires.unnoted)
-
-pub returns-in-Audit-clause-noted : goal.returns-in-Audit-clause-noted
-returns-in-Audit-clause-noted g c = rw c.in-Audit.is (each_done _ c.accept.result c.requires.unnoted)
-
-pub returns-in-Build-clause-noted : goal.returns-in-Build-clause-noted
-returns-in-Build-clause-noted g c = rw c.in-Build.is (each_done _ c.build.result c.requires.unnoted)
-
-pub returns-in-Check-clause-noted : goal.returns-in-Check-clause-noted
-returns-in-Check-clause-noted g c = rw c.in-Check.is (each_done _ c.put_check.result c.requires.unnoted)
-
-pub returns-in-Conform-clause-noted : goal.returns-in-Conform-clause-noted
-returns-in-Conform-clause-noted g c = rw c.in-Conform.is (each_done _ c.conform.result c.requires.unnoted)
-
-pub returns-in-Bound-clause-noted : goal.returns-in-Bound-clause-noted
-returns-in-Bound-clause-noted g c = rw c.in-Bound.is (each_done _ c.bound.result c.requires.unnoted)
-
-pub returns-in-Compare-clause-noted : goal.returns-in-Compare-clause-noted
-returns-in-Compare-clause-noted g c = rw c.in-Compare.is (each_done _ c.compare.result c.requires.unnoted)
-
-pub returns-in-Drive-clause-noted : goal.returns-in-Drive-clause-noted
-returns-in-Drive-clause-noted g c = rw c.in-Drive.is (each_done _ c.drive.result c.requires.unnoted)
-
-pub returns-in-View-clause-noted : goal.returns-in-View-clause-noted
-returns-in-View-clause-noted g c = rw c.in-View.is (each_done _ c.view.result c.requires.unnoted)
-
-pub returns-in-Try-clause-noted : goal.returns-in-Try-clause-noted
-returns-in-Try-clause-noted g c = rw c.in-Try.is (each_done _ c.put-in-Try.result c.requires.unnoted)
-
-pub returns-in-Lattice-clause-noted : goal.returns-in-Lattice-clause-noted
-returns-in-Lattice-clause-noted g c = rw c.in-Lattice.is (each_done _ c.put-in-Lattice.result c.requires.unnoted)
-
-pub returns-in-Explain-clause-noted : goal.returns-in-Explain-clause-noted
-returns-in-Explain-clause-noted g c = rw c.in-Explain.is (each_done _ c.write.result c.requires.unnoted)

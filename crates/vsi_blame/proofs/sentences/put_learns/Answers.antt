@@ -11,7 +11,8 @@ returns c =
     let b = variable_prose r c.args.step.now.target in
     let d = codes " learns something about " in
     let e = variable_prose r c.args.step.now.source in
-    on_added c.extend_from_slice-3.result c.extend_from_slice-3.new.self.items c.put_variable-2.new.text.items (codes ".\nThe assignment is here:\n")
+    on_added c.extend_from_slice-3.result c.extend_from_slice-3.new.self.items c.put_variable-2.new.text.items
+    (codes ".\nThe assignment is here:\n")
     (two_parts old (((a ++ b) ++ d) ++ e) (codes ".\nThe assignment is here:\n") c.put_variable-2.new.text.items
     c.extend_from_slice-3.new.self.items
     (four_parts old a b d e c.extend_from_slice.new.self.items c.put_variable.new.text.items
