@@ -359,11 +359,11 @@ pub(crate) const POLICY: &str = "\
 Prints who sees what under a lattice, or what changed.
 
 Reads and judges the lattice file, and prints a row for each class with exactly
-the classes that it sees: those at or below it. With an older lattice file, which
-is judged too, prints a line for each class that another now sees, and then one
-for each that it no longer sees, by their names. Standard error has a warning if
-there is only one class, if two classes have names that look alike, or if a class
-with a name for secrets is below one with a name for the public.
+the classes that it sees: those at or below it. With an older lattice file,
+which is judged too, prints a line for each class that another now sees, and
+then one for each that it no longer sees, by their names. Standard error has a
+warning if there is only one class, if two classes have names that look alike,
+or if a class with a name for secrets is below one with a name for the public.
 
 Statuses: 0 printed, 1 refused, 2 usage, 4 file fault, 5 out of memory.";
 

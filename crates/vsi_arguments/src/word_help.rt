@@ -9,9 +9,9 @@ least class above both and a greatest class below both.";
 
 /// An older lattice file.
 pub(crate) const OLD_LATTICE: &str = "\
-The path of an older lattice file, of the same form. With it the answer is
-what the classes of one name see now and didn't see then, and the other
-way round.";
+The path of an older lattice file, of the same form. With it the
+answer has what each class sees now and didn't see then, and what it
+sees no longer.";
 
 /// A source text.
 pub(crate) const SOURCE: &str = "\
