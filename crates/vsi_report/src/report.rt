@@ -42,7 +42,7 @@ fn joined(
 ) -> Result<Vec<u8>, ReportError>
     requires { Shows panel.now.items source.now }
     ensures panel { IfOk result (λ page. HasPanel page.items source.now) }
-    ensures banner { (v : Shown) → HasBanner v begun.entry.text.items
+    ensures banner { (v : Shown) → HasBanner v begun.text.items
         → IfOk result (λ page. HasBanner v page.items) }
     ensures short { IfOk result (λ page.
         length page.items ≤ most_bytes (length source.now) flows lines) }
