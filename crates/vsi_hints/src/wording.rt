@@ -33,7 +33,6 @@ pub enum Hint<'s> {
 }
 
 /// A text, or its beginning if it is long.
-#[tactic(auto, using(std::proofs::lemmas::List::take_all))]
 fn beginning(text: &[u8]) -> &[u8]
     ensures { result.now ≡ take 120 text.now }
 {
