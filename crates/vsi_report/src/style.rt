@@ -158,7 +158,7 @@ fn put_step_rule(style: &mut Vec<u8>, number: usize) -> Result<(), AllocError> {
 /// The style sheet of a page with a walk.
 pub(crate) fn walk_style(alloc: Global, steps: usize) -> Result<Vec<u8>, AllocError> {
     let mut style = Vec::from_slice(alloc, STYLE)?;
-    style.extend_from_slice(b".flow:not(.against){opacity:.45}\n")?;
+    style.extend_from_slice(b".picture .flow:not(.against){opacity:.45}\n")?;
     for step in 0..steps.min(MOST_STEPS) {
         put_step_rule(&mut style, step.saturating_add(1))?;
     }
