@@ -17,7 +17,7 @@ use vsi_lattice::{Class, Lattice};
 const EXCHANGED: &str = "\
 error: the first file is an image, and should be the lattice file
 
-Usage: vsi drive [OPTIONS] --class <C> --budget <N> <LATTICE> <IMAGE>
+Usage: vsi drive [OPTIONS] --class <C> <LATTICE> <IMAGE>
 
 For more information, try '--help'.
 ";

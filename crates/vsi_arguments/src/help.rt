@@ -327,7 +327,7 @@ pub(crate) const REPORT_EXAMPLE: &str = "\
 Example:
   $ vsi report two.toml leak.vsi > page.html
   $ grep '<title>Refused' page.html
-  <title>Refused: a report of its flows</title>";
+  <title>Refused: a report of its flows, leak.vsi</title>";
 
 /// The long help of `draw`.
 pub(crate) const DRAW: &str = "\
