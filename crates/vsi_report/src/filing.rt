@@ -57,6 +57,33 @@ fn checksum(alloc: Global, text: &[u8]) -> Result<Vec<u8>, AllocError> {
     Ok(hex)
 }
 
+/// Adds the kind, the name and the length of a file.
+fn put_named(
+    page: &mut Page,
+    kind: &'static [u8],
+    name: &[u8],
+    length: usize,
+) -> Result<(), AllocError> {
+    page.put_parts(&[
+        Part::Markup(b"<dt>"),
+        Part::Markup(kind),
+        Part::Markup(b"</dt><dd><code>"),
+        Part::Text(name),
+        Part::Markup(b"</code>, "),
+        Part::Number(length),
+        Part::Markup(b" bytes</dd>\n"),
+    ])
+}
+
+/// Adds a checksum.
+fn put_sum(page: &mut Page, sum: &[u8]) -> Result<(), AllocError> {
+    page.put_parts(&[
+        Part::Markup(b"<dd>SHA-256 <code class=\"sum\">"),
+        Part::Text(sum),
+        Part::Markup(b"</code></dd>\n"),
+    ])
+}
+
 /// Adds the row of a file, if it has a name.
 fn put_file(
     alloc: Global,
@@ -68,18 +95,9 @@ fn put_file(
     if path.is_empty() {
         return Ok(());
     }
+    put_named(page, kind, leaf(path), text.len())?;
     let sum = checksum(alloc, text)?;
-    page.put_parts(&[
-        Part::Markup(b"<dt>"),
-        Part::Markup(kind),
-        Part::Markup(b"</dt><dd><code>"),
-        Part::Text(leaf(path)),
-        Part::Markup(b"</code>, "),
-        Part::Number(text.len()),
-        Part::Markup(b" bytes</dd>\n<dd>SHA-256 <code class=\"sum\">"),
-        Part::Text(&sum),
-        Part::Markup(b"</code></dd>\n"),
-    ])
+    put_sum(page, &sum)
 }
 
 /// The name of a profile.

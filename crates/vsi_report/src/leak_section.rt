@@ -222,6 +222,21 @@ fn put_endings(page: &mut Page, image: &Image, leak: &Leak) -> Result<(), AllocE
     }
 }
 
+/// Adds the beginning of the section of a leak at a class.
+fn put_observer(page: &mut Page, class: &[u8]) -> Result<(), AllocError> {
+    page.put_parts(&[Part::Markup(LEAK), Part::Text(class), Part::Markup(SEES)])
+}
+
+/// Adds the text of a leak, which opens on request.
+fn put_leak_text(page: &mut Page, text: &[u8]) -> Result<(), AllocError> {
+    page.put_parts(&[
+        Part::Markup(b"<details><summary>What the observer sees, as <code>vsi leak</code> "),
+        Part::Markup(b"prints it</summary>\n<pre class=\"leak\" tabindex=\"0\"><code>"),
+        Part::Text(text),
+        Part::Markup(b"</code></pre></details>\n</section>\n"),
+    ])
+}
+
 /// Adds a leak: its stores, its endings, and the text of `vsi leak`.
 fn put_shown(
     page: &mut Page,
@@ -230,7 +245,7 @@ fn put_shown(
     leak: &Leak,
     text: &[u8],
 ) -> Result<(), AllocError> {
-    page.put_parts(&[Part::Markup(LEAK), Part::Text(class), Part::Markup(SEES)])?;
+    put_observer(page, class)?;
     put_stores(
         page,
         b"Before the runs",
@@ -239,14 +254,7 @@ fn put_shown(
         &leak.second.store,
     )?;
     put_endings(page, image, leak)?;
-    page.put_parts(&[
-        Part::Markup(
-            b"<details><summary>What the observer sees, as <code>vsi leak</code> prints it",
-        ),
-        Part::Markup(b"</summary>\n<pre class=\"leak\" tabindex=\"0\"><code>"),
-        Part::Text(text),
-        Part::Markup(b"</code></pre></details>\n</section>\n"),
-    ])
+    put_leak_text(page, text)
 }
 
 /// The text for pairs of runs that show no leak; it follows their number.
