@@ -5,7 +5,7 @@ ghost use Rattle.vsi_image.specs.Fields.{fields};
 ghost use Rattle.vsi_image.specs.Listing.{listing as listing_of};
 ghost use Rattle.vsi_lattice.specs.LatticeView.{class_named, order};
 ghost use Rattle.vsi_compiler.specs.Acceptance.{IsAccepted};
-ghost use Rattle.vsi_compiler.specs.Refusal.{HasShortestBadWalk, RefusesProgram};
+ghost use Rattle.vsi_compiler.specs.Refusal.{HasShortestBadWalk, Refuses, RefusesProgram};
 ghost use Rattle.vsi_report.specs.Banner.{HasBanner};
 ghost use Rattle.vsi_report.specs.Page.{HasPanel};
 ghost use Rattle.vsi_report.specs.Reading.{Shows};
@@ -251,6 +251,30 @@ fn faulty_page(
     page_with_refusal(alloc, profile, filing, lattice, source, error)
 }
 
+/// The page of a text that the compiler refuses, with its refusal.
+fn refusal_page(
+    alloc: Global,
+    profile: Profile,
+    filing: &Filing<'_>,
+    lattice: &Lattice,
+    source: &[u8],
+    error: &CompileError,
+) -> Result<Vec<u8>, ReportError>
+    ensures panel { IfOk result (λ page. HasPanel page.items source.now) }
+    ensures verdict { Refuses (class_named lattice.now) (order lattice.now) profile source.now
+        error.now → IfOk result (λ page. HasVerdict lattice.now profile source.now page.items) }
+    ensures bounded { IfOk result (λ page.
+        IsShort lattice.now profile source.now [] page.items) }
+{
+    match error {
+        CompileError::Flow(walk) => {
+            let steps = walk.steps.as_slice();
+            refused_page(alloc, profile, filing, lattice, source, steps)
+        }
+        _ => faulty_page(alloc, profile, filing, lattice, source, error),
+    }
+}
+
 /// The page of a text over a lattice under a profile, which names the files of the text and of the
 /// lattice: the verdict, the source, the lattice and the flows. The page of an accepted text also
 /// has its image and the promises about it; that of a refused text has the reason for the refusal.
@@ -275,17 +299,7 @@ pub fn filed_page(
 {
     match compile_in(alloc, profile, lattice, source) {
         Ok(verified) => accepted_page(alloc, profile, filing, lattice, source, &verified),
-        Err(CompileError::Flow(walk)) => {
-            refused_page(
-                alloc,
-                profile,
-                filing,
-                lattice,
-                source,
-                walk.steps.as_slice(),
-            )
-        }
-        Err(error) => faulty_page(alloc, profile, filing, lattice, source, &error),
+        Err(error) => refusal_page(alloc, profile, filing, lattice, source, &error),
     }
 }
 

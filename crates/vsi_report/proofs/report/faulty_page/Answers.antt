@@ -11,5 +11,5 @@ returns-clause-bounded c =
 pub returns-clause-verdict : goal.returns-clause-verdict
 returns-clause-verdict c = λ reason.
     verdict_shown c.args.lattice.now c.args.profile c.args.source.now NoProgram c.page_with_refusal.result
-    (record { error = c.args.error.now; other = λ same. c.not-Memory same; reason = reason })
+    (record { error = c.args.error.now; other = λ same. c.before.before.in_default.not-Memory same; reason = reason })
     c.page_with_refusal.ensures.banner

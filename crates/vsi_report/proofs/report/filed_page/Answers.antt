@@ -17,23 +17,15 @@ returns-in-Ok-clause-bounded c =
     })
     c.accepted_page.ensures.bounded
 
-pub returns-in-Err-Flow-clause-bounded : goal.returns-in-Err-Flow-clause-bounded
-returns-in-Err-Flow-clause-bounded c =
-    bounded_without c.args.lattice.now c.args.profile c.args.source.now c.refused_page.result
-    c.refused_page.ensures.bounded
-
 pub returns-in-Ok-clause-verdict : goal.returns-in-Ok-clause-verdict
 returns-in-Ok-clause-verdict c = c.accepted_page.ensures.verdict c.in-Ok.ensures.accepted
-
-pub returns-in-Err-Flow-clause-verdict : goal.returns-in-Err-Flow-clause-verdict
-returns-in-Err-Flow-clause-verdict c = c.refused_page.ensures.verdict c.in-Err-Flow.ensures.refused
 
 pub returns-in-Err : goal.returns-in-Err
 returns-in-Err c =
     record {
-      panel = c.faulty_page.ensures.panel;
-      verdict = c.faulty_page.ensures.verdict c.in-Err.ensures.refused;
+      panel = c.refusal_page.ensures.panel;
+      verdict = c.refusal_page.ensures.verdict c.in-Err.ensures.refused;
       bounded =
-          bounded_without c.args.lattice.now c.args.profile c.args.source.now c.faulty_page.result
-          c.faulty_page.ensures.bounded;
+          bounded_without c.args.lattice.now c.args.profile c.args.source.now c.refusal_page.result
+          c.refusal_page.ensures.bounded;
     }
