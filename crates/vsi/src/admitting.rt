@@ -45,11 +45,13 @@ fn reaching(
     }
     match steady_in(alloc, classes, verified) {
         Ok(()) => Ok(Ok(())),
-        Err(SteadyError::Memory) => Err(AllocError),
-        Err(_) => {
-            let line = short_line(alloc, budget, most)?;
-            Ok(Err(line))
-        }
+        Err(error) => match error {
+            SteadyError::Memory => Err(AllocError),
+            _ => {
+                let line = short_line(alloc, budget, most)?;
+                Ok(Err(line))
+            }
+        },
     }
 }
 
