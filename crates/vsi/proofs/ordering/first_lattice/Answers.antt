@@ -9,7 +9,7 @@ returns-clause-stopped g c =
     c.as_slice-2.result.now c.declared_lattice.result c.in_ok-bytes.ensures.read c.as_slice-2.ensures.value
     c.declared_lattice.ensures.stopped
 
-pub returns-then-begins_image-clause-stopped : goal.returns-then-clause-stopped
+pub returns-then-begins_image-clause-stopped : goal.returns-then-begins_image-clause-stopped
 returns-then-begins_image-clause-stopped g c =
     stops_by (λ reason. ⊥) (RefusesLattice (g.F.Files.holds c.args.files.now) c.args.path.now) NoOther
     (λ reason never. absurd never) c.exchanged.result c.exchanged.ensures
