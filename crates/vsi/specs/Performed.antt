@@ -69,6 +69,7 @@ use Rattle.vsi_arguments.specs.declared.request.Request.TheVariants as request
 use Rattle.vsi.specs.Driven.{DrivesInput}
 use Rattle.vsi.specs.Holding.{Delivers, Fills, Holding, IsImageAt, IsLatticeAt, IsReadAt, IsStoreAt}
 use Rattle.vsi.specs.Naming.{function_name}
+use Rattle.vsi.specs.Served.{Serves}
 use Rattle.vsi.specs.Shaping.{ShapedText}
 use Rattle.vsi.specs.Tried.{TriesFile}
 
@@ -496,4 +497,5 @@ Performs holds given (request.Report c) left = Alone (Writes (OfFiles holds c To
 Performs holds given (request.Draw drawing) left = Alone (Writes (DrawsFiles holds drawing)) holds left
 Performs holds given (request.Format source) left = Alone (Writes (OfFile holds source.now ToldCanonical)) holds left
 Performs holds given (request.Lattice arguments) left = Alone (Writes (ShapedText arguments.items)) holds left
+Performs holds given (request.Lsp serving) left = Alone Serves holds left
 Performs holds given (request.Explain page) left = Alone (λ old new. Appends old new page.now) holds left

@@ -535,4 +535,5 @@ Why holds (request.Report c) old new = StopsBy (RefusesLattice holds c.lattice.n
 Why holds (request.Draw drawing) old new = StopsBy (WhyDraw holds drawing.lattice.now drawing.source) NoOther
 Why holds (request.Format source) old new = StopsBy (RefusesFile holds source.now AsksCanonical) NoOther
 Why holds (request.Lattice arguments) old new = StopsBy (λ reason. ⊥) NoOther
+Why holds (request.Lsp serving) old new = StopsBy (λ reason. ⊥) NoOther
 Why holds (request.Explain page) old new = StopsBy (λ reason. ⊥) NoOther

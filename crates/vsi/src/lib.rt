@@ -7,7 +7,7 @@
 //! a file is refused. `command` obeys the arguments of a command line. The types inside errors,
 //! such as `LexError` or a `Walk` of `Step`s, are exported here too.
 //!
-//! To be believed: of `specs/` `Words`, `Holding`, `Loading`, `Driven`, `Tried`, `Shaping`,
+//! To be believed: of `specs/` `Words`, `Holding`, `Loading`, `Driven`, `Served`, `Tried`, `Shaping`,
 //! `Performed`, `Reasons`, `Partly`, `Done`, `Input` and `Laws`, and of `Stops` all but `StopsFor`;
 //! `Diagnosing` is a stepping stone of proofs.
 #![tactic(auto)]
@@ -35,6 +35,7 @@ mod paths;
 mod performing;
 mod reading;
 mod running;
+mod serving;
 mod shaping;
 mod stop;
 mod subcommands;

@@ -175,6 +175,7 @@ fn requested<'a>(name: &str, inner: &ArgMatches<'a>) -> Request<'a> {
         "bound" => Request::Bound(bounding_in(inner)),
         "drive" => Request::Drive(driving_in(inner)),
         "leak" => Request::Leak(search_in(inner)),
+        "lsp" => Request::Lsp(serving_in(inner)),
         "report" => Request::Report(compilation_in(inner)),
         "draw" => Request::Draw(drawing_in(inner)),
         _ => Request::Format(text(inner, "SOURCE")),
@@ -312,6 +313,13 @@ fn drawing_in<'a>(matches: &ArgMatches<'a>) -> Drawing<'a> {
     Drawing {
         lattice: text(matches, "LATTICE"),
         source: matches.get_str("SOURCE"),
+        is_strict: matches.get_flag("strict"),
+    }
+}
+
+fn serving_in<'a>(matches: &ArgMatches<'a>) -> Serving<'a> {
+    Serving {
+        lattice: matches.get_str("lattice"),
         is_strict: matches.get_flag("strict"),
     }
 }
