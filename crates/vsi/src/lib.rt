@@ -28,6 +28,7 @@ mod explaining;
 mod files;
 mod filling;
 pub mod laws;
+mod laying;
 mod leaking;
 mod loaded;
 mod obeying;
