@@ -34,6 +34,7 @@ mod loaded;
 mod obeying;
 mod paths;
 mod performing;
+mod raising;
 mod reading;
 mod running;
 mod shaping;
