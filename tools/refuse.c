@@ -1,16 +1,22 @@
 /* Loaded before the C library, this refuses a program's requests for memory, in one of two ways. It needs no header and no
    library but the C library.
 
-   With REFUSE_AT it refuses the one whose number, from 1, that is. At the end it writes the number of requests to the file
-   descriptor 3, so that a run whose count is below that number met no refusal.
+   With REFUSE_AT it refuses the request that has this number, from 1. At the end it writes the number of requests to the
+   file descriptor 3, so a run whose number is smaller than REFUSE_AT met no refusal. With REFUSE_AT=0 and REFUSE_SEEN it
+   refuses none, and writes there a line for each request that is worth refusing: its number.
 
-   With REFUSE_INTO, a folder, it refuses each in turn within one run: at each request the process forks, the child meets
-   the refusal and goes on to its end, and the parent waits for it and is given what it asked for. The child writes its
-   standard output and error to files, behind what the parent had written, and reads what is open by itself. On the
-   descriptor 3 the parent tells a line for each request, `STATUS` where the child ended with want of memory alone told
-   (status 5, `out of memory` on standard error and nothing on standard output), else `STATUS NUMBER`, and leaves what the
-   child wrote in NUMBER.output and NUMBER.error in the folder. A program that writes files is not tried so: its children
-   would write them too. */
+   With REFUSE_INTO, a folder, it refuses one request after another within one run: at each request that is worth it, the
+   process forks, the child meets the refusal and goes on to its end, and the parent waits for it and gets the memory. The
+   child writes its standard output and error to files, after what the parent had written, and has its own place in each
+   open file. On the descriptor 3 the parent writes a line for each child: `STATUS` if it ended with the report of lack of
+   memory alone (status 5, `out of memory` on standard error and nothing on standard output), else `STATUS NUMBER`; then
+   what the child wrote is left in NUMBER.output and NUMBER.error in the folder. A program that writes files isn't tried
+   this way: its children would write them too.
+
+   REFUSE_SEEN, if it is given, is a file of SEEN_SIZE bytes, all 0 at first, that all runs share. It counts how often a
+   request was refused to the same chain of calls, by a sum over the return addresses on the stack. A request is worth
+   refusing if its chain was refused fewer than TRIES times. Without the file each request is. A word that an earlier call
+   left on the stack can make one chain look like two, but never two like one, except for a sum that two chains share. */
 typedef unsigned long size;
 
 extern void *__libc_malloc(size);
@@ -25,12 +31,30 @@ extern int close(int), dup2(int, int), fcntl(int, int), fork(void), open(const c
 extern int openat(int, const char *, int, ...), renameat(int, const char *, int, const char *), waitpid(int, int *, int);
 extern long lseek(int, long, int), read(int, void *, size);
 extern void _exit(int);
+extern void *mmap(void *, size, int, int, int, long);
+extern size getauxval(size);
+extern void *__libc_stack_end;
 
-enum { OUT_OF_MEMORY = 12, WANTS_MEMORY = 5, TOLD = 3, FOLDER = 99, FILES = 32 };
-enum { READS = 0, WRITES = 1, MADE = 0100, EMPTIED = 01000, FLAGS = 3, FROM_HERE = 1, FROM_START = 0 };
+enum { OUT_OF_MEMORY = 12, LACKS_MEMORY = 5, REPORT = 3, FOLDER = 99, FILES = 32 };
+enum { READS = 0, WRITES = 1, BOTH = 2, MADE = 0100, EMPTIED = 01000, FLAGS = 3, FROM_HERE = 1, FROM_START = 0 };
+enum { HEADERS = 3, HEADERS_NUMBER = 5, CODE_PART = 1, HEADERS_PART = 6, RUNS = 1, MAPS_BOTH = 3, SHARED = 1 };
+enum { TRIES = 4, CHAINS = 1 << 16, SEEN_SIZE = CHAINS * 16, PLACES = 64 };
+
+/* A part of the program in memory, as its file describes it. */
+struct part {
+    unsigned kind, flags;
+    size offset, address, physical, in_file, in_memory, alignment;
+};
+
+/* A chain of calls, and how often a request was refused to it. */
+struct chain {
+    size sum, tries;
+};
 
 static long refused, count;
 static int is_child;
+static struct chain *seen;
+static size code_begin, code_end;
 
 /* The number in decimal, at the end of the room of 24 bytes. */
 static char *decimal(char *room, long number) {
@@ -87,13 +111,13 @@ static void read_apart(int file) {
     close(own);
 }
 
-/* What a child is: it shares nothing with its parent that either moves. */
+/* Makes the process a child, which shares with its parent nothing that either of them moves. */
 static void part(void) {
     is_child = 1;
     write_apart(1, "output");
     write_apart(2, "error");
     read_apart(0);
-    for (int file = TOLD + 1; file < FILES; file += 1) read_apart(file);
+    for (int file = REPORT + 1; file < FILES; file += 1) read_apart(file);
 }
 
 /* Whether the file in the folder holds this text and no more. */
@@ -118,26 +142,25 @@ static void keep(const char *name, const char *number) {
     (void)renameat(FOLDER, name, FOLDER, kept);
 }
 
-/* Tells how the child ended. */
+/* Reports how the child ended. */
 static void judge(int ending) {
     char line[64], room[24], *number = decimal(room, count), status[24];
     int code = ending & 127 ? 128 + (ending & 127) : ending >> 8 & 255;
     size at = 0;
     for (char *from = decimal(status, code); *from; from += 1) line[at++] = *from;
-    if (code != WANTS_MEMORY || !holds("error", "out of memory\n") || !holds("output", "")) {
+    if (code != LACKS_MEMORY || !holds("error", "out of memory\n") || !holds("output", "")) {
         keep("output", number);
         keep("error", number);
         line[at++] = ' ';
         while (*number) line[at++] = *number++;
     }
     line[at++] = '\n';
-    (void)!write(TOLD, line, at);
+    (void)!write(REPORT, line, at);
 }
 
-/* Tries the request refused in a child. It is refused where this process is that child. */
+/* Tries the request refused in a child. It is refused if this process is the child. */
 static int is_refused_apart(void) {
     int ending = 0, child;
-    if (is_child) return 0;
     child = fork();
     if (child == 0) {
         part();
@@ -148,10 +171,35 @@ static int is_refused_apart(void) {
     return 0;
 }
 
-/* Finds out what is asked for. */
+/* Finds where the program's code is. */
+static void find_code(void) {
+    struct part *parts = (struct part *)getauxval(HEADERS);
+    size number = getauxval(HEADERS_NUMBER), moved = 0;
+    for (size at = 0; at < number; at += 1)
+        if (parts[at].kind == HEADERS_PART) moved = (size)parts - parts[at].address;
+    for (size at = 0; at < number; at += 1)
+        if (parts[at].kind == CODE_PART && parts[at].flags & RUNS) {
+            code_begin = moved + parts[at].address;
+            code_end = code_begin + parts[at].in_memory;
+        }
+}
+
+/* Shares the counts of chains with the other runs. */
+static void share(const char *path) {
+    int file = open(path, BOTH);
+    seen = file < 0 ? 0 : mmap(0, SEEN_SIZE, MAPS_BOTH, SHARED, file, 0);
+    if (!seen || seen == (struct chain *)-1) give_up();
+    close(file);
+    find_code();
+    if (code_begin == code_end) give_up();
+}
+
+/* Finds out which requests are to be refused. */
 static void begin(void) {
-    const char *number = getenv("REFUSE_AT"), *folder = getenv("REFUSE_INTO");
+    const char *number = getenv("REFUSE_AT"), *folder = getenv("REFUSE_INTO"), *chains = getenv("REFUSE_SEEN");
     refused = number ? atol(number) : -1;
+    if (chains) share(chains);
+    if (chains && refused == 0) refused = -3;
     if (!folder) return;
     int opened = open(folder, READS);
     if (opened < 0 || dup2(opened, FOLDER) < 0) give_up();
@@ -159,11 +207,42 @@ static void begin(void) {
     refused = -2;
 }
 
+/* The sum of the chain of calls that leads here. */
+static size chain_here(void) {
+    size sum = 14695981039346656037u;
+    for (size *at = __builtin_frame_address(0); at < (size *)__libc_stack_end; at += 1)
+        if (*at >= code_begin && *at < code_end) sum = (sum ^ (*at - code_begin)) * 1099511628211u;
+    return sum ? sum : 1;
+}
+
+/* Whether the chain of calls that leads here was refused fewer than TRIES times. This time is counted too. */
+static int is_worth_it(void) {
+    if (!seen) return 1;
+    size sum = chain_here();
+    for (size at = 0; at < PLACES; at += 1) {
+        struct chain *place = &seen[(sum + at) % CHAINS];
+        size empty = 0;
+        if (__atomic_compare_exchange_n(&place->sum, &empty, sum, 0, __ATOMIC_RELAXED, __ATOMIC_RELAXED) || empty == sum)
+            return __atomic_fetch_add(&place->tries, 1, __ATOMIC_RELAXED) < TRIES;
+    }
+    return 1;
+}
+
+/* Writes the request's number, with a line feed. */
+static void report_number(void) {
+    char line[32], room[24];
+    size at = 0;
+    for (char *from = decimal(room, count); *from; from += 1) line[at++] = *from;
+    line[at++] = '\n';
+    (void)!write(REPORT, line, at);
+}
+
 /* Whether this request is refused. */
 static int is_refused(void) {
     if (refused == 0) begin();
     count += 1;
-    if (refused == -2 ? !is_refused_apart() : count != refused) return 0;
+    if (refused == -3 && is_worth_it()) report_number();
+    if (refused == -2 ? is_child || !is_worth_it() || !is_refused_apart() : count != refused) return 0;
     *__errno_location() = OUT_OF_MEMORY;
     return 1;
 }
@@ -195,10 +274,7 @@ int posix_memalign(void **made, size boundary, size length) {
     return 0;
 }
 
-/* Writes the count in decimal, with a line feed, where one request was to be refused. */
-__attribute__((destructor)) static void tell(void) {
-    char room[24], *text = decimal(room, count);
-    if (refused == -2) return;
-    room[23] = '\n';
-    (void)!write(TOLD, text, (size)(room + 24 - text));
+/* Writes the number of requests, with a line feed, where at most one was to be refused. */
+__attribute__((destructor)) static void report_count(void) {
+    if (refused != -2 && refused != -3) report_number();
 }
