@@ -1,5 +1,7 @@
 //! The least raise of a text that is refused for a flow, in an explanation.
 
+ghost use Rattle.std.specs.Prelude.{◌≤◌, length};
+
 use std::alloc::{AllocError, Global};
 use vsi_answers::{Unanswered, mend};
 use vsi_caret::put_text;
@@ -10,8 +12,7 @@ use vsi_types::Profile;
 const LISTED: usize = 20;
 
 /// The line before the raises.
-const BEFORE: &[u8] =
-    b"The least raise of classes that makes the text accepted, as `vsi mend` prints it:\n";
+const BEFORE: &[u8] = b"The least raise of classes under which the text is accepted (`vsi mend`):\n";
 
 /// The meaning of a raise.
 const MEANING: &[u8] = b"\
@@ -26,14 +27,16 @@ const LEFT: &[u8] = b"`vsi mend` prints the others, too.\n";
 const NONE: &[u8] = b"No raise of declared classes makes the text accepted.\n";
 
 /// The number of bytes of the first lines that are listed.
-fn listed_length(lines: &[u8]) -> usize {
-    let mut count = 0;
+fn listed_length(lines: &[u8]) -> usize
+    ensures { result ≤ length lines.now }
+{
+    let mut count: usize = 0;
     for place in 0..lines.len() {
         if lines[place] == b'\n' {
-            count += 1;
-            if count == LISTED {
-                return place + 1;
-            }
+            count = count.saturating_add(1);
+        }
+        if count == LISTED {
+            return place + 1;
         }
     }
     lines.len()

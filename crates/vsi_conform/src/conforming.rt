@@ -80,7 +80,10 @@ fn refused_differences(
         interface.now pair.0.items pair.1) }
 {
     match unjudged_image(alloc, lattice, text) {
-        Ok(verified) => image_differences(alloc, lattice, text, &verified, interface),
+        Ok(verified) => {
+            let pair = image_differences(alloc, lattice, text, &verified, interface)?;
+            Ok(pair)
+        }
         Err(CompileError::Memory) => Err(AllocError),
         Err(_) => Ok((Vec::new(alloc), None)),
     }
