@@ -12,7 +12,8 @@ use vsi_types::Profile;
 const LISTED: usize = 20;
 
 /// The line before the raises.
-const BEFORE: &[u8] = b"The least raise of classes under which the text is accepted (`vsi mend`):\n";
+const BEFORE: &[u8] =
+    b"The least raise of classes under which the text is accepted (`vsi mend`):\n";
 
 /// The meaning of a raise.
 const MEANING: &[u8] = b"\

@@ -25,7 +25,7 @@ conforming_line_so : (l : Lattice) (p : Page) (r : Option UnsteadyError) (ps : L
     out ≡ json.answer_line (not (is_some r) && is_none_told ps && not (is_some bound))
     (first ++ json.objects_of_points p ps ++ json.objects_of_bound bound) → out ≡ json.conforming_line
 conforming_line_so l p None [] None first out told h line =
-    line ∙ ap (λ (ds : List Data). json.answer_line true (ds ++ [])) told.objects ∙ conforming_so
+    line ∙ ap (λ (ds : List Data). json.answer_line true (ds ++ [] ++ [])) told.objects ∙ conforming_so
 conforming_line_so l p None [] (Some bound) first out told h line = absurd cc
 conforming_line_so l p None (point ∷ ps) bound first out told h line = absurd cc
 conforming_line_so l p (Some e) ps bound first out told h line = absurd cc

@@ -112,8 +112,9 @@ pub fn conform(
 {
     match judged(alloc, interface.judgement, lattice, text)? {
         Ok(verified) => {
-            let (points, unbounded) =
-                image_differences(alloc, lattice, text, &verified, interface)?;
+            let (points, unbounded) = image_differences(
+                alloc, lattice, text, &verified, interface,
+            )?;
             Ok(Answer {
                 refusal: None,
                 points,
