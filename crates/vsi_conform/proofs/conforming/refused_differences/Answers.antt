@@ -8,6 +8,6 @@ returns-in-Ok c =
       globals = c.in-Ok.ensures.globals;
       meaning = c.in-Ok.ensures.meaning;
       code = c.in-Ok.ensures.image;
-      points = c.in_ok-pair.ensures.points;
-      bound = c.in_ok-pair.ensures.bound;
+      points = c.in_ok-pair-in-Ok.ensures.points;
+      bound = c.in_ok-pair-in-Ok.ensures.bound;
     })
