@@ -1,8 +1,9 @@
 -- Whether a source text conforms to an interface, and under which lattice.
-use Rattle.std.proofs.Common.{◌≡◌, ℕ, List, Bool, true, false, Result, refl, subst}
+use Rattle.std.proofs.Common.{◌≡◌, ℕ, List, Bool, true, false, Option, Some, None, Result, IfSome, refl, subst}
+use Rattle.std.specs.Global.{Vec}
 use Rattle.std.proofs.lemmas.Bool.{false≢true}
 use Rattle.vsi_lattice.specs.declared.lattice.Lattice.{Lattice}
-use Rattle.vsi_conform.specs.Conforms.{Conforms}
+use Rattle.vsi_conform.specs.Conforms.{Conforms, IsUnbounded}
 use Rattle.vsi_conform.specs.declared.interface.Interface.{Interface}
 use Rattle.vsi_conform.specs.declared.reader.Asked.{Asked}
 use Rattle.vsi.specs.declared.stop.Stop.{Stop}
@@ -11,11 +12,13 @@ use Rattle.vsi.specs.Performed.{IsAskedAt, IsVerdict}
 use Rattle.vsi.specs.Reasons.{NoOther, RefusesAsked, RefusesPolicy, StopsBy}
 use Rattle.vsi.proofs.Reasons.{stops_by}
 
--- A Boolean that is true exactly if a text conforms gives its verdict.
-pub is_verdict : (conforms : Bool) (l : Lattice) (source : List ℕ) (i : Interface) →
-    (conforms ≡ true → Conforms l source i) → (Conforms l source i → conforms ≡ true) → IsVerdict conforms l source i
-is_verdict true l source i is exact = is refl
-is_verdict false l source i is exact = λ conforms. false≢true (exact conforms)
+-- A Boolean that is true exactly if a text conforms, where no line is about its bound, gives its verdict.
+pub is_verdict : (conforms : Bool) (line : Option (Vec ℕ)) (l : Lattice) (source : List ℕ) (i : Interface) →
+    (conforms ≡ true → Conforms l source i) → (Conforms l source i → line ≡ None → conforms ≡ true) →
+    IfSome line (λ found. IsUnbounded l source i found.items) → IsVerdict conforms line l source i
+is_verdict true line l source i is exact unbounded = is refl
+is_verdict false None l source i is exact unbounded = λ conforms. false≢true (exact conforms refl)
+is_verdict false (Some line) l source i is exact unbounded = unbounded
 
 -- An interface whose lattice is refused has no answer.
 pub refuses_asked : (old new : Holding) (path : List ℕ) (asked : Asked) (other : Stop → Type 0) → new ≡ old →

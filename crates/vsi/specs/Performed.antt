@@ -33,7 +33,7 @@ use Rattle.vsi_report.specs.FlowsGraph.{IsFlowsGraph}
 use Rattle.vsi_report.specs.Graph.{IsLatticeGraph}
 use Rattle.vsi_report.specs.Page.{HasPanel}
 use Rattle.vsi_conform.specs.Beside.{beside}
-use Rattle.vsi_conform.specs.Conforms.{Conforms, Tells as TellsPoints}
+use Rattle.vsi_conform.specs.Conforms.{Conforms, IsUnbounded, Tells as TellsPoints}
 use Rattle.vsi_conform.specs.Json.{IsConformJson}
 use Rattle.vsi_conform.specs.Lines.{IsConformText}
 use Rattle.vsi_conform.specs.Points.{is_conforming}
@@ -365,10 +365,12 @@ abbrev pub IsWrittenAs : Bool → Lattice → List ℕ → Interface → Answer 
 IsWrittenAs true = IsConformJson
 IsWrittenAs false = IsConformText
 
--- The source text conforms to the interface, or it doesn't.
-abbrev pub IsVerdict : Bool → Lattice → List ℕ → Interface → Type 0
-IsVerdict true l source i = Conforms l source i
-IsVerdict false l source i = ¬ (Conforms l source i)
+-- The source text conforms to the interface; or it doesn't; or a bound is required, and this line is about the bound of
+-- its image, for which there is no number.
+abbrev pub IsVerdict : Bool → Option (Vec ℕ) → Lattice → List ℕ → Interface → Type 0
+IsVerdict true line l source i = Conforms l source i
+IsVerdict false None l source i = ¬ (Conforms l source i)
+IsVerdict false (Some line) l source i = IsUnbounded l source i line.items
 
 -- A text that says whether a source text conforms to an interface, and where it differs.
 pub record TellsConforming (is_json conforms : Bool) (l : Lattice) (source : List ℕ) (i : Interface) (text : List ℕ)
@@ -376,7 +378,7 @@ pub record TellsConforming (is_json conforms : Bool) (l : Lattice) (source : Lis
   pub answer : Answer
   pub tells : TellsPoints l source i answer
   pub verdict : is_conforming answer ≡ conforms
-  pub is : IsVerdict conforms l source i
+  pub is : IsVerdict conforms answer.unbounded l source i
   pub written : IsWrittenAs is_json l source i answer text
 
 -- The text written for the files of a conformance, whose source text conforms to the interface under its lattice or

@@ -5,6 +5,7 @@ ghost use Rattle.std.specs.Prelude.{◌≡◌};
 use crate::desk::{Desk, Kept, Kind};
 use crate::diagnosing::stop_diagnostic;
 use crate::files::Files;
+use crate::raising::put_least_raise;
 use crate::reading::TWO_CLASSES;
 use crate::stop::{STREAM, Stop};
 use crate::subcommands::profile;
@@ -163,8 +164,7 @@ impl Explaining {
         };
         if let CompileError::Flow(_) = error {
             let path = str::from_utf8(&kept.path).unwrap_or("");
-            let told = refused_flows(desk.alloc, self.profile, &lattice, path, &kept.bytes);
-            return told.map_err(|_| AllocError);
+            return flow_lines(desk.alloc, self.profile, &lattice, path, &kept.bytes);
         }
         let refused = Refused::Source {
             path: &kept.path,
@@ -295,6 +295,21 @@ impl Explaining {
         };
         advice(desk.alloc, self.manner, &kept.path, refused)
     }
+}
+
+/// The explanation of a text that is refused for a flow: its refused flows, and the least raise.
+fn flow_lines(
+    alloc: Global,
+    profile: Profile,
+    lattice: &Lattice,
+    path: &str,
+    source: &[u8],
+) -> Result<Vec<u8>, AllocError> {
+    let Ok(mut lines) = refused_flows(alloc, profile, lattice, path, source) else {
+        return Err(AllocError);
+    };
+    put_least_raise(alloc, &mut lines, profile, lattice, source)?;
+    Ok(lines)
 }
 
 /// Adds the line that names the page of a refusal.

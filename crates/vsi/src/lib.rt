@@ -36,6 +36,7 @@ mod ordering;
 mod paths;
 mod performing;
 mod policies;
+mod raising;
 mod reading;
 mod running;
 mod shaping;

@@ -17,8 +17,8 @@ const SHAPE: &[u8] = b"An interface begins like this:\n  lattice = \"two.toml\"\
     profile = \"base\"\n  globals = [[\"key\", \"H\"], [\"out\", \"L\"]]\n";
 
 /// The keys of an interface.
-const KEYS: [&[u8]; 7] = [
-    b"lattice", b"classes", b"below", b"profile", b"order", b"globals", b"runs",
+const KEYS: [&[u8]; 8] = [
+    b"lattice", b"classes", b"below", b"profile", b"order", b"bounded", b"globals", b"runs",
 ];
 
 /// The keys of a run.
@@ -186,6 +186,16 @@ impl Page<'_> {
         }
     }
 
+    /// Explains a value of `bounded` that is neither `true` nor `false`.
+    fn bounded(&mut self) -> Result<Option<Span>, AllocError> {
+        self.put(
+            "The value of `bounded` must be `true` or `false`, without quotes. Hint: write \
+            `bounded = true` if `vsi bound` must find a number of instructions within which \
+            every run halts, or leave out the key.\n",
+        )?;
+        Ok(key_place(self.bytes, b"bounded"))
+    }
+
     /// Explains `globals` that aren't an array of pairs of texts.
     fn globals(&mut self) -> Result<Option<Span>, AllocError> {
         let Some(value) = self.table.get("globals") else {
@@ -324,6 +334,7 @@ fn put_fault(
             " isn't an order: the orders are ",
             &ORDERS,
         ),
+        InterfaceError::BadBounded => page.bounded(),
         InterfaceError::BadGlobals => page.globals(),
         InterfaceError::BadName(name) => page.name(
             name,

@@ -247,8 +247,9 @@ pub(crate) const INTERFACE: &str = "\
 The path of the interface file, a TOML document with these keys:
 `lattice`, the path of a lattice file, or the keys of one instead;
 `profile`, \"base\", \"strict\" or \"steady\"; `globals`, an array of pairs
-of a name and a class; `order`, \"exact\" or \"set\"; and `runs`, each
-with a `budget`, a `store`, and `expect` or `halts = true`.";
+of a name and a class; `order`, \"exact\" or \"set\"; `bounded`, true if
+the image must have a bound; and `runs`, each with a `budget`, a
+`store`, and `expect` or `halts = true`.";
 
 /// `--count`.
 pub(crate) const COUNT: &str = "\

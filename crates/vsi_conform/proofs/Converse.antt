@@ -1,6 +1,7 @@
 -- An image that fits has no points, and an image with the same fields has the same points.
-use Rattle.std.proofs.Common.{◌≡◌, ℕ, ◌+◌, ◌-◌, ℤ, pos, true, List, [], ◌∷◌, ◌++◌, Option, Some, None, if◌then◌else◌, length, take, replicate, refl, sym, ap, ◌∙◌, inl, inr}
+use Rattle.std.proofs.Common.{◌≡◌, ℕ, ◌+◌, ◌-◌, ℤ, pos, true, List, [], ◌∷◌, ◌++◌, Option, Some, None, is_some, not, ◌&&◌, if◌then◌else◌, length, take, replicate, refl, sym, ap, ◌∙◌, inl, inr}
 use Rattle.std.proofs.lemmas.List.{length-map}
+use Rattle.std.specs.Global.{Vec}
 use Rattle.vsi_lattice.specs.Order.{Lattice}
 use Rattle.vsi_lattice.specs.declared.lattice.Lattice as named
 use Rattle.vsi_lattice.specs.LatticeView.{class_named, order}
@@ -109,6 +110,11 @@ compiled_so known L Base text image h = (profile.Base, h)
 compiled_so known L Strict text image h = (profile.Strict, h)
 compiled_so known L Steady text image h = (profile.Strict, h.compiled)
 
+-- The image of a text that is accepted as required is the text's.
+pub accepted_image : (l : named.Lattice) (text : List ℕ) (j : Judgement) (a : Image) →
+    IsAcceptedAs (class_named l) (order l) j text a → compiler.IsImageOf (class_named l) text a
+accepted_image l text j a h = (compiled_so (class_named l) (order l) j text a h).1.image
+
 -- All images of an accepted text have the same fields.
 pub one_fields : (known : Known) (L : Lattice) (j : Judgement) (text : List ℕ) (a b : Image) →
     compiler.IsImageOf known text a → IsAcceptedAs known L j text b → fields a ≡ fields b
@@ -127,13 +133,13 @@ conforming_told l text i a code c =
 pub accepted_told : (l : named.Lattice) (text : List ℕ) (i : Interface) (a : Image) →
     IsAcceptedAs (class_named l) (order l) i.judgement text a → Conforms l text i → points_of a i ≡ []
 accepted_told l text i a h =
-    conforming_told l text i a (compiled_so (class_named l) (order l) i.judgement text a h).1.image
+    conforming_told l text i a (accepted_image l text i.judgement a h)
 
 -- If a text conforms, there are no points even in the answer for a refused text.
-pub readable_told : (l : named.Lattice) (text : List ℕ) (i : Interface) (ps : List Point) →
-    TellsReadable (class_named l) text i ps → Conforms l text i → ps ≡ []
-readable_told l text i ps (inl t) c = t.points ∙ conforming_told l text i t.image t.code c
-readable_told l text i ps (inr t) c = t.nothing
+pub readable_told : (l : named.Lattice) (text : List ℕ) (i : Interface) (ps : List Point) (line : Option (Vec ℕ)) →
+    TellsReadable (class_named l) text i ps line → Conforms l text i → ps ≡ []
+readable_told l text i ps line (inl t) c = t.points ∙ conforming_told l text i t.image t.code c
+readable_told l text i ps line (inr t) c = t.nothing
 
 -- A text that is accepted as required isn't refused.
 pub never_refused : (known : Known) (L : Lattice) (j : Judgement) (text : List ℕ) (image : Image)
@@ -147,6 +153,7 @@ never_refused known L Strict text image unsteady.Memory h told = told
 never_refused known L Steady text image e h told =
     told.unaccepted (record { flows = h.flows; image = image; compiled = h.compiled; steady = h.steady })
 
--- If no point is reported, the test for that holds.
-pub none_told_so : (ps qs : List Point) → qs ≡ ps → ps ≡ [] → is_none_told qs ≡ true
-none_told_so ps qs same h = ap is_none_told (same ∙ h)
+-- If nothing is reported, the test for that holds.
+pub none_told_so : (ps : List Point) (line : Option (Vec ℕ)) → ps ≡ [] → line ≡ None →
+    (is_none_told ps && not (is_some line)) ≡ true
+none_told_so ps line h none = ap (λ qs. is_none_told qs && not (is_some line)) h ∙ ap (λ o. not (is_some o)) none

@@ -1,5 +1,6 @@
 -- An image without points fits.
-use Rattle.std.proofs.Common.{◌≡◌, ℕ, ◌+◌, Bool, true, false, List, [], ◌∷◌, Option, Some, None, if◌then◌else◌, refl, sym, ◌∙◌}
+use Rattle.std.proofs.Common.{◌≡◌, ℕ, ◌+◌, Bool, true, false, List, [], ◌∷◌, Option, Some, None, is_some, not, ◌&&◌, if◌then◌else◌, refl, sym, ◌∙◌}
+use Rattle.std.specs.Global.{Vec}
 use Rattle.vsi_lattice.specs.declared.lattice.Lattice.{Lattice}
 use Rattle.vsi_lattice.specs.LatticeView.{class_named, order}
 use Rattle.vsi_image.specs.declared.instr.Image.{Image}
@@ -11,8 +12,10 @@ use Rattle.vsi_conform.specs.declared.interface.Trial.{Trial}
 use Rattle.vsi_conform.specs.declared.point.Point.{Point}
 use Rattle.vsi_conform.specs.declared.point.Point.TheVariants.{OutOfBudget}
 use Rattle.vsi_conform.specs.Asked.{HasWords}
+use Rattle.vsi_conform.specs.Bounded.{IsBoundedAs, ReportsBound}
 use Rattle.vsi_conform.specs.Conforms.{EndsAsAsked, AllEndAsAsked, Fits, IsAcceptedAs, Conforms}
 use Rattle.vsi_conform.specs.Points.{entries, word_points, words_of, state_points, trial_points, trials_points, global_points, points_of, is_none_told}
+use Rattle.vsi_conform.proofs.Bounded.{bounded_so}
 use Rattle.vsi_conform.proofs.Points.{both_empty, globals_kept, words_kept}
 
 -- If a test and its points add up to no point, the test holds and the points are empty.
@@ -48,27 +51,32 @@ trials_kept image n (t ∷ ts) h =
     (trial_kept image n t p.0, trials_kept image (n + 1) ts p.1)
 
 -- An image without points fits.
-pub image_fits : (image : Image) (i : Interface) → points_of image i ≡ [] → Fits i image
-image_fits image i h =
+pub image_fits : (image : Image) (i : Interface) → points_of image i ≡ [] → IsBoundedAs i.is_bounded image →
+    Fits i image
+image_fits image i h bound =
     let p = both_empty (global_points i.is_ordered (globals i.globals.items) (globals image.globals.items))
     (trials_points image 0 i.trials.items) h in
     record {
       globals = globals_kept i.is_ordered (globals i.globals.items) (globals image.globals.items) p.0;
       trials = trials_kept image 0 i.trials.items p.1;
+      bound = bound;
     }
 
--- If the test says that no point is reported, the list is empty.
-nothing_told : (ps : List Point) → is_none_told ps ≡ true → ps ≡ []
-nothing_told [] h = refl
-nothing_told (p ∷ ps) h = absurd cc
+-- If the test says that nothing is reported, there are no points and no line about the bound.
+nothing_told : (ps : List Point) (line : Option (Vec ℕ)) → (is_none_told ps && not (is_some line)) ≡ true →
+    (ps ≡ []) × (line ≡ None)
+nothing_told [] None h = (refl, refl)
+nothing_told [] (Some line) h = absurd cc
+nothing_told (p ∷ ps) line h = absurd cc
 
--- A text conforms if its image is accepted and has no points.
-pub conforms_so : (l : Lattice) (text : List ℕ) (i : Interface) (image : Image) (ps qs : List Point) →
-    IsAcceptedAs (class_named l) (order l) i.judgement text image → ps ≡ points_of image i → qs ≡ ps →
-    is_none_told qs ≡ true → Conforms l text i
-conforms_so l text i image ps qs accepted points same h =
+-- A text conforms if its image is accepted, and nothing is reported of it.
+pub conforms_so : (l : Lattice) (text : List ℕ) (i : Interface) (image : Image) (ps : List Point)
+    (line : Option (Vec ℕ)) → IsAcceptedAs (class_named l) (order l) i.judgement text image → ps ≡ points_of image i →
+    ReportsBound i.is_bounded image line → (is_none_told ps && not (is_some line)) ≡ true → Conforms l text i
+conforms_so l text i image ps line accepted points bound h =
+    let p = nothing_told ps line h in
     record {
       image = image;
       accepted = accepted;
-      fits = image_fits image i (sym (same ∙ points) ∙ nothing_told qs h);
+      fits = image_fits image i (sym points ∙ p.0) (bounded_so i.is_bounded image line bound p.1);
     }

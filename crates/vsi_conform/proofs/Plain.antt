@@ -1,5 +1,6 @@
 -- The JSON of an answer has no number that isn't whole, so its text is determined.
 use Rattle.std.proofs.Common.{◌≡◌, ℕ, ℤ, pos, negsuc, false, List, [], ◌∷◌, codes, Option, Some, None, refl, slice_get}
+use Rattle.std.specs.Global.{Vec}
 use Rattle.serde_json.specs.Data.{number, Members}
 use Rattle.serde_json.specs.Find.{of_integer}
 use Rattle.serde_json.specs.View.{items_of}
@@ -84,6 +85,13 @@ points_plain p (point ∷ points) =
     both (members_have_float (json.members_of_point p point))
     (items_have_float (items_of (json.objects_of_points p points)))
     (point_plain p point) (points_plain p points)
+
+-- The object of a missing bound has none.
+pub bound_plain : (line : Option (Vec ℕ)) → items_have_float (items_of (json.objects_of_bound line)) ≡ false
+bound_plain None = refl
+bound_plain (Some line) =
+    both (members_have_float (json.members_of_bound line.items)) false
+    (text_plain (codes "text") line.items (json.kind (codes "bound")) refl) refl
 
 -- The object of a refusal has none.
 pub refusal_plain : (r : Option UnsteadyError) (lines : List ℕ) →

@@ -1,4 +1,5 @@
 -- When a text conforms to an interface, and what is reported for one that doesn't.
+use Rattle.std.specs.Global.{Vec}
 use Rattle.std.specs.Prelude.{◌≡◌, ◌≢◌, ℕ, ◌⊎◌, true, List, [], ◌∷◌, Option, Some, None}
 use Rattle.vsi_lattice.specs.Order.{Lattice}
 use Rattle.vsi_lattice.specs.declared.lattice.Lattice as named
@@ -24,6 +25,7 @@ use Rattle.vsi_conform.specs.declared.interface.Trial.{Trial}
 use Rattle.vsi_conform.specs.declared.point.Answer.{Answer}
 use Rattle.vsi_conform.specs.declared.point.Point.{Point}
 use Rattle.vsi_conform.specs.Asked.{HasGlobals, HasWords}
+use Rattle.vsi_conform.specs.Bounded.{IsBoundedAs, LacksBound, ReportsBound}
 use Rattle.vsi_conform.specs.Points.{entries, points_of, words_of}
 
 -- ---- the runs.
@@ -40,10 +42,11 @@ abbrev pub AllEndAsAsked : Image → List Trial → Type 0
 AllEndAsAsked image [] = Unit {0}
 AllEndAsAsked image (t ∷ ts) = EndsAsAsked image t × AllEndAsAsked image ts
 
--- An image has the globals and the runs that an interface requires.
+-- An image has the globals, the runs and the bound that an interface requires.
 pub record Fits (i : Interface) (image : Image) : Type 0 where
   pub globals : HasGlobals i.is_ordered (globals i.globals.items) (globals image.globals.items)
   pub trials : AllEndAsAsked image i.trials.items
+  pub bound : IsBoundedAs i.is_bounded image
 
 -- ---- the judgement.
 
@@ -89,40 +92,52 @@ IsRefusedAs known L Base text e = IsRefused known L profile.Base text e
 IsRefusedAs known L Strict text e = IsRefused known L profile.Strict text e
 IsRefusedAs known L Steady text e = IsSteadilyRefused known L text e
 
--- These are the points of the one image that the text has when its flows aren't judged.
-pub record TellsImage (known : Known) (text : List ℕ) (i : Interface) (ps : List Point) : Type 0 where
+-- These are the points of the one image that the text has when its flows aren't judged, and the report about its bound.
+pub record TellsImage (known : Known) (text : List ℕ) (i : Interface) (ps : List Point) (line : Option (Vec ℕ))
+    : Type 0 where
   pub image : Image
   pub globals : compiler.HasGlobals text image
   pub meaning : compiler.KeepsMeaning known text image
   pub code : compiler.IsImageOf known text image
   pub points : ps ≡ points_of image i
+  pub bound : ReportsBound i.is_bounded image line
 
--- The text has no program, and there are no points.
-pub record TellsNothing (known : Known) (text : List ℕ) (ps : List Point) : Type 0 where
+-- The text has no program, and nothing is reported of an image.
+pub record TellsNothing (known : Known) (text : List ℕ) (ps : List Point) (line : Option (Vec ℕ)) : Type 0 where
   pub unreadable : ¬ (HasProgram known text)
   pub nothing : ps ≡ []
+  pub boundless : line ≡ None
 
--- The points of a refused text.
-abbrev pub TellsReadable : Known → List ℕ → Interface → List Point → Type 0
-TellsReadable known text i ps = TellsImage known text i ps ⊎ TellsNothing known text ps
+-- The points of a refused text, and the report about its bound.
+abbrev pub TellsReadable : Known → List ℕ → Interface → List Point → Option (Vec ℕ) → Type 0
+TellsReadable known text i ps line = TellsImage known text i ps line ⊎ TellsNothing known text ps line
 
--- The points of an accepted text are those of its image.
-pub record TellsAccepted (l : named.Lattice) (text : List ℕ) (i : Interface) (ps : List Point) : Type 0 where
+-- The points of an accepted text are those of its image, as is the report about its bound.
+pub record TellsAccepted (l : named.Lattice) (text : List ℕ) (i : Interface) (ps : List Point) (line : Option (Vec ℕ))
+    : Type 0 where
   pub image : Image
   pub accepted : IsAcceptedAs (class_named l) (order l) i.judgement text image
   pub points : ps ≡ points_of image i
+  pub bound : ReportsBound i.is_bounded image line
 
--- A refused text has its refusal and, if it has a program, the points of its image.
+-- A refused text has its refusal and, if it has a program, the points of its image and the report about its bound.
 pub record TellsRefused (l : named.Lattice) (text : List ℕ) (i : Interface) (e : UnsteadyError)
-    (ps : List Point) : Type 0 where
+    (ps : List Point) (line : Option (Vec ℕ)) : Type 0 where
   pub refused : IsRefusedAs (class_named l) (order l) i.judgement text e
-  pub points : TellsReadable (class_named l) text i ps
+  pub points : TellsReadable (class_named l) text i ps line
 
 -- The answer with or without a refusal is correct.
-abbrev pub TellsBoth : named.Lattice → List ℕ → Interface → Option UnsteadyError → List Point → Type 0
-TellsBoth l text i None ps = TellsAccepted l text i ps
-TellsBoth l text i (Some e) ps = TellsRefused l text i e ps
+abbrev pub TellsBoth : named.Lattice → List ℕ → Interface → Option UnsteadyError → List Point → Option (Vec ℕ) → Type 0
+TellsBoth l text i None ps line = TellsAccepted l text i ps line
+TellsBoth l text i (Some e) ps line = TellsRefused l text i e ps line
 
 -- The answer is correct.
 abbrev pub Tells : named.Lattice → List ℕ → Interface → Answer → Type 0
-Tells l text i a = TellsBoth l text i a.refusal a.points.items
+Tells l text i a = TellsBoth l text i a.refusal a.points.items a.unbounded
+
+-- A bound is required, and this is the line about the bound of the text's image, for which there is no number.
+pub record IsUnbounded (l : named.Lattice) (text : List ℕ) (i : Interface) (line : List ℕ) : Type 0 where
+  pub required : i.is_bounded ≡ true
+  pub image : Image
+  pub is_image : compiler.IsImageOf (class_named l) text image
+  pub lacks : LacksBound image line

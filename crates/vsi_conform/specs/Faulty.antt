@@ -1,7 +1,7 @@
 -- The line of a refused interface.
 use Rattle.std.specs.Prelude.{ℕ, List, [], ◌++◌, codes, decimal, Option, Some, None}
 use Rattle.vsi_conform.specs.declared.error.InterfaceError.{InterfaceError}
-use Rattle.vsi_conform.specs.declared.error.InterfaceError.TheVariants.{NotToml, UnknownKey, BadLattice, BadProfile, BadOrder, BadGlobals, BadName, RepeatedGlobal, UnknownClass, BadRuns, BadRun, BadStore, NoBudget, NothingExpected, UnknownGlobal, Memory}
+use Rattle.vsi_conform.specs.declared.error.InterfaceError.TheVariants.{NotToml, UnknownKey, BadLattice, BadProfile, BadOrder, BadBounded, BadGlobals, BadName, RepeatedGlobal, UnknownClass, BadRuns, BadRun, BadStore, NoBudget, NothingExpected, UnknownGlobal, Memory}
 
 -- The name of a fault.
 abbrev pub name_of : InterfaceError → List ℕ
@@ -10,6 +10,7 @@ name_of (UnknownKey key) = codes "UnknownKey"
 name_of BadLattice = codes "BadLattice"
 name_of BadProfile = codes "BadProfile"
 name_of BadOrder = codes "BadOrder"
+name_of BadBounded = codes "BadBounded"
 name_of BadGlobals = codes "BadGlobals"
 name_of (BadName name) = codes "BadName"
 name_of (RepeatedGlobal name) = codes "RepeatedGlobal"

@@ -1,5 +1,6 @@
 -- The JSON of an answer.
 use Rattle.std.specs.Prelude.{◌≡◌, ℕ, ℤ, Bool, true, false, List, [], ◌∷◌, ◌++◌, map, codes, Option, Some, None, slice_get}
+use Rattle.std.specs.Global.{Vec}
 use Rattle.serde_json.specs.Data.{Data, null, boolean, number, string, array, object, Members, no_members, put}
 use Rattle.serde_json.specs.Find.{of_integer}
 use Rattle.serde_json.specs.View.{items_of}
@@ -107,6 +108,15 @@ pub record TellsRefusal (l : Lattice) (p : Page) (r : Option UnsteadyError) (ds 
   pub refusal : AreFirst l p.text p.interface r lines
   pub objects : ds ≡ objects_of_refusal r lines
 
+-- The members of the object of a missing bound, with the line about it.
+abbrev pub members_of_bound : List ℕ → Members
+members_of_bound line = with_text (codes "text") line (kind (codes "bound"))
+
+-- The object of a missing bound, if there is a line about it.
+abbrev pub objects_of_bound : Option (Vec ℕ) → List Data
+objects_of_bound None = []
+objects_of_bound (Some line) = object (members_of_bound line.items) ∷ []
+
 -- The object of an answer with these points.
 abbrev pub answer_data : Bool → List Data → Data
 answer_data conforms points =
@@ -124,14 +134,15 @@ conforming_line = codes "{\"conforms\":true,\"points\":[]}\n"
 abbrev pub differing_begin : List ℕ
 differing_begin = codes "{\"conforms\":false,\"points\":["
 
--- The line has whether the text conforms, the object of the refusal, and then one object for each point, in order.
+-- The line has whether the text conforms, the object of the refusal, one object for each point, in order, and that of a
+-- missing bound.
 pub record TellsObjects (l : Lattice) (text : List ℕ) (i : Interface) (a : Answer) (out : List ℕ) : Type 0 where
   pub globals : List Declared
   pub declares : Declares text globals
   pub first : List Data
   pub refusal : TellsRefusal l (page_of text globals i) a.refusal first
   pub line : out ≡ answer_line (is_conforming a)
-      (first ++ objects_of_points (page_of text globals i) a.points.items)
+      (first ++ objects_of_points (page_of text globals i) a.points.items ++ objects_of_bound a.unbounded)
 
 -- The line of an answer in JSON: its objects and its beginning.
 pub record IsConformJson (l : Lattice) (text : List ℕ) (i : Interface) (a : Answer) (out : List ℕ) : Type 0 where

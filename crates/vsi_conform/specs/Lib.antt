@@ -1,5 +1,6 @@
 pub mod Points
 pub mod Asked
+pub mod Bounded
 pub mod Conforms
 pub mod Tables
 pub mod Reading

@@ -1,6 +1,7 @@
 -- The lines of an answer.
 use Rattle.std.specs.Prelude.{◌≡◌, ℕ, ℤ, Bool, true, false, List, [], ◌++◌, codes, decimal, Option, Some, None, slice_get}
 use Rattle.std.specs.Fmt.{signed_decimal}
+use Rattle.std.specs.Global.{Vec}
 use Rattle.std.specs.List.{flat_map}
 use Rattle.vsi_syntax.specs.Tree.{Declared}
 use Rattle.vsi_lattice.specs.declared.lattice.Lattice.{Lattice}
@@ -130,13 +131,19 @@ AreFirst l text i (Some e) out = IsRefusalLines l text (is_steady i.judgement) e
 abbrev pub page_of : List ℕ → List Declared → Interface → Page
 page_of text ds i = record { text = text; globals = ds; interface = i }
 
--- The lines of the refusal, followed by one line for each point, in order.
+-- The line about the bound, if there is one.
+abbrev pub bound_lines : Option (Vec ℕ) → List ℕ
+bound_lines None = []
+bound_lines (Some line) = line.items
+
+-- The lines of the refusal, one line for each point, in order, and the line about the bound.
 pub record TellsLines (l : Lattice) (text : List ℕ) (i : Interface) (a : Answer) (out : List ℕ) : Type 0 where
   pub globals : List Declared
   pub declares : Declares text globals
   pub first : List ℕ
   pub refusal : AreFirst l text i a.refusal first
   pub lines : out ≡ first ++ flat_map (line_of_point (page_of text globals i)) a.points.items
+      ++ bound_lines a.unbounded
 
 -- The text of an answer: `conforms`, or the differences.
 pub record IsConformText (l : Lattice) (text : List ℕ) (i : Interface) (a : Answer) (out : List ℕ) : Type 0 where

@@ -158,4 +158,4 @@ is_none_told (p ∷ ps) = false
 
 -- Nothing differs.
 abbrev pub is_conforming : Answer → Bool
-is_conforming a = not (is_some a.refusal) && is_none_told a.points.items
+is_conforming a = not (is_some a.refusal) && is_none_told a.points.items && not (is_some a.unbounded)

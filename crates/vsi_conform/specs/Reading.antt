@@ -48,8 +48,8 @@ has_keys keys (member key d ms) = is_among keys key && has_keys keys ms
 -- The keys of an interface.
 abbrev pub interface_keys : List (List ℕ)
 interface_keys =
-    codes "lattice" ∷ codes "classes" ∷ codes "below" ∷ codes "profile" ∷ codes "order" ∷ codes "globals"
-    ∷ codes "runs" ∷ []
+    codes "lattice" ∷ codes "classes" ∷ codes "below" ∷ codes "profile" ∷ codes "order" ∷ codes "bounded"
+    ∷ codes "globals" ∷ codes "runs" ∷ []
 
 -- The keys of a run.
 abbrev pub run_keys : List (List ℕ)
@@ -78,6 +78,11 @@ order_of word =
 abbrev pub order_from : Option Data → Option Bool
 order_from None = Some true
 order_from (Some d) = option_and_then order_of (as_str d)
+
+-- Whether a bound is required, from the value at `bounded`, which may be missing.
+abbrev pub bounded_from : Option Data → Option Bool
+bounded_from None = Some false
+bounded_from (Some d) = as_bool d
 
 -- The globals: the pairs of texts at `globals`, in their order.
 abbrev pub globals_at : Members → Option (List Global)
@@ -187,6 +192,7 @@ NameGlobals i = All (NamesGlobals (globals i.globals.items)) (map run i.trials.i
 pub record Asks (ms : Members) (i : Interface) : Type 0 where
   pub judgement : judgement_at ms ≡ Some i.judgement
   pub order : order_from (get_member (codes "order") ms) ≡ Some i.is_ordered
+  pub bounded : bounded_from (get_member (codes "bounded") ms) ≡ Some i.is_bounded
   pub globals : globals_at ms ≡ Some (globals i.globals.items)
   pub runs : runs_from (get_member (codes "runs") ms) ≡ Some (map run i.trials.items)
   pub named : NameGlobals i

@@ -29,6 +29,9 @@ pub enum InterfaceError {
     /// The value at `order` is neither `exact` nor `set`.
     #[error("the order of the globals is none")]
     BadOrder,
+    /// The value at `bounded` is neither `true` nor `false`.
+    #[error("whether a bound is required is neither true nor false")]
+    BadBounded,
     /// The value at `globals` isn't an array of pairs of texts.
     #[error("the interface has no array of globals")]
     BadGlobals,
@@ -90,6 +93,7 @@ fn fault_name(error: &InterfaceError) -> &'static [u8]
         InterfaceError::BadLattice => b"BadLattice",
         InterfaceError::BadProfile => b"BadProfile",
         InterfaceError::BadOrder => b"BadOrder",
+        InterfaceError::BadBounded => b"BadBounded",
         InterfaceError::BadGlobals => b"BadGlobals",
         InterfaceError::BadName(_) => b"BadName",
         InterfaceError::RepeatedGlobal(_) => b"RepeatedGlobal",

@@ -29,6 +29,8 @@ pub struct Interface {
     pub judgement: Judgement,
     /// Whether its globals must be in this order.
     pub is_ordered: bool,
+    /// Whether its image must have a bound.
+    pub is_bounded: bool,
     /// The names of its globals and of their classes.
     pub globals: Vec<(Vec<u8>, Vec<u8>)>,
     /// The required runs of its image.

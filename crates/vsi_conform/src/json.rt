@@ -212,6 +212,34 @@ fn push_objects(
     Ok(())
 }
 
+/// The object of a missing bound.
+fn no_bound(alloc: Global, line: &[u8]) -> Result<Map<String, Value>, AllocError>
+    ensures { IfOk result (λ map. members_view map.entries ≡ spec.members_of_bound line.now) }
+{
+    let mut map = object(alloc, "bound")?;
+    put_text(alloc, &mut map, "text", line)?;
+    Ok(map)
+}
+
+/// Adds the object of a missing bound, if there is a line about it.
+fn push_bound(
+    alloc: Global,
+    found: &mut Vec<Value>,
+    unbounded: &Option<Vec<u8>>,
+) -> Result<(), AllocError>
+    ensures { OnOk result (map view found.new.items ≡ map view found.old.items
+        ++ spec.objects_of_bound unbounded.now) }
+{
+    match unbounded {
+        Some(line) => {
+            let map = no_bound(alloc, line)?;
+            found.push(Value::Object(map))?;
+            Ok(())
+        }
+        None => Ok(()),
+    }
+}
+
 /// The line of an answer with these objects.
 fn answer_line(alloc: Global, conforms: bool, objects: Vec<Value>) -> Result<Vec<u8>, AllocError>
     ensures { IfOk result (λ line. items_have_float (items_view objects.items) ≡ false
@@ -246,6 +274,7 @@ pub fn points_json(
     };
     let mut objects = refusal_objects(alloc, lattice, &pages, &answer.refusal)?;
     push_objects(alloc, &mut objects, &pages, &answer.points)?;
+    push_bound(alloc, &mut objects, &answer.unbounded)?;
     let line = answer_line(alloc, answer.conforms(), objects)?;
     Ok(line)
 }

@@ -41,8 +41,10 @@ pub enum Point {
 pub struct Answer {
     /// Why the text isn't accepted.
     pub refusal: Option<UnsteadyError>,
-    /// All other differences.
+    /// The differences between its globals or runs and the required ones.
     pub points: Vec<Point>,
+    /// The line of `vsi bound` about its image, if a bound is required and none was found.
+    pub unbounded: Option<Vec<u8>>,
 }
 
 impl Answer {
@@ -50,7 +52,7 @@ impl Answer {
     pub fn conforms(&self) -> bool
         ensures { result ≡ is_conforming self.now }
     {
-        self.refusal.is_none() && self.points.is_empty()
+        self.refusal.is_none() && self.points.is_empty() && self.unbounded.is_none()
     }
 }
 

@@ -27,8 +27,8 @@ use vsi_lattice::Lattice;
 use vsi_syntax::is_name;
 
 /// The keys of an interface.
-const KEYS: [&str; 7] = [
-    "lattice", "classes", "below", "profile", "order", "globals", "runs",
+const KEYS: [&str; 8] = [
+    "lattice", "classes", "below", "profile", "order", "bounded", "globals", "runs",
 ];
 
 /// The keys of a run.
@@ -203,6 +203,20 @@ fn order_of(word: &[u8]) -> Option<bool>
         Some(false)
     } else {
         None
+    }
+}
+
+/// Whether a bound is required.
+fn bounded_in(table: &Table) -> Result<bool, InterfaceError>
+    ensures { IfOk result (λ is_bounded. spec.bounded_from
+        (get_member (codes "bounded") (table_view table.now)) ≡ Some is_bounded) }
+{
+    let Some(value) = value_at(table, "bounded") else {
+        return Ok(false);
+    };
+    match value.as_bool() {
+        Some(is_bounded) => Ok(is_bounded),
+        None => Err(InterfaceError::BadBounded),
     }
 }
 
@@ -491,11 +505,13 @@ fn interface_in(alloc: Global, table: &Table) -> Result<Interface, InterfaceErro
 {
     let judgement = judgement_in(table)?;
     let is_ordered = order_in(table)?;
+    let is_bounded = bounded_in(table)?;
     let globals = globals_in(alloc, table)?;
     let trials = trials_in(alloc, table, &globals)?;
     Ok(Interface {
         judgement,
         is_ordered,
+        is_bounded,
         globals,
         trials,
     })
@@ -506,7 +522,7 @@ fn interface_in(alloc: Global, table: &Table) -> Result<Interface, InterfaceErro
 /// # Errors
 ///
 /// `NotToml` if the text is no document, isn't UTF-8, or has an integer beyond 64 bits; otherwise
-/// the first fault in the order keys, lattice, profile, order, globals, runs.
+/// the first fault in the order keys, lattice, profile, order, bound, globals, runs.
 pub fn read_interface(alloc: Global, text: &[u8]) -> Result<Asked, InterfaceError>
     ensures read { IfOk result (spec.IsReadAs text.now) }
 {

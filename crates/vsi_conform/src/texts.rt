@@ -325,6 +325,17 @@ fn first_lines(
     }
 }
 
+/// Adds the line about the bound, if there is one.
+fn push_bound(text: &mut Vec<u8>, unbounded: &Option<Vec<u8>>) -> Result<(), AllocError>
+    ensures { OnOk result
+        (text.new.items ≡ text.old.items ++ spec.bound_lines unbounded.now) }
+{
+    match unbounded {
+        Some(line) => text.extend_from_slice(line),
+        None => Ok(()),
+    }
+}
+
 /// Whether the image must be steady.
 pub(crate) fn is_steady(judgement: Judgement) -> bool
     ensures { result ≡ spec.is_steady judgement }
@@ -332,8 +343,9 @@ pub(crate) fn is_steady(judgement: Judgement) -> bool
     matches!(judgement, Judgement::Steady)
 }
 
-/// The lines of an answer: `conforms`, or those of the refusal and one for each point. Names, lines
-/// and columns come from the given lattice, text and interface, which must be those of the answer.
+/// The lines of an answer: `conforms`, or those of the refusal, one for each point and one about the
+/// bound. Names, lines and columns come from the given lattice, text and interface, which must be
+/// those of the answer.
 pub fn points_text(
     alloc: Global,
     lattice: &Lattice,
@@ -356,5 +368,6 @@ pub fn points_text(
     };
     let mut lines = first_lines(alloc, lattice, text, interface, &answer.refusal)?;
     push_points(&mut lines, &pages, &answer.points)?;
+    push_bound(&mut lines, &answer.unbounded)?;
     Ok(lines)
 }

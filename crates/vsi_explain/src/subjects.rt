@@ -151,9 +151,11 @@ classes, under which profile it must be accepted, and how some runs must end:
 
 `lattice = \"two.toml\"` can take the place of `classes` and `below`. The profile
 is one of those of `vsi explain profiles`. With `order = \"set\"` the globals may
-be in any order. A run begins with the values of `store`, and must halt within
-`budget` instructions with the values of `expect`; `halts = true` in place of
-`expect` requires only that it halts.
+be in any order. With `bounded = true` the image must have a bound: `vsi bound`
+must find a number of instructions within which every run halts. A run begins
+with the values of `store`, and must halt within `budget` instructions with the
+values of `expect`; `halts = true` in place of `expect` requires only that it
+halts.
 
   $ vsi explain interface | sed -n '6,14s/^  //p' > asked.toml
   $ printf 'var key : H; var out : L; out := 1 + 2' > right.vsi

@@ -8,8 +8,8 @@ returns-clause-told c =
       answer = c.in_ok-answer.answer;
       tells = c.in_ok-answer.ensures.told;
       verdict = sym c.conforms.ensures;
-      is = is_verdict c.conforms.result c.args.lattice.now c.args.text.now c.args.interface.now
-          (λ is. c.in_ok-answer.ensures.conforms (sym c.conforms.ensures ∙ is))
-          (λ is. c.conforms.ensures ∙ c.in_ok-answer.ensures.exact is);
+      is = is_verdict c.conforms.result c.in_ok-answer.answer.unbounded c.args.lattice.now c.args.text.now
+          c.args.interface.now (λ is. c.in_ok-answer.ensures.conforms (sym c.conforms.ensures ∙ is))
+          (λ is none. c.conforms.ensures ∙ c.in_ok-answer.ensures.exact is none) c.in_ok-answer.ensures.bound;
       written = c.in_ok-written.ensures;
     }
