@@ -57,6 +57,13 @@ pub late_leaves : {T : Type 0} (Kind : List ℕ → Type 0) (old new : Option (L
 late_leaves Kind old new (Ok x) late part = tt
 late_leaves Kind old new (Err stop) late part = late_leaf Kind old new stop late part
 
+-- So does one with such a part.
+pub cut_leaves : {T : Type 0} (Kind : List ℕ → Type 0) (old new : Option (List ℕ)) (result : Result T Stop) →
+    IfErr result (λ stop. 3 < status_of stop) → IfErr result (λ _. Partly Kind old new) →
+    IfErr result (Leaves Kind 4 old new)
+cut_leaves Kind old new (Ok x) late part = tt
+cut_leaves Kind old new (Err stop) late part = late_leaf Kind old new stop late part
+
 -- And a late stop that is passed on.
 pub late_handed : {T : Type 0} (Kind : List ℕ → Type 0) (old new : Option (List ℕ)) (result : Result T Stop)
     (stop : Stop) → IsErrAnd result (λ s. s ≡ stop) → 3 < status_of stop → Partly Kind old new →

@@ -5,6 +5,7 @@ use Rattle.std.specs.Io.KnownBytes.{Appends, Keeps}
 use Rattle.vsi_lattice.specs.declared.lattice.Lattice.{Lattice}
 use Rattle.vsi_image.specs.declared.instr.Image.{Image}
 use Rattle.vsi_image.specs.Meaning.{start}
+use Rattle.vsi_lsp.specs.Frames.{AreFrames}
 use Rattle.vsi_store.specs.declared.comparison.Comparison as found
 use Rattle.vsi_drive.specs.Control.{Control}
 use Rattle.vsi_drive.specs.Cycles.{text_of}
@@ -133,6 +134,7 @@ Answers holds given (request.Draw drawing) = BytesOf (DrawsFiles holds drawing)
 Answers holds given (request.Policy looking) = BytesOf (SeesFiles holds looking)
 Answers holds given (request.Format source) = BytesOf (OfFile holds source.now ToldCanonical)
 Answers holds given (request.Lattice arguments) = BytesOf (ShapedText arguments.items)
+Answers holds given (request.Lsp serving) = AreFrames
 Answers holds given (request.Explain page) = λ bytes. bytes ≡ page.now
 
 -- ---- what a stop leaves.

@@ -549,4 +549,5 @@ Why holds (request.Draw drawing) old new = StopsBy (WhyDraw holds drawing.lattic
 Why holds (request.Policy looking) old new = StopsBy (WhyPolicy holds looking.lattice.now looking.old) NoOther
 Why holds (request.Format source) old new = StopsBy (RefusesFile holds source.now AsksCanonical) NoOther
 Why holds (request.Lattice arguments) old new = StopsBy (λ reason. ⊥) NoOther
+Why holds (request.Lsp serving) old new = StopsBy (λ reason. ⊥) NoOther
 Why holds (request.Explain page) old new = StopsBy (λ reason. ⊥) NoOther

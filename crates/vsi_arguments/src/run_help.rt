@@ -96,6 +96,24 @@ Example:
   l = 6
   refused: 47 AboveClass 0";
 
+/// The long help of `lsp`.
+pub(crate) const LSP: &str = "\
+Serves an editor: errors while a source text is typed, and more.
+
+Speaks the Language Server Protocol over standard input and standard output, to
+which nothing else is written, until standard input ends or the editor says
+`exit`. The lattice file of a text is the one that its first comment names, as
+`# policy: FILE` beside the text, otherwise the one that --lattice gives. It is
+read each time the text changes. No file is written.
+
+Statuses: 0 the editor has ended the conversation, 2 usage, 4 a stream failed,
+5 out of memory.";
+
+/// An example of `lsp`.
+pub(crate) const LSP_EXAMPLE: &str = "\
+Example, for Neovim, which starts it for the open text:
+  :lua vim.lsp.start({ name = 'vsi', cmd = { 'vsi', 'lsp' } })";
+
 /// The long help of `compare`.
 pub(crate) const COMPARE: &str = "\
 Runs an image from two stores and prints what a class sees of both.
