@@ -140,9 +140,11 @@ Answers holds given (request.Explain page) = λ bytes. bytes ≡ page.now
 -- ---- what a stop leaves.
 
 -- The least status at which a request may have written a part of an answer: a run that is out of budget has written its
--- trace, and any other request is cut short by a fault or by lack of memory.
+-- trace, a server whose client goes away has written messages, and any other request is cut short by a fault or by lack
+-- of memory.
 abbrev pub cut_from : Request → ℕ
 cut_from (request.Run e o has_trace has_count) = 3
+cut_from (request.Lsp serving) = 1
 cut_from asked = 4
 
 -- The output that a stop leaves: only first bytes of an answer of this kind, and nothing at all below this status,

@@ -171,7 +171,16 @@ pub(crate) fn perform<'a, F: Files, R: Read, W: Write>(
         Request::Format(source) => put(format(desk, source, files), output),
         Request::Try(attempt) => put(try_source(desk, &attempt, files), output),
         Request::Lattice(arguments) => put(lattice(desk.alloc, arguments.as_slice()), output),
-        Request::Lsp(serving) => serve(desk.alloc, serving, files, input, output),
+        Request::Lsp(serving) => {
+            serve(
+                desk.alloc,
+                serving,
+                files,
+                input,
+                output,
+                &mut told.note,
+            )
+        }
         Request::Explain(page) => write(page.as_bytes(), output),
     }
 }

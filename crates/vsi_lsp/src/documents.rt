@@ -217,10 +217,10 @@ pub(crate) fn cleared(alloc: Global, uri: &[u8]) -> Result<Value, AllocError> {
     publication(alloc, uri, None, none)
 }
 
-/// A message for the person in front of the client.
+/// A line for the log of the client.
 pub(crate) fn said(alloc: Global, text: &[u8]) -> Result<Value, AllocError> {
     let mut members = Map::new(alloc);
     put_count(alloc, &mut members, "type", 3)?;
     put_text(alloc, &mut members, "message", text)?;
-    notification(alloc, b"window/showMessage", Value::Object(members))
+    notification(alloc, b"window/logMessage", Value::Object(members))
 }

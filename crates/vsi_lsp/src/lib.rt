@@ -30,4 +30,4 @@ pub use changes::{Change, changed_by};
 pub use diagnostics::errors_in;
 pub use frames::framed;
 pub use places::{Encoding, Place, offset_of, place_of};
-pub use server::{Server, Wanted};
+pub use server::{Server, TWO_SAID, Wanted};

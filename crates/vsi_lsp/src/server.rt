@@ -18,7 +18,7 @@ use vsi_policy::named_policy;
 use vsi_types::Profile;
 
 /// What is said once about documents that name no lattice file.
-const TWO_SAID: &[u8] = b"vsi: a text that names no lattice file is judged with the classes L and \
+pub const TWO_SAID: &[u8] = b"vsi: a text that names no lattice file is judged with the classes L and \
 H. Its first comment line can name one: # policy: FILE";
 
 /// The state of the conversation with a client.
@@ -27,6 +27,7 @@ enum Phase {
     New,
     Running,
     ShutDown,
+    Ended,
     Exited,
 }
 
@@ -72,7 +73,17 @@ impl Server {
 
     /// Whether the client has asked the server to end.
     pub fn has_exited(&self) -> bool {
-        self.phase == Phase::Exited
+        self.phase == Phase::Exited || self.phase == Phase::Ended
+    }
+
+    /// Whether `exit` has come after `shutdown`.
+    pub fn has_ended(&self) -> bool {
+        self.phase == Phase::Ended
+    }
+
+    /// Whether a text that names no lattice file has been judged with two classes.
+    pub fn judges_by_two(&self) -> bool {
+        self.has_said
     }
 
     /// Takes bytes of the client.
@@ -173,7 +184,9 @@ impl Server {
         match self.phase {
             Phase::New => self.start(method, id, value),
             Phase::Running => self.serve(method, id, value),
-            Phase::ShutDown | Phase::Exited => self.fail(id.clone()?, Fault::Request),
+            Phase::ShutDown | Phase::Ended | Phase::Exited => {
+                self.fail(id.clone()?, Fault::Request)
+            }
         }
     }
 
@@ -239,7 +252,11 @@ impl Server {
     /// Does what a notification asks.
     fn note(&mut self, method: &str, value: &Value) -> Result<Option<Wanted>, AllocError> {
         if method == "exit" {
-            self.phase = Phase::Exited;
+            self.phase = if self.phase == Phase::ShutDown {
+                Phase::Ended
+            } else {
+                Phase::Exited
+            };
             return Ok(None);
         }
         if self.phase != Phase::Running {

@@ -7,7 +7,7 @@ use Rattle.vsi.specs.Shaping.{ShapedText}
 use Rattle.vsi.specs.Reasons.{AsksCanonical, AsksClasses, AsksFlows, AsksMend, HasNoText, LacksEmitBound, LacksTried, NoOther, OtherLeak, RefusesAudit, RefusesFile, RefusesFiles, RefusesImage, RefusesLattice, RefusesSource, WhyDraw, WhyEmit, WhyPolicy, WhyTry}
 use Rattle.vsi.proofs.Filled.{alone}
 use Rattle.vsi.proofs.Obeyed.{put_stops}
-use Rattle.vsi.proofs.Unrun.{Unseen, fault_stopped, handed_late}
+use Rattle.vsi.proofs.Unrun.{Unseen, fault_stopped}
 use Rattle.vsi.proofs.Partly.{accept_leaves, cut_leaves, fault_leaves, kept_leaves, put_leaves}
 use Rattle.vsi.proofs.Written.{accept_performs, build_performs, put_alone}
 use Rattle.vsi.proofs.performing.perform.Goals as goal
@@ -218,7 +218,7 @@ returns-in-Drive-clause-left g c = rw c.in-Drive.is c.drive.ensures.left
 
 pub returns-in-Lsp-clause-left : goal.returns-in-Lsp-clause-left
 returns-in-Lsp-clause-left g c = rw c.in-Lsp.is
-    (cut_leaves _ _ _ c.serve.result c.serve.ensures.stop c.serve.ensures.cut)
+    (cut_leaves _ _ _ c.serve.result c.serve.ensures.cut)
 
 -- ---- why it has stopped.
 
@@ -333,5 +333,4 @@ returns-in-Explain-clause-stopped g c = rw c.in-Explain.is
     (fault_stopped (λ reason. ⊥) NoOther c.write.result c.write.ensures.stop)
 
 pub returns-in-Lsp-clause-stopped : goal.returns-in-Lsp-clause-stopped
-returns-in-Lsp-clause-stopped g c = rw c.in-Lsp.is
-    (handed_late (λ reason. ⊥) NoOther c.serve.result c.serve.ensures.stop)
+returns-in-Lsp-clause-stopped g c = rw c.in-Lsp.is c.serve.ensures.stopped
