@@ -79,7 +79,7 @@ fn put_two(server: &Server, note: &mut Vec<u8>) -> Result<(), AllocError> {
 fn ended<'a>(alloc: Global, server: &Server) -> Result<(), Stop<'a>>
     ensures stopped { IfErr result (StopsBy (λ reason. ⊥) (SaysLine unended_line)) }
 {
-    if server.has_ended() {
+    if server.has_exited() && !server.has_failed() {
         return Ok(());
     }
     let text = Vec::from_slice(alloc, UNENDED)?;

@@ -98,20 +98,21 @@ Example:
 
 /// The long help of `lsp`.
 pub(crate) const LSP: &str = "\
-Serves an editor: errors while a source text is typed, and more.
+Serves an editor: shows errors while a source text is typed, and more.
 
 Speaks the Language Server Protocol over standard input and standard output, to
-which nothing else is written, until standard input ends or the editor says
-`exit`. The lattice file of a text is the one that its first comment names, as
-`# policy: FILE` beside the text, otherwise the one that --lattice gives. It is
-read each time the text changes. No file is written.
+which nothing else is written, until the editor says `exit` or standard input
+ends. The lattice file of a text is the one that its first comment names, as
+`# policy: FILE`, otherwise the one that --lattice gives. Without either the
+classes are L and H, L below H. The file is read whenever the text changes. No
+file is written.
 
-Statuses: 0 the editor has ended the conversation, 2 usage, 4 a stream failed,
-5 out of memory.";
+Statuses: 0 the editor has said `shutdown` and `exit`, 1 it hasn't, 2 usage,
+4 standard input or output failed, 5 out of memory.";
 
 /// An example of `lsp`.
 pub(crate) const LSP_EXAMPLE: &str = "\
-Example, for Neovim, which starts it for the open text:
+Example, for Neovim with a source text open:
   :lua vim.lsp.start({ name = 'vsi', cmd = { 'vsi', 'lsp' } })";
 
 /// The long help of `compare`.

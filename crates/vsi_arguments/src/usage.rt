@@ -182,7 +182,7 @@ const UNREFUSED: [Subcommand; 3] = [
     },
     Subcommand {
         name: "lsp",
-        line: "Serves an editor: errors while a source text is typed, and more",
+        line: "Serves an editor: shows errors while a source text is typed",
         whole: run_help::LSP,
         example: run_help::LSP_EXAMPLE,
         arguments: &[SERVED_LATTICE, STRICT],

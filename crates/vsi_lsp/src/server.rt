@@ -76,9 +76,9 @@ impl Server {
         self.phase == Phase::Exited || self.phase == Phase::Ended
     }
 
-    /// Whether `exit` has come after `shutdown`.
-    pub fn has_ended(&self) -> bool {
-        self.phase == Phase::Ended
+    /// Whether `exit` has come without `shutdown`.
+    pub fn has_failed(&self) -> bool {
+        self.phase == Phase::Exited
     }
 
     /// Whether a text that names no lattice file has been judged with two classes.
