@@ -1,7 +1,7 @@
 -- A session of Neovim with `vsi lsp`: opens a text, does the steps of a file, and writes what came of each.
 --
--- VSI_SERVER is the command of the server, for `sh`; VSI_TEXT the path of the text; VSI_STEPS that of a list of steps;
--- VSI_RESULTS that of the list of results. A step has `keys` that are typed, or a request `ask` with its position `at`,
+-- VSI_SERVER is the command of the server, for `sh`, and VSI_PLUGIN the folder of the package that starts it; VSI_TEXT is
+-- the path of the text, VSI_STEPS that of a list of steps, VSI_RESULTS that of the list of results. A step has `keys` that are typed, or a request `ask` with its position `at`,
 -- a new name `rename`, or `format`. A result has the lines of the text, the diagnostics of the server, how many of them
 -- Neovim shows, and the answer to a request.
 
@@ -34,11 +34,13 @@ local function settle(what)
 end
 
 local function typed(keys)
-  local before = vim.api.nvim_buf_get_changedtick(0)
+  local before, judged = vim.api.nvim_buf_get_changedtick(0), latest
+  latest = nil
   vim.api.nvim_feedkeys(vim.api.nvim_replace_termcodes(keys, true, false, true), 'xt', false)
   if vim.api.nvim_buf_get_changedtick(0) ~= before then
-    vim.wait(5)
     settle(keys)
+  else
+    latest = judged
   end
 end
 
@@ -100,14 +102,10 @@ end
 
 local function session()
   local results = {}
+  vim.g.vsi_lsp = { 'sh', '-c', os.getenv('VSI_SERVER') }
+  vim.opt.runtimepath:prepend(os.getenv('VSI_PLUGIN'))
+  vim.cmd('filetype plugin on')
   vim.cmd('edit ' .. vim.fn.fnameescape(os.getenv('VSI_TEXT')))
-  local client = vim.lsp.start_client({
-    name = 'vsi',
-    cmd = { 'sh', '-c', os.getenv('VSI_SERVER') },
-    root_dir = vim.fn.getcwd(),
-    flags = { debounce_text_changes = 0, allow_incremental_sync = true },
-  })
-  vim.lsp.buf_attach_client(0, client)
   settle('opening')
   for _, step in ipairs(steps_of(os.getenv('VSI_STEPS'))) do
     local answer = done(step)
@@ -119,7 +117,7 @@ local function session()
     })
   end
   vim.fn.writefile({ vim.fn.json_encode(results) }, os.getenv('VSI_RESULTS'))
-  vim.lsp.stop_client(client)
+  vim.lsp.stop_client(vim.lsp.get_active_clients())
   vim.wait(patience, function()
     return vim.tbl_isempty(vim.lsp.get_active_clients())
   end, 5)
