@@ -1,9 +1,9 @@
 -- A session of Neovim with `vsi lsp`: opens a text, does the steps of a file, and writes what came of each.
 --
--- VSI_SERVER is the command of the server, for `sh`, and VSI_PLUGIN the folder of the package that starts it; VSI_TEXT is
--- the path of the text, VSI_STEPS that of a list of steps, VSI_RESULTS that of the list of results. A step has `keys` that are typed, or a request `ask` with its position `at`,
--- a new name `rename`, or `format`. A result has the lines of the text, the diagnostics of the server, how many of them
--- Neovim shows, and the answer to a request.
+-- VSI_SERVER is the command of the server, for `sh`, and VSI_PLUGIN the folder of the package that starts it; VSI_TEXT
+-- is the path of the text, VSI_STEPS that of a list of steps, VSI_RESULTS that of the list of results. A step has `keys`
+-- that are typed, or a request `ask` with its position `at`, a new name `rename`, or `format`. A result has the lines of
+-- the text, the diagnostics of the server, how many of them Neovim shows, and the answer to a request.
 
 local patience = 20000
 local latest = nil

@@ -1,5 +1,5 @@
-// Loads the extension for Visual Studio Code with a stand-in for the editor, opens and changes a text, and prints what the
-// extension shows, as a line of JSON. The arguments are the program and the folder of the text.
+// Loads the extension for Visual Studio Code with a stand-in for the editor, opens and changes a text, and prints what
+// the extension shows, as a line of JSON. The arguments are the program and the folder of the text.
 'use strict';
 
 const fs = require('fs');
