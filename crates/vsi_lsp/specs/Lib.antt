@@ -1,0 +1,4 @@
+pub mod Changes
+pub mod Frames
+pub mod Places
+pub mod Verdict
