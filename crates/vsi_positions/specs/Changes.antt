@@ -1,9 +1,9 @@
 -- The text of a document after changes.
 use Rattle.std.specs.Prelude.{ℕ, max, List, [], ◌∷◌, ◌++◌, Option, Some, None, take, drop}
-use Rattle.vsi_lsp.specs.declared.changes.Change.{Change}
-use Rattle.vsi_lsp.specs.declared.places.Encoding.{Encoding}
-use Rattle.vsi_lsp.specs.declared.places.Place.{Place}
-use Rattle.vsi_lsp.specs.Places.{offset_in}
+use Rattle.vsi_positions.specs.declared.changes.Change.{Change}
+use Rattle.vsi_positions.specs.declared.places.Encoding.{Encoding}
+use Rattle.vsi_positions.specs.declared.places.Place.{Place}
+use Rattle.vsi_positions.specs.Places.{offset_in}
 
 -- A text with a part between two offsets replaced; nothing is replaced if the second is before the first.
 abbrev pub spliced : ℕ → ℕ → List ℕ → List ℕ → List ℕ

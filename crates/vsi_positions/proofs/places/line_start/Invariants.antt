@@ -1,6 +1,6 @@
 use Rattle.std.proofs.Common.{◌≡◌, ◌+◌, length}
-use Rattle.vsi_lsp.specs.Places as spec
-use Rattle.vsi_lsp.proofs.places.line_start.Given as goal
+use Rattle.vsi_positions.specs.Places as spec
+use Rattle.vsi_positions.proofs.places.line_start.Given as goal
 
 -- The bytes passed are those before the lines that are left.
 abbrev pub invariant-loop-left : goal.invariant-loop-left

@@ -1,6 +1,6 @@
 use Rattle.std.proofs.Common.{◌≡◌, length}
-use Rattle.vsi_lsp.specs.Changes as spec
-use Rattle.vsi_lsp.proofs.changes.changed_by.Given as goal
+use Rattle.vsi_positions.specs.Changes as spec
+use Rattle.vsi_positions.proofs.changes.changed_by.Given as goal
 
 -- The changes that are left make of the text so far what all make of the first text.
 abbrev pub invariant-loop-rest : goal.invariant-loop-rest

@@ -1,6 +1,6 @@
 use Rattle.std.proofs.Common.{◌≡◌, ◌+◌, length}
-use Rattle.vsi_lsp.specs.Places as spec
-use Rattle.vsi_lsp.proofs.places.line_size.Given as goal
+use Rattle.vsi_positions.specs.Places as spec
+use Rattle.vsi_positions.proofs.places.line_size.Given as goal
 
 -- The bytes passed and the rest are the text, and none of those passed ends a line.
 abbrev pub invariant-loop-rest : goal.invariant-loop-rest

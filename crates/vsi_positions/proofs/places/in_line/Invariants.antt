@@ -1,6 +1,6 @@
 use Rattle.std.proofs.Common.{◌≡◌, ◌+◌, length}
-use Rattle.vsi_lsp.specs.Places as spec
-use Rattle.vsi_lsp.proofs.places.in_line.Given as goal
+use Rattle.vsi_positions.specs.Places as spec
+use Rattle.vsi_positions.proofs.places.in_line.Given as goal
 
 -- The bytes passed are those of whole characters before the position.
 abbrev pub invariant-loop-rest : goal.invariant-loop-rest

@@ -1,7 +1,7 @@
 //! Changes of a text.
 
 ghost use Rattle.std.specs.Prelude.{◌≡◌, ◌≤◌, length, IfOk};
-ghost use Rattle.vsi_lsp.specs.Changes as spec;
+ghost use Rattle.vsi_positions.specs.Changes as spec;
 
 use crate::places::{Encoding, Place, offset_of};
 use std::alloc::{AllocError, Global};

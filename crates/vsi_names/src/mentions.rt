@@ -8,10 +8,10 @@ use vsi_syntax::Span;
 /// A name of a variable: its part of the text, the number of the variable, with the globals first,
 /// and whether the variable is declared there.
 #[derive(Clone, Copy, Debug)]
-pub(crate) struct Mention {
-    pub(crate) span: Span,
-    pub(crate) variable: usize,
-    pub(crate) is_declaration: bool,
+pub struct Mention {
+    pub span: Span,
+    pub variable: usize,
+    pub is_declaration: bool,
 }
 
 /// The state of a walk over a program: the names so far, the variables in scope, the number of
@@ -153,7 +153,7 @@ fn begun(alloc: Global, source: &Source<'_>) -> Result<Tour, AllocError> {
 }
 
 /// The names of the variables of a program, in the order of a walk over it.
-pub(crate) fn mentions_of(
+pub fn mentions_of(
     alloc: Global,
     source: &Source<'_>,
 ) -> Result<Vec<Mention>, AllocError> {
@@ -164,7 +164,7 @@ pub(crate) fn mentions_of(
 }
 
 /// The name at a byte, if there is one.
-pub(crate) fn mention_at(mentions: &[Mention], at: usize) -> Option<Mention> {
+pub fn mention_at(mentions: &[Mention], at: usize) -> Option<Mention> {
     for mention in mentions {
         if mention.span.start <= at && at <= mention.span.stop {
             return Some(*mention);

@@ -1,0 +1,15 @@
+//! The names of a program's variables in its text, and renaming.
+//!
+//! `mentions_of` lists the names with the variables that they name. `rename` proposes the changes that
+//! give a variable a new name, makes them, reads the new text, and answers the changes only if its
+//! program is the old one but for that name (clause `kept`): so a change that would let a name mean
+//! another variable is refused.
+//!
+//! To be believed: `specs/Renamed`.
+#![tactic(auto)]
+
+mod mentions;
+mod renaming;
+
+pub use mentions::{Mention, mention_at, mentions_of};
+pub use renaming::rename;
