@@ -1,14 +1,15 @@
 //! Open documents, and the errors that are published for them.
 
-use crate::diagnostics::{Page, errors_in, put_common};
-use crate::members::{put_count, put_text};
-use crate::places::Encoding;
+use crate::diagnostics::{Page, error_object, errors_in, only};
+use crate::objects::text;
+use crate::refusals::START;
 use crate::replies::notification;
-use serde_json::{Map, Value, put};
+use serde_json::{Value, json};
 use std::alloc::{AllocError, Global};
 use vsi_diagnostics::{Fault, fault_diagnostic, fault_text};
 use vsi_lattice::{Lattice, LatticeError, read_lattice};
 use vsi_policy::named_policy;
+use vsi_positions::Encoding;
 use vsi_syntax::Span;
 use vsi_types::Profile;
 
@@ -24,6 +25,15 @@ pub(crate) enum Policy {
     File(Vec<u8>),
     /// The file at this path, which can't be read.
     Lost(Vec<u8>),
+}
+
+/// What a document is.
+#[derive(Clone, Copy, Debug, PartialEq, Eq)]
+pub(crate) enum Kind {
+    Source,
+    Lattice,
+    /// A store, an interface, or another file that isn't judged.
+    Other,
 }
 
 /// An open document.
@@ -42,6 +52,25 @@ pub(crate) enum Lacking<'a> {
     Refused(LatticeError),
     /// The file at this path can't be read.
     Lost(&'a [u8]),
+}
+
+/// Whether a line of a TOML text begins with a key.
+fn has_key(text: &[u8], key: &[u8]) -> bool {
+    for line in text.split(|byte| *byte == b'\n') {
+        if line.starts_with(key) {
+            return true;
+        }
+    }
+    false
+}
+
+/// Whether a TOML text has a key that an interface file has and a lattice file hasn't.
+fn is_interface(text: &[u8]) -> bool {
+    has_key(text, b"globals")
+        || has_key(text, b"profile")
+        || has_key(text, b"order")
+        || has_key(text, b"lattice")
+        || has_key(text, b"[[runs")
 }
 
 impl Document {
@@ -67,16 +96,24 @@ impl Document {
         }
     }
 
-    /// Whether the document is a lattice file and no source text.
-    pub(crate) fn is_policy(&self) -> bool {
-        self.uri.ends_with(b".toml")
+    /// What the document is: a TOML file that has a key of lattice files and none of interfaces is a
+    /// lattice file.
+    pub(crate) fn kind(&self) -> Kind {
+        if !self.uri.ends_with(b".toml") {
+            return Kind::Source;
+        }
+        let has_classes = has_key(&self.text, b"classes") || has_key(&self.text, b"below");
+        if has_classes && !is_interface(&self.text) {
+            return Kind::Lattice;
+        }
+        Kind::Other
     }
 }
 
 /// The part of a text from a byte to the end of its line.
 fn line_span(text: &[u8], start: usize) -> Span {
     let mut stop = start;
-    while let Some(byte) = text.get(stop) {
+    for byte in text.get(start..).unwrap_or(b"") {
         if *byte == b'\n' || *byte == b'\r' {
             break;
         }
@@ -88,38 +125,19 @@ fn line_span(text: &[u8], start: usize) -> Span {
 /// The part of a source text that names its lattice file.
 fn naming_span(text: &[u8]) -> Span {
     if named_policy(text).is_none() {
-        return Span { start: 0, stop: 0 };
+        return START;
     }
     match text.iter().position(|byte| *byte == b'#') {
         Some(start) => line_span(text, start),
-        None => Span { start: 0, stop: 0 },
+        None => START,
     }
 }
 
-/// The object of an error that concerns a lattice file.
-fn policy_object(
-    alloc: Global,
-    page: Page<'_>,
-    span: Span,
-    code: usize,
-    message: &[u8],
-) -> Result<Value, AllocError> {
-    let mut members = Map::new(alloc);
-    put_common(alloc, &mut members, page, span, code)?;
-    put_text(alloc, &mut members, "message", message)?;
-    Ok(Value::Object(members))
-}
-
 /// The error of a lattice file that can't be read.
-fn lost_object(
-    alloc: Global,
-    page: Page<'_>,
-    span: Span,
-    path: &[u8],
-) -> Result<Value, AllocError> {
+fn lost_object(alloc: Global, page: Page<'_>, path: &[u8]) -> Result<Value, AllocError> {
     let mut message = Vec::from_slice(alloc, b"file fault: ")?;
     message.extend_from_slice(path)?;
-    policy_object(alloc, page, span, 0, &message)
+    error_object(alloc, page, naming_span(page.text), 0, &message)
 }
 
 /// The error of a lattice file that is refused.
@@ -134,17 +152,18 @@ fn refused_object(
         return Err(AllocError);
     };
     let text = fault_text(alloc, &fault)?;
-    policy_object(alloc, page, span, diagnostic.code, text.trim_ascii_end())
+    error_object(alloc, page, span, diagnostic.code, text.trim_ascii_end())
 }
 
 /// The errors of a lattice file that is open.
 fn policy_errors(alloc: Global, page: Page<'_>) -> Result<Vec<Value>, AllocError> {
-    let mut errors = Vec::new(alloc);
-    if let Err(error) = read_lattice(alloc, page.text) {
-        let span = line_span(page.text, 0);
-        errors.push(refused_object(alloc, page, span, error)?)?;
+    match read_lattice(alloc, page.text) {
+        Ok(_) => Ok(Vec::new(alloc)),
+        Err(error) => {
+            let span = line_span(page.text, 0);
+            only(alloc, refused_object(alloc, page, span, error)?)
+        }
     }
-    Ok(errors)
 }
 
 /// The error of a document that has no lattice.
@@ -153,14 +172,13 @@ fn lacking_errors(
     page: Page<'_>,
     lacking: Lacking<'_>,
 ) -> Result<Vec<Value>, AllocError> {
-    let span = naming_span(page.text);
-    let error = match lacking {
-        Lacking::Lost(path) => lost_object(alloc, page, span, path)?,
-        Lacking::Refused(error) => refused_object(alloc, page, span, error)?,
-    };
-    let mut errors = Vec::new(alloc);
-    errors.push(error)?;
-    Ok(errors)
+    match lacking {
+        Lacking::Lost(path) => only(alloc, lost_object(alloc, page, path)?),
+        Lacking::Refused(error) => {
+            let span = naming_span(page.text);
+            only(alloc, refused_object(alloc, page, span, error)?)
+        }
+    }
 }
 
 /// The errors of a document.
@@ -171,12 +189,13 @@ fn document_errors(
     document: &Document,
 ) -> Result<Vec<Value>, AllocError> {
     let page = document.page(encoding);
-    if document.is_policy() {
-        return policy_errors(alloc, page);
-    }
-    match document.lattice(alloc) {
-        Ok(lattice) => errors_in(alloc, encoding, profile, &lattice, page.uri, page.text),
-        Err(lacking) => lacking_errors(alloc, page, lacking),
+    match document.kind() {
+        Kind::Lattice => policy_errors(alloc, page),
+        Kind::Other => Ok(Vec::new(alloc)),
+        Kind::Source => match document.lattice(alloc) {
+            Ok(lattice) => errors_in(alloc, encoding, profile, &lattice, page.uri, page.text),
+            Err(lacking) => lacking_errors(alloc, page, lacking),
+        },
     }
 }
 
@@ -187,17 +206,15 @@ fn publication(
     version: Option<i64>,
     errors: Vec<Value>,
 ) -> Result<Value, AllocError> {
-    let mut members = Map::new(alloc);
-    put(&mut members, alloc, "diagnostics", Value::Array(errors))?;
-    put_text(alloc, &mut members, "uri", uri)?;
-    if let Some(version) = version {
-        put(&mut members, alloc, "version", Value::from(version))?;
-    }
-    notification(
-        alloc,
-        b"textDocument/publishDiagnostics",
-        Value::Object(members),
-    )
+    let uri = text(alloc, uri)?;
+    let errors = Value::Array(errors);
+    let parameters = match version {
+        Some(version) => {
+            json!(in alloc; {"uri": uri, "version": version, "diagnostics": errors})?
+        }
+        None => json!(in alloc; {"uri": uri, "diagnostics": errors})?,
+    };
+    notification(alloc, "textDocument/publishDiagnostics", parameters)
 }
 
 /// The message with the errors of a document.
@@ -213,14 +230,11 @@ pub(crate) fn published(
 
 /// The message that a document that is closed has no errors.
 pub(crate) fn cleared(alloc: Global, uri: &[u8]) -> Result<Value, AllocError> {
-    let none = Vec::new(alloc);
-    publication(alloc, uri, None, none)
+    publication(alloc, uri, None, Vec::new(alloc))
 }
 
 /// A message for the person in front of the client.
-pub(crate) fn said(alloc: Global, text: &[u8]) -> Result<Value, AllocError> {
-    let mut members = Map::new(alloc);
-    put_count(alloc, &mut members, "type", 3)?;
-    put_text(alloc, &mut members, "message", text)?;
-    notification(alloc, b"window/showMessage", Value::Object(members))
+pub(crate) fn said(alloc: Global, text: &str) -> Result<Value, AllocError> {
+    let parameters = json!(in alloc; {"type": 3, "message": text})?;
+    notification(alloc, "window/showMessage", parameters)
 }

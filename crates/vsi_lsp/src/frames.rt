@@ -36,15 +36,15 @@ pub(crate) enum Piece {
     Unfinished,
     /// A message of this many bytes after a header of this many bytes.
     Message(usize, usize),
-    /// A header of this many bytes that gives no length.
-    Faulty(usize),
+    /// A header that gives no length, or is too long.
+    Faulty,
 }
 
 /// The longest header, in bytes.
 const LONGEST_HEADER: usize = 4096;
 
 /// The longest message, in bytes: a text of the greatest length, each of whose bytes is escaped.
-pub(crate) const LONGEST_MESSAGE: usize = 16_777_216;
+const LONGEST_MESSAGE: usize = 16_777_216;
 
 /// The number of bytes up to and with the end of the header, if it is there.
 fn header_size(bytes: &[u8]) -> Option<usize>
@@ -99,13 +99,13 @@ fn message_size(header: &[u8]) -> Option<usize> {
 pub(crate) fn next_piece(bytes: &[u8]) -> Piece {
     let Some(header) = header_size(bytes) else {
         if bytes.len() >= LONGEST_HEADER {
-            return Piece::Faulty(LONGEST_HEADER);
+            return Piece::Faulty;
         }
         return Piece::Unfinished;
     };
     match message_size(&bytes[..header]) {
         Some(size) if size <= bytes.len() - header => Piece::Message(header, size),
         Some(_) => Piece::Unfinished,
-        None => Piece::Faulty(header),
+        None => Piece::Faulty,
     }
 }

@@ -1,22 +1,20 @@
 //! The parts of a text to which refusals point.
 
-use crate::members::Range;
-use crate::places::{Encoding, Place, place_of};
 use vsi_compiler::CompileError;
 use vsi_scope::ScopeError;
 use vsi_syntax::{LexError, ParseError, Span};
 
 /// The part of no length at the beginning of a text.
-const START: Span = Span { start: 0, stop: 0 };
+pub(crate) const START: Span = Span { start: 0, stop: 0 };
 
 /// The part of the character at a byte.
 fn character_at(text: &[u8], at: usize) -> Span {
     let mut stop = at.saturating_add(1);
-    while let Some(byte) = text.get(stop) {
-        if *byte < 128 || *byte >= 192 || stop > at.saturating_add(3) {
-            break;
+    for _byte in 0..3 {
+        match text.get(stop) {
+            Some(byte) if *byte >= 128 && *byte < 192 => stop = stop.saturating_add(1),
+            _ => break,
         }
-        stop = stop.saturating_add(1);
     }
     Span { start: at, stop }
 }
@@ -60,25 +58,4 @@ pub(crate) fn refused_span(text: &[u8], error: &CompileError) -> Span {
         },
         CompileError::Memory => START,
     }
-}
-
-/// The position of a byte, or the beginning of the text if it has none.
-fn place_or_start(encoding: Encoding, text: &[u8], at: usize) -> Place {
-    match place_of(encoding, text, at) {
-        Some(place) => place,
-        None => Place {
-            line: 0,
-            character: 0,
-        },
-    }
-}
-
-/// The positions of a part.
-pub(crate) fn range_of(encoding: Encoding, text: &[u8], span: Span) -> Range {
-    let start = place_or_start(encoding, text, span.start);
-    let stop = match place_of(encoding, text, span.stop) {
-        Some(place) => place,
-        None => start,
-    };
-    Range { start, stop }
 }

@@ -4,21 +4,20 @@ ghost use Rattle.std.specs.Prelude.{IfOk};
 ghost use Rattle.vsi_lsp.specs.Frames.{AreFrames};
 
 use crate::asking::{formatting, is_of_names, names_answer};
-use crate::changes::{Change, changed_by};
-use crate::documents::{Document, Policy, cleared, published, said};
+use crate::documents::{Document, Kind, Policy, cleared, published, said};
 use crate::frames::{Piece, framed, next_piece};
-use crate::members::{range_at, text_at};
+use crate::objects::{range_at, text_at};
 use crate::paths::path_beside;
-use crate::places::Encoding;
 use crate::replies::{Fault, failure, response};
 use crate::starting::{encoding_for, welcome};
 use serde_json::Value;
 use std::alloc::{AllocError, Global};
 use vsi_policy::named_policy;
+use vsi_positions::{Change, Encoding, changed_by};
 use vsi_types::Profile;
 
 /// What is said once about documents that name no lattice file.
-const TWO_SAID: &[u8] = b"vsi: a text that names no lattice file is judged with the classes L and \
+const TWO_SAID: &str = "vsi: a text that names no lattice file is judged with the classes L and \
 H. Its first comment line can name one: # policy: FILE";
 
 /// The state of the conversation with a client.
@@ -28,6 +27,8 @@ enum Phase {
     Running,
     ShutDown,
     Exited,
+    /// The client has ended without `shutdown`, or sent a header without a length.
+    Failed,
 }
 
 /// A lattice file that is to be read, and the document for which it is.
@@ -70,9 +71,15 @@ impl Server {
         }
     }
 
-    /// Whether the client has asked the server to end.
+    /// Whether the server is to end.
     pub fn has_exited(&self) -> bool {
-        self.phase == Phase::Exited
+        self.phase == Phase::Exited || self.phase == Phase::Failed
+    }
+
+    /// Whether the server is to end with a failure: the client has asked it to end without
+    /// `shutdown`, or has sent a header without a length.
+    pub fn has_failed(&self) -> bool {
+        self.phase == Phase::Failed
     }
 
     /// Takes bytes of the client.
@@ -117,9 +124,9 @@ impl Server {
                 self.pass(stop)?;
                 Ok(Some(message))
             }
-            Piece::Faulty(header) => {
-                self.pass(header)?;
-                Ok(Some(Vec::new(self.alloc)))
+            Piece::Faulty => {
+                self.phase = Phase::Failed;
+                Ok(None)
             }
         }
     }
@@ -173,7 +180,7 @@ impl Server {
         match self.phase {
             Phase::New => self.start(method, id, value),
             Phase::Running => self.serve(method, id, value),
-            Phase::ShutDown | Phase::Exited => self.fail(id.clone()?, Fault::Request),
+            _ => self.fail(id.clone()?, Fault::Request),
         }
     }
 
@@ -239,7 +246,10 @@ impl Server {
     /// Does what a notification asks.
     fn note(&mut self, method: &str, value: &Value) -> Result<Option<Wanted>, AllocError> {
         if method == "exit" {
-            self.phase = Phase::Exited;
+            self.phase = match self.phase {
+                Phase::ShutDown => Phase::Exited,
+                _ => Phase::Failed,
+            };
             return Ok(None);
         }
         if self.phase != Phase::Running {
@@ -352,7 +362,7 @@ impl Server {
 
     /// The path of the lattice file of a document, if it has one.
     fn policy_path(&self, document: &Document) -> Result<Option<String>, AllocError> {
-        if document.is_policy() {
+        if document.kind() != Kind::Source {
             return Ok(None);
         }
         match named_policy(&document.text) {
@@ -383,7 +393,7 @@ impl Server {
     /// Says once that a text is judged with two classes.
     fn say_two(&mut self, place: usize) -> Result<(), AllocError> {
         let is_text = match self.documents.get(place) {
-            Some(document) => !document.is_policy(),
+            Some(document) => document.kind() == Kind::Source,
             None => false,
         };
         if self.has_said || !is_text {
