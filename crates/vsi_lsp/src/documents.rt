@@ -7,7 +7,7 @@ use crate::replies::notification;
 use serde_json::{Value, json};
 use std::alloc::{AllocError, Global};
 use vsi_diagnostics::{Fault, fault_diagnostic, fault_text};
-use vsi_lattice::{Lattice, LatticeError, read_lattice};
+use vsi_lattice::{LatticeError, read_lattice};
 use vsi_policy::named_policy;
 use vsi_positions::Encoding;
 use vsi_syntax::Span;
@@ -45,15 +45,6 @@ pub(crate) struct Document {
     pub(crate) policy: Policy,
 }
 
-/// Why a document has no lattice.
-#[derive(Debug, Drop)]
-pub(crate) enum Lacking<'a> {
-    /// The file is refused.
-    Refused(LatticeError),
-    /// The file at this path can't be read.
-    Lost(&'a [u8]),
-}
-
 /// Whether a line of a TOML text begins with a key.
 fn has_key(text: &[u8], key: &[u8]) -> bool {
     for line in text.split(|byte| *byte == b'\n') {
@@ -83,16 +74,12 @@ impl Document {
         }
     }
 
-    /// The lattice of the document.
-    pub(crate) fn lattice(&self, alloc: Global) -> Result<Lattice, Lacking<'_>> {
-        let bytes = match &self.policy {
-            Policy::Two => TWO_CLASSES,
-            Policy::File(bytes) => bytes.as_slice(),
-            Policy::Lost(path) => return Err(Lacking::Lost(path)),
-        };
-        match read_lattice(alloc, bytes) {
-            Ok(lattice) => Ok(lattice),
-            Err(error) => Err(Lacking::Refused(error)),
+    /// The bytes of the lattice file of the document, if it can be read.
+    pub(crate) fn policy_bytes(&self) -> Option<&[u8]> {
+        match &self.policy {
+            Policy::Two => Some(TWO_CLASSES),
+            Policy::File(bytes) => Some(bytes.as_slice()),
+            Policy::Lost(_) => None,
         }
     }
 
@@ -156,7 +143,7 @@ fn refused_object(
 }
 
 /// The errors of a lattice file that is open.
-fn policy_errors(alloc: Global, page: Page<'_>) -> Result<Vec<Value>, AllocError> {
+fn lattice_errors(alloc: Global, page: Page<'_>) -> Result<Vec<Value>, AllocError> {
     match read_lattice(alloc, page.text) {
         Ok(_) => Ok(Vec::new(alloc)),
         Err(error) => {
@@ -166,15 +153,16 @@ fn policy_errors(alloc: Global, page: Page<'_>) -> Result<Vec<Value>, AllocError
     }
 }
 
-/// The error of a document that has no lattice.
-fn lacking_errors(
+/// The errors of a source text under a lattice file.
+fn source_errors(
     alloc: Global,
+    profile: Profile,
     page: Page<'_>,
-    lacking: Lacking<'_>,
+    bytes: &[u8],
 ) -> Result<Vec<Value>, AllocError> {
-    match lacking {
-        Lacking::Lost(path) => only(alloc, lost_object(alloc, page, path)?),
-        Lacking::Refused(error) => {
+    match read_lattice(alloc, bytes) {
+        Ok(lattice) => errors_in(alloc, page.encoding, profile, &lattice, page.uri, page.text),
+        Err(error) => {
             let span = naming_span(page.text);
             only(alloc, refused_object(alloc, page, span, error)?)
         }
@@ -190,11 +178,12 @@ fn document_errors(
 ) -> Result<Vec<Value>, AllocError> {
     let page = document.page(encoding);
     match document.kind() {
-        Kind::Lattice => policy_errors(alloc, page),
+        Kind::Lattice => lattice_errors(alloc, page),
         Kind::Other => Ok(Vec::new(alloc)),
-        Kind::Source => match document.lattice(alloc) {
-            Ok(lattice) => errors_in(alloc, encoding, profile, &lattice, page.uri, page.text),
-            Err(lacking) => lacking_errors(alloc, page, lacking),
+        Kind::Source => match &document.policy {
+            Policy::Two => source_errors(alloc, profile, page, TWO_CLASSES),
+            Policy::File(bytes) => source_errors(alloc, profile, page, bytes),
+            Policy::Lost(path) => only(alloc, lost_object(alloc, page, path)?),
         },
     }
 }
@@ -233,8 +222,9 @@ pub(crate) fn cleared(alloc: Global, uri: &[u8]) -> Result<Value, AllocError> {
     publication(alloc, uri, None, Vec::new(alloc))
 }
 
-/// A message for the person in front of the client.
-pub(crate) fn said(alloc: Global, text: &str) -> Result<Value, AllocError> {
-    let parameters = json!(in alloc; {"type": 3, "message": text})?;
-    notification(alloc, "window/showMessage", parameters)
+/// A message for the log of the client.
+pub(crate) fn said(alloc: Global, line: &[u8]) -> Result<Value, AllocError> {
+    let line = text(alloc, line)?;
+    let parameters = json!(in alloc; {"type": 3, "message": line})?;
+    notification(alloc, "window/logMessage", parameters)
 }

@@ -23,4 +23,4 @@ mod starting;
 
 pub use diagnostics::errors_in;
 pub use frames::framed;
-pub use server::{Server, Wanted};
+pub use server::{Server, TWO_SAID, Wanted};
