@@ -9,7 +9,7 @@ use std::alloc::{AllocError, Global};
 use vsi_compiler::{CompileError, format_text, read_source};
 use vsi_lattice::Lattice;
 use vsi_names::{Mention, rename};
-use vsi_positions::{Change, Range};
+use vsi_client::{Change, Range};
 use vsi_syntax::Span;
 use vsi_types::Profile;
 

@@ -7,13 +7,13 @@ ghost use Rattle.vsi_compiler.specs.declared.error.CompileError.TheVariants.{Mem
 ghost use Rattle.vsi_lsp.specs.Verdict as spec;
 
 use crate::objects::{location_object, range_object, text};
-use crate::refusals::refused_span;
 use serde_json::{Value, json, put};
 use std::alloc::{AllocError, Global};
 use vsi_compiler::{CompileError, judge, read_source};
 use vsi_diagnostics::{refusal_diagnostic, refusal_text};
 use vsi_lattice::Lattice;
-use vsi_positions::{Encoding, Range, range_of};
+use vsi_client::{Encoding, Range, range_of};
+use vsi_names::refused_span;
 use vsi_syntax::{Span, put_number};
 use vsi_types::{Profile, Step};
 

@@ -2,14 +2,14 @@
 
 use crate::diagnostics::{Page, error_object, errors_in, only};
 use crate::objects::text;
-use crate::refusals::START;
 use crate::replies::notification;
 use serde_json::{Value, json};
 use std::alloc::{AllocError, Global};
 use vsi_diagnostics::{Fault, fault_diagnostic, fault_text};
 use vsi_lattice::{LatticeError, read_lattice};
+use vsi_names::START;
 use vsi_policy::named_policy;
-use vsi_positions::Encoding;
+use vsi_client::Encoding;
 use vsi_syntax::Span;
 use vsi_types::Profile;
 

@@ -2,7 +2,7 @@
 
 use serde_json::{Value, json};
 use std::alloc::{AllocError, Global};
-use vsi_positions::{Place, Range};
+use vsi_client::{Place, Range};
 
 /// The text of bytes, with those that aren't UTF-8 replaced.
 pub(crate) fn text(alloc: Global, bytes: &[u8]) -> Result<Value, AllocError> {

@@ -6,7 +6,7 @@ use serde_json::Value;
 use std::alloc::{AllocError, Global};
 use vsi_compiler::{CompileError, Source, classes_text_of};
 use vsi_names::{Mention, mention_at, mentions_of};
-use vsi_positions::offset_of;
+use vsi_client::offset_of;
 use vsi_syntax::Span;
 use vsi_types::Profile;
 

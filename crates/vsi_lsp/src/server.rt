@@ -5,16 +5,15 @@ ghost use Rattle.vsi_lsp.specs.Frames.{AreFrames};
 
 use crate::asking::{formatting, is_of_names, names_answer};
 use crate::documents::{Document, Kind, Policy, cleared, published, said};
-use crate::frames::{Piece, framed, next_piece};
+use crate::frames::framed;
 use crate::objects::{range_at, text_at};
-use crate::paths::path_beside;
 use crate::replies::{Fault, failure, response};
 use crate::starting::{encoding_for, welcome};
 use serde_json::Value;
 use std::alloc::{AllocError, Global};
 use vsi_lattice::read_lattice;
 use vsi_policy::named_policy;
-use vsi_positions::{Change, Encoding, changed_by};
+use vsi_client::{Change, Encoding, Piece, changed_by, next_piece, path_beside};
 use vsi_types::Profile;
 
 /// What is said once about documents that name no lattice file.

@@ -2,7 +2,7 @@
 
 use serde_json::{Value, json, put};
 use std::alloc::{AllocError, Global};
-use vsi_positions::Encoding;
+use vsi_client::Encoding;
 
 /// What the server can do, beside the encoding of positions.
 const CAPABILITIES: &str = r#"{

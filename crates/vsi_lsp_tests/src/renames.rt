@@ -5,7 +5,7 @@ use std::test::Fail;
 use vsi_compiler::read_source;
 use vsi_lattice::read_lattice;
 use vsi_names::{mentions_of, rename};
-use vsi_positions::Encoding;
+use vsi_client::Encoding;
 
 /// A lattice of two classes.
 const TWO: &[u8] = b"classes = [\"L\", \"H\"]\nbelow = [[\"L\", \"H\"]]\n";

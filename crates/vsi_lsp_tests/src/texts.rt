@@ -1,7 +1,7 @@
 //! Positions and changes.
 
 use std::test::Fail;
-use vsi_positions::{Change, Encoding, Place, changed_by, offset_of, place_of};
+use vsi_client::{Change, Encoding, Place, changed_by, offset_of, place_of};
 
 /// A text with a character of four bytes, which has two code units in UTF-16, and two lines.
 const TEXT: &[u8] = b"a\xf0\x90\x8d\x88b\r\nc";

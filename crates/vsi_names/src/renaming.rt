@@ -2,7 +2,7 @@
 
 ghost use Rattle.std.specs.Prelude.{◌≡◌, true, IfOk, IfSome};
 ghost use Rattle.vsi_lattice.specs.LatticeView.{class_named};
-ghost use Rattle.vsi_positions.specs.Changes.{changed_by};
+ghost use Rattle.vsi_client.specs.Changes.{changed_by};
 ghost use Rattle.vsi_code.specs.Layout.{whole_code};
 ghost use Rattle.vsi_names.specs.Renamed as spec;
 
@@ -11,7 +11,7 @@ use std::alloc::{AllocError, Global};
 use vsi_code::generate;
 use vsi_compiler::{CompileError, Source, read_source};
 use vsi_lattice::Lattice;
-use vsi_positions::{Change, Encoding, changed_by, range_of};
+use vsi_client::{Change, Encoding, changed_by, range_of};
 use vsi_scope::{Entry, Global as Declared};
 use vsi_syntax::is_name;
 
