@@ -51,8 +51,13 @@ passes k [] low high whole = omega arith
 passes zero (byte ∷ rest) low high whole = absurd (omega (arith, low))
 passes (suc zero) (byte ∷ rest) low high whole = grind (arith, low, whole, feed_none rest)
 passes (suc (suc k)) (byte ∷ rest) low high whole =
-    grind (arith, low, high, feed_small rest,
-      λ (l : content_size rest < suc k) (h : suc k ≤ length rest). passes (suc k) rest l h whole)
+    grind (
+      arith,
+      low,
+      high,
+      feed_small rest,
+      λ (l : content_size rest < suc k) (h : suc k ≤ length rest). passes (suc k) rest l h whole,
+    )
 
 -- A position in a later line, from the first line on.
 pub offset_on : (encoding : Encoding) (n c : ℕ) (text : List ℕ) →
@@ -75,16 +80,17 @@ pub placed_on : (text : List ℕ) (k : ℕ) → IsPlaced text k → content_size
 placed_on text k is past =
     let size = line_size text in
     let low : size ≤ k = passes k text past is.within is.whole_end in
-    let sum : size + (k - size) ≡ k = omega (arith, low) in
-    (low,
-     record {
-       within = grind (arith, is.within, low, length-drop size text);
-       begins_character =
-           subst BeginsCharacter (sym (drop-drop (k - size) size text))
-           (subst (λ n. BeginsCharacter (drop n text)) (sym sum) is.begins_character);
-       whole_end =
-           splits_on size (k - size) text (subst (λ n. splits_end n text ≡ false) (sym sum) is.whole_end);
-     })
+    let sum : size + (k - size) ≡ k = omega (arith, low) in (
+      low,
+      record {
+        within = grind (arith, is.within, low, length-drop size text);
+        begins_character =
+            subst BeginsCharacter (sym (drop-drop (k - size) size text))
+            (subst (λ n. BeginsCharacter (drop n text)) (sym sum) is.begins_character);
+        whole_end =
+            splits_on size (k - size) text (subst (λ n. splits_end n text ≡ false) (sym sum) is.whole_end);
+      },
+    )
 
 -- The rest of a text from a line on, in which a place is left bytes away, if it is one of the text.
 pub record Follows (encoding : Encoding) (text : List ℕ) (at line : ℕ) (rest : List ℕ) (left : ℕ) : Type 0 where

@@ -6,10 +6,10 @@ use crate::reading::{Reading, reading_of};
 use crate::replies::Fault;
 use serde_json::{Map, Value, json, put};
 use std::alloc::{AllocError, Global};
+use vsi_client::{Change, Range};
 use vsi_compiler::{CompileError, format_text, read_source};
 use vsi_lattice::Lattice;
 use vsi_names::{Mention, rename};
-use vsi_client::{Change, Range};
 use vsi_syntax::Span;
 use vsi_types::Profile;
 
@@ -79,11 +79,7 @@ fn pointed_answer(
 }
 
 /// Adds the class of a variable to a text, if it is known.
-fn put_class(
-    text: &mut Vec<u8>,
-    reading: &Reading<'_>,
-    variable: usize,
-) -> Result<(), AllocError> {
+fn put_class(text: &mut Vec<u8>, reading: &Reading<'_>, variable: usize) -> Result<(), AllocError> {
     let Some(class) = reading.class_of(variable) else {
         return Ok(());
     };
@@ -224,7 +220,14 @@ fn renaming(
     let encoding = reading.page.encoding;
     let mentions = &reading.mentions;
     let name = name.as_bytes();
-    match rename(alloc, encoding, &reading.source, mentions, mention.variable, name)? {
+    match rename(
+        alloc,
+        encoding,
+        &reading.source,
+        mentions,
+        mention.variable,
+        name,
+    )? {
         Some(changes) => {
             let list = edits(alloc, &changes)?;
             Ok(Ok(document_edits(alloc, reading.page.uri, list)?))

@@ -5,11 +5,11 @@ use crate::objects::text;
 use crate::replies::notification;
 use serde_json::{Value, json};
 use std::alloc::{AllocError, Global};
+use vsi_client::Encoding;
 use vsi_diagnostics::{Fault, fault_diagnostic, fault_text};
 use vsi_lattice::{LatticeError, read_lattice};
 use vsi_names::START;
 use vsi_policy::named_policy;
-use vsi_client::Encoding;
 use vsi_syntax::Span;
 use vsi_types::Profile;
 

@@ -4,9 +4,9 @@ use crate::diagnostics::Page;
 use crate::objects::place_at;
 use serde_json::Value;
 use std::alloc::{AllocError, Global};
+use vsi_client::offset_of;
 use vsi_compiler::{CompileError, Source, classes_text_of};
 use vsi_names::{Mention, mention_at, mentions_of};
-use vsi_client::offset_of;
 use vsi_syntax::Span;
 use vsi_types::Profile;
 
@@ -21,11 +21,7 @@ pub(crate) struct Reading<'a> {
 }
 
 /// The lines of the classes of the variables; none if a flow is refused.
-fn classes_of(
-    alloc: Global,
-    profile: Profile,
-    source: &Source<'_>,
-) -> Result<Vec<u8>, AllocError> {
+fn classes_of(alloc: Global, profile: Profile, source: &Source<'_>) -> Result<Vec<u8>, AllocError> {
     match classes_text_of(alloc, profile, source) {
         Ok(lines) => Ok(lines),
         Err(CompileError::Memory) => Err(AllocError),

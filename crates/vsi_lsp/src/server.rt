@@ -11,13 +11,14 @@ use crate::replies::{Fault, failure, response};
 use crate::starting::{encoding_for, welcome};
 use serde_json::Value;
 use std::alloc::{AllocError, Global};
+use vsi_client::{Change, Encoding, Piece, changed_by, next_piece, path_beside};
 use vsi_lattice::read_lattice;
 use vsi_policy::named_policy;
-use vsi_client::{Change, Encoding, Piece, changed_by, next_piece, path_beside};
 use vsi_types::Profile;
 
 /// What is said once about documents that name no lattice file.
-pub const TWO_SAID: &[u8] = b"vsi: a text that names no lattice file is judged with the classes L and \
+pub const TWO_SAID: &[u8] =
+    b"vsi: a text that names no lattice file is judged with the classes L and \
 H. Its first comment line can name one: # policy: FILE";
 
 /// The state of the conversation with a client.

@@ -2,10 +2,10 @@
 
 use std::alloc::{AllocError, Global};
 use std::test::Fail;
+use vsi_client::Encoding;
 use vsi_compiler::read_source;
 use vsi_lattice::read_lattice;
 use vsi_names::{mentions_of, rename};
-use vsi_client::Encoding;
 
 /// A lattice of two classes.
 const TWO: &[u8] = b"classes = [\"L\", \"H\"]\nbelow = [[\"L\", \"H\"]]\n";

@@ -153,10 +153,7 @@ fn begun(alloc: Global, source: &Source<'_>) -> Result<Tour, AllocError> {
 }
 
 /// The names of the variables of a program, in the order of a walk over it.
-pub fn mentions_of(
-    alloc: Global,
-    source: &Source<'_>,
-) -> Result<Vec<Mention>, AllocError> {
+pub fn mentions_of(alloc: Global, source: &Source<'_>) -> Result<Vec<Mention>, AllocError> {
     let mut tour = begun(alloc, source)?;
     let program = source.resolved();
     walk_commands(program.letvars(), &mut tour, program.body())?;

@@ -3,15 +3,14 @@
 ghost use Rattle.std.specs.Prelude.{◌≡◌, true, IfOk, IfSome};
 ghost use Rattle.vsi_lattice.specs.LatticeView.{class_named};
 ghost use Rattle.vsi_client.specs.Changes.{changed_by};
-ghost use Rattle.vsi_code.specs.Layout.{whole_code};
 ghost use Rattle.vsi_names.specs.Renamed as spec;
 
-use crate::mentions::{Mention, mentions_of};
+use crate::mentions::Mention;
 use std::alloc::{AllocError, Global};
+use vsi_client::{Change, Encoding, changed_by, range_of};
 use vsi_code::generate;
 use vsi_compiler::{CompileError, Source, read_source};
-use vsi_lattice::Lattice;
-use vsi_client::{Change, Encoding, changed_by, range_of};
+use vsi_image::Instr;
 use vsi_scope::{Entry, Global as Declared};
 use vsi_syntax::is_name;
 
@@ -48,17 +47,23 @@ fn keep_letvars(olds: &[Entry<'_>], news: &[Entry<'_>]) -> bool
     new.class == old.class && keep_letvars(more, others)
 }
 
-/// Whether two programs name the same variables in the same order.
-fn name_alike(olds: &[Mention], news: &[Mention]) -> bool {
-    if olds.len() != news.len() {
-        return false;
-    }
-    for (old, new) in olds.iter().zip(news) {
-        if old.variable != new.variable || old.is_declaration != new.is_declaration {
+/// Whether two codes are the same.
+fn is_same_code(old: &[Instr], new: &[Instr]) -> bool
+    ensures { result ≡ true → new.now ≡ old.now }
+{
+    let mut olds = old;
+    let mut news = new;
+    while let [instruction, more @ ..] = olds {
+        let [other, others @ ..] = news else {
+            return false;
+        };
+        if *other != *instruction {
             return false;
         }
+        olds = more;
+        news = others;
     }
-    true
+    news.is_empty()
 }
 
 /// Whether the code of two programs is the same.
@@ -67,7 +72,7 @@ fn code_alike(alloc: Global, old: &Source<'_>, new: &Source<'_>) -> Result<bool,
 {
     let before = generate(alloc, old.resolved())?;
     let after = generate(alloc, new.resolved())?;
-    Ok(after.image().code.as_slice() == before.image().code.as_slice())
+    Ok(is_same_code(&before.image().code, &after.image().code))
 }
 
 /// Whether a program is another one but for a name.

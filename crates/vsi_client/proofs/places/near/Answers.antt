@@ -12,15 +12,16 @@ loop-size-preserved c =
     let past : content_size rest < c.loop-size.left = c.is_past.ensures.past c.loop-size-test.true in
     let size = c.line_size-size.ensures.size in
     let some = line_size_some rest (c.is_past.ensures.some c.loop-size-test.true) in
-    let Next = Follows c.args.encoding c.args.text.now c.args.at (c.loop-size.line + 1) in
-    (λ is.
-     subst (λ text. Next text c.saturating_sub-left.result)
-     (sym (c.after-rest.ensures.rest ∙ ap (λ n. drop n rest) size))
-     (subst (Next (drop (line_size rest) rest))
-     (sym (c.saturating_sub-left.ensures ∙ ap (λ n. c.loop-size.left - n) size))
-     (follows_on c.args.encoding c.args.text.now c.args.at c.loop-size.line rest c.loop-size.left
-     (c.loop-size.invariant.0 is) past)),
-     omega (arith, some, size, c.after-rest.ensures.left, c.loop-size.invariant.1))
+    let Next = Follows c.args.encoding c.args.text.now c.args.at (c.loop-size.line + 1) in (
+      λ is.
+          subst (λ text. Next text c.saturating_sub-left.result)
+          (sym (c.after-rest.ensures.rest ∙ ap (λ n. drop n rest) size))
+          (subst (Next (drop (line_size rest) rest))
+          (sym (c.saturating_sub-left.ensures ∙ ap (λ n. c.loop-size.left - n) size))
+          (follows_on c.args.encoding c.args.text.now c.args.at c.loop-size.line rest c.loop-size.left
+          (c.loop-size.invariant.0 is) past)),
+      omega (arith, some, size, c.after-rest.ensures.left, c.loop-size.invariant.1),
+    )
 
 pub returns : goal.returns
 returns c = λ short is.

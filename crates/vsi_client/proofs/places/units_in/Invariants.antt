@@ -6,8 +6,8 @@ use Rattle.vsi_client.proofs.places.units_in.Given as goal
 abbrev pub invariant-loop-rest : goal.invariant-loop-rest
 invariant-loop-rest l =
     (length l.text < 2 ^ 62 →
-      (l.count + spec.units_in l.encoding l.rest ≡ spec.units_in l.encoding l.text)
-      × (l.count + 4 * length l.rest ≤ 4 * length l.text))
+    (l.count + spec.units_in l.encoding l.rest ≡ spec.units_in l.encoding l.text)
+    × (l.count + 4 * length l.rest ≤ 4 * length l.text))
 
 abbrev pub decreases-loop-rest : goal.decreases-loop-rest
 decreases-loop-rest l = length l.rest
