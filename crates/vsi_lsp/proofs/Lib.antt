@@ -1,2 +1,1 @@
 pub mod Framing
-mod Lining

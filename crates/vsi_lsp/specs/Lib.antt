@@ -1,4 +1,2 @@
-pub mod Changes
 pub mod Frames
-pub mod Places
 pub mod Verdict

@@ -1,19 +1,15 @@
-//! Answers to requests about a document.
+//! Answers to requests about the names of a program, and the canonical form of a text.
 
 use crate::diagnostics::Page;
-use crate::members::{
-    Members, Range, location_object, put_count, put_place, put_range, put_text, text_at,
-};
-use crate::mentions::Mention;
-use crate::places::Place;
+use crate::objects::{location_object, place_object, range_object, text, text_at};
 use crate::reading::{Reading, reading_of};
-use crate::refusals::range_of;
-use crate::renaming::{keeps_program, places_of};
 use crate::replies::Fault;
-use serde_json::{Map, Value, put};
+use serde_json::{Map, Value, json, put};
 use std::alloc::{AllocError, Global};
+use vsi_client::{Change, Range};
 use vsi_compiler::{CompileError, format_text, read_source};
 use vsi_lattice::Lattice;
+use vsi_names::{Mention, rename};
 use vsi_syntax::Span;
 use vsi_types::Profile;
 
@@ -78,17 +74,12 @@ fn pointed_answer(
     match method {
         "textDocument/hover" => hover(alloc, reading, mention),
         "textDocument/definition" => definition(alloc, reading, mention),
-        "textDocument/references" => references(alloc, reading, mention),
-        _ => highlights(alloc, reading, mention),
+        _ => parts(alloc, reading, mention, method == "textDocument/references"),
     }
 }
 
 /// Adds the class of a variable to a text, if it is known.
-fn put_class(
-    text: &mut Vec<u8>,
-    reading: &Reading<'_>,
-    variable: usize,
-) -> Result<(), AllocError> {
+fn put_class(text: &mut Vec<u8>, reading: &Reading<'_>, variable: usize) -> Result<(), AllocError> {
     let Some(class) = reading.class_of(variable) else {
         return Ok(());
     };
@@ -98,66 +89,56 @@ fn put_class(
 
 /// What is shown about a name: the class of its variable.
 fn hover(alloc: Global, reading: &Reading<'_>, mention: Mention) -> Result<Value, AllocError> {
-    let mut text = Vec::from_slice(alloc, reading.text_of(mention.span))?;
-    put_class(&mut text, reading, mention.variable)?;
+    let mut shown = Vec::from_slice(alloc, reading.text_of(mention.span))?;
+    put_class(&mut shown, reading, mention.variable)?;
     if reading.is_inferred(mention.variable) {
-        text.extend_from_slice(b" (inferred)")?;
+        shown.extend_from_slice(b" (inferred)")?;
     }
-    let mut members = Map::new(alloc);
-    put_text(alloc, &mut members, "contents", &text)?;
-    put_range(alloc, &mut members, "range", reading.range(mention.span))?;
-    Ok(Value::Object(members))
-}
-
-/// The place of a part of a document.
-fn location(alloc: Global, reading: &Reading<'_>, span: Span) -> Result<Value, AllocError> {
-    location_object(alloc, reading.page.uri, reading.range(span))
+    let contents = text(alloc, &shown)?;
+    let range = range_object(alloc, reading.page.range(mention.span))?;
+    json!(in alloc; {"contents": contents, "range": range})
 }
 
 /// Where the variable of a name is declared.
 fn definition(alloc: Global, reading: &Reading<'_>, mention: Mention) -> Result<Value, AllocError> {
     for other in &reading.mentions {
         if other.is_declaration && other.variable == mention.variable {
-            return location(alloc, reading, other.span);
+            return location_object(alloc, reading.page.uri, reading.page.range(other.span));
         }
     }
     Ok(Value::Null)
 }
 
-/// Where the variable of a name is named.
-fn references(alloc: Global, reading: &Reading<'_>, mention: Mention) -> Result<Value, AllocError> {
-    let places = places_of(alloc, reading, mention.variable)?;
-    let mut list = Vec::new(alloc);
-    for place in &places {
-        list.push(location(alloc, reading, place.span)?)?;
+/// A part of a document, with the name of the document or without.
+fn part(alloc: Global, page: Page<'_>, span: Span, is_named: bool) -> Result<Value, AllocError> {
+    if is_named {
+        return location_object(alloc, page.uri, page.range(span));
     }
-    Ok(Value::Array(list))
+    let range = range_object(alloc, page.range(span))?;
+    json!(in alloc; {"range": range})
 }
 
-/// The object with a part of a text alone.
-fn highlight(alloc: Global, range: Range) -> Result<Value, AllocError> {
-    let mut members = Map::new(alloc);
-    put_range(alloc, &mut members, "range", range)?;
-    Ok(Value::Object(members))
-}
-
-/// The parts that name the variable of a name.
-fn highlights(alloc: Global, reading: &Reading<'_>, mention: Mention) -> Result<Value, AllocError> {
-    let places = places_of(alloc, reading, mention.variable)?;
+/// The parts of the text that name the variable of a name.
+fn parts(
+    alloc: Global,
+    reading: &Reading<'_>,
+    mention: Mention,
+    is_named: bool,
+) -> Result<Value, AllocError> {
     let mut list = Vec::new(alloc);
-    for place in &places {
-        list.push(highlight(alloc, reading.range(place.span))?)?;
+    for other in &reading.mentions {
+        if other.variable == mention.variable {
+            list.push(part(alloc, reading.page, other.span, is_named)?)?;
+        }
     }
     Ok(Value::Array(list))
 }
 
 /// The object of a class that isn't declared, after a name.
-fn hint(alloc: Global, place: Place, label: &[u8]) -> Result<Value, AllocError> {
-    let mut members = Map::new(alloc);
-    put_place(alloc, &mut members, "position", place)?;
-    put_text(alloc, &mut members, "label", label)?;
-    put_count(alloc, &mut members, "kind", 1)?;
-    Ok(Value::Object(members))
+fn hint(alloc: Global, range: Range, label: &[u8]) -> Result<Value, AllocError> {
+    let place = place_object(alloc, range.stop)?;
+    let label = text(alloc, label)?;
+    json!(in alloc; {"position": place, "label": label, "kind": 1})
 }
 
 /// The classes that aren't declared, after the names of their variables.
@@ -170,7 +151,7 @@ fn hints(alloc: Global, reading: &Reading<'_>) -> Result<Value, AllocError> {
         let mut label = Vec::new(alloc);
         put_class(&mut label, reading, mention.variable)?;
         if !label.is_empty() {
-            list.push(hint(alloc, reading.range(mention.span).stop, &label)?)?;
+            list.push(hint(alloc, reading.page.range(mention.span), &label)?)?;
         }
     }
     Ok(Value::Array(list))
@@ -178,23 +159,13 @@ fn hints(alloc: Global, reading: &Reading<'_>) -> Result<Value, AllocError> {
 
 /// The object of a declaration.
 fn symbol(alloc: Global, reading: &Reading<'_>, mention: Mention) -> Result<Value, AllocError> {
-    let mut members = Map::new(alloc);
-    put_text(alloc, &mut members, "name", reading.text_of(mention.span))?;
-    put_text(
-        alloc,
-        &mut members,
-        "detail",
-        reading.class_of(mention.variable).unwrap_or(b""),
-    )?;
-    put_count(alloc, &mut members, "kind", 13)?;
-    put_ranges(alloc, &mut members, reading.range(mention.span))?;
-    Ok(Value::Object(members))
-}
-
-/// Puts the part of a declaration's name, as the part of the declaration too.
-fn put_ranges(alloc: Global, members: &mut Members, range: Range) -> Result<(), AllocError> {
-    put_range(alloc, members, "range", range)?;
-    put_range(alloc, members, "selectionRange", range)
+    let name = text(alloc, reading.text_of(mention.span))?;
+    let class = text(alloc, reading.class_of(mention.variable).unwrap_or(b""))?;
+    let range = range_object(alloc, reading.page.range(mention.span))?;
+    let copy = range.clone()?;
+    json!(in alloc; {
+        "name": name, "detail": class, "kind": 13, "range": range, "selectionRange": copy
+    })
 }
 
 /// The declarations.
@@ -209,35 +180,29 @@ fn symbols(alloc: Global, reading: &Reading<'_>) -> Result<Value, AllocError> {
 }
 
 /// The change of a part of a text.
-fn edit(alloc: Global, range: Range, text: &[u8]) -> Result<Value, AllocError> {
-    let mut members = Map::new(alloc);
-    put_range(alloc, &mut members, "range", range)?;
-    put_text(alloc, &mut members, "newText", text)?;
-    Ok(Value::Object(members))
+fn edit(alloc: Global, range: Range, new: &[u8]) -> Result<Value, AllocError> {
+    let range = range_object(alloc, range)?;
+    let new = text(alloc, new)?;
+    json!(in alloc; {"range": range, "newText": new})
 }
 
-/// The changes that give these names of a variable a new one.
-fn edits(
-    alloc: Global,
-    reading: &Reading<'_>,
-    places: &[Mention],
-    name: &[u8],
-) -> Result<Value, AllocError> {
+/// The objects of changes at positions.
+fn edits(alloc: Global, changes: &[Change<'_>]) -> Result<Value, AllocError> {
     let mut list = Vec::new(alloc);
-    for place in places {
-        list.push(edit(alloc, reading.range(place.span), name)?)?;
+    for change in changes {
+        if let Some((start, stop)) = change.range {
+            list.push(edit(alloc, Range { start, stop }, change.text)?)?;
+        }
     }
     Ok(Value::Array(list))
 }
 
 /// The changes of a document.
-fn changes(alloc: Global, uri: &[u8], list: Value) -> Result<Value, AllocError> {
+fn document_edits(alloc: Global, uri: &[u8], list: Value) -> Result<Value, AllocError> {
     let mut documents = Map::new(alloc);
     let name = String::from_utf8_lossy(alloc, uri)?;
     put(&mut documents, alloc, name.as_str(), list)?;
-    let mut members = Map::new(alloc);
-    put(&mut members, alloc, "changes", Value::Object(documents))?;
-    Ok(Value::Object(members))
+    json!(in alloc; {"changes": Value::Object(documents)})
 }
 
 /// The changes that rename a variable, unless they would change the program.
@@ -252,12 +217,23 @@ fn renaming(
     let Some(name) = text_at(value, "/params/newName") else {
         return Ok(Err(Fault::Parameters));
     };
-    let places = places_of(alloc, reading, mention.variable)?;
-    if !keeps_program(alloc, reading, &places, name.as_bytes())? {
-        return Ok(Err(Fault::Rename));
+    let encoding = reading.page.encoding;
+    let mentions = &reading.mentions;
+    let name = name.as_bytes();
+    match rename(
+        alloc,
+        encoding,
+        &reading.source,
+        mentions,
+        mention.variable,
+        name,
+    )? {
+        Some(changes) => {
+            let list = edits(alloc, &changes)?;
+            Ok(Ok(document_edits(alloc, reading.page.uri, list)?))
+        }
+        None => Ok(Err(Fault::Rename)),
     }
-    let list = edits(alloc, reading, &places, name.as_bytes())?;
-    Ok(Ok(changes(alloc, reading.page.uri, list)?))
 }
 
 /// The change that gives a text without comments its canonical form: nothing for a text that has a
@@ -275,7 +251,6 @@ pub(crate) fn formatting(alloc: Global, page: Page<'_>) -> Result<Value, AllocEr
         start: 0,
         stop: page.text.len(),
     };
-    let mut list = Vec::new(alloc);
-    list.push(edit(alloc, range_of(page.encoding, page.text, whole), &text)?)?;
-    Ok(Value::Array(list))
+    let change = edit(alloc, page.range(whole), &text)?;
+    json!(in alloc; [change])
 }

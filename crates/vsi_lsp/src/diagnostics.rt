@@ -1,19 +1,19 @@
 //! Errors in a text, as objects.
 
-ghost use Rattle.std.specs.Prelude.{◌≡◌, IfErr, IfOk, OnOk};
+ghost use Rattle.std.specs.Prelude.{◌≡◌, ◌≢◌, [], IfErr, IfOk, OnOk};
 ghost use Rattle.vsi_lattice.specs.LatticeView.{class_named, order};
 ghost use Rattle.vsi_compiler.specs.Acceptance.{IsAccepted};
 ghost use Rattle.vsi_compiler.specs.declared.error.CompileError.TheVariants.{Memory};
 ghost use Rattle.vsi_lsp.specs.Verdict as spec;
 
-use crate::members::{location_object, put_count, put_range, put_text};
-use crate::places::Encoding;
-use crate::refusals::{range_of, refused_span};
-use serde_json::{Map, Value, put};
+use crate::objects::{location_object, range_object, text};
+use serde_json::{Value, json, put};
 use std::alloc::{AllocError, Global};
+use vsi_client::{Encoding, Range, range_of};
 use vsi_compiler::{CompileError, judge, read_source};
 use vsi_diagnostics::{refusal_diagnostic, refusal_text};
 use vsi_lattice::Lattice;
+use vsi_names::refused_span;
 use vsi_syntax::{Span, put_number};
 use vsi_types::{Profile, Step};
 
@@ -23,6 +23,13 @@ pub(crate) struct Page<'a> {
     pub(crate) uri: &'a [u8],
     pub(crate) text: &'a [u8],
     pub(crate) encoding: Encoding,
+}
+
+impl Page<'_> {
+    /// The positions of a part of the text.
+    pub(crate) fn range(&self, span: Span) -> Range {
+        range_of(self.encoding, self.text, span.start, span.stop)
+    }
 }
 
 /// The errors in a text, as objects for a client that counts in these code units: one for the
@@ -38,18 +45,15 @@ pub fn errors_in(
     ensures exact { IfOk result
         (λ errors. spec.IsVerdict lattice.now profile text.now errors.items) }
 {
-    let page = Page {
-        uri,
-        text,
-        encoding,
-    };
-    let mut errors = Vec::new(alloc);
     match accept(alloc, profile, lattice, text) {
-        Ok(()) => Ok(errors),
-        Err(CompileError::Memory) => Err(AllocError),
+        Ok(()) => Ok(Vec::new(alloc)),
         Err(error) => {
-            errors.push(error_object(alloc, page, lattice, &error)?)?;
-            Ok(errors)
+            let page = Page {
+                uri,
+                text,
+                encoding,
+            };
+            refusal_errors(alloc, page, lattice, &error)
         }
     }
 }
@@ -71,6 +75,64 @@ fn accept(
     Ok(())
 }
 
+/// A list of one error.
+pub(crate) fn only(alloc: Global, error: Value) -> Result<Vec<Value>, AllocError>
+    ensures { IfOk result (λ errors. errors.items ≢ []) }
+{
+    let mut errors = Vec::new(alloc);
+    errors.push(error)?;
+    Ok(errors)
+}
+
+/// The errors in a text that is refused, unless memory ran out.
+fn refusal_errors(
+    alloc: Global,
+    page: Page<'_>,
+    lattice: &Lattice,
+    error: &CompileError,
+) -> Result<Vec<Value>, AllocError>
+    ensures some { IfOk result (λ errors. errors.items ≢ []) }
+    ensures judged { IfOk result (λ errors. error.now ≢ Memory) }
+{
+    match error {
+        CompileError::Memory => Err(AllocError),
+        CompileError::Flow(walk) => only(alloc, flow(alloc, page, lattice, error, &walk.steps)?),
+        _ => {
+            let line = line_of(alloc, page, error)?;
+            only(alloc, refusal(alloc, page, error, &line)?)
+        }
+    }
+}
+
+/// The object of an error: its part, its number and its message.
+pub(crate) fn error_object(
+    alloc: Global,
+    page: Page<'_>,
+    span: Span,
+    code: usize,
+    message: &[u8],
+) -> Result<Value, AllocError> {
+    let range = range_object(alloc, page.range(span))?;
+    let message = text(alloc, message)?;
+    json!(in alloc; {
+        "range": range, "severity": 1, "code": code, "source": "vsi", "message": message
+    })
+}
+
+/// The object of a refusal with a message.
+fn refusal(
+    alloc: Global,
+    page: Page<'_>,
+    error: &CompileError,
+    message: &[u8],
+) -> Result<Value, AllocError> {
+    let code = match refusal_diagnostic(page.text, error) {
+        Some(diagnostic) => diagnostic.code,
+        None => 0,
+    };
+    error_object(alloc, page, refused_span(page.text, error), code, message)
+}
+
 /// The line of a refusal without its position.
 fn line_of(alloc: Global, page: Page<'_>, error: &CompileError) -> Result<Vec<u8>, AllocError> {
     let mut line = Vec::from_slice(alloc, b"refused: ")?;
@@ -80,14 +142,6 @@ fn line_of(alloc: Global, page: Page<'_>, error: &CompileError) -> Result<Vec<u8
         line.extend_from_slice(diagnostic.name)?;
     }
     Ok(line)
-}
-
-/// The number of a refusal.
-fn code_of(page: Page<'_>, error: &CompileError) -> usize {
-    match refusal_diagnostic(page.text, error) {
-        Some(diagnostic) => diagnostic.code,
-        None => 0,
-    }
 }
 
 /// The line at a place of a text of several lines.
@@ -117,12 +171,9 @@ fn step_object(
     span: Span,
     line: &[u8],
 ) -> Result<Value, AllocError> {
-    let range = range_of(page.encoding, page.text, span);
-    let mut members = Map::new(alloc);
-    let location = location_object(alloc, page.uri, range)?;
-    put(&mut members, alloc, "location", location)?;
-    put_text(alloc, &mut members, "message", unplaced(line))?;
-    Ok(Value::Object(members))
+    let location = location_object(alloc, page.uri, page.range(span))?;
+    let message = text(alloc, unplaced(line))?;
+    json!(in alloc; {"location": location, "message": message})
 }
 
 /// The objects of the steps of a walk, whose lines are those of its refusal after the first.
@@ -131,13 +182,13 @@ fn step_objects(
     page: Page<'_>,
     steps: &[Step],
     lines: &[u8],
-) -> Result<Vec<Value>, AllocError> {
+) -> Result<Value, AllocError> {
     let mut objects = Vec::new(alloc);
     for (i, step) in steps.iter().enumerate() {
         let line = line_at(lines, i.saturating_add(1));
         objects.push(step_object(alloc, page, step.read, line)?)?;
     }
-    Ok(objects)
+    Ok(Value::Array(objects))
 }
 
 /// The message of a refused flow: its line, and the classes of the ends of its walk.
@@ -145,71 +196,35 @@ fn flow_message(
     alloc: Global,
     page: Page<'_>,
     error: &CompileError,
-    steps: usize,
-    lines: &[u8],
+    ends: &[u8],
 ) -> Result<Vec<u8>, AllocError> {
     let mut message = line_of(alloc, page, error)?;
     message.extend_from_slice(b"\n")?;
-    message.extend_from_slice(line_at(lines, steps.saturating_add(1)))?;
+    message.extend_from_slice(ends)?;
     Ok(message)
 }
 
-/// Puts the steps of a refused flow, and its message.
-fn put_flow(
+/// The object of a refused flow, with the steps of its walk.
+fn flow(
     alloc: Global,
-    members: &mut Map<String, Value>,
     page: Page<'_>,
+    lattice: &Lattice,
     error: &CompileError,
     steps: &[Step],
-    lines: &[u8],
-) -> Result<(), AllocError> {
-    let objects = step_objects(alloc, page, steps, lines)?;
-    put(members, alloc, "relatedInformation", Value::Array(objects))?;
-    let message = flow_message(alloc, page, error, steps.len(), lines)?;
-    put_text(alloc, members, "message", &message)
-}
-
-/// Puts the message of a refusal, and for a flow the steps of its walk.
-fn put_message(
-    alloc: Global,
-    members: &mut Map<String, Value>,
-    page: Page<'_>,
-    lattice: &Lattice,
-    error: &CompileError,
-) -> Result<(), AllocError> {
-    if let CompileError::Flow(walk) = error {
-        let lines = refusal_text(alloc, lattice, page.text, error)?;
-        return put_flow(alloc, members, page, error, &walk.steps, &lines);
-    }
-    let line = line_of(alloc, page, error)?;
-    put_text(alloc, members, "message", &line)
-}
-
-/// Puts the members that each error has: its part, its severity, its number and its origin.
-pub(crate) fn put_common(
-    alloc: Global,
-    members: &mut Map<String, Value>,
-    page: Page<'_>,
-    span: Span,
-    code: usize,
-) -> Result<(), AllocError> {
-    let range = range_of(page.encoding, page.text, span);
-    put_range(alloc, members, "range", range)?;
-    put_count(alloc, members, "severity", 1)?;
-    put_count(alloc, members, "code", code)?;
-    put_text(alloc, members, "source", b"vsi")
-}
-
-/// The object of a refusal.
-fn error_object(
-    alloc: Global,
-    page: Page<'_>,
-    lattice: &Lattice,
-    error: &CompileError,
 ) -> Result<Value, AllocError> {
-    let mut members = Map::new(alloc);
-    let span = refused_span(page.text, error);
-    put_common(alloc, &mut members, page, span, code_of(page, error))?;
-    put_message(alloc, &mut members, page, lattice, error)?;
+    let lines = refusal_text(alloc, lattice, page.text, error)?;
+    let ends = line_at(&lines, steps.len().saturating_add(1));
+    let message = flow_message(alloc, page, error, ends)?;
+    let object = refusal(alloc, page, error, &message)?;
+    let related = step_objects(alloc, page, steps, &lines)?;
+    with_related(alloc, object, related)
+}
+
+/// An object of an error with the steps of a walk.
+fn with_related(alloc: Global, object: Value, related: Value) -> Result<Value, AllocError> {
+    let Value::Object(mut members) = object else {
+        return Ok(object);
+    };
+    put(&mut members, alloc, "relatedInformation", related)?;
     Ok(Value::Object(members))
 }

@@ -1,13 +1,14 @@
 //! Open documents, and the errors that are published for them.
 
-use crate::diagnostics::{Page, errors_in, put_common};
-use crate::members::{put_count, put_text};
-use crate::places::Encoding;
+use crate::diagnostics::{Page, error_object, errors_in, only};
+use crate::objects::text;
 use crate::replies::notification;
-use serde_json::{Map, Value, put};
+use serde_json::{Value, json};
 use std::alloc::{AllocError, Global};
+use vsi_client::Encoding;
 use vsi_diagnostics::{Fault, fault_diagnostic, fault_text};
-use vsi_lattice::{Lattice, LatticeError, read_lattice};
+use vsi_lattice::{LatticeError, read_lattice};
+use vsi_names::START;
 use vsi_policy::named_policy;
 use vsi_syntax::Span;
 use vsi_types::Profile;
@@ -26,6 +27,15 @@ pub(crate) enum Policy {
     Lost(Vec<u8>),
 }
 
+/// What a document is.
+#[derive(Clone, Copy, Debug, PartialEq, Eq)]
+pub(crate) enum Kind {
+    Source,
+    Lattice,
+    /// A store, an interface, or another file that isn't judged.
+    Other,
+}
+
 /// An open document.
 #[derive(Drop)]
 pub(crate) struct Document {
@@ -35,13 +45,23 @@ pub(crate) struct Document {
     pub(crate) policy: Policy,
 }
 
-/// Why a document has no lattice.
-#[derive(Debug, Drop)]
-pub(crate) enum Lacking<'a> {
-    /// The file is refused.
-    Refused(LatticeError),
-    /// The file at this path can't be read.
-    Lost(&'a [u8]),
+/// Whether a line of a TOML text begins with a key.
+fn has_key(text: &[u8], key: &[u8]) -> bool {
+    for line in text.split(|byte| *byte == b'\n') {
+        if line.starts_with(key) {
+            return true;
+        }
+    }
+    false
+}
+
+/// Whether a TOML text has a key that an interface file has and a lattice file hasn't.
+fn is_interface(text: &[u8]) -> bool {
+    has_key(text, b"globals")
+        || has_key(text, b"profile")
+        || has_key(text, b"order")
+        || has_key(text, b"lattice")
+        || has_key(text, b"[[runs")
 }
 
 impl Document {
@@ -54,29 +74,33 @@ impl Document {
         }
     }
 
-    /// The lattice of the document.
-    pub(crate) fn lattice(&self, alloc: Global) -> Result<Lattice, Lacking<'_>> {
-        let bytes = match &self.policy {
-            Policy::Two => TWO_CLASSES,
-            Policy::File(bytes) => bytes.as_slice(),
-            Policy::Lost(path) => return Err(Lacking::Lost(path)),
-        };
-        match read_lattice(alloc, bytes) {
-            Ok(lattice) => Ok(lattice),
-            Err(error) => Err(Lacking::Refused(error)),
+    /// The bytes of the lattice file of the document, if it can be read.
+    pub(crate) fn policy_bytes(&self) -> Option<&[u8]> {
+        match &self.policy {
+            Policy::Two => Some(TWO_CLASSES),
+            Policy::File(bytes) => Some(bytes.as_slice()),
+            Policy::Lost(_) => None,
         }
     }
 
-    /// Whether the document is a lattice file and no source text.
-    pub(crate) fn is_policy(&self) -> bool {
-        self.uri.ends_with(b".toml")
+    /// What the document is: a TOML file that has a key of lattice files and none of interfaces is a
+    /// lattice file.
+    pub(crate) fn kind(&self) -> Kind {
+        if !self.uri.ends_with(b".toml") {
+            return Kind::Source;
+        }
+        let has_classes = has_key(&self.text, b"classes") || has_key(&self.text, b"below");
+        if has_classes && !is_interface(&self.text) {
+            return Kind::Lattice;
+        }
+        Kind::Other
     }
 }
 
 /// The part of a text from a byte to the end of its line.
 fn line_span(text: &[u8], start: usize) -> Span {
     let mut stop = start;
-    while let Some(byte) = text.get(stop) {
+    for byte in text.get(start..).unwrap_or(b"") {
         if *byte == b'\n' || *byte == b'\r' {
             break;
         }
@@ -88,38 +112,19 @@ fn line_span(text: &[u8], start: usize) -> Span {
 /// The part of a source text that names its lattice file.
 fn naming_span(text: &[u8]) -> Span {
     if named_policy(text).is_none() {
-        return Span { start: 0, stop: 0 };
+        return START;
     }
     match text.iter().position(|byte| *byte == b'#') {
         Some(start) => line_span(text, start),
-        None => Span { start: 0, stop: 0 },
+        None => START,
     }
 }
 
-/// The object of an error that concerns a lattice file.
-fn policy_object(
-    alloc: Global,
-    page: Page<'_>,
-    span: Span,
-    code: usize,
-    message: &[u8],
-) -> Result<Value, AllocError> {
-    let mut members = Map::new(alloc);
-    put_common(alloc, &mut members, page, span, code)?;
-    put_text(alloc, &mut members, "message", message)?;
-    Ok(Value::Object(members))
-}
-
 /// The error of a lattice file that can't be read.
-fn lost_object(
-    alloc: Global,
-    page: Page<'_>,
-    span: Span,
-    path: &[u8],
-) -> Result<Value, AllocError> {
+fn lost_object(alloc: Global, page: Page<'_>, path: &[u8]) -> Result<Value, AllocError> {
     let mut message = Vec::from_slice(alloc, b"file fault: ")?;
     message.extend_from_slice(path)?;
-    policy_object(alloc, page, span, 0, &message)
+    error_object(alloc, page, naming_span(page.text), 0, &message)
 }
 
 /// The error of a lattice file that is refused.
@@ -134,33 +139,34 @@ fn refused_object(
         return Err(AllocError);
     };
     let text = fault_text(alloc, &fault)?;
-    policy_object(alloc, page, span, diagnostic.code, text.trim_ascii_end())
+    error_object(alloc, page, span, diagnostic.code, text.trim_ascii_end())
 }
 
 /// The errors of a lattice file that is open.
-fn policy_errors(alloc: Global, page: Page<'_>) -> Result<Vec<Value>, AllocError> {
-    let mut errors = Vec::new(alloc);
-    if let Err(error) = read_lattice(alloc, page.text) {
-        let span = line_span(page.text, 0);
-        errors.push(refused_object(alloc, page, span, error)?)?;
+fn lattice_errors(alloc: Global, page: Page<'_>) -> Result<Vec<Value>, AllocError> {
+    match read_lattice(alloc, page.text) {
+        Ok(_) => Ok(Vec::new(alloc)),
+        Err(error) => {
+            let span = line_span(page.text, 0);
+            only(alloc, refused_object(alloc, page, span, error)?)
+        }
     }
-    Ok(errors)
 }
 
-/// The error of a document that has no lattice.
-fn lacking_errors(
+/// The errors of a source text under a lattice file.
+fn source_errors(
     alloc: Global,
+    profile: Profile,
     page: Page<'_>,
-    lacking: Lacking<'_>,
+    bytes: &[u8],
 ) -> Result<Vec<Value>, AllocError> {
-    let span = naming_span(page.text);
-    let error = match lacking {
-        Lacking::Lost(path) => lost_object(alloc, page, span, path)?,
-        Lacking::Refused(error) => refused_object(alloc, page, span, error)?,
-    };
-    let mut errors = Vec::new(alloc);
-    errors.push(error)?;
-    Ok(errors)
+    match read_lattice(alloc, bytes) {
+        Ok(lattice) => errors_in(alloc, page.encoding, profile, &lattice, page.uri, page.text),
+        Err(error) => {
+            let span = naming_span(page.text);
+            only(alloc, refused_object(alloc, page, span, error)?)
+        }
+    }
 }
 
 /// The errors of a document.
@@ -171,12 +177,14 @@ fn document_errors(
     document: &Document,
 ) -> Result<Vec<Value>, AllocError> {
     let page = document.page(encoding);
-    if document.is_policy() {
-        return policy_errors(alloc, page);
-    }
-    match document.lattice(alloc) {
-        Ok(lattice) => errors_in(alloc, encoding, profile, &lattice, page.uri, page.text),
-        Err(lacking) => lacking_errors(alloc, page, lacking),
+    match document.kind() {
+        Kind::Lattice => lattice_errors(alloc, page),
+        Kind::Other => Ok(Vec::new(alloc)),
+        Kind::Source => match &document.policy {
+            Policy::Two => source_errors(alloc, profile, page, TWO_CLASSES),
+            Policy::File(bytes) => source_errors(alloc, profile, page, bytes),
+            Policy::Lost(path) => only(alloc, lost_object(alloc, page, path)?),
+        },
     }
 }
 
@@ -187,17 +195,15 @@ fn publication(
     version: Option<i64>,
     errors: Vec<Value>,
 ) -> Result<Value, AllocError> {
-    let mut members = Map::new(alloc);
-    put(&mut members, alloc, "diagnostics", Value::Array(errors))?;
-    put_text(alloc, &mut members, "uri", uri)?;
-    if let Some(version) = version {
-        put(&mut members, alloc, "version", Value::from(version))?;
-    }
-    notification(
-        alloc,
-        b"textDocument/publishDiagnostics",
-        Value::Object(members),
-    )
+    let uri = text(alloc, uri)?;
+    let errors = Value::Array(errors);
+    let parameters = match version {
+        Some(version) => {
+            json!(in alloc; {"uri": uri, "version": version, "diagnostics": errors})?
+        }
+        None => json!(in alloc; {"uri": uri, "diagnostics": errors})?,
+    };
+    notification(alloc, "textDocument/publishDiagnostics", parameters)
 }
 
 /// The message with the errors of a document.
@@ -213,14 +219,12 @@ pub(crate) fn published(
 
 /// The message that a document that is closed has no errors.
 pub(crate) fn cleared(alloc: Global, uri: &[u8]) -> Result<Value, AllocError> {
-    let none = Vec::new(alloc);
-    publication(alloc, uri, None, none)
+    publication(alloc, uri, None, Vec::new(alloc))
 }
 
-/// A line for the log of the client.
-pub(crate) fn said(alloc: Global, text: &[u8]) -> Result<Value, AllocError> {
-    let mut members = Map::new(alloc);
-    put_count(alloc, &mut members, "type", 3)?;
-    put_text(alloc, &mut members, "message", text)?;
-    notification(alloc, b"window/logMessage", Value::Object(members))
+/// A message for the log of the client.
+pub(crate) fn said(alloc: Global, line: &[u8]) -> Result<Value, AllocError> {
+    let line = text(alloc, line)?;
+    let parameters = json!(in alloc; {"type": 3, "message": line})?;
+    notification(alloc, "window/logMessage", parameters)
 }

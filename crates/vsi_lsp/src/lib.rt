@@ -3,31 +3,22 @@
 //! `Server` takes the bytes of a client as they come. `next_message` cuts them into messages, `obey`
 //! does what one of them asks and says which lattice file is wanted for it, `judge` takes the bytes
 //! of that file, and `outgoing` gives the bytes for the client: messages, each after its length, and
-//! nothing else (clause `framed`). `changed_by` is the text after changes, `offset_of` and
-//! `place_of` go between positions and bytes, and `errors_in` has an error exactly if the text is
-//! refused (clause `exact`). No call reads or writes a device.
+//! nothing else (clause `framed`). `errors_in` has an error exactly if the text is refused (clause
+//! `exact`). No call reads or writes a device.
 //!
-//! To be believed: `specs/Changes`, `specs/Frames`, `specs/Places` and `specs/Verdict`.
+//! To be believed: `specs/Frames` and `specs/Verdict`.
 #![tactic(auto)]
 
 mod asking;
-mod changes;
 mod diagnostics;
 mod documents;
 mod frames;
-mod members;
-mod mentions;
-mod paths;
-mod places;
+mod objects;
 mod reading;
-mod refusals;
-mod renaming;
 mod replies;
 mod server;
 mod starting;
 
-pub use changes::{Change, changed_by};
 pub use diagnostics::errors_in;
 pub use frames::framed;
-pub use places::{Encoding, Place, offset_of, place_of};
 pub use server::{Server, TWO_SAID, Wanted};

@@ -1,13 +1,12 @@
 //! A document as requests read it: its program, the names in it, and the classes of its variables.
 
 use crate::diagnostics::Page;
-use crate::mentions::{Mention, mention_at, mentions_of};
-use crate::members::{Range, place_at};
-use crate::places::offset_of;
-use crate::refusals::range_of;
+use crate::objects::place_at;
 use serde_json::Value;
 use std::alloc::{AllocError, Global};
+use vsi_client::offset_of;
 use vsi_compiler::{CompileError, Source, classes_text_of};
+use vsi_names::{Mention, mention_at, mentions_of};
 use vsi_syntax::Span;
 use vsi_types::Profile;
 
@@ -22,11 +21,7 @@ pub(crate) struct Reading<'a> {
 }
 
 /// The lines of the classes of the variables; none if a flow is refused.
-fn classes_of(
-    alloc: Global,
-    profile: Profile,
-    source: &Source<'_>,
-) -> Result<Vec<u8>, AllocError> {
+fn classes_of(alloc: Global, profile: Profile, source: &Source<'_>) -> Result<Vec<u8>, AllocError> {
     match classes_text_of(alloc, profile, source) {
         Ok(lines) => Ok(lines),
         Err(CompileError::Memory) => Err(AllocError),
@@ -58,20 +53,13 @@ pub(crate) fn reading_of<'a>(
 }
 
 impl Reading<'_> {
-    /// The byte to which a message points.
-    pub(crate) fn byte_at(&self, value: &Value) -> Option<usize> {
-        let place = place_at(value, "/params/position")?;
-        Some(offset_of(self.page.encoding, self.page.text, place))
-    }
-
     /// The name to which a message points.
     pub(crate) fn pointed(&self, value: &Value) -> Option<Mention> {
-        mention_at(&self.mentions, self.byte_at(value)?)
-    }
-
-    /// The positions of a part of the text.
-    pub(crate) fn range(&self, span: Span) -> Range {
-        range_of(self.page.encoding, self.page.text, span)
+        let place = place_at(value, "/params/position")?;
+        mention_at(
+            &self.mentions,
+            offset_of(self.page.encoding, self.page.text, place),
+        )
     }
 
     /// The text of a part.

@@ -4,21 +4,21 @@ ghost use Rattle.std.specs.Prelude.{IfOk};
 ghost use Rattle.vsi_lsp.specs.Frames.{AreFrames};
 
 use crate::asking::{formatting, is_of_names, names_answer};
-use crate::changes::{Change, changed_by};
-use crate::documents::{Document, Policy, cleared, published, said};
-use crate::frames::{Piece, framed, next_piece};
-use crate::members::{range_at, text_at};
-use crate::paths::path_beside;
-use crate::places::Encoding;
+use crate::documents::{Document, Kind, Policy, cleared, published, said};
+use crate::frames::framed;
+use crate::objects::{range_at, text_at};
 use crate::replies::{Fault, failure, response};
 use crate::starting::{encoding_for, welcome};
 use serde_json::Value;
 use std::alloc::{AllocError, Global};
+use vsi_client::{Change, Encoding, Piece, changed_by, next_piece, path_beside};
+use vsi_lattice::read_lattice;
 use vsi_policy::named_policy;
 use vsi_types::Profile;
 
 /// What is said once about documents that name no lattice file.
-pub const TWO_SAID: &[u8] = b"vsi: a text that names no lattice file is judged with the classes L and \
+pub const TWO_SAID: &[u8] =
+    b"vsi: a text that names no lattice file is judged with the classes L and \
 H. Its first comment line can name one: # policy: FILE";
 
 /// The state of the conversation with a client.
@@ -27,8 +27,9 @@ enum Phase {
     New,
     Running,
     ShutDown,
-    Ended,
     Exited,
+    /// The client has ended without `shutdown`, or sent a header without a length.
+    Failed,
 }
 
 /// A lattice file that is to be read, and the document for which it is.
@@ -71,17 +72,18 @@ impl Server {
         }
     }
 
-    /// Whether the client has asked the server to end.
+    /// Whether the server is to end.
     pub fn has_exited(&self) -> bool {
-        self.phase == Phase::Exited || self.phase == Phase::Ended
+        self.phase == Phase::Exited || self.phase == Phase::Failed
     }
 
-    /// Whether `exit` has come without `shutdown`.
+    /// Whether the server is to end with a failure: the client has asked it to end without
+    /// `shutdown`, or has sent a header without a length.
     pub fn has_failed(&self) -> bool {
-        self.phase == Phase::Exited
+        self.phase == Phase::Failed
     }
 
-    /// Whether a text that names no lattice file has been judged with two classes.
+    /// Whether a text that names no lattice file has been judged with the classes `L` and `H`.
     pub fn judges_by_two(&self) -> bool {
         self.has_said
     }
@@ -105,46 +107,21 @@ impl Server {
         Ok(bytes)
     }
 
-    /// Drops the first bytes of the stream.
-    fn pass(&mut self, count: usize) -> Result<(), AllocError> {
-        let rest = match self.stream.get(count..) {
-            Some(rest) => Vec::from_slice(self.alloc, rest)?,
-            None => Vec::new(self.alloc),
-        };
-        self.stream = rest;
-        Ok(())
-    }
-
-    /// The next message, if all of it has come.
+    /// The next message, if all of it has come. A header without a length ends the conversation.
     pub fn next_message(&mut self) -> Result<Option<Vec<u8>>, AllocError> {
         match next_piece(&self.stream) {
             Piece::Unfinished => Ok(None),
             Piece::Message(header, size) => {
                 let stop = header.saturating_add(size);
-                let message = Vec::from_slice(
-                    self.alloc,
-                    self.stream.get(header..stop).unwrap_or(b""),
-                )?;
-                self.pass(stop)?;
+                let message = copied(self.alloc, self.stream.get(header..stop))?;
+                self.stream = copied(self.alloc, self.stream.get(stop..))?;
                 Ok(Some(message))
             }
-            Piece::Faulty(header) => {
-                self.pass(header)?;
-                Ok(Some(Vec::new(self.alloc)))
+            Piece::Faulty => {
+                self.phase = Phase::Failed;
+                Ok(None)
             }
         }
-    }
-
-    /// Adds the answer to a request that isn't obeyed.
-    fn fail(&mut self, id: Value, fault: Fault) -> Result<(), AllocError> {
-        let message = failure(self.alloc, id, fault)?;
-        Ok(self.messages.push(message)?)
-    }
-
-    /// Adds the answer to a request.
-    fn respond(&mut self, id: &Value, answer: Value) -> Result<(), AllocError> {
-        let message = response(self.alloc, id.clone()?, answer)?;
-        Ok(self.messages.push(message)?)
     }
 
     /// Does what a message asks, and returns the lattice file that is to be read and given to
@@ -156,7 +133,7 @@ impl Server {
                 if error.is_memory() {
                     return Err(AllocError);
                 }
-                self.fail(Value::Null, Fault::Parse)?;
+                self.fail(&Value::Null, Fault::Parse)?;
                 Ok(None)
             }
         }
@@ -166,84 +143,85 @@ impl Server {
     fn obey_value(&mut self, value: &Value) -> Result<Option<Wanted>, AllocError> {
         let Some(method) = text_at(value, "/method") else {
             if value.get("result").is_none() && value.get("error").is_none() {
-                self.fail(Value::Null, Fault::Request)?;
+                self.fail(&Value::Null, Fault::Request)?;
             }
             return Ok(None);
         };
-        match value.get("id") {
-            Some(id) => {
-                self.answer(method, id, value)?;
-                Ok(None)
-            }
-            None => self.note(method, value),
+        let Some(id) = value.get("id") else {
+            return self.note(method, value);
+        };
+        match self.reply(method, value)? {
+            Ok(answer) => self.respond(id, answer)?,
+            Err(fault) => self.fail(id, fault)?,
         }
+        Ok(None)
     }
 
-    /// Answers a request.
-    fn answer(&mut self, method: &str, id: &Value, value: &Value) -> Result<(), AllocError> {
+    /// Adds the answer to a request that isn't obeyed.
+    fn fail(&mut self, id: &Value, fault: Fault) -> Result<(), AllocError> {
+        let message = failure(self.alloc, id.clone()?, fault)?;
+        Ok(self.messages.push(message)?)
+    }
+
+    /// Adds the answer to a request.
+    fn respond(&mut self, id: &Value, answer: Value) -> Result<(), AllocError> {
+        let message = response(self.alloc, id.clone()?, answer)?;
+        Ok(self.messages.push(message)?)
+    }
+
+    /// The answer to a request.
+    fn reply(&mut self, method: &str, value: &Value) -> Result<Result<Value, Fault>, AllocError> {
         match self.phase {
-            Phase::New => self.start(method, id, value),
-            Phase::Running => self.serve(method, id, value),
-            Phase::ShutDown | Phase::Ended | Phase::Exited => {
-                self.fail(id.clone()?, Fault::Request)
-            }
+            Phase::New => self.start(method, value),
+            Phase::Running => self.serve(method, value),
+            _ => Ok(Err(Fault::Request)),
         }
     }
 
-    /// Answers the first request.
-    fn start(&mut self, method: &str, id: &Value, value: &Value) -> Result<(), AllocError> {
+    /// The answer to the first request.
+    fn start(&mut self, method: &str, value: &Value) -> Result<Result<Value, Fault>, AllocError> {
         if method != "initialize" {
-            return self.fail(id.clone()?, Fault::Uninitialized);
+            return Ok(Err(Fault::Uninitialized));
         }
         self.encoding = encoding_for(value);
         self.phase = Phase::Running;
-        let answer = welcome(self.alloc, self.encoding)?;
-        self.respond(id, answer)
+        Ok(Ok(welcome(self.alloc, self.encoding)?))
     }
 
-    /// Answers a request between `initialize` and `shutdown`.
-    fn serve(&mut self, method: &str, id: &Value, value: &Value) -> Result<(), AllocError> {
+    /// The answer to a request between `initialize` and `shutdown`.
+    fn serve(&mut self, method: &str, value: &Value) -> Result<Result<Value, Fault>, AllocError> {
         match method {
-            "initialize" => self.fail(id.clone()?, Fault::Request),
+            "initialize" => Ok(Err(Fault::Request)),
             "shutdown" => {
                 self.phase = Phase::ShutDown;
-                self.respond(id, Value::Null)
+                Ok(Ok(Value::Null))
             }
+            "textDocument/formatting" => self.tell(method, value),
             _ => {
-                if is_of_names(method) || method == "textDocument/formatting" {
-                    return self.tell(method, id, value);
+                if is_of_names(method) {
+                    return self.tell(method, value);
                 }
-                self.fail(id.clone()?, Fault::Method)
+                Ok(Err(Fault::Method))
             }
-        }
-    }
-
-    /// Answers a request about a document.
-    fn tell(&mut self, method: &str, id: &Value, value: &Value) -> Result<(), AllocError> {
-        let Some(place) = self.place_of(value) else {
-            return self.fail(id.clone()?, Fault::Parameters);
-        };
-        match self.told(place, method, value)? {
-            Ok(answer) => self.respond(id, answer),
-            Err(fault) => self.fail(id.clone()?, fault),
         }
     }
 
     /// The answer to a request about a document.
-    fn told(
-        &self,
-        place: usize,
-        method: &str,
-        value: &Value,
-    ) -> Result<Result<Value, Fault>, AllocError> {
+    fn tell(&self, method: &str, value: &Value) -> Result<Result<Value, Fault>, AllocError> {
+        let Some(place) = self.place_of(value) else {
+            return Ok(Err(Fault::Parameters));
+        };
         let Some(document) = self.documents.get(place) else {
-            return Ok(Ok(Value::Null));
+            return Ok(Err(Fault::Parameters));
         };
         let page = document.page(self.encoding);
         if !is_of_names(method) {
             return Ok(Ok(formatting(self.alloc, page)?));
         }
-        match document.lattice(self.alloc) {
+        let Some(bytes) = document.policy_bytes() else {
+            return Ok(Ok(Value::Null));
+        };
+        match read_lattice(self.alloc, bytes) {
             Ok(lattice) => names_answer(self.alloc, self.profile, &lattice, page, method, value),
             Err(_) => Ok(Ok(Value::Null)),
         }
@@ -252,10 +230,9 @@ impl Server {
     /// Does what a notification asks.
     fn note(&mut self, method: &str, value: &Value) -> Result<Option<Wanted>, AllocError> {
         if method == "exit" {
-            self.phase = if self.phase == Phase::ShutDown {
-                Phase::Ended
-            } else {
-                Phase::Exited
+            self.phase = match self.phase {
+                Phase::ShutDown => Phase::Exited,
+                _ => Phase::Failed,
             };
             return Ok(None);
         }
@@ -341,22 +318,11 @@ impl Server {
             return Ok(None);
         };
         let changes = changes_in(self.alloc, list)?;
-        self.put_changes(place, &changes, version_in(value))?;
-        self.want(place)
-    }
-
-    /// Makes changes to a document.
-    fn put_changes(
-        &mut self,
-        place: usize,
-        changes: &[Change<'_>],
-        version: Option<i64>,
-    ) -> Result<(), AllocError> {
         if let Some(document) = self.documents.get_mut(place) {
-            document.text = changed_by(self.alloc, self.encoding, &document.text, changes)?;
-            document.version = version;
+            document.text = changed_by(self.alloc, self.encoding, &document.text, &changes)?;
+            document.version = version_in(value);
         }
-        Ok(())
+        self.want(place)
     }
 
     /// Judges a document again.
@@ -369,7 +335,7 @@ impl Server {
 
     /// The path of the lattice file of a document, if it has one.
     fn policy_path(&self, document: &Document) -> Result<Option<String>, AllocError> {
-        if document.is_policy() {
+        if document.kind() != Kind::Source {
             return Ok(None);
         }
         match named_policy(&document.text) {
@@ -400,7 +366,7 @@ impl Server {
     /// Says once that a text is judged with two classes.
     fn say_two(&mut self, place: usize) -> Result<(), AllocError> {
         let is_text = match self.documents.get(place) {
-            Some(document) => !document.is_policy(),
+            Some(document) => document.kind() == Kind::Source,
             None => false,
         };
         if self.has_said || !is_text {
@@ -442,6 +408,14 @@ impl Server {
     }
 }
 
+/// A copy of these bytes, if there are any.
+fn copied(alloc: Global, bytes: Option<&[u8]>) -> Result<Vec<u8>, AllocError> {
+    match bytes {
+        Some(bytes) => Vec::from_slice(alloc, bytes),
+        None => Ok(Vec::new(alloc)),
+    }
+}
+
 /// The version of the document that a message gives.
 fn version_in(value: &Value) -> Option<i64> {
     value.pointer("/params/textDocument/version")?.as_i64()
@@ -454,11 +428,14 @@ fn changes_in<'v>(alloc: Global, list: &'v [Value]) -> Result<Vec<Change<'v>>, A
         let Some(text) = text_at(value, "/text") else {
             return Ok(changes);
         };
-        let change = Change {
-            range: range_at(value, "range"),
+        let range = range_at(value, "range");
+        if range.is_none() && value.get("range").is_some() {
+            return Ok(changes);
+        }
+        changes.push(Change {
+            range,
             text: text.as_bytes(),
-        };
-        changes.push(change)?;
+        })?;
     }
     Ok(changes)
 }
