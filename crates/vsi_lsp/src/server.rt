@@ -12,7 +12,7 @@ use crate::starting::{encoding_for, welcome};
 use serde_json::Value;
 use std::alloc::{AllocError, Global};
 use vsi_client::{Change, Encoding, Piece, changed_by, next_piece, path_beside};
-use vsi_lattice::read_lattice;
+use vsi_lattice::{LatticeError, read_lattice};
 use vsi_policy::named_policy;
 use vsi_types::Profile;
 
@@ -223,6 +223,7 @@ impl Server {
         };
         match read_lattice(self.alloc, bytes) {
             Ok(lattice) => names_answer(self.alloc, self.profile, &lattice, page, method, value),
+            Err(LatticeError::Memory) => Err(AllocError),
             Err(_) => Ok(Ok(Value::Null)),
         }
     }
