@@ -21,7 +21,7 @@ use vsi_types::Profile;
 /// The size of the buffer of a read, in bytes.
 const CHUNK: usize = 4096;
 
-/// What is said if the client doesn't end the conversation.
+/// The line about a conversation that the client has not ended.
 const UNENDED: &[u8] = b"ended without shutdown and exit\n";
 
 /// Serves an editor until it says so or the input ends. The note gets a line if a text that names

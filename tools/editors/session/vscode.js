@@ -1,4 +1,4 @@
-// Loads the extension for Visual Studio Code with a stand-in for the editor, opens and changes a text, and prints what
+// Loads the extension for Visual Studio Code with a mock of the editor, opens and changes a text, and prints what
 // the extension shows, as a line of JSON. The arguments are the program and the folder of the text.
 'use strict';
 
