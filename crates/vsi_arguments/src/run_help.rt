@@ -113,7 +113,9 @@ Statuses: 0 the editor has said `shutdown` and `exit`, 1 it hasn't, 2 usage,
 /// An example of `lsp`.
 pub(crate) const LSP_EXAMPLE: &str = "\
 Example, for Neovim with a source text open:
-  :lua vim.lsp.start({ name = 'vsi', cmd = { 'vsi', 'lsp' } })";
+  :lua vim.lsp.start({ name = 'vsi', cmd = { 'vsi', 'lsp' } })
+Neovim then runs this command and sends messages to it:
+  $ vsi lsp";
 
 /// The long help of `compare`.
 pub(crate) const COMPARE: &str = "\
