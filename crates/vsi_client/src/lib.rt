@@ -1,4 +1,4 @@
-//! What an editor sends and counts: messages in a stream, positions of a text, and changes at them.
+//! The messages and positions of an editor: messages in a stream, positions of a text, and changes at them.
 //!
 //! `next_piece` finds the next message of a stream. A position is a line and the code units before a
 //! place in that line, in UTF-16 or UTF-8. `offset_of` is the byte at a position, `place_of` the

@@ -87,7 +87,7 @@ fn put_class(text: &mut Vec<u8>, reading: &Reading<'_>, variable: usize) -> Resu
     text.extend_from_slice(class)
 }
 
-/// What is shown about a name: the class of its variable.
+/// The text about a name: the class of its variable.
 fn hover(alloc: Global, reading: &Reading<'_>, mention: Mention) -> Result<Value, AllocError> {
     let mut shown = Vec::from_slice(alloc, reading.text_of(mention.span))?;
     put_class(&mut shown, reading, mention.variable)?;

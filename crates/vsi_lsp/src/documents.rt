@@ -19,7 +19,7 @@ const TWO_CLASSES: &[u8] = b"classes = [\"L\", \"H\"]\nbelow = [[\"L\", \"H\"]]\
 /// The lattice file of a document.
 #[derive(Drop)]
 pub(crate) enum Policy {
-    /// That of `L` below `H`.
+    /// The file with `L` below `H`.
     Two,
     /// A file with these bytes.
     File(Vec<u8>),
@@ -27,7 +27,7 @@ pub(crate) enum Policy {
     Lost(Vec<u8>),
 }
 
-/// What a document is.
+/// A kind of document.
 #[derive(Clone, Copy, Debug, PartialEq, Eq)]
 pub(crate) enum Kind {
     Source,
@@ -83,7 +83,7 @@ impl Document {
         }
     }
 
-    /// What the document is: a TOML file that has a key of lattice files and none of interfaces is a
+    /// The kind of the document: a TOML file that has a key of lattice files and none of interfaces is a
     /// lattice file.
     pub(crate) fn kind(&self) -> Kind {
         if !self.uri.ends_with(b".toml") {

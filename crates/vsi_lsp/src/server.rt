@@ -16,7 +16,7 @@ use vsi_lattice::{LatticeError, read_lattice};
 use vsi_policy::named_policy;
 use vsi_types::Profile;
 
-/// What is said once about documents that name no lattice file.
+/// The line about texts that name no lattice file.
 pub const TWO_SAID: &[u8] =
     b"vsi: a text that names no lattice file is judged with the classes L and \
 H. Its first comment line can name one: # policy: FILE";

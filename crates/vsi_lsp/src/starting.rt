@@ -4,7 +4,7 @@ use serde_json::{Value, json, put};
 use std::alloc::{AllocError, Global};
 use vsi_client::Encoding;
 
-/// What the server can do, beside the encoding of positions.
+/// The capabilities of the server, without the encoding of positions.
 const CAPABILITIES: &str = r#"{
 "textDocumentSync": {"openClose": true, "change": 2, "save": {"includeText": false}},
 "hoverProvider": true,
@@ -41,7 +41,7 @@ fn encoding_name(encoding: Encoding) -> &'static str {
     }
 }
 
-/// What the server can do.
+/// The capabilities of the server.
 fn capabilities(alloc: Global, encoding: Encoding) -> Result<Value, AllocError> {
     let Ok(Value::Object(mut members)) = Value::from_str(alloc, CAPABILITIES) else {
         return Err(AllocError);

@@ -106,6 +106,8 @@ fn keeps_program(
     ensures kept { IfOk result (λ kept. kept ≡ true →
         spec.KeepsProgram (class_named old.now.lattice) name.now old.now.text text.now) }
 {
+    // `resolved` ensures that the program is the text's, which the proof needs.
+    let _program = old.resolved();
     match read_source(alloc, old.lattice(), text) {
         Ok(new) => is_kept(alloc, name, old, &new),
         Err(CompileError::Memory) => Err(AllocError),
