@@ -144,13 +144,11 @@ fn refused_object(
 
 /// The errors of a lattice file that is open.
 fn lattice_errors(alloc: Global, page: Page<'_>) -> Result<Vec<Value>, AllocError> {
-    match read_lattice(alloc, page.text) {
-        Ok(_) => Ok(Vec::new(alloc)),
-        Err(error) => {
-            let span = line_span(page.text, 0);
-            only(alloc, refused_object(alloc, page, span, error)?)
-        }
-    }
+    let Err(error) = read_lattice(alloc, page.text) else {
+        return Ok(Vec::new(alloc));
+    };
+    let span = line_span(page.text, 0);
+    only(alloc, refused_object(alloc, page, span, error)?)
 }
 
 /// The errors of a source text under a lattice file.
