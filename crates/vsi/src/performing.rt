@@ -172,14 +172,7 @@ pub(crate) fn perform<'a, F: Files, R: Read, W: Write>(
         Request::Try(attempt) => put(try_source(desk, &attempt, files), output),
         Request::Lattice(arguments) => put(lattice(desk.alloc, arguments.as_slice()), output),
         Request::Lsp(serving) => {
-            serve(
-                desk.alloc,
-                serving,
-                files,
-                input,
-                output,
-                &mut told.note,
-            )
+            serve(desk.alloc, serving, files, input, output, &mut told.note)
         }
         Request::Explain(page) => write(page.as_bytes(), output),
     }
