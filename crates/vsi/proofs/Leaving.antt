@@ -38,7 +38,7 @@ pub check_answer : (holds : Holding) (asked : Judging) (accepted : Bool) (line :
 check_answer holds asked true line told refused = inl (told refl)
 check_answer holds asked false line told refused = inr (refused refl)
 
--- No request writes a part of an answer at a lower status than that of a file fault, but for a run.
+-- No request writes a part of an answer at a lower status than that of a file fault, but for a run and a server.
 pub cut_within : (asked : Request) → cut_from asked ≤ 4
 cut_within (request.Check asked) = omega arith
 cut_within (request.Conform asked) = omega arith
@@ -62,6 +62,7 @@ cut_within (request.Policy looking) = omega arith
 cut_within (request.Format source) = omega arith
 cut_within (request.Try attempt) = omega arith
 cut_within (request.Lattice arguments) = omega arith
+cut_within (request.Lsp serving) = omega arith
 cut_within (request.Explain page) = omega arith
 
 -- Where the explanation of a stop has found no memory, the same is left.

@@ -1,6 +1,7 @@
 pub mod Answered
 pub mod Reasons
 pub mod Seen
+mod Served
 pub mod Written
 pub mod Partly
 pub mod Cut

@@ -63,6 +63,7 @@ memory_why holds (request.Policy looking) old new = tt
 memory_why holds (request.Format source) old new = tt
 memory_why holds (request.Try attempt) old new = tt
 memory_why holds (request.Lattice arguments) old new = tt
+memory_why holds (request.Lsp serving) old new = tt
 memory_why holds (request.Explain page) old new = tt
 
 -- A request has stopped so too where the explanation has found no memory.

@@ -6,7 +6,7 @@ use Rattle.std.specs.Io.KnownBytes.{Appends, Keeps}
 use Rattle.std.proofs.KnownBytes.{Appends-nil, Keeps-refl}
 use Rattle.std.proofs.lemmas.List.{take_all}
 use Rattle.vsi.specs.declared.stop.Stop.{Stop}
-use Rattle.vsi.specs.declared.stop.Stop.TheVariants.{Differs, Memory}
+use Rattle.vsi.specs.declared.stop.Stop.TheVariants.{Refused, Interface, Audit, Unsteady, Differs, Usage, NoClass, OutOfBudget, FileFault, LostFile, Memory}
 use Rattle.vsi.specs.Partly.{BytesOf, Leaves, Partly, WritesPart}
 use Rattle.vsi.specs.Stops.{status_of}
 use Rattle.vsi.proofs.Reasons.{handed}
@@ -139,3 +139,24 @@ pub put_kept : {T : Type 0} (late : Stop → Type 0) (old : Option (List ℕ)) (
     IfErr result (λ stop. Keeps old old ⊎ late stop)
 put_kept late old (Ok x) = tt
 put_kept late old (Err stop) = inl (Keeps-refl old)
+
+-- Each stop has a status above 0.
+pub some_status : (stop : Stop) → 0 < status_of stop
+some_status (Refused text cause) = omega arith
+some_status (Interface text error) = omega arith
+some_status (Audit text error) = omega arith
+some_status (Unsteady text error) = omega arith
+some_status Differs = omega arith
+some_status (Usage text) = omega arith
+some_status (NoClass name) = omega arith
+some_status OutOfBudget = omega arith
+some_status (FileFault path) = omega arith
+some_status (LostFile path) = omega arith
+some_status Memory = omega arith
+
+-- An answer that may be cut at any stop leaves a part of what it writes.
+pub cut_leaves : {T : Type 0} (Kind : List ℕ → Type 0) (old new : Option (List ℕ)) (result : Result T Stop) →
+    IfErr result (λ _. Partly Kind old new) → IfErr result (Leaves Kind 1 old new)
+cut_leaves Kind old new (Ok x) part = tt
+cut_leaves Kind old new (Err stop) part =
+    record { partly = part; silent = λ other below. absurd (omega (arith, some_status stop)) }

@@ -6,6 +6,7 @@ pub mod Loading
 pub mod Driven
 pub mod Naming
 pub mod Tried
+pub mod Served
 pub mod Shaping
 pub mod Seeing
 pub mod Admitted

@@ -5,6 +5,7 @@ use Rattle.std.specs.Io.KnownBytes.{Appends, Keeps}
 use Rattle.vsi_lattice.specs.declared.lattice.Lattice.{Lattice}
 use Rattle.vsi_image.specs.declared.instr.Image.{Image}
 use Rattle.vsi_image.specs.Meaning.{start}
+use Rattle.vsi_lsp.specs.Frames.{AreFrames}
 use Rattle.vsi_store.specs.declared.comparison.Comparison as found
 use Rattle.vsi_drive.specs.Control.{Control}
 use Rattle.vsi_drive.specs.Cycles.{text_of}
@@ -133,14 +134,17 @@ Answers holds given (request.Draw drawing) = BytesOf (DrawsFiles holds drawing)
 Answers holds given (request.Policy looking) = BytesOf (SeesFiles holds looking)
 Answers holds given (request.Format source) = BytesOf (OfFile holds source.now ToldCanonical)
 Answers holds given (request.Lattice arguments) = BytesOf (ShapedText arguments.items)
+Answers holds given (request.Lsp serving) = AreFrames
 Answers holds given (request.Explain page) = λ bytes. bytes ≡ page.now
 
 -- ---- what a stop leaves.
 
 -- The least status at which a request may have written a part of an answer: a run that is out of budget has written its
--- trace, and any other request is cut short by a fault or by lack of memory.
+-- trace, a server whose client goes away has written messages, and any other request is cut short by a fault or by lack
+-- of memory.
 abbrev pub cut_from : Request → ℕ
 cut_from (request.Run e o has_trace has_count) = 3
+cut_from (request.Lsp serving) = 1
 cut_from asked = 4
 
 -- The output that a stop leaves: only first bytes of an answer of this kind, and nothing at all below this status,

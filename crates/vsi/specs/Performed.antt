@@ -71,6 +71,7 @@ use Rattle.vsi.specs.Driven.{DrivesInput}
 use Rattle.vsi.specs.Holding.{Delivers, Fills, Holding, IsImageAt, IsLatticeAt, IsReadAt, IsStoreAt}
 use Rattle.vsi.specs.Naming.{function_name}
 use Rattle.vsi.specs.Seeing.{SeesFiles}
+use Rattle.vsi.specs.Served.{Serves}
 use Rattle.vsi.specs.Shaping.{ShapedText}
 use Rattle.vsi.specs.Tried.{TriesFile}
 
@@ -500,4 +501,5 @@ Performs holds given (request.Draw drawing) left = Alone (Writes (DrawsFiles hol
 Performs holds given (request.Policy looking) left = Alone (Writes (SeesFiles holds looking)) holds left
 Performs holds given (request.Format source) left = Alone (Writes (OfFile holds source.now ToldCanonical)) holds left
 Performs holds given (request.Lattice arguments) left = Alone (Writes (ShapedText arguments.items)) holds left
+Performs holds given (request.Lsp serving) left = Alone Serves holds left
 Performs holds given (request.Explain page) left = Alone (λ old new. Appends old new page.now) holds left

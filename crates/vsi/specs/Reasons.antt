@@ -63,6 +63,7 @@ use Rattle.vsi.specs.declared.stop.Stop.TheVariants as stops
 use Rattle.vsi.specs.Admitted.{IsShort}
 use Rattle.vsi.specs.Holding.{Holding, IsImageAt, IsLatticeAt, IsReadAt, IsStoreAt}
 use Rattle.vsi.specs.Input.{two_classes}
+use Rattle.vsi.specs.Served.{Serves, unended_line}
 use Rattle.vsi.specs.Tried.{AreTried, BeginsSet, IsMade, IsTriedUnder, RunsMade, policy_path}
 use Rattle.vsi.specs.Performed.{AreFiles, BeginsAt, BoundsFile, ComparesFiles, ConformsFiles, IsAskedAt, IsBudgetOf, IsEmittedFrom, LooksAt, LooksFor, OfFiles, Writes, compilation_of, judgement_of, named_path, profile_of, wanted_of}
 
@@ -549,4 +550,6 @@ Why holds (request.Draw drawing) old new = StopsBy (WhyDraw holds drawing.lattic
 Why holds (request.Policy looking) old new = StopsBy (WhyPolicy holds looking.lattice.now looking.old) NoOther
 Why holds (request.Format source) old new = StopsBy (RefusesFile holds source.now AsksCanonical) NoOther
 Why holds (request.Lattice arguments) old new = StopsBy (λ reason. ⊥) NoOther
+Why holds (request.Lsp serving) old new =
+    StopsBy (λ reason. ⊥) (λ stop. SaysLine unended_line stop × Serves old new)
 Why holds (request.Explain page) old new = StopsBy (λ reason. ⊥) NoOther

@@ -1,12 +1,13 @@
 -- The arguments that read the input.
-use Rattle.std.specs.Prelude.{ℕ, Bool, false, List, [], ◌∷◌, Option, Some, String, string_bytes, bytes_eq, codes, if◌then◌else◌}
+use Rattle.std.specs.Prelude.{ℕ, Bool, false, ◌||◌, List, [], ◌∷◌, Option, Some, String, string_bytes, bytes_eq, codes, if◌then◌else◌}
 use Rattle.std.specs.declared.alloc.Global.{Global}
 
--- The arguments begin with `drive`.
+-- The arguments begin with `drive` or `lsp`.
 abbrev pub reads_input : List (String Global) → Bool
 reads_input [] = false
-reads_input (word ∷ words) = bytes_eq (string_bytes word) (codes "drive")
+reads_input (word ∷ words) =
+    bytes_eq (string_bytes word) (codes "drive") || bytes_eq (string_bytes word) (codes "lsp")
 
--- The bytes that the arguments can read from the input: nothing, unless they begin with `drive`.
+-- The bytes that the arguments can read from the input: nothing, unless they begin with `drive` or `lsp`.
 abbrev pub given_to : List (String Global) → Option (List ℕ) → Option (List ℕ)
 given_to words remaining = if reads_input words then remaining else Some []

@@ -23,7 +23,7 @@ use vsi_lattice::Lattice;
 /// The budget of a run without arguments, in instructions.
 const DEFAULT_BUDGET: u64 = 1_000_000;
 
-/// The input of every subcommand except the one that reads the input.
+/// The input of every subcommand except those that read the input.
 const NOTHING: &[u8] = b"";
 
 /// Obeys the arguments, and returns the exit status of the program. The arguments leave out the
@@ -123,7 +123,7 @@ fn without_words<R: Read, W: Write, E: Write>(
     ended(answer, &Told::new(alloc), error)
 }
 
-/// Obeys the arguments, and gives them the input only if they name the subcommand that reads it.
+/// Obeys the arguments, and gives them the input only if they name a subcommand that reads it.
 fn obeyed<'a, F: Files, R: Read, W: Write>(
     alloc: Global,
     words: &'a [String],
@@ -181,12 +181,14 @@ fn ended<E: Write>(answer: Result<(), Stop<'_>>, told: &Told, error: &mut Counte
     }
 }
 
-/// Whether the arguments name the subcommand that reads the input.
+/// Whether the arguments name a subcommand that reads the input.
 fn reads_input(words: &[String]) -> bool
     ensures { result ≡ spec.reads_input words.now }
 {
     match words {
-        [first, ..] => first.as_bytes() == b"drive".as_slice(),
+        [first, ..] => {
+            first.as_bytes() == b"drive".as_slice() || first.as_bytes() == b"lsp".as_slice()
+        }
         [] => false,
     }
 }

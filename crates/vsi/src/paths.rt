@@ -6,7 +6,7 @@ use vsi_arguments::Request;
 pub(crate) const MOST_READ: usize = 4;
 
 /// The paths of the files that a request reads, in the order in which it does. The lattice file that
-/// an interface or a text names isn't among them.
+/// an interface or a text names isn't among them, nor is that of `lsp`, which reads it again and again.
 pub(crate) fn paths_of<'a>(request: &Request<'a>) -> [Option<&'a str>; MOST_READ] {
     match request {
         Request::Check(judging) => { two(judging.compilation.lattice, judging.compilation.source) }
@@ -43,7 +43,7 @@ pub(crate) fn paths_of<'a>(request: &Request<'a>) -> [Option<&'a str>; MOST_READ
         Request::Draw(asked) => [Some(asked.lattice), asked.source, None, None],
         Request::Policy(asked) => [Some(asked.lattice), asked.old, None, None],
         Request::Try(asked) => [Some(asked.source), asked.lattice, None, None],
-        Request::Lattice(_) | Request::Explain(_) => [None; MOST_READ],
+        Request::Lattice(_) | Request::Lsp(_) | Request::Explain(_) => [None; MOST_READ],
     }
 }
 

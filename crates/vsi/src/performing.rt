@@ -20,6 +20,7 @@ use crate::files::Files;
 use crate::leaking::leak;
 use crate::policies::policy;
 use crate::running::{Running, run, view};
+use crate::serving::serve;
 use crate::shaping::lattice;
 use crate::stop::{Stop, write};
 use crate::subcommands::{build, check, check_as_json, classes, flows, format, list, mend};
@@ -170,6 +171,9 @@ pub(crate) fn perform<'a, F: Files, R: Read, W: Write>(
         Request::Format(source) => put(format(desk, source, files), output),
         Request::Try(attempt) => put(try_source(desk, &attempt, files), output),
         Request::Lattice(arguments) => put(lattice(desk.alloc, arguments.as_slice()), output),
+        Request::Lsp(serving) => {
+            serve(desk.alloc, serving, files, input, output, &mut told.note)
+        }
         Request::Explain(page) => write(page.as_bytes(), output),
     }
 }

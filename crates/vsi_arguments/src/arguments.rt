@@ -143,6 +143,13 @@ pub(crate) const LATTICE_OPTION: Argument = Argument {
     whole: word_help::LATTICE_OPTION,
 };
 
+pub(crate) const SERVED_LATTICE: Argument = Argument {
+    name: "lattice",
+    form: Form::Value("LATTICE"),
+    line: "The lattice file of texts that name none",
+    whole: word_help::SERVED_LATTICE,
+};
+
 pub(crate) const EXPLAINED: Argument = Argument {
     name: "WHAT",
     form: Form::Place,

@@ -19,5 +19,5 @@ pub use reader::request_of;
 pub use request::{
     Asked, Attempt, Audit, Bounding, Budget, Colour, Comparison, Compilation, Conformance, Drawing,
     Driving, Emission, Execution, Judging, Looking, Manner, Mending, Outset, Request, SEARCH,
-    Search, TRY_BUDGET,
+    Search, Serving, TRY_BUDGET,
 };

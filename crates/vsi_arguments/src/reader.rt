@@ -175,6 +175,7 @@ fn requested<'a>(name: &str, inner: &ArgMatches<'a>) -> Request<'a> {
         "bound" => Request::Bound(bounding_in(inner)),
         "drive" => Request::Drive(driving_in(inner)),
         "leak" => Request::Leak(search_in(inner)),
+        "lsp" => Request::Lsp(serving_in(inner)),
         "report" => Request::Report(compilation_in(inner)),
         "draw" => Request::Draw(drawing_in(inner)),
         "policy" => Request::Policy(looking_in(inner)),
@@ -322,6 +323,13 @@ fn looking_in<'a>(matches: &ArgMatches<'a>) -> Looking<'a> {
     Looking {
         lattice: text(matches, "LATTICE"),
         old: matches.get_str("OLD"),
+    }
+}
+
+fn serving_in<'a>(matches: &ArgMatches<'a>) -> Serving<'a> {
+    Serving {
+        lattice: matches.get_str("lattice"),
+        is_strict: matches.get_flag("strict"),
     }
 }
 

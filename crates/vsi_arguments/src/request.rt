@@ -157,6 +157,14 @@ pub struct Mending<'a> {
     pub is_applied: bool,
 }
 
+/// A language server: the path of the lattice file of texts that name none, and whether the strict
+/// profile is used.
+#[derive(Clone, Copy)]
+pub struct Serving<'a> {
+    pub lattice: Option<&'a str>,
+    pub is_strict: bool,
+}
+
 /// Whether an explanation is coloured.
 #[derive(Clone, Copy, Debug, PartialEq, Eq)]
 pub enum Colour {
@@ -221,6 +229,7 @@ pub enum Request<'a> {
     Format(&'a str),
     /// With the shape of a lattice and the names given for its classes.
     Lattice(Vec<&'a [u8]>),
+    Lsp(Serving<'a>),
     /// With the page of the refusal or subject.
     Explain(&'a str),
 }

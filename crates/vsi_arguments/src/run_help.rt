@@ -96,6 +96,27 @@ Example:
   l = 6
   refused: 47 AboveClass 0";
 
+/// The long help of `lsp`.
+pub(crate) const LSP: &str = "\
+Serves an editor: shows errors while a source text is typed, and more.
+
+Speaks the Language Server Protocol over standard input and standard output, to
+which nothing else is written, until the editor says `exit` or standard input
+ends. The lattice file of a text is the one that its first comment names, as
+`# policy: FILE`, otherwise the one that --lattice gives. Without either the
+classes are L and H, L below H. The file is read whenever the text changes. No
+file is written.
+
+Statuses: 0 the editor has said `shutdown` and `exit`, 1 it hasn't, 2 usage,
+4 standard input or output failed, 5 out of memory.";
+
+/// An example of `lsp`.
+pub(crate) const LSP_EXAMPLE: &str = "\
+Example, for Neovim with a source text open:
+  :lua vim.lsp.start({ name = 'vsi', cmd = { 'vsi', 'lsp' } })
+Neovim then runs this command and sends messages to it:
+  $ vsi lsp";
+
 /// The long help of `compare`.
 pub(crate) const COMPARE: &str = "\
 Runs an image from two stores and prints what a class sees of both.

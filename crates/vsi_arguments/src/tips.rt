@@ -11,19 +11,19 @@ const OWNERS: [(&str, &str); 25] = [
     ("'--class'", "try, view, drive, compare and leak"),
     (
         "'--color'",
-        "every subcommand except lattice and explain, and comes after the subcommand",
+        "every subcommand except lattice, lsp and explain, and comes after the subcommand",
     ),
     ("'--count'", "run"),
     ("'--endings'", "leak"),
     (
         "'--explain'",
-        "every subcommand except lattice and explain, and comes after the subcommand, as in \
+        "every subcommand except lattice, lsp and explain, and comes after the subcommand, as in \
         `vsi try a.vsi --explain`",
     ),
     ("'--full-store'", "run and view"),
     ("'--header'", "emit-c"),
     ("'--json'", "check and conform"),
-    ("'--lattice'", "try and emit-c"),
+    ("'--lattice'", "try, emit-c and lsp"),
     ("'--name'", "emit-c"),
     ("'--out'", "run and view"),
     ("'--save'", "drive"),
@@ -34,7 +34,7 @@ const OWNERS: [(&str, &str); 25] = [
     ("'--store'", "run, view, drive and compare"),
     (
         "'--strict'",
-        "check, classes, flows, mend, build, audit, report and draw",
+        "check, classes, flows, mend, build, audit, report, draw and lsp",
     ),
     ("'--trace'", "run"),
     ("'--tries'", "leak"),

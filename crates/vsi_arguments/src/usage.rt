@@ -171,14 +171,21 @@ const SUBCOMMANDS: [Subcommand; 21] = [
     },
 ];
 
-/// The subcommands that read no file, and so have no refusals to explain.
-const UNREFUSED: [Subcommand; 2] = [
+/// The subcommands that no refusal ends, so that there is none to explain.
+const UNREFUSED: [Subcommand; 3] = [
     Subcommand {
         name: "lattice",
         line: "Prints a lattice file: two classes, levels, a diamond or a power set",
         whole: help::LATTICE,
         example: help::LATTICE_EXAMPLE,
         arguments: &[SHAPE],
+    },
+    Subcommand {
+        name: "lsp",
+        line: "Serves an editor: shows errors while a source text is typed",
+        whole: run_help::LSP,
+        example: run_help::LSP_EXAMPLE,
+        arguments: &[SERVED_LATTICE, STRICT],
     },
     Subcommand {
         name: "explain",

@@ -101,6 +101,12 @@ pub(crate) const LATTICE_OPTION: &str = "\
 The path of the lattice file. With it FILE is a source text, which is
 judged as `vsi build` judges it.";
 
+/// The lattice file of a language server.
+pub(crate) const SERVED_LATTICE: &str = "\
+The path of the lattice file of each text whose first comment names
+none. Without it such a text is judged with the classes L and H, L
+below H.";
+
 /// The operand of `explain`.
 pub(crate) const WHAT: &str = "\
 The number after `refused:`, in digits alone, or one of the subjects

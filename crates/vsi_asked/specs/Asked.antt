@@ -11,7 +11,7 @@ use Rattle.vsi_arguments.specs.declared.request.Compilation.{Compilation}
 use Rattle.vsi_arguments.specs.declared.request.Execution.{Execution}
 use Rattle.vsi_arguments.specs.declared.request.Outset.{Outset}
 use Rattle.vsi_arguments.specs.declared.request.Request.{Request}
-use Rattle.vsi_arguments.specs.declared.request.Request.TheVariants.{Try, Check, Conform, Classes, Flows, Mend, Build, List as Listing, Audit, Source, EmitC, Bound, Run, View, Drive, Compare, Leak, Report, Draw, Policy, Format, Lattice as Shaped, Explain}
+use Rattle.vsi_arguments.specs.declared.request.Request.TheVariants.{Try, Lsp, Check, Conform, Classes, Flows, Mend, Build, List as Listing, Audit, Source, EmitC, Bound, Run, View, Drive, Compare, Leak, Report, Draw, Policy, Format, Lattice as Shaped, Explain}
 use Rattle.vsi_arguments.specs.declared.request.TheConstants.{SEARCH, TRY_BUDGET}
 use Rattle.vsi_explain.specs.Pages.{page_of}
 use Rattle.vsi_explain.specs.Subjects.{subject_page}
@@ -42,6 +42,7 @@ name_of (Draw drawing) = codes "draw"
 name_of (Policy looking) = codes "policy"
 name_of (Format source) = codes "fmt"
 name_of (Shaped arguments) = codes "lattice"
+name_of (Lsp serving) = codes "lsp"
 name_of (Explain page) = codes "explain"
 
 -- An optional path, as a list.
@@ -77,6 +78,7 @@ operands_of (Draw drawing) = drawing.lattice.now ∷ given drawing.source
 operands_of (Policy looking) = looking.lattice.now ∷ given looking.old
 operands_of (Format source) = source.now ∷ []
 operands_of (Shaped arguments) = shown arguments.items
+operands_of (Lsp serving) = []
 operands_of (Explain page) = []
 
 -- The flags of a request, each with whether it is set.
@@ -109,6 +111,7 @@ flags_of (Draw drawing) = (codes "--strict", drawing.is_strict) ∷ []
 flags_of (Policy looking) = []
 flags_of (Format source) = []
 flags_of (Shaped arguments) = []
+flags_of (Lsp serving) = (codes "--strict", serving.is_strict) ∷ []
 flags_of (Explain page) = []
 
 -- The options for a run's beginning and end, each with its values.
@@ -133,6 +136,7 @@ options_of (Compare comparison) =
     (codes "--class", comparison.class.now ∷ [])
     ∷ (codes "--store", comparison.stores.0.now ∷ comparison.stores.1.now ∷ []) ∷ []
 options_of (Leak search) = (codes "--class", given search.class) ∷ []
+options_of (Lsp serving) = (codes "--lattice", given serving.lattice) ∷ []
 options_of request = []
 
 -- The budget of a run, which is required.
@@ -197,9 +201,10 @@ Spells words (Explain page) = AsksPage words page.now
 Spells words request =
     Asks words (name_of request) (operands_of request) (flags_of request) (options_of request) (numbers_of request)
 
--- The flag and the option that say how a refusal is explained, for each subcommand that reads a file.
+-- The flag and the option that say how a refusal is explained, for each subcommand that one can end.
 abbrev pub manner_of : Request → List (List ℕ) × List (List ℕ)
 manner_of (Shaped arguments) = ([], [])
+manner_of (Lsp serving) = ([], [])
 manner_of (Explain page) = ([], [])
 manner_of request = (codes "--explain" ∷ [], codes "--color" ∷ [])
 

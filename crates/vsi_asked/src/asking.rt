@@ -10,7 +10,7 @@ use crate::own::has_own_alone;
 use crate::reading::{has_flag, has_operands, has_values};
 use vsi_arguments::{
     Attempt, Audit, Bounding, Comparison, Compilation, Conformance, Drawing, Driving, Emission,
-    Execution, Judging, Looking, Mending, Outset, Request, SEARCH, Search, TRY_BUDGET,
+    Execution, Judging, Looking, Mending, Outset, Request, SEARCH, Search, Serving, TRY_BUDGET,
 };
 use vsi_explain::{page, subject_page};
 
@@ -215,6 +215,17 @@ fn asks_leak(words: &[String], search: &Search<'_>) -> bool
         && has_number(rest, "--budget", Some(SEARCH), search.budget)
         && has_number(rest, "--tries", Some(SEARCH), search.tries)
         && has_number(rest, "--seed", Some(0), search.seed)
+}
+
+/// Whether the arguments request a language server.
+fn asks_lsp(words: &[String], serving: &Serving<'_>) -> bool
+    ensures { result ≡ true → spec.Spells words.now (request.Lsp serving.now) }
+{
+    let flags = [("--strict", serving.is_strict)];
+    let Some(rest) = behind(words, "lsp", &[], flags.as_slice()) else {
+        return false;
+    };
+    has_value(rest, "--lattice", serving.lattice)
 }
 
 /// Whether the arguments request a drawing.
@@ -429,6 +440,7 @@ fn spells(words: &[String], request: &Request<'_>) -> bool
         Request::Policy(looking) => asks_policy(words, looking),
         Request::Format(source) => asks_file(words, "fmt", source),
         Request::Lattice(arguments) => asks(words, "lattice", arguments.as_slice(), &[]),
+        Request::Lsp(serving) => asks_lsp(words, serving),
         Request::Explain(text) => asks_page(words, text),
     }
 }

@@ -75,6 +75,12 @@ const LEAK: [&[u8]; 3] = [b"--endings", b"--steps", b"--explain"];
 /// The options of `leak`.
 const LEAK_OPTIONS: [&[u8]; 5] = [b"--class", b"--budget", b"--tries", b"--seed", b"--color"];
 
+/// The flags of `lsp`.
+const LSP: [&[u8]; 1] = [b"--strict"];
+
+/// The options of `lsp`.
+const LSP_OPTIONS: [&[u8]; 1] = [b"--lattice"];
+
 /// Whether an argument is one of these names.
 fn is_among(names: &[&[u8]], word: &[u8]) -> bool
     ensures { result ≡ spec.is_among (spec.shown names.now) word.now }
@@ -154,6 +160,7 @@ pub(crate) fn has_own_alone(words: &[String], request: &Request<'_>) -> bool
         Request::Compare(_) => are_own(words, NO_FLAGS.as_slice(), COMPARE_OPTIONS.as_slice()),
         Request::Leak(_) => are_own(words, LEAK.as_slice(), LEAK_OPTIONS.as_slice()),
         Request::Try(_) => are_own(words, NO_FLAGS.as_slice(), TRY_OPTIONS.as_slice()),
+        Request::Lsp(_) => are_own(words, LSP.as_slice(), LSP_OPTIONS.as_slice()),
         Request::Lattice(_) | Request::Explain(_) => are_own(words, &[], &[]),
     }
 }

@@ -8,7 +8,7 @@ use Rattle.vsi.specs.Reasons.{AsksCanonical, AsksClasses, AsksFlows, AsksMend, H
 use Rattle.vsi.proofs.Filled.{alone}
 use Rattle.vsi.proofs.Obeyed.{put_stops}
 use Rattle.vsi.proofs.Unrun.{Unseen, fault_stopped}
-use Rattle.vsi.proofs.Partly.{accept_leaves, fault_leaves, kept_leaves, put_leaves}
+use Rattle.vsi.proofs.Partly.{accept_leaves, cut_leaves, fault_leaves, kept_leaves, put_leaves}
 use Rattle.vsi.proofs.Written.{accept_performs, build_performs, put_alone}
 use Rattle.vsi.proofs.performing.perform.Goals as goal
 
@@ -123,6 +123,10 @@ returns-in-Explain-clause-performed g c = rw c.in-Explain.is
     text))
     c.as_bytes.ensures.value c.write.ensures.whole))
 
+pub returns-in-Lsp-clause-performed : goal.returns-in-Lsp-clause-performed
+returns-in-Lsp-clause-performed g c = rw c.in-Lsp.is
+    (alone _ c.serve.result _ _ c.serve.ensures.kept c.serve.ensures.served)
+
 -- ---- what is left of the output.
 
 pub returns-in-Classes-clause-left : goal.returns-in-Classes-clause-left
@@ -211,6 +215,10 @@ returns-in-View-clause-left g c = rw c.in-View.is c.view.ensures.left
 
 pub returns-in-Drive-clause-left : goal.returns-in-Drive-clause-left
 returns-in-Drive-clause-left g c = rw c.in-Drive.is c.drive.ensures.left
+
+pub returns-in-Lsp-clause-left : goal.returns-in-Lsp-clause-left
+returns-in-Lsp-clause-left g c = rw c.in-Lsp.is
+    (cut_leaves _ _ _ c.serve.result c.serve.ensures.cut)
 
 -- ---- why it has stopped.
 
@@ -323,3 +331,6 @@ returns-in-Compare-clause-stopped g c = rw c.in-Compare.is c.compare.ensures.sto
 pub returns-in-Explain-clause-stopped : goal.returns-in-Explain-clause-stopped
 returns-in-Explain-clause-stopped g c = rw c.in-Explain.is
     (fault_stopped (λ reason. ⊥) NoOther c.write.result c.write.ensures.stop)
+
+pub returns-in-Lsp-clause-stopped : goal.returns-in-Lsp-clause-stopped
+returns-in-Lsp-clause-stopped g c = rw c.in-Lsp.is c.serve.ensures.stopped

@@ -75,3 +75,7 @@ returns-in-Compare c =
 pub returns-in-Try : goal.returns-in-Try
 returns-in-Try c =
     rw c.in-Try.is (rw (c.as_slice-in-Try.ensures, c.as_slice-in-Try-2.ensures) at c.are_own-in-Try.ensures)
+
+pub returns-in-Lsp : goal.returns-in-Lsp
+returns-in-Lsp c =
+    rw c.in-Lsp.is (rw (c.as_slice-in-Lsp.ensures, c.as_slice-in-Lsp-2.ensures) at c.are_own-in-Lsp.ensures)

@@ -1,0 +1,87 @@
+//! Messages in a stream of a client, each after a header with its length.
+
+ghost use Rattle.std.specs.Prelude.{◌≤◌, length, IfSome};
+ghost use Rattle.vsi_client.specs.Pieces as spec;
+
+/// A piece at the beginning of a stream of messages.
+#[derive(Clone, Copy, Debug, PartialEq, Eq)]
+pub enum Piece {
+    /// The end of the next message hasn't come yet.
+    Unfinished,
+    /// A message of this many bytes after a header of this many bytes.
+    Message(usize, usize),
+    /// A header that gives no length, or is too long.
+    Faulty,
+}
+
+/// The longest header, in bytes.
+const LONGEST_HEADER: usize = 4096;
+
+/// The longest message, in bytes: a text of the greatest length, each of whose bytes is escaped.
+const LONGEST_MESSAGE: usize = 16_777_216;
+
+/// The number of bytes up to and with the end of the header, if it is there.
+fn header_size(bytes: &[u8]) -> Option<usize>
+    ensures { IfSome result (λ size. size ≤ length bytes.now) }
+{
+    for end in 4..bytes.len().min(LONGEST_HEADER).saturating_add(1) {
+        if end <= bytes.len() && bytes[..end].ends_with(b"\r\n\r\n") {
+            return Some(end);
+        }
+    }
+    None
+}
+
+/// The number that digits spell, if it is small enough for a message.
+fn number_in(digits: &[u8]) -> Option<usize> {
+    let mut number: usize = 0;
+    for digit in digits {
+        if !digit.is_ascii_digit() || number > LONGEST_MESSAGE {
+            return None;
+        }
+        number = number
+            .wrapping_mul(10)
+            .wrapping_add(usize::from(*digit - b'0'));
+    }
+    if digits.is_empty() || number > LONGEST_MESSAGE {
+        return None;
+    }
+    Some(number)
+}
+
+/// The number that a line of a header gives as the length of the message.
+fn length_in(line: &[u8]) -> Option<usize> {
+    let name = b"content-length:";
+    let (start, rest) = line.split_at_checked(name.len())?;
+    if !start.eq_ignore_ascii_case(name) {
+        return None;
+    }
+    number_in(rest.trim_ascii())
+}
+
+/// The length that a header gives.
+fn message_size(header: &[u8]) -> Option<usize> {
+    for line in header.split(|byte| *byte == b'\n') {
+        if let Some(length) = length_in(line) {
+            return Some(length);
+        }
+    }
+    None
+}
+
+/// The piece at the beginning of a stream.
+pub fn next_piece(bytes: &[u8]) -> Piece
+    ensures within { spec.IsWithin (length bytes.now) result }
+{
+    let Some(header) = header_size(bytes) else {
+        if bytes.len() >= LONGEST_HEADER {
+            return Piece::Faulty;
+        }
+        return Piece::Unfinished;
+    };
+    match message_size(&bytes[..header]) {
+        Some(size) if size <= bytes.len() - header => Piece::Message(header, size),
+        Some(_) => Piece::Unfinished,
+        None => Piece::Faulty,
+    }
+}

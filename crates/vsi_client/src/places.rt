@@ -1,0 +1,248 @@
+//! Positions of a text: a line and the code units before a place in that line, both from 0.
+
+ghost use Rattle.std.specs.Prelude.{◌≡◌, ◌≤◌, ◌+◌, ◌<◌, ◌^◌, length, take, drop, true, false, is_some, IfSome};
+ghost use Rattle.vsi_client.specs.Places as spec;
+
+/// The code units in which a client counts.
+#[derive(Clone, Copy, Debug, PartialEq, Eq)]
+pub enum Encoding {
+    Utf8,
+    Utf16,
+}
+
+/// A position: a line, and the code units before the place in that line.
+#[derive(Clone, Copy, Debug, PartialEq, Eq)]
+pub struct Place {
+    pub line: usize,
+    pub character: usize,
+}
+
+/// The code units of a character of several bytes, at its first byte.
+fn long_units(encoding: Encoding, byte: u8) -> usize
+    ensures { result ≡ spec.long_units encoding byte }
+{
+    match encoding {
+        Encoding::Utf8 => {
+            if byte < 224 {
+                2
+            } else if byte < 240 {
+                3
+            } else {
+                4
+            }
+        }
+        Encoding::Utf16 => { if byte < 240 { 1 } else { 2 } }
+    }
+}
+
+/// The code units that a byte adds.
+fn units(encoding: Encoding, byte: u8) -> usize
+    ensures { result ≡ spec.units encoding byte }
+{
+    if byte < 128 {
+        1
+    } else if byte < 192 {
+        0
+    } else {
+        long_units(encoding, byte)
+    }
+}
+
+/// Whether a byte ends a line.
+fn is_break(byte: u8) -> bool
+    ensures { result ≡ spec.is_break byte }
+{
+    byte == b'\n' || byte == b'\r'
+}
+
+/// The length of a line feed at the beginning of a text.
+fn feed_size(text: &[u8]) -> usize
+    ensures size { result ≡ spec.feed_size text.now }
+    ensures within { result ≤ length text.now }
+{
+    match text {
+        [b'\n', ..] => 1,
+        _ => 0,
+    }
+}
+
+/// The length of the first line with its end.
+fn line_size(text: &[u8]) -> usize
+    ensures size { result ≡ spec.line_size text.now }
+    ensures within { result ≤ length text.now }
+{
+    let mut count = 0;
+    let mut rest = text;
+    while let [byte, behind @ ..] = rest {
+        if *byte == b'\n' {
+            return count + 1;
+        }
+        if *byte == b'\r' {
+            return count + 1 + feed_size(behind);
+        }
+        count += 1;
+        rest = behind;
+    }
+    count
+}
+
+/// The bytes of a text after the first ones.
+fn after(text: &[u8], size: usize) -> &[u8]
+    requires { size ≤ length text.now }
+    ensures rest { result.now ≡ drop size text.now }
+    ensures left { size + length result.now ≡ length text.now }
+{
+    let (_, rest) = text.split_at(size);
+    rest
+}
+
+/// The bytes before a line; all of them if there are fewer lines.
+fn line_start(text: &[u8], line: usize) -> usize
+    ensures start { result ≡ spec.line_start line text.now }
+    ensures within { result ≤ length text.now }
+{
+    let mut start = 0;
+    let mut left = line;
+    let mut rest = text;
+    while left > 0 && !rest.is_empty() {
+        let size = line_size(rest);
+        start += size;
+        left -= 1;
+        rest = after(rest, size);
+    }
+    start
+}
+
+/// The bytes of the whole characters within a number of code units, up to the end of the line.
+fn in_line(encoding: Encoding, text: &[u8], character: usize) -> usize
+    ensures size { result ≡ spec.in_line encoding character text.now }
+    ensures within { result ≤ length text.now }
+{
+    let mut count = 0;
+    let mut left = character;
+    let mut rest = text;
+    while let [byte, behind @ ..] = rest {
+        let wanted = units(encoding, *byte);
+        if is_break(*byte) || left < wanted {
+            return count;
+        }
+        left -= wanted;
+        count += 1;
+        rest = behind;
+    }
+    count
+}
+
+/// The bytes before a position. A position past the end of its line is the end of that line, and one
+/// inside of a character is the beginning of that character.
+pub fn offset_of(encoding: Encoding, text: &[u8], place: Place) -> usize
+    ensures offset { result ≡ spec.offset_in encoding text.now place }
+    ensures within { result ≤ length text.now }
+    ensures boundary { spec.BeginsCharacter (drop result text.now) }
+{
+    let start = line_start(text, place.line);
+    start + in_line(encoding, after(text, start), place.character)
+}
+
+/// The bytes of a line without its end.
+fn content_size(text: &[u8]) -> usize
+    ensures size { result ≡ spec.content_size text.now }
+    ensures within { result ≤ length text.now }
+{
+    let mut count = 0;
+    let mut rest = text;
+    while let [byte, behind @ ..] = rest {
+        if is_break(*byte) {
+            return count;
+        }
+        count += 1;
+        rest = behind;
+    }
+    count
+}
+
+/// The code units of a text, if they are fewer than 2^62 bytes.
+fn units_in(encoding: Encoding, text: &[u8]) -> usize
+    ensures { length text.now < 2 ^ 62 → result ≡ spec.units_in encoding text.now }
+{
+    let mut count: usize = 0;
+    let mut rest = text;
+    while let [byte, behind @ ..] = rest {
+        count = count.wrapping_add(units(encoding, *byte));
+        rest = behind;
+    }
+    count
+}
+
+/// Whether a place so many bytes away is past the first line.
+fn is_past(text: &[u8], left: usize) -> bool
+    ensures past { result ≡ true → spec.content_size text.now < left }
+    ensures some { result ≡ true → 0 < length text.now }
+    ensures within { result ≡ false → left ≤ length text.now →
+        left ≤ spec.content_size text.now }
+{
+    !text.is_empty() && left > content_size(text)
+}
+
+/// The code units of the first line before a place so many bytes away.
+fn units_before(encoding: Encoding, text: &[u8], left: usize) -> usize
+    ensures { length text.now < 2 ^ 62 → left ≤ spec.content_size text.now →
+        result ≡ spec.units_in encoding (take left text.now) }
+{
+    let (line, _) = text.split_at(left.min(content_size(text)));
+    units_in(encoding, line)
+}
+
+/// The position of the place before a byte; a place near it, if that is inside of a character or of
+/// a line's end.
+fn near(encoding: Encoding, text: &[u8], at: usize) -> Place
+    ensures { length text.now < 2 ^ 62 → spec.IsPlaced text.now at →
+        spec.offset_in encoding text.now result ≡ at }
+{
+    let mut line: usize = 0;
+    let mut left = at;
+    let mut rest = text;
+    while is_past(rest, left) {
+        let size = line_size(rest);
+        line += 1;
+        left = left.saturating_sub(size);
+        rest = after(rest, size);
+    }
+    Place {
+        line,
+        character: units_before(encoding, rest, left),
+    }
+}
+
+/// The position of the place before a byte, unless that is inside of a character or of a line's end.
+pub fn place_of(encoding: Encoding, text: &[u8], at: usize) -> Option<Place>
+    ensures denoted { IfSome result (λ place. spec.offset_in encoding text.now place ≡ at) }
+    ensures found { length text.now < 2 ^ 62 → spec.IsPlaced text.now at → is_some result ≡ true }
+{
+    let place = near(encoding, text, at);
+    if offset_of(encoding, text, place) == at {
+        Some(place)
+    } else {
+        None
+    }
+}
+
+/// A part of a text between two positions.
+#[derive(Clone, Copy, Debug, PartialEq, Eq)]
+pub struct Range {
+    pub start: Place,
+    pub stop: Place,
+}
+
+/// The positions of a part of a text.
+pub fn range_of(encoding: Encoding, text: &[u8], start: usize, stop: usize) -> Range
+    ensures start { length text.now < 2 ^ 62 → spec.IsPlaced text.now start →
+        spec.offset_in encoding text.now result.start ≡ start }
+    ensures stop { length text.now < 2 ^ 62 → spec.IsPlaced text.now stop →
+        spec.offset_in encoding text.now result.stop ≡ stop }
+{
+    Range {
+        start: near(encoding, text, start),
+        stop: near(encoding, text, stop),
+    }
+}

@@ -1,0 +1,256 @@
+//! Answers to requests about the names of a program, and the canonical form of a text.
+
+use crate::diagnostics::Page;
+use crate::objects::{location_object, place_object, range_object, text, text_at};
+use crate::reading::{Reading, reading_of};
+use crate::replies::Fault;
+use serde_json::{Map, Value, json, put};
+use std::alloc::{AllocError, Global};
+use vsi_client::{Change, Range};
+use vsi_compiler::{CompileError, format_text, read_source};
+use vsi_lattice::Lattice;
+use vsi_names::{Mention, rename};
+use vsi_syntax::Span;
+use vsi_types::Profile;
+
+/// Whether a request is about the names of a program.
+pub(crate) fn is_of_names(method: &str) -> bool {
+    matches!(
+        method,
+        "textDocument/hover"
+            | "textDocument/inlayHint"
+            | "textDocument/definition"
+            | "textDocument/references"
+            | "textDocument/documentHighlight"
+            | "textDocument/documentSymbol"
+            | "textDocument/rename"
+    )
+}
+
+/// The answer to a request about the names of a program: nothing if the text has none.
+pub(crate) fn names_answer(
+    alloc: Global,
+    profile: Profile,
+    lattice: &Lattice,
+    page: Page<'_>,
+    method: &str,
+    value: &Value,
+) -> Result<Result<Value, Fault>, AllocError> {
+    match read_source(alloc, lattice, page.text) {
+        Ok(source) => {
+            let reading = reading_of(alloc, profile, page, source)?;
+            answer(alloc, &reading, method, value)
+        }
+        Err(CompileError::Memory) => Err(AllocError),
+        Err(_) => Ok(Ok(Value::Null)),
+    }
+}
+
+/// The answer to a request about the names of a program.
+fn answer(
+    alloc: Global,
+    reading: &Reading<'_>,
+    method: &str,
+    value: &Value,
+) -> Result<Result<Value, Fault>, AllocError> {
+    match method {
+        "textDocument/inlayHint" => Ok(Ok(hints(alloc, reading)?)),
+        "textDocument/documentSymbol" => Ok(Ok(symbols(alloc, reading)?)),
+        "textDocument/rename" => renaming(alloc, reading, value),
+        _ => match reading.pointed(value) {
+            Some(mention) => Ok(Ok(pointed_answer(alloc, reading, method, mention)?)),
+            None => Ok(Ok(Value::Null)),
+        },
+    }
+}
+
+/// The answer to a request about a name.
+fn pointed_answer(
+    alloc: Global,
+    reading: &Reading<'_>,
+    method: &str,
+    mention: Mention,
+) -> Result<Value, AllocError> {
+    match method {
+        "textDocument/hover" => hover(alloc, reading, mention),
+        "textDocument/definition" => definition(alloc, reading, mention),
+        _ => parts(alloc, reading, mention, method == "textDocument/references"),
+    }
+}
+
+/// Adds the class of a variable to a text, if it is known.
+fn put_class(text: &mut Vec<u8>, reading: &Reading<'_>, variable: usize) -> Result<(), AllocError> {
+    let Some(class) = reading.class_of(variable) else {
+        return Ok(());
+    };
+    text.extend_from_slice(b" : ")?;
+    text.extend_from_slice(class)
+}
+
+/// The text about a name: the class of its variable.
+fn hover(alloc: Global, reading: &Reading<'_>, mention: Mention) -> Result<Value, AllocError> {
+    let mut shown = Vec::from_slice(alloc, reading.text_of(mention.span))?;
+    put_class(&mut shown, reading, mention.variable)?;
+    if reading.is_inferred(mention.variable) {
+        shown.extend_from_slice(b" (inferred)")?;
+    }
+    let contents = text(alloc, &shown)?;
+    let range = range_object(alloc, reading.page.range(mention.span))?;
+    json!(in alloc; {"contents": contents, "range": range})
+}
+
+/// Where the variable of a name is declared.
+fn definition(alloc: Global, reading: &Reading<'_>, mention: Mention) -> Result<Value, AllocError> {
+    for other in &reading.mentions {
+        if other.is_declaration && other.variable == mention.variable {
+            return location_object(alloc, reading.page.uri, reading.page.range(other.span));
+        }
+    }
+    Ok(Value::Null)
+}
+
+/// A part of a document, with the name of the document or without.
+fn part(alloc: Global, page: Page<'_>, span: Span, is_named: bool) -> Result<Value, AllocError> {
+    if is_named {
+        return location_object(alloc, page.uri, page.range(span));
+    }
+    let range = range_object(alloc, page.range(span))?;
+    json!(in alloc; {"range": range})
+}
+
+/// The parts of the text that name the variable of a name.
+fn parts(
+    alloc: Global,
+    reading: &Reading<'_>,
+    mention: Mention,
+    is_named: bool,
+) -> Result<Value, AllocError> {
+    let mut list = Vec::new(alloc);
+    for other in &reading.mentions {
+        if other.variable == mention.variable {
+            list.push(part(alloc, reading.page, other.span, is_named)?)?;
+        }
+    }
+    Ok(Value::Array(list))
+}
+
+/// The object of a class that isn't declared, after a name.
+fn hint(alloc: Global, range: Range, label: &[u8]) -> Result<Value, AllocError> {
+    let place = place_object(alloc, range.stop)?;
+    let label = text(alloc, label)?;
+    json!(in alloc; {"position": place, "label": label, "kind": 1})
+}
+
+/// The classes that aren't declared, after the names of their variables.
+fn hints(alloc: Global, reading: &Reading<'_>) -> Result<Value, AllocError> {
+    let mut list = Vec::new(alloc);
+    for mention in &reading.mentions {
+        if !mention.is_declaration || !reading.is_inferred(mention.variable) {
+            continue;
+        }
+        let mut label = Vec::new(alloc);
+        put_class(&mut label, reading, mention.variable)?;
+        if !label.is_empty() {
+            list.push(hint(alloc, reading.page.range(mention.span), &label)?)?;
+        }
+    }
+    Ok(Value::Array(list))
+}
+
+/// The object of a declaration.
+fn symbol(alloc: Global, reading: &Reading<'_>, mention: Mention) -> Result<Value, AllocError> {
+    let name = text(alloc, reading.text_of(mention.span))?;
+    let class = text(alloc, reading.class_of(mention.variable).unwrap_or(b""))?;
+    let range = range_object(alloc, reading.page.range(mention.span))?;
+    let copy = range.clone()?;
+    json!(in alloc; {
+        "name": name, "detail": class, "kind": 13, "range": range, "selectionRange": copy
+    })
+}
+
+/// The declarations.
+fn symbols(alloc: Global, reading: &Reading<'_>) -> Result<Value, AllocError> {
+    let mut list = Vec::new(alloc);
+    for mention in &reading.mentions {
+        if mention.is_declaration {
+            list.push(symbol(alloc, reading, *mention)?)?;
+        }
+    }
+    Ok(Value::Array(list))
+}
+
+/// The change of a part of a text.
+fn edit(alloc: Global, range: Range, new: &[u8]) -> Result<Value, AllocError> {
+    let range = range_object(alloc, range)?;
+    let new = text(alloc, new)?;
+    json!(in alloc; {"range": range, "newText": new})
+}
+
+/// The objects of changes at positions.
+fn edits(alloc: Global, changes: &[Change<'_>]) -> Result<Value, AllocError> {
+    let mut list = Vec::new(alloc);
+    for change in changes {
+        if let Some((start, stop)) = change.range {
+            list.push(edit(alloc, Range { start, stop }, change.text)?)?;
+        }
+    }
+    Ok(Value::Array(list))
+}
+
+/// The changes of a document.
+fn document_edits(alloc: Global, uri: &[u8], list: Value) -> Result<Value, AllocError> {
+    let mut documents = Map::new(alloc);
+    let name = String::from_utf8_lossy(alloc, uri)?;
+    put(&mut documents, alloc, name.as_str(), list)?;
+    json!(in alloc; {"changes": Value::Object(documents)})
+}
+
+/// The changes that rename a variable, unless they would change the program.
+fn renaming(
+    alloc: Global,
+    reading: &Reading<'_>,
+    value: &Value,
+) -> Result<Result<Value, Fault>, AllocError> {
+    let Some(mention) = reading.pointed(value) else {
+        return Ok(Err(Fault::Rename));
+    };
+    let Some(name) = text_at(value, "/params/newName") else {
+        return Ok(Err(Fault::Parameters));
+    };
+    let encoding = reading.page.encoding;
+    let mentions = &reading.mentions;
+    let name = name.as_bytes();
+    match rename(
+        alloc,
+        encoding,
+        &reading.source,
+        mentions,
+        mention.variable,
+        name,
+    )? {
+        Some(changes) => {
+            let list = edits(alloc, &changes)?;
+            Ok(Ok(document_edits(alloc, reading.page.uri, list)?))
+        }
+        None => Ok(Err(Fault::Rename)),
+    }
+}
+
+/// The change that gives a text without comments its canonical form: nothing for a text that has a
+/// comment or no tree.
+pub(crate) fn formatting(alloc: Global, page: Page<'_>) -> Result<Value, AllocError> {
+    if page.text.contains(&b'#') {
+        return Ok(Value::Null);
+    }
+    let text = match format_text(alloc, page.text) {
+        Ok(text) => text,
+        Err(CompileError::Memory) => return Err(AllocError),
+        Err(_) => return Ok(Value::Null),
+    };
+    let whole = Span {
+        start: 0,
+        stop: page.text.len(),
+    };
+    let change = edit(alloc, page.range(whole), &text)?;
+    json!(in alloc; [change])
+}

@@ -1,0 +1,228 @@
+//! Open documents, and the errors that are published for them.
+
+use crate::diagnostics::{Page, error_object, errors_in, only};
+use crate::objects::text;
+use crate::replies::notification;
+use serde_json::{Value, json};
+use std::alloc::{AllocError, Global};
+use vsi_client::Encoding;
+use vsi_diagnostics::{Fault, fault_diagnostic, fault_text};
+use vsi_lattice::{LatticeError, read_lattice};
+use vsi_names::START;
+use vsi_policy::named_policy;
+use vsi_syntax::Span;
+use vsi_types::Profile;
+
+/// The lattice file of two classes, for a document that names none.
+const TWO_CLASSES: &[u8] = b"classes = [\"L\", \"H\"]\nbelow = [[\"L\", \"H\"]]\n";
+
+/// The lattice file of a document.
+#[derive(Drop)]
+pub(crate) enum Policy {
+    /// The file with `L` below `H`.
+    Two,
+    /// A file with these bytes.
+    File(Vec<u8>),
+    /// The file at this path, which can't be read.
+    Lost(Vec<u8>),
+}
+
+/// A kind of document.
+#[derive(Clone, Copy, Debug, PartialEq, Eq)]
+pub(crate) enum Kind {
+    Source,
+    Lattice,
+    /// A store, an interface, or another file that isn't judged.
+    Other,
+}
+
+/// An open document.
+#[derive(Drop)]
+pub(crate) struct Document {
+    pub(crate) uri: Vec<u8>,
+    pub(crate) version: Option<i64>,
+    pub(crate) text: Vec<u8>,
+    pub(crate) policy: Policy,
+}
+
+/// Whether a line of a TOML text begins with a key.
+fn has_key(text: &[u8], key: &[u8]) -> bool {
+    for line in text.split(|byte| *byte == b'\n') {
+        if line.starts_with(key) {
+            return true;
+        }
+    }
+    false
+}
+
+/// Whether a TOML text has a key that an interface file has and a lattice file hasn't.
+fn is_interface(text: &[u8]) -> bool {
+    has_key(text, b"globals")
+        || has_key(text, b"profile")
+        || has_key(text, b"order")
+        || has_key(text, b"lattice")
+        || has_key(text, b"[[runs")
+}
+
+impl Document {
+    /// The document as it is judged.
+    pub(crate) fn page(&self, encoding: Encoding) -> Page<'_> {
+        Page {
+            uri: &self.uri,
+            text: &self.text,
+            encoding,
+        }
+    }
+
+    /// The bytes of the lattice file of the document, if it can be read.
+    pub(crate) fn policy_bytes(&self) -> Option<&[u8]> {
+        match &self.policy {
+            Policy::Two => Some(TWO_CLASSES),
+            Policy::File(bytes) => Some(bytes.as_slice()),
+            Policy::Lost(_) => None,
+        }
+    }
+
+    /// The kind of the document: a TOML file that has a key of lattice files and none of interfaces is a
+    /// lattice file.
+    pub(crate) fn kind(&self) -> Kind {
+        if !self.uri.ends_with(b".toml") {
+            return Kind::Source;
+        }
+        let has_classes = has_key(&self.text, b"classes") || has_key(&self.text, b"below");
+        if has_classes && !is_interface(&self.text) {
+            return Kind::Lattice;
+        }
+        Kind::Other
+    }
+}
+
+/// The part of a text from a byte to the end of its line.
+fn line_span(text: &[u8], start: usize) -> Span {
+    let mut stop = start;
+    for byte in text.get(start..).unwrap_or(b"") {
+        if *byte == b'\n' || *byte == b'\r' {
+            break;
+        }
+        stop = stop.saturating_add(1);
+    }
+    Span { start, stop }
+}
+
+/// The part of a source text that names its lattice file.
+fn naming_span(text: &[u8]) -> Span {
+    if named_policy(text).is_none() {
+        return START;
+    }
+    match text.iter().position(|byte| *byte == b'#') {
+        Some(start) => line_span(text, start),
+        None => START,
+    }
+}
+
+/// The error of a lattice file that can't be read.
+fn lost_object(alloc: Global, page: Page<'_>, path: &[u8]) -> Result<Value, AllocError> {
+    let mut message = Vec::from_slice(alloc, b"file fault: ")?;
+    message.extend_from_slice(path)?;
+    error_object(alloc, page, naming_span(page.text), 0, &message)
+}
+
+/// The error of a lattice file that is refused.
+fn refused_object(
+    alloc: Global,
+    page: Page<'_>,
+    span: Span,
+    error: LatticeError,
+) -> Result<Value, AllocError> {
+    let fault = Fault::Lattice(error);
+    let Some(diagnostic) = fault_diagnostic(&fault) else {
+        return Err(AllocError);
+    };
+    let text = fault_text(alloc, &fault)?;
+    error_object(alloc, page, span, diagnostic.code, text.trim_ascii_end())
+}
+
+/// The errors of a lattice file that is open.
+fn lattice_errors(alloc: Global, page: Page<'_>) -> Result<Vec<Value>, AllocError> {
+    let Err(error) = read_lattice(alloc, page.text) else {
+        return Ok(Vec::new(alloc));
+    };
+    let span = line_span(page.text, 0);
+    only(alloc, refused_object(alloc, page, span, error)?)
+}
+
+/// The errors of a source text under a lattice file.
+fn source_errors(
+    alloc: Global,
+    profile: Profile,
+    page: Page<'_>,
+    bytes: &[u8],
+) -> Result<Vec<Value>, AllocError> {
+    match read_lattice(alloc, bytes) {
+        Ok(lattice) => errors_in(alloc, page.encoding, profile, &lattice, page.uri, page.text),
+        Err(error) => {
+            let span = naming_span(page.text);
+            only(alloc, refused_object(alloc, page, span, error)?)
+        }
+    }
+}
+
+/// The errors of a document.
+fn document_errors(
+    alloc: Global,
+    encoding: Encoding,
+    profile: Profile,
+    document: &Document,
+) -> Result<Vec<Value>, AllocError> {
+    let page = document.page(encoding);
+    match document.kind() {
+        Kind::Lattice => lattice_errors(alloc, page),
+        Kind::Other => Ok(Vec::new(alloc)),
+        Kind::Source => match &document.policy {
+            Policy::Two => source_errors(alloc, profile, page, TWO_CLASSES),
+            Policy::File(bytes) => source_errors(alloc, profile, page, bytes),
+            Policy::Lost(path) => only(alloc, lost_object(alloc, page, path)?),
+        },
+    }
+}
+
+/// The message with these errors.
+fn publication(
+    alloc: Global,
+    uri: &[u8],
+    version: Option<i64>,
+    errors: Vec<Value>,
+) -> Result<Value, AllocError> {
+    let uri = text(alloc, uri)?;
+    let errors = Value::Array(errors);
+    let parameters = match version {
+        Some(version) => {
+            json!(in alloc; {"uri": uri, "version": version, "diagnostics": errors})?
+        }
+        None => json!(in alloc; {"uri": uri, "diagnostics": errors})?,
+    };
+    notification(alloc, "textDocument/publishDiagnostics", parameters)
+}
+
+/// The message with the errors of a document.
+pub(crate) fn published(
+    alloc: Global,
+    encoding: Encoding,
+    profile: Profile,
+    document: &Document,
+) -> Result<Value, AllocError> {
+    let errors = document_errors(alloc, encoding, profile, document)?;
+    publication(alloc, &document.uri, document.version, errors)
+}
+
+/// The message that a document that is closed has no errors.
+pub(crate) fn cleared(alloc: Global, uri: &[u8]) -> Result<Value, AllocError> {
+    publication(alloc, uri, None, Vec::new(alloc))
+}
+
+/// A message for the log of the client.
+pub(crate) fn said(alloc: Global, line: &[u8]) -> Result<Value, AllocError> {
+    let line = text(alloc, line)?;
+    let parameters = json!(in alloc; {"type": 3, "message": line})?;
+    notification(alloc, "window/logMessage", parameters)
+}

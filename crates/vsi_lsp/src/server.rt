@@ -1,0 +1,442 @@
+//! The state of a server, and what it does for each message.
+
+ghost use Rattle.std.specs.Prelude.{IfOk};
+ghost use Rattle.vsi_lsp.specs.Frames.{AreFrames};
+
+use crate::asking::{formatting, is_of_names, names_answer};
+use crate::documents::{Document, Kind, Policy, cleared, published, said};
+use crate::frames::framed;
+use crate::objects::{range_at, text_at};
+use crate::replies::{Fault, failure, response};
+use crate::starting::{encoding_for, welcome};
+use serde_json::Value;
+use std::alloc::{AllocError, Global};
+use vsi_client::{Change, Encoding, Piece, changed_by, next_piece, path_beside};
+use vsi_lattice::{LatticeError, read_lattice};
+use vsi_policy::named_policy;
+use vsi_types::Profile;
+
+/// The line about texts that name no lattice file.
+pub const TWO_SAID: &[u8] =
+    b"vsi: a text that names no lattice file is judged with the classes L and \
+H. Its first comment line can name one: # policy: FILE";
+
+/// The state of the conversation with a client.
+#[derive(Clone, Copy, Debug, PartialEq, Eq)]
+enum Phase {
+    New,
+    Running,
+    ShutDown,
+    Exited,
+    /// The client has ended without `shutdown`, or sent a header without a length.
+    Failed,
+}
+
+/// A lattice file that is to be read, and the document for which it is.
+#[derive(Drop)]
+pub struct Wanted {
+    /// The path of the file.
+    pub path: String,
+    uri: Vec<u8>,
+}
+
+/// A server: the bytes that have come and aren't obeyed yet, the open documents, and the messages
+/// that are to go to the client.
+#[derive(Drop)]
+pub struct Server {
+    alloc: Global,
+    profile: Profile,
+    lattice: Option<String>,
+    stream: Vec<u8>,
+    encoding: Encoding,
+    phase: Phase,
+    has_said: bool,
+    documents: Vec<Document>,
+    messages: Vec<Value>,
+}
+
+impl Server {
+    /// A server that judges under a profile, with the lattice file at a path for texts that name
+    /// none.
+    pub fn new(alloc: Global, profile: Profile, lattice: Option<String>) -> Server {
+        Server {
+            alloc,
+            profile,
+            lattice,
+            stream: Vec::new(alloc),
+            encoding: Encoding::Utf16,
+            phase: Phase::New,
+            has_said: false,
+            documents: Vec::new(alloc),
+            messages: Vec::new(alloc),
+        }
+    }
+
+    /// Whether the server is to end.
+    pub fn has_exited(&self) -> bool {
+        self.phase == Phase::Exited || self.phase == Phase::Failed
+    }
+
+    /// Whether the server is to end with a failure: the client has asked it to end without
+    /// `shutdown`, or has sent a header without a length.
+    pub fn has_failed(&self) -> bool {
+        self.phase == Phase::Failed
+    }
+
+    /// Whether a text that names no lattice file has been judged with the classes `L` and `H`.
+    pub fn judges_by_two(&self) -> bool {
+        self.has_said
+    }
+
+    /// Takes bytes of the client.
+    pub fn take(&mut self, bytes: &[u8]) -> Result<(), AllocError> {
+        self.stream.extend_from_slice(bytes)
+    }
+
+    /// The number of bytes that aren't obeyed yet.
+    pub fn left(&self) -> usize {
+        self.stream.len()
+    }
+
+    /// The bytes for the client since the last call: messages, each after its length.
+    pub fn outgoing(&mut self) -> Result<Vec<u8>, AllocError>
+        ensures framed { IfOk result (λ bytes. AreFrames bytes.items) }
+    {
+        let bytes = framed(self.alloc, &self.messages)?;
+        self.messages.clear();
+        Ok(bytes)
+    }
+
+    /// The next message, if all of it has come. A header without a length ends the conversation.
+    pub fn next_message(&mut self) -> Result<Option<Vec<u8>>, AllocError> {
+        match next_piece(&self.stream) {
+            Piece::Unfinished => Ok(None),
+            Piece::Message(header, size) => {
+                let stop = header.saturating_add(size);
+                let message = copied(self.alloc, self.stream.get(header..stop))?;
+                self.stream = copied(self.alloc, self.stream.get(stop..))?;
+                Ok(Some(message))
+            }
+            Piece::Faulty => {
+                self.phase = Phase::Failed;
+                Ok(None)
+            }
+        }
+    }
+
+    /// Does what a message asks, and returns the lattice file that is to be read and given to
+    /// `judge` then.
+    pub fn obey(&mut self, message: &[u8]) -> Result<Option<Wanted>, AllocError> {
+        match Value::from_slice(self.alloc, message) {
+            Ok(value) => self.obey_value(&value),
+            Err(error) => {
+                if error.is_memory() {
+                    return Err(AllocError);
+                }
+                self.fail(&Value::Null, Fault::Parse)?;
+                Ok(None)
+            }
+        }
+    }
+
+    /// Does what a value asks. Answers of the client are nothing to do.
+    fn obey_value(&mut self, value: &Value) -> Result<Option<Wanted>, AllocError> {
+        let Some(method) = text_at(value, "/method") else {
+            if value.get("result").is_none() && value.get("error").is_none() {
+                self.fail(&Value::Null, Fault::Request)?;
+            }
+            return Ok(None);
+        };
+        let Some(id) = value.get("id") else {
+            return self.note(method, value);
+        };
+        match self.reply(method, value)? {
+            Ok(answer) => self.respond(id, answer)?,
+            Err(fault) => self.fail(id, fault)?,
+        }
+        Ok(None)
+    }
+
+    /// Adds the answer to a request that isn't obeyed.
+    fn fail(&mut self, id: &Value, fault: Fault) -> Result<(), AllocError> {
+        let message = failure(self.alloc, id.clone()?, fault)?;
+        Ok(self.messages.push(message)?)
+    }
+
+    /// Adds the answer to a request.
+    fn respond(&mut self, id: &Value, answer: Value) -> Result<(), AllocError> {
+        let message = response(self.alloc, id.clone()?, answer)?;
+        Ok(self.messages.push(message)?)
+    }
+
+    /// The answer to a request.
+    fn reply(&mut self, method: &str, value: &Value) -> Result<Result<Value, Fault>, AllocError> {
+        match self.phase {
+            Phase::New => self.start(method, value),
+            Phase::Running => self.serve(method, value),
+            _ => Ok(Err(Fault::Request)),
+        }
+    }
+
+    /// The answer to the first request.
+    fn start(&mut self, method: &str, value: &Value) -> Result<Result<Value, Fault>, AllocError> {
+        if method != "initialize" {
+            return Ok(Err(Fault::Uninitialized));
+        }
+        self.encoding = encoding_for(value);
+        self.phase = Phase::Running;
+        Ok(Ok(welcome(self.alloc, self.encoding)?))
+    }
+
+    /// The answer to a request between `initialize` and `shutdown`.
+    fn serve(&mut self, method: &str, value: &Value) -> Result<Result<Value, Fault>, AllocError> {
+        match method {
+            "initialize" => Ok(Err(Fault::Request)),
+            "shutdown" => {
+                self.phase = Phase::ShutDown;
+                Ok(Ok(Value::Null))
+            }
+            "textDocument/formatting" => self.tell(method, value),
+            _ => {
+                if is_of_names(method) {
+                    return self.tell(method, value);
+                }
+                Ok(Err(Fault::Method))
+            }
+        }
+    }
+
+    /// The answer to a request about a document.
+    fn tell(&self, method: &str, value: &Value) -> Result<Result<Value, Fault>, AllocError> {
+        let Some(place) = self.place_of(value) else {
+            return Ok(Err(Fault::Parameters));
+        };
+        let Some(document) = self.documents.get(place) else {
+            return Ok(Err(Fault::Parameters));
+        };
+        let page = document.page(self.encoding);
+        if !is_of_names(method) {
+            return Ok(Ok(formatting(self.alloc, page)?));
+        }
+        let Some(bytes) = document.policy_bytes() else {
+            return Ok(Ok(Value::Null));
+        };
+        match read_lattice(self.alloc, bytes) {
+            Ok(lattice) => names_answer(self.alloc, self.profile, &lattice, page, method, value),
+            Err(LatticeError::Memory) => Err(AllocError),
+            Err(_) => Ok(Ok(Value::Null)),
+        }
+    }
+
+    /// Does what a notification asks.
+    fn note(&mut self, method: &str, value: &Value) -> Result<Option<Wanted>, AllocError> {
+        if method == "exit" {
+            self.phase = match self.phase {
+                Phase::ShutDown => Phase::Exited,
+                _ => Phase::Failed,
+            };
+            return Ok(None);
+        }
+        if self.phase != Phase::Running {
+            return Ok(None);
+        }
+        match method {
+            "textDocument/didOpen" => self.open(value),
+            "textDocument/didChange" => self.change(value),
+            "textDocument/didSave" => self.renew(value),
+            "textDocument/didClose" => {
+                self.close(value)?;
+                Ok(None)
+            }
+            _ => Ok(None),
+        }
+    }
+
+    /// The number of the document that a message names.
+    fn place_of(&self, value: &Value) -> Option<usize> {
+        let uri = text_at(value, "/params/textDocument/uri")?;
+        self.place_named(uri.as_bytes())
+    }
+
+    /// The number of the document of this name.
+    fn place_named(&self, uri: &[u8]) -> Option<usize> {
+        for (place, document) in self.documents.iter().enumerate() {
+            if document.uri.as_slice() == uri {
+                return Some(place);
+            }
+        }
+        None
+    }
+
+    /// Opens a document.
+    fn open(&mut self, value: &Value) -> Result<Option<Wanted>, AllocError> {
+        let Some(uri) = text_at(value, "/params/textDocument/uri") else {
+            return Ok(None);
+        };
+        let Some(text) = text_at(value, "/params/textDocument/text") else {
+            return Ok(None);
+        };
+        self.forget(uri.as_bytes());
+        let document = Document {
+            uri: Vec::from_slice(self.alloc, uri.as_bytes())?,
+            version: version_in(value),
+            text: Vec::from_slice(self.alloc, text.as_bytes())?,
+            policy: Policy::Two,
+        };
+        let place = self.documents.len();
+        self.documents.push(document)?;
+        self.want(place)
+    }
+
+    /// Forgets the document of this name.
+    fn forget(&mut self, uri: &[u8]) {
+        if let Some(place) = self.place_named(uri)
+            && place < self.documents.len()
+        {
+            drop(self.documents.swap_remove(place));
+        }
+    }
+
+    /// Closes a document.
+    fn close(&mut self, value: &Value) -> Result<(), AllocError> {
+        let Some(uri) = text_at(value, "/params/textDocument/uri") else {
+            return Ok(());
+        };
+        self.forget(uri.as_bytes());
+        let message = cleared(self.alloc, uri.as_bytes())?;
+        Ok(self.messages.push(message)?)
+    }
+
+    /// Changes a document.
+    fn change(&mut self, value: &Value) -> Result<Option<Wanted>, AllocError> {
+        let Some(place) = self.place_of(value) else {
+            return Ok(None);
+        };
+        let Some(list) = value.pointer("/params/contentChanges") else {
+            return Ok(None);
+        };
+        let Some(list) = list.as_array() else {
+            return Ok(None);
+        };
+        let changes = changes_in(self.alloc, list)?;
+        if let Some(document) = self.documents.get_mut(place) {
+            document.text = changed_by(self.alloc, self.encoding, &document.text, &changes)?;
+            document.version = version_in(value);
+        }
+        self.want(place)
+    }
+
+    /// Judges a document again.
+    fn renew(&mut self, value: &Value) -> Result<Option<Wanted>, AllocError> {
+        match self.place_of(value) {
+            Some(place) => self.want(place),
+            None => Ok(None),
+        }
+    }
+
+    /// The path of the lattice file of a document, if it has one.
+    fn policy_path(&self, document: &Document) -> Result<Option<String>, AllocError> {
+        if document.kind() != Kind::Source {
+            return Ok(None);
+        }
+        match named_policy(&document.text) {
+            Some(name) => Ok(Some(path_beside(self.alloc, &document.uri, name)?)),
+            None => match &self.lattice {
+                Some(path) => Ok(Some(path.clone()?)),
+                None => Ok(None),
+            },
+        }
+    }
+
+    /// The lattice file that is to be read for a document; if there is none, its errors are
+    /// published.
+    fn want(&mut self, place: usize) -> Result<Option<Wanted>, AllocError> {
+        let Some(document) = self.documents.get(place) else {
+            return Ok(None);
+        };
+        if let Some(path) = self.policy_path(document)? {
+            let uri = document.uri.clone()?;
+            return Ok(Some(Wanted { path, uri }));
+        }
+        self.say_two(place)?;
+        self.put_policy(place, Policy::Two);
+        self.publish(place)?;
+        Ok(None)
+    }
+
+    /// Says once that a text is judged with two classes.
+    fn say_two(&mut self, place: usize) -> Result<(), AllocError> {
+        let is_text = match self.documents.get(place) {
+            Some(document) => document.kind() == Kind::Source,
+            None => false,
+        };
+        if self.has_said || !is_text {
+            return Ok(());
+        }
+        self.has_said = true;
+        let message = said(self.alloc, TWO_SAID)?;
+        Ok(self.messages.push(message)?)
+    }
+
+    /// Gives a document its lattice file.
+    fn put_policy(&mut self, place: usize, policy: Policy) {
+        if let Some(document) = self.documents.get_mut(place) {
+            document.policy = policy;
+        }
+    }
+
+    /// Adds the message with the errors of a document.
+    fn publish(&mut self, place: usize) -> Result<(), AllocError> {
+        let Some(document) = self.documents.get(place) else {
+            return Ok(());
+        };
+        let message = published(self.alloc, self.encoding, self.profile, document)?;
+        Ok(self.messages.push(message)?)
+    }
+
+    /// Judges the document for which a lattice file was wanted, with the bytes of the file, or
+    /// nothing if it can't be read.
+    pub fn judge(&mut self, wanted: Wanted, bytes: Option<Vec<u8>>) -> Result<(), AllocError> {
+        let Some(place) = self.place_named(&wanted.uri) else {
+            return Ok(());
+        };
+        let policy = match bytes {
+            Some(bytes) => Policy::File(bytes),
+            None => Policy::Lost(Vec::from_slice(self.alloc, wanted.path.as_bytes())?),
+        };
+        self.put_policy(place, policy);
+        self.publish(place)
+    }
+}
+
+/// A copy of these bytes, if there are any.
+fn copied(alloc: Global, bytes: Option<&[u8]>) -> Result<Vec<u8>, AllocError> {
+    match bytes {
+        Some(bytes) => Vec::from_slice(alloc, bytes),
+        None => Ok(Vec::new(alloc)),
+    }
+}
+
+/// The version of the document that a message gives.
+fn version_in(value: &Value) -> Option<i64> {
+    value.pointer("/params/textDocument/version")?.as_i64()
+}
+
+/// The changes that a list gives, up to the first that is malformed.
+fn changes_in<'v>(alloc: Global, list: &'v [Value]) -> Result<Vec<Change<'v>>, AllocError> {
+    let mut changes = Vec::new(alloc);
+    for value in list {
+        let Some(text) = text_at(value, "/text") else {
+            return Ok(changes);
+        };
+        let range = range_at(value, "range");
+        if range.is_none() && value.get("range").is_some() {
+            return Ok(changes);
+        }
+        changes.push(Change {
+            range,
+            text: text.as_bytes(),
+        })?;
+    }
+    Ok(changes)
+}
