@@ -1,0 +1,7 @@
+pub mod Comments
+pub mod Joints
+pub mod Gaps
+pub mod Writing
+pub mod Same
+pub mod Layout
+pub mod Errors
