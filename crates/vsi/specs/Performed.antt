@@ -467,6 +467,37 @@ pub record PerformsCompare (holds : Holding) (c : Comparison) (old new : Option 
   pub same : told.is_same ≡ true
   pub written : Appends old new told.text.items
 
+-- The layout of the text of a file.
+pub record LaysOut (holds : Holding) (source text : List ℕ) : Type 0 where
+  pub bytes : List ℕ
+  pub read : IsReadAt holds source bytes
+  pub layout : IsLayout bytes text
+
+-- `fmt --check`: the text of the file is its layout.
+pub record ChecksLayout (holds : Holding) (source : List ℕ) : Type 0 where
+  pub text : List ℕ
+  pub read : IsReadAt holds source text
+  pub layout : IsLayout text text
+
+-- `fmt --write`: the file has been replaced by its layout, or it held its layout and was left as it was.
+pub record WritesLayout (holds : Holding) (source : List ℕ) (left : Holding) : Type 0 where
+  pub text : List ℕ
+  pub lays : LaysOut holds source text
+  pub replaced : Replaces source text holds left ⊎ ((left ≡ holds) × IsReadAt holds source text)
+
+-- `fmt --keep-comments`: the layout has been written.
+pub record PrintsLayout (holds : Holding) (source : List ℕ) (old new : Option (List ℕ)) : Type 0 where
+  pub text : List ℕ
+  pub lays : LaysOut holds source text
+  pub written : Appends old new text
+
+-- `fmt` with comments kept, by whether `--check` and `--write` are given.
+abbrev pub PerformsLayout : Bool → Bool → Holding → List ℕ → Holding → Option (List ℕ) → Option (List ℕ) → Type 0
+PerformsLayout true written holds source left old new =
+    (left ≡ holds) × ChecksLayout holds source × Appends old new []
+PerformsLayout false true holds source left old new = WritesLayout holds source left × Keeps old new
+PerformsLayout false false holds source left old new = (left ≡ holds) × PrintsLayout holds source old new
+
 -- This has been done without filling a file.
 abbrev pub Alone : (Option (List ℕ) → Option (List ℕ) → Type 0) → Holding → Holding → Option (List ℕ) →
     Option (List ℕ) → Type 0
@@ -497,5 +528,7 @@ Performs holds given (request.Report c) left = Alone (Writes (OfFiles holds c To
 Performs holds given (request.Draw drawing) left = Alone (Writes (DrawsFiles holds drawing)) holds left
 Performs holds given (request.Policy looking) left = Alone (Writes (SeesFiles holds looking)) holds left
 Performs holds given (request.Format source) left = Alone (Writes (OfFile holds source.now ToldCanonical)) holds left
+Performs holds given (request.Layout asked) left =
+    PerformsLayout asked.is_checked asked.is_written holds asked.source.now left
 Performs holds given (request.Lattice arguments) left = Alone (Writes (ShapedText arguments.items)) holds left
 Performs holds given (request.Explain page) left = Alone (λ old new. Appends old new page.now) holds left

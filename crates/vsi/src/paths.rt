@@ -18,6 +18,7 @@ pub(crate) fn paths_of<'a>(request: &Request<'a>) -> [Option<&'a str>; MOST_READ
         Request::Conform(asked) => two(asked.interface, asked.source),
         Request::List(image) | Request::Source(image) => one(image),
         Request::Format(source) => one(source),
+        Request::Layout(asked) => one(asked.source),
         Request::Audit(asked) => two(asked.lattice, asked.image),
         Request::EmitC(asked) => [asked.lattice, Some(asked.file), None, None],
         Request::Bound(asked) => [asked.lattice, Some(asked.file), None, None],

@@ -277,3 +277,21 @@ text and the steps of its flow.";
 pub(crate) const JSON: &str = "\
 Writes the answer as a line of JSON: an object with `conforms` and
 `points`.";
+
+/// `--keep-comments`.
+pub(crate) const KEEP_COMMENTS: &str = "\
+Keeps each comment, between the same two tokens as before: one on the
+line of a token stays there, and others get lines of their own. One
+blank line between two commands stays, too.";
+
+/// `--check`.
+pub(crate) const CHECK: &str = "\
+Compares the text with its layout, comments kept. If they differ, the
+status is 1, and each line `LINE:COLUMN differs` is the first place of
+a line of the text that is laid out otherwise.";
+
+/// `--write`.
+pub(crate) const WRITE: &str = "\
+Replaces the file by its layout, comments kept, if they differ: the
+layout is written beside it first, under its name with `.new` appended.
+Nothing is printed. A text that is refused is left as it is.";

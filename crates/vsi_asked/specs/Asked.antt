@@ -11,7 +11,7 @@ use Rattle.vsi_arguments.specs.declared.request.Compilation.{Compilation}
 use Rattle.vsi_arguments.specs.declared.request.Execution.{Execution}
 use Rattle.vsi_arguments.specs.declared.request.Outset.{Outset}
 use Rattle.vsi_arguments.specs.declared.request.Request.{Request}
-use Rattle.vsi_arguments.specs.declared.request.Request.TheVariants.{Try, Check, Conform, Classes, Flows, Mend, Build, List as Listing, Audit, Source, EmitC, Bound, Run, View, Drive, Compare, Leak, Report, Draw, Policy, Format, Lattice as Shaped, Explain}
+use Rattle.vsi_arguments.specs.declared.request.Request.TheVariants.{Try, Check, Conform, Classes, Flows, Mend, Build, List as Listing, Audit, Source, EmitC, Bound, Run, View, Drive, Compare, Leak, Report, Draw, Policy, Format, Layout, Lattice as Shaped, Explain}
 use Rattle.vsi_arguments.specs.declared.request.TheConstants.{SEARCH, TRY_BUDGET}
 use Rattle.vsi_explain.specs.Pages.{page_of}
 use Rattle.vsi_explain.specs.Subjects.{subject_page}
@@ -41,6 +41,7 @@ name_of (Report compilation) = codes "report"
 name_of (Draw drawing) = codes "draw"
 name_of (Policy looking) = codes "policy"
 name_of (Format source) = codes "fmt"
+name_of (Layout layout) = codes "fmt"
 name_of (Shaped arguments) = codes "lattice"
 name_of (Explain page) = codes "explain"
 
@@ -76,6 +77,7 @@ operands_of (Report compilation) = compiled compilation
 operands_of (Draw drawing) = drawing.lattice.now ∷ given drawing.source
 operands_of (Policy looking) = looking.lattice.now ∷ given looking.old
 operands_of (Format source) = source.now ∷ []
+operands_of (Layout layout) = layout.source.now ∷ []
 operands_of (Shaped arguments) = shown arguments.items
 operands_of (Explain page) = []
 
@@ -108,6 +110,9 @@ flags_of (Report compilation) = (codes "--strict", compilation.is_strict) ∷ []
 flags_of (Draw drawing) = (codes "--strict", drawing.is_strict) ∷ []
 flags_of (Policy looking) = []
 flags_of (Format source) = []
+flags_of (Layout layout) =
+    (codes "--keep-comments", layout.is_kept) ∷ (codes "--check", layout.is_checked)
+    ∷ (codes "--write", layout.is_written) ∷ []
 flags_of (Shaped arguments) = []
 flags_of (Explain page) = []
 

@@ -1,5 +1,7 @@
 -- Layouts of texts.
-use Rattle.std.proofs.Common.{◌≡◌, ◌≤◌, ℕ, true, List, [], ◌∷◌, map, length, refl, sym, ap, subst, ◌∙◌, ◌⊎◌, inl, inr, Option, Some, None, Bool}
+use Rattle.std.proofs.Common.{◌≡◌, ◌≤◌, ℕ, true, false, List, [], ◌∷◌, map, length, refl, sym, ap, subst, ◌∙◌, ◌⊎◌, inl, inr, Option, Some, None, Bool}
+use Rattle.std.specs.Prelude.{bytes_eq}
+use Rattle.std.proofs.lemmas.Slice.Eq.{bytes_eq-Decides}
 use Rattle.vsi_syntax.specs.declared.token.Token.{Token}
 use Rattle.vsi_syntax.specs.declared.lexer.LexError.{LexError}
 use Rattle.vsi_syntax.specs.declared.lexer.LexError.TheVariants as lexer
@@ -17,7 +19,7 @@ use Rattle.vsi_syntax.proofs.Unique.{one_cut}
 use Rattle.vsi_layout.specs.declared.error.LayoutError.TheVariants.{Memory}
 use Rattle.vsi_layout.specs.Errors.{lexical, syntactic}
 use Rattle.vsi_layout.specs.Same.{is_same}
-use Rattle.vsi_layout.specs.Writing.{laid}
+use Rattle.vsi_layout.specs.Writing.{laid, lacks_memory}
 use Rattle.vsi_layout.specs.Layout.{IsRead, HasProgram, IsSameText, IsGood, IsChosen, IsLayout}
 use Rattle.vsi_layout.proofs.Sames.{same_texts}
 
@@ -115,3 +117,51 @@ chosen_again s t u ps qs cut other (inr n) h =
 -- A layout is laid out as itself.
 pub layout_again : (s t u : List ℕ) → IsLayout s t → IsLayout t u → u ≡ t
 layout_again s t u h i = chosen_again s t u h.tokens i.tokens h.cut i.cut h.chosen i.chosen
+
+-- A true test isn't false.
+true_false : (b : Bool) → b ≡ true → b ≡ false → ⊥
+true_false true h i = absurd cc
+true_false false h i = absurd cc
+
+-- A text that the lexer refuses is no good layout.
+pub bad_lex : (s t : List ℕ) (ps : List Piece) (e : LexError) → lacks_memory e ≡ false →
+    ((qs : List Piece) → length t ≤ max_text_length → IsCut t qs → e ≡ lexer.Memory) → IsGood s ps t → ⊥
+bad_lex s t ps e lacks exact g =
+    true_false (lacks_memory e) (ap lacks_memory (exact g.others g.short g.cut)) lacks
+
+-- A text with other tokens or comments is no good layout.
+pub bad_same : (s t : List ℕ) (ps : List Piece) (again seen : List Token) (b : Bool) → seen ≡ again →
+    IsCut t (pieces again) → b ≡ is_same s ps t (pieces seen) → b ≡ false → IsGood s ps t → ⊥
+bad_same s t ps again seen b at cut is fails g =
+    let e : g.others ≡ pieces seen = one_cut t g.others (pieces again) g.cut cut ∙ ap pieces (sym at) in
+    true_false b (is ∙ ap (λ (z : List Piece). is_same s ps t z) (sym e) ∙ g.same) fails
+
+-- A text that is laid out otherwise is no good layout.
+pub bad_again : (s t : List ℕ) (ps : List Piece) (again seen : List Token) (b : Bool) → seen ≡ again →
+    IsCut t (pieces again) → b ≡ bytes_eq (laid t (pieces seen)) t → b ≡ false → IsGood s ps t → ⊥
+bad_again s t ps again seen b at cut is fails g =
+    let e : g.others ≡ pieces seen = one_cut t g.others (pieces again) g.cut cut ∙ ap pieces (sym at) in
+    let f : laid t (pieces seen) ≡ t = ap (laid t) (sym e) ∙ g.again in
+    true_false b (is ∙ (bytes_eq-Decides (laid t (pieces seen)) t).1 f) fails
+
+-- A good layout is the layout.
+pub layout_good : (s : List ℕ) (ts seen : List Token) (out other : List ℕ) (tree : Whole) → seen ≡ ts → other ≡ out →
+    IsRead s (pieces ts) tree → IsGood s (pieces seen) other → IsLayout s out
+layout_good s ts seen out other tree at is r g =
+    let good : IsGood s (pieces ts) out =
+    subst (λ (z : List ℕ). IsGood s (pieces ts) z) is (subst (λ (z : List Token). IsGood s (pieces z) other) at g) in
+    record { same = same_good s out (pieces ts) tree r good; tokens = pieces ts; cut = r.cut; chosen = inl good }
+
+-- A text without a good layout is its own.
+pub layout_kept : (s : List ℕ) (ts seen : List Token) (out other t : List ℕ) (tree : Whole) → seen ≡ ts → other ≡ out →
+    out ≡ laid s (pieces ts) → t ≡ s → IsRead s (pieces ts) tree → (IsGood s (pieces seen) other → ⊥) → IsLayout s t
+layout_kept s ts seen out other t tree at is made kept r bad =
+    let none : IsGood s (pieces ts) (laid s (pieces ts)) → ⊥ =
+    λ g. bad (subst (λ (z : List ℕ). IsGood s (pieces seen) z) (sym made ∙ sym is)
+    (subst (λ (z : List Token). IsGood s (pieces z) (laid s (pieces ts))) (sym at) g)) in
+    record {
+      same = subst (IsSameText s) (sym kept) (same_itself s (pieces ts) tree r);
+      tokens = pieces ts;
+      cut = r.cut;
+      chosen = inr (none, kept);
+    }

@@ -1,7 +1,8 @@
 //! Lays out a text, and checks what was laid out.
 
-ghost use Rattle.std.specs.Prelude.{◌≡◌, true, false, IfOk, IfErr};
+ghost use Rattle.std.specs.Prelude.{◌≡◌, true, false, bytes_eq, IfOk, IfErr};
 ghost use Rattle.vsi_syntax.specs.Cut.{pieces};
+ghost use Rattle.vsi_layout.specs.Writing as spec;
 ghost use Rattle.vsi_layout.specs.Layout.{IsGood, IsLayout, HasProgram};
 ghost use Rattle.vsi_layout.specs.declared.error.LayoutError.TheVariants.{Memory};
 
@@ -35,17 +36,41 @@ pub fn layout(alloc: Global, text: &[u8]) -> Result<Vec<u8>, LayoutError>
 
 /// Whether a proposed layout has the tokens and comments of the text and is laid out as itself.
 fn is_good(alloc: Global, text: &[u8], tokens: &[Token<'_>], out: &[u8]) -> Result<bool, AllocError>
+    requires { out.now ≡ spec.laid text.now (pieces tokens.now) }
     ensures good { IfOk result (λ is. is ≡ true → IsGood text.now (pieces tokens.now) out.now) }
-    ensures not_good { IfOk result (λ is. is ≡ false → IsGood text.now (pieces tokens.now) out.now → ⊥) }
+    ensures not_good { IfOk result
+        (λ is. is ≡ false → IsGood text.now (pieces tokens.now) out.now → ⊥) }
 {
     let again = match lex(alloc, out) {
         Ok(again) => again,
-        Err(LexError::Memory) => return Err(AllocError),
-        Err(_) => return Ok(false),
+        Err(error) => {
+            if lacks_memory(&error) {
+                return Err(AllocError);
+            }
+            return Ok(false);
+        }
     };
-    if !is_same(alloc, text, tokens, out, &again)? {
-        return Ok(false);
+    let same = is_same(alloc, text, tokens, out, &again)?;
+    if same {
+        let fixed = is_fixed(alloc, out, &again)?;
+        Ok(fixed)
+    } else {
+        Ok(false)
     }
-    let twice = laid(alloc, out, &again)?;
-    Ok(twice.as_slice() == out)
+}
+
+/// Whether the error is lack of memory.
+fn lacks_memory(error: &LexError) -> bool
+    ensures { result ≡ spec.lacks_memory error.now }
+{
+    matches!(error, LexError::Memory)
+}
+
+/// Whether a text with these tokens is laid out as itself.
+fn is_fixed(alloc: Global, text: &[u8], tokens: &[Token<'_>]) -> Result<bool, AllocError>
+    ensures { IfOk result
+        (λ is. is ≡ bytes_eq (spec.laid text.now (pieces tokens.now)) text.now) }
+{
+    let twice = laid(alloc, text, tokens)?;
+    Ok(twice.as_slice() == text)
 }

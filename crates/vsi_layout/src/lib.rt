@@ -16,7 +16,9 @@ mod gap;
 mod joint;
 pub mod laws;
 mod laying;
+mod places;
 mod writing;
 
 pub use error::LayoutError;
 pub use laying::layout;
+pub use places::places_text;
