@@ -48,6 +48,7 @@ use Rattle.vsi_conform.specs.declared.interface.Judgement.TheVariants as judgeme
 use Rattle.vsi_conform.specs.Checking.{TellsAccepted}
 use Rattle.vsi_answers.specs.Bounds.{IsBound, TellsBound}
 use Rattle.vsi_answers.specs.Judged.{AreImage, Declares}
+use Rattle.vsi_layout.specs.Layout.{IsLayout}
 use Rattle.vsi_answers.specs.Requests.{AppliesTo, BuildsTo, ChecksSteadyTo, ChecksTo, ClassesTo, ComparesTo, FlowsTo, ListsTo, MendsTo, ViewsTo, WalksTo}
 use Rattle.vsi_answers.specs.declared.bounds.BoundAnswer.{BoundAnswer}
 use Rattle.vsi_arguments.specs.declared.request.Audit.{Audit}

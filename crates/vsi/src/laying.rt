@@ -21,13 +21,14 @@ use vsi_devices::Counted;
 use vsi_layout::places_text;
 
 /// A source text and its layout.
-struct Laid {
+#[derive(Drop)]
+struct Laying {
     text: Vec<u8>,
     layout: Vec<u8>,
 }
 
 /// The text of a file and its layout.
-fn laid<'a, F: Files>(desk: &mut Desk, source: &'a str, files: &mut F) -> Result<Laid, Stop<'a>>
+fn laid<'a, F: Files>(desk: &mut Desk, source: &'a str, files: &mut F) -> Result<Laying, Stop<'a>>
     ensures kept { F.holds files.new ≡ F.holds files.old }
     ensures read { IfOk result
         (λ laid. IsReadAt (F.holds files.old) source.now laid.text.items) }
@@ -41,7 +42,7 @@ fn laid<'a, F: Files>(desk: &mut Desk, source: &'a str, files: &mut F) -> Result
     let Ok(layout) = vsi_layout::layout(desk.alloc, text.as_slice()) else {
         return Err(Stop::Memory);
     };
-    Ok(Laid { text, layout })
+    Ok(Laying { text, layout })
 }
 
 /// Lays out a source text: prints the layout, puts it into the file, or prints where the text
@@ -67,19 +68,19 @@ pub(crate) fn lay_out<'a, F: Files, W: Write>(
         (StopsBy (RefusesFile (F.holds files.old) asked.entry.source.now AsksCanonical)
         (IsDifference (DiffersLayout (F.holds files.old) asked.entry.source.now))) }
 {
-    let laid = laid(desk, asked.source, files)?;
-    let is_same = laid.text == laid.layout;
+    let found = laid(desk, asked.source, files)?;
+    let is_same = found.text == found.layout;
     if asked.is_checked {
-        let Ok(places) = places_text(desk.alloc, &laid.text, &laid.layout) else {
+        let Ok(places) = places_text(desk.alloc, &found.text, &found.layout) else {
             return Err(Stop::Memory);
         };
         return write_answer(&places, is_same, output);
     }
     if !asked.is_written {
-        return write(&laid.layout, output);
+        return write(&found.layout, output);
     }
     if is_same {
         return Ok(());
     }
-    replace(desk.alloc, &laid.layout, asked.source, files)
+    replace(desk.alloc, &found.layout, asked.source, files)
 }
