@@ -62,6 +62,7 @@ pub(crate) fn is_state(request: &Request<'_>, path: &str) -> bool {
             ..
         } => execution.store == Some(path) && outset.out == Some(path),
         Request::Drive(asked) => asked.execution.store == Some(path) && asked.save == Some(path),
+        Request::Layout(asked) => asked.is_written && asked.source == path,
         _ => false,
     }
 }
