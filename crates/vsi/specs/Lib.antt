@@ -8,6 +8,7 @@ pub mod Naming
 pub mod Tried
 pub mod Shaping
 pub mod Seeing
+pub mod Laying
 pub mod Admitted
 pub mod Performed
 pub mod Reasons

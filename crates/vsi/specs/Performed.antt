@@ -21,7 +21,6 @@ use Rattle.vsi_store.specs.Text.{store_text_of}
 use Rattle.vsi_store.specs.declared.comparison.Comparison as found
 use Rattle.vsi_compiler.specs.Observation.{EndsAlike, IsNoninterfering, IsStoreOf}
 use Rattle.vsi_compiler.specs.Readable.{HasProgram}
-use Rattle.vsi_compiler.specs.Source.{IsCanonicalText}
 use Rattle.vsi_steady.specs.Steady.{IsSteady}
 use Rattle.vsi_drive.specs.Control.{Control}
 use Rattle.vsi_drive.specs.Starts.{Begins}
@@ -48,7 +47,6 @@ use Rattle.vsi_conform.specs.declared.interface.Judgement.TheVariants as judgeme
 use Rattle.vsi_conform.specs.Checking.{TellsAccepted}
 use Rattle.vsi_answers.specs.Bounds.{IsBound, TellsBound}
 use Rattle.vsi_answers.specs.Judged.{AreImage, Declares}
-use Rattle.vsi_layout.specs.Layout.{IsLayout}
 use Rattle.vsi_answers.specs.Requests.{AppliesTo, BuildsTo, ChecksSteadyTo, ChecksTo, ClassesTo, ComparesTo, FlowsTo, ListsTo, MendsTo, ViewsTo, WalksTo}
 use Rattle.vsi_answers.specs.declared.bounds.BoundAnswer.{BoundAnswer}
 use Rattle.vsi_arguments.specs.declared.request.Audit.{Audit}
@@ -70,6 +68,7 @@ use Rattle.vsi_arguments.specs.declared.request.Request.TheVariants as request
 use Rattle.vsi.specs.Admitted.{IsAdmitted}
 use Rattle.vsi.specs.Driven.{DrivesInput}
 use Rattle.vsi.specs.Holding.{Delivers, Fills, Holding, IsImageAt, IsLatticeAt, IsReadAt, IsStoreAt}
+use Rattle.vsi.specs.Laying.{PerformsLayout, ToldCanonical}
 use Rattle.vsi.specs.Naming.{function_name}
 use Rattle.vsi.specs.Seeing.{SeesFiles}
 use Rattle.vsi.specs.Shaping.{ShapedText}
@@ -176,10 +175,6 @@ ToldImage is_strict l source bytes = BuildsTo l (profile_of is_strict) source (O
 -- The listing of an image.
 abbrev pub ToldListing : List ℕ → Vec ℕ → Type 0
 ToldListing bytes text = ListsTo bytes (Ok text)
-
--- The canonical text of a text that has a tree.
-abbrev pub ToldCanonical : List ℕ → Vec ℕ → Type 0
-ToldCanonical source text = IsCanonicalText source text.items
 
 -- A page with a panel that shows the source text; nothing is claimed about the rest of the page.
 abbrev pub ToldPage : Lattice → List ℕ → Vec ℕ → Type 0
@@ -467,37 +462,6 @@ pub record PerformsCompare (holds : Holding) (c : Comparison) (old new : Option 
   pub compares : ComparesFiles holds c told
   pub same : told.is_same ≡ true
   pub written : Appends old new told.text.items
-
--- The layout of the text of a file.
-pub record LaysOut (holds : Holding) (source text : List ℕ) : Type 0 where
-  pub bytes : List ℕ
-  pub read : IsReadAt holds source bytes
-  pub layout : IsLayout bytes text
-
--- `fmt --check`: the text of the file is its layout.
-pub record ChecksLayout (holds : Holding) (source : List ℕ) : Type 0 where
-  pub text : List ℕ
-  pub read : IsReadAt holds source text
-  pub layout : IsLayout text text
-
--- `fmt --write`: the file has been replaced by its layout, or it held its layout and was left as it was.
-pub record WritesLayout (holds : Holding) (source : List ℕ) (left : Holding) : Type 0 where
-  pub text : List ℕ
-  pub lays : LaysOut holds source text
-  pub replaced : Replaces source text holds left ⊎ ((left ≡ holds) × IsReadAt holds source text)
-
--- `fmt --keep-comments`: the layout has been written.
-pub record PrintsLayout (holds : Holding) (source : List ℕ) (old new : Option (List ℕ)) : Type 0 where
-  pub text : List ℕ
-  pub lays : LaysOut holds source text
-  pub written : Appends old new text
-
--- `fmt` with comments kept, by whether `--check` and `--write` are given.
-abbrev pub PerformsLayout : Bool → Bool → Holding → List ℕ → Holding → Option (List ℕ) → Option (List ℕ) → Type 0
-PerformsLayout true written holds source left old new =
-    (left ≡ holds) × ChecksLayout holds source × Appends old new []
-PerformsLayout false true holds source left old new = WritesLayout holds source left × Keeps old new
-PerformsLayout false false holds source left old new = (left ≡ holds) × PrintsLayout holds source old new
 
 -- This has been done without filling a file.
 abbrev pub Alone : (Option (List ℕ) → Option (List ℕ) → Type 0) → Holding → Holding → Option (List ℕ) →

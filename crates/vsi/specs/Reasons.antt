@@ -36,7 +36,6 @@ use Rattle.vsi_conform.specs.Checking.{TellsRefused}
 use Rattle.vsi_answers.specs.Answers.{Because}
 use Rattle.vsi_answers.specs.Bounds as bounds
 use Rattle.vsi_answers.specs.Judged.{Declares, IsProgramFault, IsStoreFault, IsViewFault, TellsFault, TellsSource}
-use Rattle.vsi_layout.specs.Layout.{IsLayout}
 use Rattle.vsi_answers.specs.Requests.{Answer, AppliesTo, BeginsWith, BuildsTo, ChecksSteadyTo, ChecksTo, ClassesTo, ComparesTo, FlowsTo, FormatsTo, ListsTo, MendsTo, ReadsImage, ReadsLattice, ViewsTo, WalksTo}
 use Rattle.vsi_answers.specs.declared.unanswered.Unanswered.{Unanswered}
 use Rattle.vsi_answers.specs.declared.unanswered.Unanswered.TheVariants as unanswered
@@ -63,6 +62,7 @@ use Rattle.vsi.specs.declared.stop.Stop.{Stop}
 use Rattle.vsi.specs.declared.stop.Stop.TheVariants as stops
 use Rattle.vsi.specs.Admitted.{IsShort}
 use Rattle.vsi.specs.Holding.{Holding, IsImageAt, IsLatticeAt, IsReadAt, IsStoreAt}
+use Rattle.vsi.specs.Laying.{OtherLayout}
 use Rattle.vsi.specs.Input.{two_classes}
 use Rattle.vsi.specs.Tried.{AreTried, BeginsSet, IsMade, IsTriedUnder, RunsMade, policy_path}
 use Rattle.vsi.specs.Performed.{AreFiles, BeginsAt, BoundsFile, ComparesFiles, ConformsFiles, IsAskedAt, IsBudgetOf, IsEmittedFrom, LooksAt, LooksFor, OfFiles, Writes, compilation_of, judgement_of, named_path, profile_of, wanted_of}
@@ -511,14 +511,6 @@ pub record LacksTried (holds : Holding) (a : Attempt) (stop : Stop) : Type 0 whe
   pub under : IsTriedUnder holds a.lattice a.source.now text lattice
   pub lacks : LacksGiven lattice a.class stop
 
--- `fmt --check`: the text of the file isn't its layout.
-pub record DiffersLayout (holds : Holding) (source : List ℕ) : Type 0 where
-  pub text : List ℕ
-  pub read : IsReadAt holds source text
-  pub layout : List ℕ
-  pub is : IsLayout text layout
-  pub differs : text ≢ layout
-
 -- The reason why a request has stopped.
 abbrev pub Why : Holding → Request → Option (List ℕ) → Option (List ℕ) → Stop → Type 0
 Why holds (request.Try attempt) old new = StopsBy (WhyTry holds attempt) (LacksTried holds attempt)
@@ -558,6 +550,6 @@ Why holds (request.Draw drawing) old new = StopsBy (WhyDraw holds drawing.lattic
 Why holds (request.Policy looking) old new = StopsBy (WhyPolicy holds looking.lattice.now looking.old) NoOther
 Why holds (request.Format source) old new = StopsBy (RefusesFile holds source.now AsksCanonical) NoOther
 Why holds (request.Layout asked) old new =
-    StopsBy (RefusesFile holds asked.source.now AsksCanonical) (IsDifference (DiffersLayout holds asked.source.now))
+    StopsBy (RefusesFile holds asked.source.now AsksCanonical) (OtherLayout asked.is_checked holds asked.source.now old new)
 Why holds (request.Lattice arguments) old new = StopsBy (λ reason. ⊥) NoOther
 Why holds (request.Explain page) old new = StopsBy (λ reason. ⊥) NoOther

@@ -48,7 +48,8 @@ pub(crate) fn paths_of<'a>(request: &Request<'a>) -> [Option<&'a str>; MOST_READ
     }
 }
 
-/// Whether the file at the path is the store that a request begins with, and that it replaces.
+/// Whether the file at the path is one that a request reads and then replaces: the store that it
+/// begins with, or the source text that it lays out.
 pub(crate) fn is_state(request: &Request<'_>, path: &str) -> bool {
     match request {
         Request::Run {

@@ -310,10 +310,24 @@ fn asks_build(words: &[String], compilation: &Compilation<'_>, image: &str) -> b
     asks(words, "build", operands.as_slice(), flags.as_slice())
 }
 
+/// Whether the flags of a layout keep comments: there is one, and not both `--check` and `--write`.
+fn keeps_comments(layout: &Layout<'_>) -> bool
+    ensures { result ≡ spec.keeps_comments layout.now }
+{
+    if layout.is_checked {
+        !layout.is_written
+    } else {
+        layout.is_written || layout.is_kept
+    }
+}
+
 /// Whether the arguments request a layout with comments kept.
 fn asks_layout(words: &[String], layout: &Layout<'_>) -> bool
     ensures { result ≡ true → spec.Spells words.now (request.Layout layout.now) }
 {
+    if !keeps_comments(layout) {
+        return false;
+    }
     let operands = [layout.source.as_bytes()];
     let flags = [
         ("--keep-comments", layout.is_kept),

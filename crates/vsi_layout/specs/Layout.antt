@@ -16,6 +16,12 @@ pub record IsRead (text : List ℕ) (tokens : List Piece) (tree : Whole) : Type 
   pub program : IsProgram tree.body
   pub written : write_program tree ≡ map word_at tokens
 
+-- The text is within its limit and has tokens.
+pub record HasTokens (text : List ℕ) : Type 0 where
+  pub tokens : List Piece
+  pub short : length text ≤ max_text_length
+  pub cut : IsCut text tokens
+
 -- The text is that of a program.
 pub record HasProgram (text : List ℕ) : Type 0 where
   pub tokens : List Piece

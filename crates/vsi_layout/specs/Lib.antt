@@ -4,4 +4,5 @@ pub mod Gaps
 pub mod Writing
 pub mod Same
 pub mod Layout
+pub mod Places
 pub mod Errors
