@@ -61,17 +61,23 @@ keeps_blank None after = true
 keeps_blank (Some before) None = true
 keeps_blank (Some before) (Some after) = separates before
 
--- The levels of indentation of a comment there.
-abbrev pub comment_level : Joint → ℕ → ℕ
-comment_level j.Nothing depth = suc depth
-comment_level j.Space depth = suc depth
-comment_level _ depth = depth
+-- The levels of indentation of a token on a line of its own in the middle of a command.
+abbrev pub inner_level : Kind → ℕ → ℕ
+inner_level kind depth = if is_outer kind then depth else suc depth
+
+-- The levels of indentation of a comment there: those of the token that follows, except that it is within the block that
+-- the token closes.
+abbrev pub comment_level : Joint → Option Kind → ℕ → ℕ
+comment_level joint None depth = depth
+comment_level j.Nothing (Some kind) depth = inner_level kind depth
+comment_level j.Space (Some kind) depth = inner_level kind depth
+comment_level _ (Some kind) depth = depth
 
 -- The levels of indentation of a token that begins a line.
 abbrev pub token_level : Joint → Option Kind → ℕ → ℕ
 token_level joint None depth = depth
-token_level j.Nothing (Some kind) depth = if is_outer kind then depth else suc depth
-token_level j.Space (Some kind) depth = if is_outer kind then depth else suc depth
+token_level j.Nothing (Some kind) depth = inner_level kind depth
+token_level j.Space (Some kind) depth = inner_level kind depth
 token_level _ (Some kind) depth = if closes_block kind then depth - 1 else depth
 
 -- The number of open blocks after a token, at most 200.
@@ -85,6 +91,6 @@ abbrev pub place_of : Option Kind → Option Kind → ℕ → Place
 place_of before after depth = record {
   joint = joint_of before after;
   keeps_blank = keeps_blank before after;
-  comment_level = comment_level (joint_of before after) depth;
+  comment_level = comment_level (joint_of before after) after depth;
   token_level = token_level (joint_of before after) after depth;
 }

@@ -112,13 +112,29 @@ fn keeps_blank(before: Option<Kind>, after: Option<Kind>) -> bool
     }
 }
 
-/// The levels of indentation of a comment there.
-fn comment_level(joint: Joint, depth: u8) -> u8
+/// The levels of indentation of a token on a line of its own in the middle of a command.
+fn inner_level(kind: Kind, depth: u8) -> u8
     requires { depth ≤ 200 }
-    ensures { result ≡ spec.comment_level joint depth }
+    ensures { result ≡ spec.inner_level kind depth }
 {
+    if is_outer(kind) {
+        depth
+    } else {
+        depth + 1
+    }
+}
+
+/// The levels of indentation of a comment there: those of the token that follows, except that it is
+/// within the block that the token closes.
+fn comment_level(joint: Joint, after: Option<Kind>, depth: u8) -> u8
+    requires { depth ≤ 200 }
+    ensures { result ≡ spec.comment_level joint after depth }
+{
+    let Some(kind) = after else {
+        return depth;
+    };
     match joint {
-        Joint::Nothing | Joint::Space => depth + 1,
+        Joint::Nothing | Joint::Space => inner_level(kind, depth),
         _ => depth,
     }
 }
@@ -132,7 +148,7 @@ fn token_level(joint: Joint, after: Option<Kind>, depth: u8) -> u8
         return depth;
     };
     match joint {
-        Joint::Nothing | Joint::Space => { if is_outer(kind) { depth } else { depth + 1 } }
+        Joint::Nothing | Joint::Space => inner_level(kind, depth),
         _ => {
             if closes_block(kind) {
                 depth.saturating_sub(1)
@@ -165,7 +181,7 @@ pub(crate) fn place_of(before: Option<Kind>, after: Option<Kind>, depth: u8) -> 
     Place {
         joint,
         keeps_blank: keeps_blank(before, after),
-        comment_level: comment_level(joint, depth),
+        comment_level: comment_level(joint, after, depth),
         token_level: token_level(joint, after, depth),
     }
 }

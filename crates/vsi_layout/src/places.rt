@@ -90,7 +90,8 @@ fn put_gap_change(
     if gap == other {
         return Ok(());
     }
-    starts.push(at + common(gap, other))
+    starts.push(at + common(gap, other))?;
+    Ok(())
 }
 
 /// Adds the position of a token if it is spelled otherwise than another one.
@@ -105,7 +106,8 @@ fn put_token_change(
     if token.text == other.text {
         return Ok(());
     }
-    starts.push(token.span.start)
+    starts.push(token.span.start)?;
+    Ok(())
 }
 
 /// The positions at which a text begins to differ from another one.
