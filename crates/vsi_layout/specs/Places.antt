@@ -7,9 +7,9 @@ use Rattle.vsi_layout.specs.Comments.{part}
 
 -- The number of bytes with which both texts begin.
 abbrev pub common : List ℕ → List ℕ → ℕ
-common [] bs = 0
-common (a ∷ as) [] = 0
-common (a ∷ as) (b ∷ bs) = if a == b then suc (common as bs) else 0
+common [] ys = 0
+common (x ∷ xs) [] = 0
+common (x ∷ xs) (y ∷ ys) = if x == y then suc (common xs ys) else 0
 
 -- Where two gaps begin to differ, if they do; the first of them is at this position of its text.
 abbrev pub gap_change : ℕ → List ℕ → List ℕ → List ℕ
