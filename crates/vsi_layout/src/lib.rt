@@ -4,7 +4,8 @@
 //! What is written is a proposal. `layout` lexes it, and answers with it only if it has the tokens
 //! and the comments of the text and is laid out as itself; otherwise the answer is the text. So
 //! clause `laid` promises the same tokens and the same comments in their order, and the law
-//! `laid_again` that a layout is laid out as itself.
+//! `laid_again` that a layout is laid out as itself, and `canonical_kept` that it has the canonical
+//! text of the text.
 //!
 //! To be believed: `specs/Comments` and `specs/Layout`; the other files in `specs/` say how a text
 //! is laid out, and no promise depends on that.
