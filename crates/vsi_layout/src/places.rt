@@ -56,8 +56,7 @@ fn moved(text: &[u8], spot: Spot, to: usize) -> Spot
 
 /// The number of bytes with which both texts begin.
 fn common(first: &[u8], second: &[u8]) -> usize
-    ensures is { result ≡ spec.common first.now second.now }
-    ensures within { result ≤ length first.now }
+    ensures { result ≡ spec.common first.now second.now }
 {
     let mut a_rest = first;
     let mut b_rest = second;
@@ -76,21 +75,24 @@ fn common(first: &[u8], second: &[u8]) -> usize
     count
 }
 
-/// Adds where two gaps begin to differ, if they do.
+/// Adds where two gaps begin to differ, if they do. A position above the greatest `usize`, which no
+/// text in memory has, counts as lack of memory.
 fn put_gap_change(
     starts: &mut Vec<usize>,
     at: usize,
     gap: &[u8],
     other: &[u8],
 ) -> Result<(), AllocError>
-    requires { at + length gap.now ≤ usize.MAX }
     ensures { OnOk result
         (starts.new.items ≡ starts.old.items ++ spec.gap_change at gap.now other.now) }
 {
     if gap == other {
         return Ok(());
     }
-    starts.push(at + common(gap, other))?;
+    let Some(place) = at.checked_add(common(gap, other)) else {
+        return Err(AllocError);
+    };
+    starts.push(place)?;
     Ok(())
 }
 
