@@ -21,3 +21,4 @@ pub mod Once
 pub mod Left
 pub mod Loading
 pub mod Looked
+pub mod Layouts
