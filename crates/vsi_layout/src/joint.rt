@@ -117,11 +117,7 @@ fn inner_level(kind: Kind, depth: u8) -> u8
     requires { depth ≤ 200 }
     ensures { result ≡ spec.inner_level kind depth }
 {
-    if is_outer(kind) {
-        depth
-    } else {
-        depth + 1
-    }
+    if is_outer(kind) { depth } else { depth + 1 }
 }
 
 /// The levels of indentation of a comment there: those of the token that follows, except that it is

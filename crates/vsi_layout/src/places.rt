@@ -1,6 +1,6 @@
 //! The places in which a text differs from its layout.
 
-ghost use Rattle.std.specs.Prelude.{◌≡◌, ◌≤◌, ◌+◌, ◌++◌, IfOk, IfErr, OnOk, length, take};
+ghost use Rattle.std.specs.Prelude.{◌≡◌, ◌+◌, ◌++◌, IfOk, IfErr, OnOk, length, take};
 ghost use Rattle.vsi_syntax.specs.Cut.{piece, pieces};
 ghost use Rattle.vsi_syntax.specs.Lines.{breaks, last_line};
 ghost use Rattle.vsi_layout.specs.Layout.{HasTokens};

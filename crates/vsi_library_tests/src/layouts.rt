@@ -102,5 +102,10 @@ fn faults(rt: HostRuntime) {
     assert!(rt; matches!(layout(rt.alloc(), b"x := 1;"), Err(LayoutError::Parse(_))));
     assert!(rt; matches!(layout(rt.alloc(), b"x $"), Err(LayoutError::Lex(_))));
     assert!(rt; matches!(layout(rt.alloc(), b"# alone"), Err(LayoutError::Parse(_))));
-    assert!(rt; matches!(places_text(rt.alloc(), b"x", b"$"), Err(LayoutError::Lex(_))));
+    assert!(rt;
+        matches!(
+            places_text(rt.alloc(), b"x", b"$"),
+            Err(LayoutError::Lex(_))
+        )
+    );
 }
