@@ -5,7 +5,7 @@ ghost use Rattle.vsi_syntax.specs.Canon.{spaces};
 ghost use Rattle.vsi_layout.specs.Gaps as spec;
 
 use crate::joint::{Joint, Place};
-use std::alloc::{AllocError, Global};
+use std::alloc::AllocError;
 
 /// What was read of a gap.
 #[derive(Clone, Copy, Debug)]

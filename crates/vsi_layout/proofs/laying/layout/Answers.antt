@@ -1,7 +1,4 @@
-use Rattle.std.proofs.Common.{◌∙◌, ap, sym}
 use Rattle.std.proofs.lemmas.Result.{err_from_is_err_and}
-use Rattle.vsi_syntax.specs.Cut.{pieces}
-use Rattle.vsi_layout.specs.Writing.{laid}
 use Rattle.vsi_layout.proofs.Laid.{layout_good, layout_kept, lexical_memory, read_from, read_tokens, syntactic_memory}
 use Rattle.vsi_layout.proofs.laying.layout.Goals as goal
 
