@@ -1,4 +1,4 @@
--- What laying out a text does, by whether `--check` and `--write` are given.
+-- Each way of `fmt` with comments kept: `--check`, `--write` and neither.
 use Rattle.std.proofs.Common.{◌≡◌, ◌<◌, ◌⊎◌, ℕ, Bool, true, false, List, Option, Result, Ok, Err, inl, inr, refl, sym, subst}
 use Rattle.std.specs.Prelude.{IfErr, OnOk}
 use Rattle.std.specs.Io.KnownBytes.{Appends, Keeps}

@@ -1,4 +1,4 @@
--- What `fmt` does, given the contents of its file.
+-- The output of `fmt`, given the contents of its file.
 use Rattle.std.specs.Prelude.{◌≡◌, ◌≢◌, ◌⊎◌, ℕ, Bool, true, false, List, Option}
 use Rattle.std.specs.Global.{Vec}
 use Rattle.std.specs.Io.KnownBytes.{Appends, Keeps}
@@ -51,7 +51,7 @@ pub record WritesLayout (holds : Holding) (source : List ℕ) (left : Holding) :
   pub lays : LaysOut holds source text layout
   pub put : PutsBack source text layout holds left
 
--- What has been done, by whether `--check` and `--write` are given; only `--write` changes a file.
+-- The request is performed, by whether `--check` and `--write` are given; only `--write` changes a file.
 abbrev pub PerformsLayout : Bool → Bool → Holding → List ℕ → Holding → Option (List ℕ) → Option (List ℕ) → Type 0
 PerformsLayout true is_written holds source left old new = (left ≡ holds) × IsLaidOut holds source × Keeps old new
 PerformsLayout false true holds source left old new = WritesLayout holds source left × Keeps old new

@@ -1,4 +1,4 @@
--- What is written, followed by what is left to write.
+-- A text that is written, followed by the rest of it.
 use Rattle.std.proofs.Common.{◌≡◌, ℕ, List, ◌++◌, ◌∙◌, append_assoc}
 
 -- If a text was appended, the rest follows it.

@@ -105,7 +105,7 @@ kept s u ps qs cut other bad (inl g) =
     (subst (λ (z : List Piece). IsGood s z u) e g)))
 kept s u ps qs cut other bad (inr n) = n.1
 
--- What was chosen for what was chosen is the same.
+-- The text chosen for a chosen text is that text.
 chosen_again : (s t u : List ℕ) (ps qs : List Piece) → IsCut s ps → IsCut t qs → IsChosen s ps t → IsChosen t qs u →
     u ≡ t
 chosen_again s t u ps qs cut other (inl g) h = stays t u g.others qs g.cut other g.again h

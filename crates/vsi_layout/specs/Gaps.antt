@@ -59,7 +59,7 @@ after_comments _ p c = new_line p c p.token_level
 abbrev pub before_token : Place → Cursor → List ℕ
 before_token p c = if c.has_comment then after_comments p.joint p c else plain p.joint p c
 
--- What was read after one more byte.
+-- The state of the reader after one more byte.
 abbrev pub cursor_after : Cursor → ℕ → Cursor
 cursor_after c b =
     if c.is_inside then (if b == 10 then after_comment else c) else if b == 35 then inside else after_blank c b

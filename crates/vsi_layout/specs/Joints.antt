@@ -43,13 +43,13 @@ is_outer k.OpenBrace = true
 is_outer k.Semicolon = true
 is_outer _ = false
 
--- What separates two tokens without comments between them.
+-- The separation of two tokens without comments between them.
 abbrev pub joint_between : Kind → Kind → Joint
 joint_between before after =
     if ends_line before || closes_block after then j.Line
     else if is_open before || is_close after then j.Nothing else j.Space
 
--- What separates a token, if there is one, from the next, if there is one.
+-- The separation of a token, if there is one, from the next, if there is one.
 abbrev pub joint_of : Option Kind → Option Kind → Joint
 joint_of None after = j.Start
 joint_of (Some before) None = j.End

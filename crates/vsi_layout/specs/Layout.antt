@@ -1,4 +1,4 @@
--- What a layout of a text is.
+-- The layout of a text.
 use Rattle.std.specs.Prelude.{◌≡◌, ◌⊎◌, ◌≤◌, ℕ, true, List, length, map}
 use Rattle.vsi_syntax.specs.Limits.{max_text_length}
 use Rattle.vsi_syntax.specs.Cut.{Piece, IsCut}

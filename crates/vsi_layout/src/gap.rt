@@ -7,7 +7,7 @@ ghost use Rattle.vsi_layout.specs.Gaps as spec;
 use crate::joint::{Joint, Place};
 use std::alloc::AllocError;
 
-/// What was read of a gap.
+/// The state of the reader of a gap.
 #[derive(Clone, Copy, Debug)]
 pub(crate) struct Cursor {
     /// Whether the position is inside a comment.

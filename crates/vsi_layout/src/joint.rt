@@ -5,7 +5,7 @@ ghost use Rattle.vsi_layout.specs.Joints as spec;
 
 use vsi_syntax::Kind;
 
-/// What separates two tokens without comments between them.
+/// The separation of two tokens without comments between them.
 #[derive(Clone, Copy, Debug)]
 pub(crate) enum Joint {
     /// Nothing, before the first token.
@@ -23,7 +23,7 @@ pub(crate) enum Joint {
 /// How a text is laid out between two tokens.
 #[derive(Clone, Copy, Debug)]
 pub(crate) struct Place {
-    /// What separates the tokens without comments between them.
+    /// The separation of the tokens without comments between them.
     pub(crate) joint: Joint,
     /// Whether a blank line is kept.
     pub(crate) keeps_blank: bool,
@@ -78,7 +78,7 @@ fn is_outer(kind: Kind) -> bool
     )
 }
 
-/// What separates two tokens without comments between them.
+/// The separation of two tokens without comments between them.
 fn joint_between(before: Kind, after: Kind) -> Joint
     ensures { result ≡ spec.joint_between before after }
 {
@@ -91,7 +91,7 @@ fn joint_between(before: Kind, after: Kind) -> Joint
     }
 }
 
-/// What separates a token, if there is one, from the next, if there is one.
+/// The separation of a token, if there is one, from the next, if there is one.
 fn joint_of(before: Option<Kind>, after: Option<Kind>) -> Joint
     ensures { result ≡ spec.joint_of before after }
 {
