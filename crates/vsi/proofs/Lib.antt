@@ -21,4 +21,3 @@ pub mod Once
 pub mod Left
 pub mod Loading
 pub mod Looked
-pub mod Layouts
