@@ -60,6 +60,7 @@ cut_within (request.Report c) = omega arith
 cut_within (request.Draw drawing) = omega arith
 cut_within (request.Policy looking) = omega arith
 cut_within (request.Format source) = omega arith
+cut_within (request.Layout asked) = omega arith
 cut_within (request.Try attempt) = omega arith
 cut_within (request.Lattice arguments) = omega arith
 cut_within (request.Lsp serving) = omega arith

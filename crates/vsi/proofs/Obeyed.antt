@@ -61,6 +61,7 @@ memory_why holds (request.Report c) old new = tt
 memory_why holds (request.Draw drawing) old new = tt
 memory_why holds (request.Policy looking) old new = tt
 memory_why holds (request.Format source) old new = tt
+memory_why holds (request.Layout asked) old new = tt
 memory_why holds (request.Try attempt) old new = tt
 memory_why holds (request.Lattice arguments) old new = tt
 memory_why holds (request.Lsp serving) old new = tt

@@ -9,6 +9,7 @@ pub mod Tried
 pub mod Served
 pub mod Shaping
 pub mod Seeing
+pub mod Laying
 pub mod Admitted
 pub mod Performed
 pub mod Reasons

@@ -24,7 +24,8 @@ use Rattle.vsi.specs.declared.stop.Stop.TheVariants.{Differs}
 use Rattle.vsi.specs.Admitted.{IsAdmitted}
 use Rattle.vsi.specs.Driven.{lines_of}
 use Rattle.vsi.specs.Holding.{Holding, IsImageAt}
-use Rattle.vsi.specs.Performed.{AuditsFiles, BeginsAt, BoundsFile, ComparesFiles, ConformsFiles, DrawsFiles, EmitsFile, IsBudgetOf, IsStoredAt, LooksAt, OfFile, OfFiles, RunsFiles, SearchesFiles, SourceOfFile, ToldAccepted, ToldCanonical, ToldClasses, ToldFlows, ToldJson, ToldListing, ToldPage, ToldRaises, ViewsFiles, control_of, judgement_of, shown}
+use Rattle.vsi.specs.Laying.{AnswersLayout, ToldCanonical}
+use Rattle.vsi.specs.Performed.{AuditsFiles, BeginsAt, BoundsFile, ComparesFiles, ConformsFiles, DrawsFiles, EmitsFile, IsBudgetOf, IsStoredAt, LooksAt, OfFile, OfFiles, RunsFiles, SearchesFiles, SourceOfFile, ToldAccepted, ToldClasses, ToldFlows, ToldJson, ToldListing, ToldPage, ToldRaises, ViewsFiles, control_of, judgement_of, shown}
 use Rattle.vsi.specs.Reasons.{ToldRefusal}
 use Rattle.vsi.specs.Seeing.{SeesFiles}
 use Rattle.vsi.specs.Shaping.{ShapedText}
@@ -133,6 +134,7 @@ Answers holds given (request.Report c) = BytesOf (OfFiles holds c ToldPage)
 Answers holds given (request.Draw drawing) = BytesOf (DrawsFiles holds drawing)
 Answers holds given (request.Policy looking) = BytesOf (SeesFiles holds looking)
 Answers holds given (request.Format source) = BytesOf (OfFile holds source.now ToldCanonical)
+Answers holds given (request.Layout asked) = AnswersLayout asked.is_checked asked.is_written holds asked.source.now
 Answers holds given (request.Lattice arguments) = BytesOf (ShapedText arguments.items)
 Answers holds given (request.Lsp serving) = AreFrames
 Answers holds given (request.Explain page) = λ bytes. bytes ≡ page.now

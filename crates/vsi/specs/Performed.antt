@@ -21,7 +21,6 @@ use Rattle.vsi_store.specs.Text.{store_text_of}
 use Rattle.vsi_store.specs.declared.comparison.Comparison as found
 use Rattle.vsi_compiler.specs.Observation.{EndsAlike, IsNoninterfering, IsStoreOf}
 use Rattle.vsi_compiler.specs.Readable.{HasProgram}
-use Rattle.vsi_compiler.specs.Source.{IsCanonicalText}
 use Rattle.vsi_steady.specs.Steady.{IsSteady}
 use Rattle.vsi_drive.specs.Control.{Control}
 use Rattle.vsi_drive.specs.Starts.{Begins}
@@ -69,6 +68,7 @@ use Rattle.vsi_arguments.specs.declared.request.Request.TheVariants as request
 use Rattle.vsi.specs.Admitted.{IsAdmitted}
 use Rattle.vsi.specs.Driven.{DrivesInput}
 use Rattle.vsi.specs.Holding.{Delivers, Fills, Holding, IsImageAt, IsLatticeAt, IsReadAt, IsStoreAt}
+use Rattle.vsi.specs.Laying.{PerformsLayout, ToldCanonical}
 use Rattle.vsi.specs.Naming.{function_name}
 use Rattle.vsi.specs.Seeing.{SeesFiles}
 use Rattle.vsi.specs.Served.{Serves}
@@ -176,10 +176,6 @@ ToldImage is_strict l source bytes = BuildsTo l (profile_of is_strict) source (O
 -- The listing of an image.
 abbrev pub ToldListing : List ℕ → Vec ℕ → Type 0
 ToldListing bytes text = ListsTo bytes (Ok text)
-
--- The canonical text of a text that has a tree.
-abbrev pub ToldCanonical : List ℕ → Vec ℕ → Type 0
-ToldCanonical source text = IsCanonicalText source text.items
 
 -- A page with a panel that shows the source text; nothing is claimed about the rest of the page.
 abbrev pub ToldPage : Lattice → List ℕ → Vec ℕ → Type 0
@@ -500,6 +496,8 @@ Performs holds given (request.Report c) left = Alone (Writes (OfFiles holds c To
 Performs holds given (request.Draw drawing) left = Alone (Writes (DrawsFiles holds drawing)) holds left
 Performs holds given (request.Policy looking) left = Alone (Writes (SeesFiles holds looking)) holds left
 Performs holds given (request.Format source) left = Alone (Writes (OfFile holds source.now ToldCanonical)) holds left
+Performs holds given (request.Layout asked) left =
+    PerformsLayout asked.is_checked asked.is_written holds asked.source.now left
 Performs holds given (request.Lattice arguments) left = Alone (Writes (ShapedText arguments.items)) holds left
 Performs holds given (request.Lsp serving) left = Alone Serves holds left
 Performs holds given (request.Explain page) left = Alone (λ old new. Appends old new page.now) holds left

@@ -62,6 +62,7 @@ use Rattle.vsi.specs.declared.stop.Stop.{Stop}
 use Rattle.vsi.specs.declared.stop.Stop.TheVariants as stops
 use Rattle.vsi.specs.Admitted.{IsShort}
 use Rattle.vsi.specs.Holding.{Holding, IsImageAt, IsLatticeAt, IsReadAt, IsStoreAt}
+use Rattle.vsi.specs.Laying.{OtherLayout}
 use Rattle.vsi.specs.Input.{two_classes}
 use Rattle.vsi.specs.Served.{Serves, unended_line}
 use Rattle.vsi.specs.Tried.{AreTried, BeginsSet, IsMade, IsTriedUnder, RunsMade, policy_path}
@@ -549,6 +550,8 @@ Why holds (request.Report c) old new = StopsBy (RefusesLattice holds c.lattice.n
 Why holds (request.Draw drawing) old new = StopsBy (WhyDraw holds drawing.lattice.now drawing.source) NoOther
 Why holds (request.Policy looking) old new = StopsBy (WhyPolicy holds looking.lattice.now looking.old) NoOther
 Why holds (request.Format source) old new = StopsBy (RefusesFile holds source.now AsksCanonical) NoOther
+Why holds (request.Layout asked) old new =
+    StopsBy (RefusesFile holds asked.source.now AsksCanonical) (OtherLayout asked.is_checked holds asked.source.now old new)
 Why holds (request.Lattice arguments) old new = StopsBy (λ reason. ⊥) NoOther
 Why holds (request.Lsp serving) old new =
     StopsBy (λ reason. ⊥) (λ stop. SaysLine unended_line stop × Serves old new)

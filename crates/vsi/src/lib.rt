@@ -29,6 +29,7 @@ mod explaining;
 mod files;
 mod filling;
 pub mod laws;
+mod laying;
 mod leaking;
 mod loaded;
 mod obeying;

@@ -129,8 +129,8 @@ impl<F: Files> Loaded<F> {
         Ok(true)
     }
 
-    /// Reads the file at the path, unless it is a store that the request replaces. It returns
-    /// whether nothing is lost.
+    /// Reads the file at the path, unless it is one that the request replaces. It returns whether
+    /// nothing is lost.
     fn take_unless_state(&mut self, request: &Request<'_>, path: &str) -> Result<bool, AllocError>
         ensures kept { F.holds self.new.system ≡ F.holds self.old.system }
         ensures told { AreRead (F.holds self.old.system) self.old.texts.items
@@ -148,7 +148,7 @@ impl<F: Files> Loaded<F> {
 }
 
 /// Reads each file that the arguments name and the request reads, in the order in which it does, and
-/// none after the first one that can't be read. A store that the request replaces is left out.
+/// none after the first one that can't be read. A file that the request replaces is left out.
 ///
 /// # Errors
 ///

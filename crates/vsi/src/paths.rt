@@ -18,6 +18,7 @@ pub(crate) fn paths_of<'a>(request: &Request<'a>) -> [Option<&'a str>; MOST_READ
         Request::Conform(asked) => two(asked.interface, asked.source),
         Request::List(image) | Request::Source(image) => one(image),
         Request::Format(source) => one(source),
+        Request::Layout(asked) => one(asked.source),
         Request::Audit(asked) => two(asked.lattice, asked.image),
         Request::EmitC(asked) => [asked.lattice, Some(asked.file), None, None],
         Request::Bound(asked) => [asked.lattice, Some(asked.file), None, None],
@@ -47,7 +48,8 @@ pub(crate) fn paths_of<'a>(request: &Request<'a>) -> [Option<&'a str>; MOST_READ
     }
 }
 
-/// Whether the file at the path is the store that a request begins with, and that it replaces.
+/// Whether the file at the path is one that a request reads and then replaces: the store that it
+/// begins with, or the source text that it lays out.
 pub(crate) fn is_state(request: &Request<'_>, path: &str) -> bool {
     match request {
         Request::Run {
@@ -61,6 +63,7 @@ pub(crate) fn is_state(request: &Request<'_>, path: &str) -> bool {
             ..
         } => execution.store == Some(path) && outset.out == Some(path),
         Request::Drive(asked) => asked.execution.store == Some(path) && asked.save == Some(path),
+        Request::Layout(asked) => asked.is_written && asked.source == path,
         _ => false,
     }
 }

@@ -17,6 +17,7 @@ use crate::drawing::{draw, report};
 use crate::driving::drive;
 use crate::emitting::emit;
 use crate::files::Files;
+use crate::laying::lay_out;
 use crate::leaking::leak;
 use crate::policies::policy;
 use crate::running::{Running, run, view};
@@ -169,6 +170,7 @@ pub(crate) fn perform<'a, F: Files, R: Read, W: Write>(
         Request::Draw(drawing) => put(draw(desk, drawing, files), output),
         Request::Policy(looking) => { put(policy(desk, looking, files, &mut told.note), output) }
         Request::Format(source) => put(format(desk, source, files), output),
+        Request::Layout(asked) => lay_out(desk, asked, files, output),
         Request::Try(attempt) => put(try_source(desk, &attempt, files), output),
         Request::Lattice(arguments) => put(lattice(desk.alloc, arguments.as_slice()), output),
         Request::Lsp(serving) => {

@@ -1,7 +1,8 @@
 //! The answers of the subcommands that run nothing: the text to write, or why there is none.
 
 ghost use Rattle.std.specs.Prelude.{◌≡◌, ◌<◌, true, false, IfErr, IfOk, OnOk};
-ghost use Rattle.vsi.specs.Performed.{AreFiles, BuildsFile, OfFile, OfFiles, ToldAccepted, ToldCanonical, ToldClasses, ToldFlows, ToldImage, ToldJson, ToldListing, ToldRaises, Writes};
+ghost use Rattle.vsi.specs.Laying.{ToldCanonical};
+ghost use Rattle.vsi.specs.Performed.{AreFiles, BuildsFile, OfFile, OfFiles, ToldAccepted, ToldClasses, ToldFlows, ToldImage, ToldJson, ToldListing, ToldRaises, Writes};
 ghost use Rattle.vsi.specs.Performed.{judgement_of, profile_of};
 ghost use Rattle.vsi.specs.Reasons.{AsksCanonical, AsksCheck, AsksClasses, AsksFlows, AsksImage, AsksMend, NoOther, RefusesFile, RefusesFiles, RefusesLattice, StopsBy, ToldRefusal, WhyCheck};
 ghost use Rattle.vsi.specs.Partly.{AnswersCheck, BytesOf, Leaves};

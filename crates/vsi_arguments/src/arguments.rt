@@ -206,6 +206,27 @@ pub(crate) const APPLY: Argument = Argument {
     whole: word_help::APPLY,
 };
 
+pub(crate) const KEEP_COMMENTS: Argument = Argument {
+    name: "keep-comments",
+    form: Form::Flag,
+    line: "Keeps the comments, each between the same tokens",
+    whole: word_help::KEEP_COMMENTS,
+};
+
+pub(crate) const CHECK: Argument = Argument {
+    name: "check",
+    form: Form::Flag,
+    line: "Prints where the layout differs, and writes nothing",
+    whole: word_help::CHECK,
+};
+
+pub(crate) const WRITE: Argument = Argument {
+    name: "write",
+    form: Form::Flag,
+    line: "Replaces the file by its layout",
+    whole: word_help::WRITE,
+};
+
 pub(crate) const TRACE: Argument = Argument {
     name: "trace",
     form: Form::Flag,

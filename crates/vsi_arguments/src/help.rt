@@ -379,19 +379,26 @@ pub(crate) const FORMAT: &str = "\
 Prints a source text in its canonical form.
 
 Reads the source text and prints it with a command on each line, two spaces for
-each block around it, and one space around each operator. Comments are dropped.
-Names and flows aren't judged.
+each block around it, and one space around each operator. Comments are dropped,
+except with --keep-comments, --check or --write. Names and flows aren't judged.
 
-Statuses: 0 printed, 1 refused, 2 usage, 4 file fault, 5 out of memory.";
+Statuses: 0 printed, written or nothing to change, 1 refused or --check found a
+difference, 2 usage, 4 file fault, 5 out of memory.";
 
 /// An example of `fmt`.
 pub(crate) const FORMAT_EXAMPLE: &str = "\
 Example:
   $ cat short.vsi
-  var x:L;x:=01+(2)
+  var x:L;x:=01+(2)# 3
   $ vsi fmt short.vsi
   var x : L;
-  x := 1 + (2)";
+  x := 1 + (2)
+  $ vsi fmt --check short.vsi
+  1:6 differs
+  $ vsi fmt --write short.vsi
+  $ cat short.vsi
+  var x : L;
+  x := 1 + (2) # 3";
 
 /// The long help of `lattice`.
 pub(crate) const LATTICE: &str = "\

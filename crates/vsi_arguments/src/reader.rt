@@ -52,6 +52,8 @@ enum Mistake {
     ImageIsRead,
     /// The name given can't begin names in C.
     NoName,
+    /// A text is to be both compared with its layout and replaced by it.
+    CheckAndWrite,
     NoSubcommand,
 }
 
@@ -63,6 +65,7 @@ impl Mistake {
             | Mistake::NoSubject
             | Mistake::ImageIsRead
             | Mistake::NoName => ErrorKind::ValueValidation,
+            Mistake::CheckAndWrite => ErrorKind::ArgumentConflict,
             Mistake::NoTwoStores => ErrorKind::WrongNumberOfValues,
             Mistake::NoSubcommand => ErrorKind::MissingSubcommand,
         }
@@ -79,6 +82,7 @@ impl Mistake {
             }
             Mistake::ImageIsRead => "the image would replace a file that is read",
             Mistake::NoName => "the name isn't an identifier of C, or it is a keyword",
+            Mistake::CheckAndWrite => "`--check` writes nothing, so it doesn't go with `--write`",
             Mistake::NoSubcommand => "a subcommand is needed",
         }
     }
@@ -157,6 +161,7 @@ fn named<'a>(
         "explain" => Ok(explain_request(inner)),
         "build" => Ok(build_request(inner)),
         "emit-c" => Ok(emission_request(inner)),
+        "fmt" => Ok(format_request(inner)),
         _ => Ok(Ok(requested(name, inner))),
     }
 }
@@ -178,8 +183,7 @@ fn requested<'a>(name: &str, inner: &ArgMatches<'a>) -> Request<'a> {
         "lsp" => Request::Lsp(serving_in(inner)),
         "report" => Request::Report(compilation_in(inner)),
         "draw" => Request::Draw(drawing_in(inner)),
-        "policy" => Request::Policy(looking_in(inner)),
-        _ => Request::Format(text(inner, "SOURCE")),
+        _ => Request::Policy(looking_in(inner)),
     }
 }
 
@@ -283,6 +287,26 @@ fn explain_request<'a>(matches: &ArgMatches<'a>) -> Result<Request<'a>, Mistake>
         Some(explained) => Ok(Request::Explain(explained)),
         None => Err(Mistake::NoRefusal),
     }
+}
+
+/// Without an option comments are dropped, and with any of them they are kept.
+fn format_request<'a>(matches: &ArgMatches<'a>) -> Result<Request<'a>, Mistake> {
+    let source = text(matches, "SOURCE");
+    let is_kept = matches.get_flag("keep-comments");
+    let is_checked = matches.get_flag("check");
+    let is_written = matches.get_flag("write");
+    if is_checked && is_written {
+        return Err(Mistake::CheckAndWrite);
+    }
+    if !is_kept && !is_checked && !is_written {
+        return Ok(Request::Format(source));
+    }
+    Ok(Request::Layout(Layout {
+        source,
+        is_kept,
+        is_checked,
+        is_written,
+    }))
 }
 
 fn outset_in<'a>(alloc: Global, matches: &ArgMatches<'a>) -> Result<Outset<'a>, AllocError> {

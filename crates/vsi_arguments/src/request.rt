@@ -165,6 +165,16 @@ pub struct Serving<'a> {
     pub is_strict: bool,
 }
 
+/// A layout that keeps comments: the path of a source text, whether `--keep-comments` was given, and
+/// whether the text is only compared with its layout or replaced by it.
+#[derive(Clone, Copy)]
+pub struct Layout<'a> {
+    pub source: &'a str,
+    pub is_kept: bool,
+    pub is_checked: bool,
+    pub is_written: bool,
+}
+
 /// Whether an explanation is coloured.
 #[derive(Clone, Copy, Debug, PartialEq, Eq)]
 pub enum Colour {
@@ -227,6 +237,7 @@ pub enum Request<'a> {
     Draw(Drawing<'a>),
     Policy(Looking<'a>),
     Format(&'a str),
+    Layout(Layout<'a>),
     /// With the shape of a lattice and the names given for its classes.
     Lattice(Vec<&'a [u8]>),
     Lsp(Serving<'a>),

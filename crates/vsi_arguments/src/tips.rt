@@ -8,6 +8,7 @@ const OWNERS: [(&str, &str); 25] = [
     ("'--apply'", "mend"),
     ("'--bounded'", "emit-c"),
     ("'--budget'", "try, run, view, drive, compare and leak"),
+    ("'--check'", "fmt"),
     ("'--class'", "try, view, drive, compare and leak"),
     (
         "'--color'",
@@ -23,6 +24,7 @@ const OWNERS: [(&str, &str); 25] = [
     ("'--full-store'", "run and view"),
     ("'--header'", "emit-c"),
     ("'--json'", "check and conform"),
+    ("'--keep-comments'", "fmt"),
     ("'--lattice'", "try, emit-c and lsp"),
     ("'--name'", "emit-c"),
     ("'--out'", "run and view"),
@@ -40,6 +42,7 @@ const OWNERS: [(&str, &str); 25] = [
     ("'--tries'", "leak"),
     ("'--unbounded'", "drive"),
     ("'--walks'", "flows"),
+    ("'--write'", "fmt"),
 ];
 
 /// A part of a mistake, and the tip that helps with it.

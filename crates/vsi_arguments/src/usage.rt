@@ -167,7 +167,7 @@ const SUBCOMMANDS: [Subcommand; 21] = [
         line: "Prints a source text in its canonical form",
         whole: help::FORMAT,
         example: help::FORMAT_EXAMPLE,
-        arguments: &[SOURCE],
+        arguments: &[SOURCE, KEEP_COMMENTS, CHECK, WRITE],
     },
 ];
 

@@ -284,3 +284,21 @@ text and the steps of its flow.";
 pub(crate) const JSON: &str = "\
 Writes the answer as a line of JSON: an object with `conforms` and
 `points`.";
+
+/// `--keep-comments`.
+pub(crate) const KEEP_COMMENTS: &str = "\
+Keeps each comment, between the same two tokens as before. One at the
+end of a line stays there, and others get lines of their own. One
+blank line between two commands stays, too.";
+
+/// `--check`.
+pub(crate) const CHECK: &str = "\
+Compares the text with its layout, in which comments are kept. If they
+differ, the status is 1, and a line `LINE:COLUMN differs` is printed
+for each line of the text on which they begin to differ.";
+
+/// `--write`.
+pub(crate) const WRITE: &str = "\
+Puts the layout into the file, with comments kept, if the text isn't
+laid out so already: first into a new file beside it, which then takes
+its place. Nothing is printed, and a refused text stays as it is.";

@@ -1,5 +1,5 @@
 -- How the arguments of a command line spell a request.
-use Rattle.std.specs.Prelude.{◌≡◌, ℕ, Bool, false, List, [], ◌∷◌, ◌++◌, map, Option, Some, None, option_map, option_to_list, codes, IsTrue, String}
+use Rattle.std.specs.Prelude.{◌≡◌, ℕ, Bool, true, false, not, ◌||◌, if◌then◌else◌, List, [], ◌∷◌, ◌++◌, map, Option, Some, None, option_map, option_to_list, codes, IsTrue, String}
 use Rattle.std.specs.List.{list_all}
 use Rattle.std.specs.Option.{option_and_then, option_or}
 use Rattle.std.specs.declared.alloc.Global.{Global}
@@ -9,9 +9,10 @@ use Rattle.vsi_arguments.specs.declared.request.Budget.{Budget}
 use Rattle.vsi_arguments.specs.declared.request.Budget.TheVariants.{Number, Auto}
 use Rattle.vsi_arguments.specs.declared.request.Compilation.{Compilation}
 use Rattle.vsi_arguments.specs.declared.request.Execution.{Execution}
+use Rattle.vsi_arguments.specs.declared.request.Layout.{Layout as Laid}
 use Rattle.vsi_arguments.specs.declared.request.Outset.{Outset}
 use Rattle.vsi_arguments.specs.declared.request.Request.{Request}
-use Rattle.vsi_arguments.specs.declared.request.Request.TheVariants.{Try, Lsp, Check, Conform, Classes, Flows, Mend, Build, List as Listing, Audit, Source, EmitC, Bound, Run, View, Drive, Compare, Leak, Report, Draw, Policy, Format, Lattice as Shaped, Explain}
+use Rattle.vsi_arguments.specs.declared.request.Request.TheVariants.{Try, Lsp, Check, Conform, Classes, Flows, Mend, Build, List as Listing, Audit, Source, EmitC, Bound, Run, View, Drive, Compare, Leak, Report, Draw, Policy, Format, Layout, Lattice as Shaped, Explain}
 use Rattle.vsi_arguments.specs.declared.request.TheConstants.{SEARCH, TRY_BUDGET}
 use Rattle.vsi_explain.specs.Pages.{page_of}
 use Rattle.vsi_explain.specs.Subjects.{subject_page}
@@ -41,6 +42,7 @@ name_of (Report compilation) = codes "report"
 name_of (Draw drawing) = codes "draw"
 name_of (Policy looking) = codes "policy"
 name_of (Format source) = codes "fmt"
+name_of (Layout layout) = codes "fmt"
 name_of (Shaped arguments) = codes "lattice"
 name_of (Lsp serving) = codes "lsp"
 name_of (Explain page) = codes "explain"
@@ -77,6 +79,7 @@ operands_of (Report compilation) = compiled compilation
 operands_of (Draw drawing) = drawing.lattice.now ∷ given drawing.source
 operands_of (Policy looking) = looking.lattice.now ∷ given looking.old
 operands_of (Format source) = source.now ∷ []
+operands_of (Layout layout) = layout.source.now ∷ []
 operands_of (Shaped arguments) = shown arguments.items
 operands_of (Lsp serving) = []
 operands_of (Explain page) = []
@@ -110,6 +113,9 @@ flags_of (Report compilation) = (codes "--strict", compilation.is_strict) ∷ []
 flags_of (Draw drawing) = (codes "--strict", drawing.is_strict) ∷ []
 flags_of (Policy looking) = []
 flags_of (Format source) = []
+flags_of (Layout layout) =
+    (codes "--keep-comments", layout.is_kept) ∷ (codes "--check", layout.is_checked)
+    ∷ (codes "--write", layout.is_written) ∷ []
 flags_of (Shaped arguments) = []
 flags_of (Lsp serving) = (codes "--strict", serving.is_strict) ∷ []
 flags_of (Explain page) = []
@@ -194,9 +200,19 @@ pub record AsksPage (words : List (String Global)) (page : List ℕ) : Type 0 wh
   pub asks : Asks words (codes "explain") (argument ∷ []) [] [] []
   pub is_named : named_page argument ≡ Some page
 
+-- Comments are kept with any of the three flags, and `--check` doesn't go with `--write`.
+abbrev pub keeps_comments : Laid → Bool
+keeps_comments layout = if layout.is_checked then not layout.is_written else layout.is_written || layout.is_kept
+
+-- The arguments are `fmt` with a source text and flags with which comments are kept.
+pub record AsksLayout (words : List (String Global)) (layout : Laid) : Type 0 where
+  pub asks : Asks words (codes "fmt") (layout.source.now ∷ []) (flags_of (Layout layout)) [] []
+  pub kept : keeps_comments layout ≡ true
+
 -- The arguments spell the request: its subcommand, then its operands, flags, options and numbers or, for `explain`, an
 -- operand that names its page.
 abbrev pub Spells : List (String Global) → Request → Type 0
+Spells words (Layout layout) = AsksLayout words layout
 Spells words (Explain page) = AsksPage words page.now
 Spells words request =
     Asks words (name_of request) (operands_of request) (flags_of request) (options_of request) (numbers_of request)

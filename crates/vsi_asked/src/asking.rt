@@ -10,7 +10,8 @@ use crate::own::has_own_alone;
 use crate::reading::{has_flag, has_operands, has_values};
 use vsi_arguments::{
     Attempt, Audit, Bounding, Comparison, Compilation, Conformance, Drawing, Driving, Emission,
-    Execution, Judging, Looking, Mending, Outset, Request, SEARCH, Search, Serving, TRY_BUDGET,
+    Execution, Judging, Layout, Looking, Mending, Outset, Request, SEARCH, Search, Serving,
+    TRY_BUDGET,
 };
 use vsi_explain::{page, subject_page};
 
@@ -321,6 +322,33 @@ fn asks_build(words: &[String], compilation: &Compilation<'_>, image: &str) -> b
     asks(words, "build", operands.as_slice(), flags.as_slice())
 }
 
+/// Whether the flags of a layout keep comments: there is one, and not both `--check` and `--write`.
+fn keeps_comments(layout: &Layout<'_>) -> bool
+    ensures { result ≡ spec.keeps_comments layout.now }
+{
+    if layout.is_checked {
+        !layout.is_written
+    } else {
+        layout.is_written || layout.is_kept
+    }
+}
+
+/// Whether the arguments request a layout with comments kept.
+fn asks_layout(words: &[String], layout: &Layout<'_>) -> bool
+    ensures { result ≡ true → spec.Spells words.now (request.Layout layout.now) }
+{
+    if !keeps_comments(layout) {
+        return false;
+    }
+    let operands = [layout.source.as_bytes()];
+    let flags = [
+        ("--keep-comments", layout.is_kept),
+        ("--check", layout.is_checked),
+        ("--write", layout.is_written),
+    ];
+    asks(words, "fmt", operands.as_slice(), flags.as_slice())
+}
+
 /// Whether the arguments request an audit.
 fn asks_audit(words: &[String], audit: &Audit<'_>) -> bool
     ensures { result ≡ true → spec.Spells words.now (request.Audit audit.now) }
@@ -439,6 +467,7 @@ fn spells(words: &[String], request: &Request<'_>) -> bool
         Request::Draw(drawing) => asks_draw(words, drawing),
         Request::Policy(looking) => asks_policy(words, looking),
         Request::Format(source) => asks_file(words, "fmt", source),
+        Request::Layout(layout) => asks_layout(words, layout),
         Request::Lattice(arguments) => asks(words, "lattice", arguments.as_slice(), &[]),
         Request::Lsp(serving) => asks_lsp(words, serving),
         Request::Explain(text) => asks_page(words, text),

@@ -32,6 +32,9 @@ const FLOWS: [&[u8]; 3] = [b"--strict", b"--walks", b"--explain"];
 /// The flags of `mend`.
 const MEND: [&[u8]; 3] = [b"--strict", b"--apply", b"--explain"];
 
+/// The flags of `fmt` with comments kept.
+const LAYOUT: [&[u8]; 4] = [b"--keep-comments", b"--check", b"--write", b"--explain"];
+
 /// The flags of `audit`.
 const AUDIT: [&[u8]; 3] = [b"--strict", b"--steady", b"--explain"];
 
@@ -152,6 +155,7 @@ pub(crate) fn has_own_alone(words: &[String], request: &Request<'_>) -> bool
         Request::Source(_) => are_own(words, NO_FLAGS.as_slice(), NO_OPTIONS.as_slice()),
         Request::Format(_) => are_own(words, NO_FLAGS.as_slice(), NO_OPTIONS.as_slice()),
         Request::Policy(_) => are_own(words, NO_FLAGS.as_slice(), NO_OPTIONS.as_slice()),
+        Request::Layout(_) => are_own(words, LAYOUT.as_slice(), NO_OPTIONS.as_slice()),
         Request::EmitC(_) => are_own(words, EMIT_C.as_slice(), EMIT_C_OPTIONS.as_slice()),
         Request::Bound(_) => are_own(words, NO_FLAGS.as_slice(), NO_OPTIONS.as_slice()),
         Request::Run { .. } => are_own(words, RUN.as_slice(), RUN_OPTIONS.as_slice()),

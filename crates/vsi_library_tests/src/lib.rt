@@ -1,7 +1,7 @@
 //! The tests of the library that rows and transcripts can't hold: devices that fail mid-stream,
 //! images with changed bytes, leaks over given stores, controllers that share a store, refused
 //! flows and counts, bounds of small codes, raises of declared classes, continuations of unfinished
-//! texts, and positions with carets.
+//! texts, layouts that keep comments, and positions with carets.
 #![tactic(auto)]
 
 #[cfg(test)]
@@ -14,6 +14,8 @@ mod counts;
 mod engine;
 #[cfg(test)]
 mod heater;
+#[cfg(test)]
+mod layouts;
 #[cfg(test)]
 mod leaks;
 #[cfg(test)]

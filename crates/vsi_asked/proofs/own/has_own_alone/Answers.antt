@@ -48,6 +48,10 @@ pub returns-in-Format : goal.returns-in-Format
 returns-in-Format c =
     rw c.in-Format.is (rw (c.as_slice-in-Format.ensures, c.as_slice-in-Format-2.ensures) at c.are_own-in-Format.ensures)
 
+pub returns-in-Layout : goal.returns-in-Layout
+returns-in-Layout c =
+    rw c.in-Layout.is (rw (c.as_slice-in-Layout.ensures, c.as_slice-in-Layout-2.ensures) at c.are_own-in-Layout.ensures)
+
 pub returns-in-EmitC : goal.returns-in-EmitC
 returns-in-EmitC c =
     rw c.in-EmitC.is (rw (c.as_slice-in-EmitC.ensures, c.as_slice-in-EmitC-2.ensures) at c.are_own-in-EmitC.ensures)

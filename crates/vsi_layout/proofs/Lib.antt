@@ -1,0 +1,4 @@
+pub mod Appended
+pub mod Sames
+pub mod Laid
+pub mod Kept

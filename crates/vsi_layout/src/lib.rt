@@ -1,0 +1,25 @@
+//! The layout of a text that keeps its comments: `layout` writes the tokens of a text as its
+//! canonical text has them, and each comment between the same two tokens.
+//!
+//! The written text is a proposal. `layout` lexes it, and answers with it only if it has the tokens
+//! and the comments of the text and is laid out as itself; otherwise the answer is the text. So
+//! clause `laid` promises the same tokens and the same comments in their order, and the law
+//! `laid_again` that a layout is laid out as itself, and `canonical_kept` that it has the canonical
+//! text of the text.
+//!
+//! To be believed: `specs/Comments` and `specs/Layout`; the other files in `specs/` say how a text
+//! is laid out, and no promise depends on that.
+#![tactic(auto)]
+
+mod comparing;
+mod error;
+mod gap;
+mod joint;
+pub mod laws;
+mod laying;
+mod places;
+mod writing;
+
+pub use error::LayoutError;
+pub use laying::layout;
+pub use places::places_text;
