@@ -24,6 +24,8 @@ mod frame;
 pub mod laws;
 mod marks;
 mod operands;
+mod paid;
+mod parts;
 mod pieces;
 mod statements;
 
