@@ -96,7 +96,7 @@ Consolas,\"DejaVu Sans Mono\",monospace}
 stroke-dasharray:10 3 2 3}
 .tip{fill:var(--soft)}
 .against{stroke:var(--bad)}
-.told{fill:none;stroke:var(--bad);stroke-width:4}.toldtip{fill:var(--bad)}
+.told{fill:none;stroke:var(--bad);stroke-width:4}.told:target{stroke-width:8}.toldtip{fill:var(--bad)}
 .number circle{fill:var(--bad);stroke:var(--paper);stroke-width:2}
 .number text{fill:var(--paper);text-anchor:middle;font-size:14px}
 .legend{list-style:none;margin:.6rem 0;padding:0;display:flex;flex-wrap:wrap;gap:.1rem 1.4rem;\
