@@ -108,6 +108,7 @@ vertical-align:baseline}
 th{color:var(--soft);font-size:.85rem}
 .yes{color:var(--good);white-space:nowrap}.no{color:var(--bad);font-weight:700;white-space:nowrap}
 .refused,.apart{background:var(--badp)}
+thead th{overflow-wrap:normal}td ol{margin:.2rem 0;padding-left:1.8rem}
 caption{text-align:left;font-weight:700;padding:.3rem 0}.runs{margin:.4rem 0}
 .runs th[scope=row]{font-size:inherit;color:inherit;font-weight:600}.runs td{white-space:nowrap}
 .raise{white-space:pre-wrap;overflow-wrap:anywhere}\
