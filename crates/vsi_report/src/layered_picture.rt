@@ -17,6 +17,8 @@ use vsi_types::{Rule, Step};
 const MOST_NODES: usize = 80;
 /// The most arrows of a layered picture.
 const MOST_ARROWS: usize = 300;
+/// The greatest width of a layered picture.
+const MOST_WIDE: usize = 2_600;
 /// The length of a rounded corner of an arrow.
 const CORNER: usize = 12;
 
@@ -126,9 +128,17 @@ pub(crate) fn layered_of(
         arrows: &arrows,
     };
     match drawing_of(alloc, graph)? {
-        Some(drawing) => Ok(Some(Layered { flows, drawing })),
+        Some(drawing) => Ok(fitting(flows, drawing)),
         None => Ok(None),
     }
+}
+
+/// The layered picture, if it isn't too wide.
+fn fitting(flows: Vec<Shown>, drawing: Drawing) -> Option<Layered> {
+    if drawing.wide > MOST_WIDE {
+        return None;
+    }
+    Some(Layered { flows, drawing })
 }
 
 /// The box at an index.
