@@ -138,24 +138,6 @@ pub(crate) fn inferred_classes(
     }
 }
 
-/// The classes of the letvars: the inferred ones, or, if the program is refused, for each the least
-/// class at or above all that reaches it.
-fn shown_classes(
-    alloc: Global,
-    profile: Profile,
-    lattice: &Lattice,
-    program: &Resolved<'_>,
-) -> Result<Vec<Class>, AllocError>
-    requires globals { All (IsClass (order lattice.now)) (program_of program.now).globals }
-    requires declared { AreClasses (order lattice.now) (program_of program.now).declared }
-{
-    match infer_in(alloc, profile, lattice, program) {
-        Ok(classes) => Ok(classes),
-        Err(InferError::Refused(_walk)) => reached_classes(alloc, profile, lattice, program),
-        Err(InferError::Memory) => Err(AllocError),
-    }
-}
-
 /// The table of flows.
 fn pairs_of(
     alloc: Global,
@@ -228,9 +210,9 @@ fn facts_of_program(
     ensures { IfOk result (λ facts.
         IsTable (order lattice.now) profile (program_of program.now) facts.pairs.items) }
 {
-    let inferred = shown_classes(alloc, profile, lattice, program)?;
+    let classes = reached_classes(alloc, profile, lattice, program)?;
     let pairs = pairs_of(alloc, profile, lattice, program)?;
-    gathered(alloc, profile, lattice, program, &inferred, pairs)
+    gathered(alloc, profile, lattice, program, &classes, pairs)
 }
 
 /// The facts of a text's program.

@@ -3,6 +3,7 @@
 use crate::bands::{Band, Banded};
 use crate::facts::{Facts, flows_between, is_inferred, number_of, variable_class, variable_name};
 use crate::lattice_picture::{colour, put_box, put_picture, spot_at};
+use crate::layout::Spot;
 use crate::order::{Order, is_below, name_of};
 use crate::page::{Page, Part};
 use crate::passage::passage;
@@ -127,7 +128,7 @@ fn put_curve(page: &mut Page, arrow: Arrow) -> Result<(), AllocError> {
 }
 
 /// The beginning of the tag of an arrow by a rule.
-fn before_curve(rule: Rule) -> &'static [u8] {
+pub(crate) fn before_curve(rule: Rule) -> &'static [u8] {
     match rule {
         Rule::Assign => b"<path class=\"flow r1",
         Rule::If => b"<path class=\"flow r2",
@@ -138,7 +139,7 @@ fn before_curve(rule: Rule) -> &'static [u8] {
 }
 
 /// Whether a flow from a variable to another breaks the order of their classes.
-fn is_against(order: &Order, facts: &Facts, source: usize, target: usize) -> bool {
+pub(crate) fn is_against(order: &Order, facts: &Facts, source: usize, target: usize) -> bool {
     match (variable_class(facts, source), variable_class(facts, target)) {
         (Some(low), Some(high)) => !is_below(order, low, high),
         _ => false,
@@ -146,7 +147,7 @@ fn is_against(order: &Order, facts: &Facts, source: usize, target: usize) -> boo
 }
 
 /// The rest of the class of an arrow, and the markup after its curve.
-fn looks(is_against: bool) -> (&'static [u8], &'static [u8]) {
+pub(crate) fn looks(is_against: bool) -> (&'static [u8], &'static [u8]) {
     if is_against {
         (b" against", b"\" marker-end=\"url(#against)\"/>")
     } else {
@@ -229,12 +230,22 @@ fn middle_of(ends: usize, bends: usize) -> usize {
     ends.saturating_add(bends.saturating_mul(3)) / 8
 }
 
-/// Adds the number of a step of the walk, in the middle of its arrow, with a link to the step.
+/// Adds the number of a step of the walk, in the middle of its arrow.
 fn put_step_number(page: &mut Page, arrow: Arrow, number: usize) -> Result<(), AllocError> {
     let bends = arrow.bend1.saturating_add(arrow.bend2);
     let x = middle_of(arrow.x1.saturating_add(arrow.x2), bends);
     let heights = arrow.y1.saturating_add(arrow.y2);
     let y = middle_of(heights, arrow.bend.saturating_mul(2));
+    put_badge(page, x, y, number)
+}
+
+/// Adds the number of a step of the walk at a point, with a link to the step.
+pub(crate) fn put_badge(
+    page: &mut Page,
+    x: usize,
+    y: usize,
+    number: usize,
+) -> Result<(), AllocError> {
     page.put_parts(&[
         Part::Value(b"<a href=\"#s", number.saturating_add(1)),
         Part::Markup(b"><g class=\"number w"),
@@ -273,7 +284,7 @@ fn put_flow_told(
 }
 
 /// Adds the sentences that describe the picture.
-fn put_told(page: &mut Page, facts: &Facts, has_arrows: bool) -> Result<(), AllocError> {
+pub(crate) fn put_told(page: &mut Page, facts: &Facts, has_arrows: bool) -> Result<(), AllocError> {
     if !has_arrows {
         return page.put(b"<title>The variables by their classes</title>");
     }
@@ -288,7 +299,8 @@ fn put_told(page: &mut Page, facts: &Facts, has_arrows: bool) -> Result<(), Allo
 }
 
 /// The tips of the arrows.
-const TIPS: &[u8] = b"<defs><marker id=\"tip\" viewBox=\"0 0 10 10\" refX=\"7\" refY=\"5\" \
+pub(crate) const TIPS: &[u8] =
+    b"<defs><marker id=\"tip\" viewBox=\"0 0 10 10\" refX=\"7\" refY=\"5\" \
 markerWidth=\"8\" markerHeight=\"8\" markerUnits=\"userSpaceOnUse\" orient=\"auto\"><path \
 class=\"tip\" d=\"M0 0L10 5L0 10z\"/></marker><marker id=\"told\" viewBox=\"0 0 10 10\" refX=\"7\" \
 refY=\"5\" markerWidth=\"13\" markerHeight=\"13\" markerUnits=\"userSpaceOnUse\" orient=\"auto\">\
@@ -298,10 +310,10 @@ markerUnits=\"userSpaceOnUse\" orient=\"auto\"><path class=\"toldtip\" \
 d=\"M0 0L10 5L0 10z\"/></marker></defs>";
 
 /// Adds the box of a variable; the box is dashed if the class is inferred.
-fn put_variable(
+pub(crate) fn put_variable_box(
     page: &mut Page,
     facts: &Facts,
-    picture: &Banded,
+    spot: Spot,
     number: usize,
 ) -> Result<(), AllocError> {
     if is_inferred(facts, number) {
@@ -309,7 +321,6 @@ fn put_variable(
     } else {
         page.put(b"<g>")?;
     }
-    let spot = spot_at(&picture.layout, number);
     let class = variable_class(facts, number);
     put_box(page, spot, class, variable_name(facts, number))?;
     page.put(b"</g>")
@@ -323,9 +334,18 @@ fn put_boxes(
     shown: usize,
 ) -> Result<(), AllocError> {
     for number in 0..shown {
-        put_variable(page, facts, picture, number)?;
+        put_variable_box(page, facts, spot_at(&picture.layout, number), number)?;
     }
     Ok(())
+}
+
+/// Adds the beginning of the tag of the arrow of a step.
+pub(crate) fn put_step_path(page: &mut Page, number: usize) -> Result<(), AllocError> {
+    page.put_parts(&[
+        Part::Value(b"<path id=\"a", number),
+        Part::Markup(b" class=\"told w"),
+        Part::Number(number),
+    ])
 }
 
 /// Adds the steps of the walk: all arrows, and then all numbers.
@@ -336,8 +356,7 @@ fn put_walk(
     walk: &[Step],
 ) -> Result<(), AllocError> {
     for (place, step) in walk.iter().enumerate() {
-        page.put(b"<path class=\"told w")?;
-        page.number(place.saturating_add(1))?;
+        put_step_path(page, place.saturating_add(1))?;
         put_curve(page, step_arrow(facts, picture, step))?;
         page.put(b"\" marker-end=\"url(#told)\"/>")?;
     }

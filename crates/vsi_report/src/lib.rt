@@ -25,6 +25,7 @@ mod fixing;
 mod flows_graph;
 mod flows_picture;
 mod lattice_picture;
+mod layered_picture;
 mod layout;
 mod leak_section;
 mod marks;
@@ -43,6 +44,7 @@ mod table;
 mod telling;
 mod verdict;
 mod walking;
+mod walks;
 mod warrant;
 
 pub use dot::lattice_dot;

@@ -4,6 +4,7 @@ use crate::bands::{Banded, bands_of};
 use crate::facts::{Facts, is_drawn, is_strict};
 use crate::flows_picture::{has_few_arrows, put_flows};
 use crate::lattice_picture::put_lattice;
+use crate::layered_picture::{Layered, layered_of, put_layered};
 use crate::layout::{Layout, lattice_layout};
 use crate::order::Order;
 use crate::page::{Page, Part};
@@ -97,6 +98,12 @@ const ARROWS: &[u8] = b"<figcaption>Each arrow is a flow of one step; a flow tha
 stays in its band is allowed if the lattice allows it. A flow of a variable into itself isn't \
 drawn. A dashed box is a variable whose class the text doesn't declare.";
 
+/// The text about the arrows in a layered picture of the flows.
+const LAYERED: &[u8] = b"<figcaption>Each arrow is a flow of one step, and each coloured area is a \
+class with its variables. An area right above another one is a class above the other's in the \
+lattice. A flow of a variable into itself isn't drawn. A dashed box is a variable whose class the \
+text doesn't declare.";
+
 /// The text about a picture of the flows without arrows.
 const NO_ARROWS: &[u8] = b"<figcaption>There are more than 2,000 flows of one step, and their \
 arrows aren't drawn. A dashed box is a variable whose class the text doesn't declare.";
@@ -108,6 +115,16 @@ a thin red arrow goes against the order of the classes.";
 /// Adds the text about the picture of the flows.
 fn put_caption(page: &mut Page, has_arrows: bool, has_walk: bool) -> Result<(), AllocError> {
     let arrows = if has_arrows { ARROWS } else { NO_ARROWS };
+    put_words(page, arrows, has_arrows, has_walk)
+}
+
+/// Adds this text about a picture of the flows, and the meaning of its arrows.
+fn put_words(
+    page: &mut Page,
+    arrows: &'static [u8],
+    has_arrows: bool,
+    has_walk: bool,
+) -> Result<(), AllocError> {
     let thick = if has_walk { THICK } else { b"" };
     let legend = if has_arrows { LEGEND } else { b"" };
     put_pieces(page, &[arrows, thick, b"</figcaption>\n", legend])
@@ -122,8 +139,35 @@ fn put_drawn(
     shown: usize,
     walk: &[Step],
 ) -> Result<(), AllocError> {
+    if let Some(picture) = layered_of(alloc, order, facts, shown)? {
+        return put_layered_figure(alloc, page, order, facts, &picture, walk);
+    }
     let picture = bands_of(alloc, order, facts, shown)?;
     put_figure(page, order, facts, &picture, shown, walk)
+}
+
+/// Adds a layered picture of the flows; a high one is below its text.
+fn put_layered_figure(
+    alloc: Global,
+    page: &mut Page,
+    order: &Order,
+    facts: &Facts,
+    picture: &Layered,
+    walk: &[Step],
+) -> Result<(), AllocError> {
+    if picture.drawing.high > HIGH {
+        page.put(b"<figure class=\"high\">")?;
+        put_words(page, LAYERED, true, !walk.is_empty())?;
+        page.put(SCROLL)?;
+        put_layered(alloc, page, order, facts, picture, walk)?;
+        page.put(b"</div></figure>\n")
+    } else {
+        put_pieces(page, &[b"<figure>", SCROLL])?;
+        put_layered(alloc, page, order, facts, picture, walk)?;
+        page.put(b"</div>\n")?;
+        put_words(page, LAYERED, true, !walk.is_empty())?;
+        page.put(b"</figure>\n")
+    }
 }
 
 /// Adds the picture of the flows with these positions of the variables; a high one is below its
@@ -171,7 +215,7 @@ fn count_shown(profile: Profile, facts: &Facts) -> usize {
 const FLOWS: &[u8] =
     b"<section class=\"wide\" aria-labelledby=\"flows\"><h2 id=\"flows\">Flows</h2>\n";
 
-/// Adds the section of the flows.
+/// Adds the section of the flows, with the lines of the walks of its table.
 pub(crate) fn put_all_flows(
     alloc: Global,
     page: &mut Page,
@@ -179,6 +223,7 @@ pub(crate) fn put_all_flows(
     order: &Order,
     facts: &Facts,
     walk: &[Step],
+    lines: &[u8],
 ) -> Result<(), AllocError> {
     page.put(FLOWS)?;
     if is_drawn(facts) {
@@ -186,7 +231,7 @@ pub(crate) fn put_all_flows(
     } else {
         page.put(NOT_DRAWN)?;
     }
-    put_table(page, order, facts)?;
+    put_table(page, order, facts, lines)?;
     page.put(b"</section>\n")
 }
 

@@ -10,6 +10,7 @@ use crate::order::Order;
 use crate::page::Page;
 use crate::sections::{put_all_flows, put_lattice_if, put_listing, put_policy, put_promise};
 use crate::telling::put_walk;
+use crate::walks::table_walks;
 use std::alloc::{AllocError, Global};
 use vsi_compiler::CompileError;
 use vsi_image::Verified;
@@ -78,7 +79,15 @@ fn after_accepted(
     put_lattice_if(alloc, &mut page, subject.order, false)?;
     page.put(b"</div>\n")?;
     put_lattice_if(alloc, &mut page, subject.order, true)?;
-    put_all_flows(alloc, &mut page, subject.profile, subject.order, facts, &[])?;
+    put_all_flows(
+        alloc,
+        &mut page,
+        subject.profile,
+        subject.order,
+        facts,
+        &[],
+        &[],
+    )?;
     put_listing(&mut page, lines)?;
     put_filing(alloc, &mut page, subject)?;
     page.put(FOOT)?;
@@ -144,6 +153,7 @@ fn after_refused(
     put_leak(alloc, &mut page, subject, last_class(facts, walk))?;
     page.put(b"</div>\n")?;
     put_lattice_if(alloc, &mut page, subject.order, true)?;
+    let lines = table_walks(alloc, subject, facts)?;
     put_all_flows(
         alloc,
         &mut page,
@@ -151,6 +161,7 @@ fn after_refused(
         subject.order,
         facts,
         walk,
+        &lines,
     )?;
     put_filing(alloc, &mut page, subject)?;
     page.put(FOOT)?;

@@ -96,7 +96,7 @@ Consolas,\"DejaVu Sans Mono\",monospace}
 stroke-dasharray:10 3 2 3}
 .tip{fill:var(--soft)}
 .against{stroke:var(--bad)}
-.told{fill:none;stroke:var(--bad);stroke-width:4}.toldtip{fill:var(--bad)}
+.told{fill:none;stroke:var(--bad);stroke-width:4}.told:target{stroke-width:8}.toldtip{fill:var(--bad)}
 .number circle{fill:var(--bad);stroke:var(--paper);stroke-width:2}
 .number text{fill:var(--paper);text-anchor:middle;font-size:14px}
 .legend{list-style:none;margin:.6rem 0;padding:0;display:flex;flex-wrap:wrap;gap:.1rem 1.4rem;\
@@ -108,6 +108,7 @@ vertical-align:baseline}
 th{color:var(--soft);font-size:.85rem}
 .yes{color:var(--good);white-space:nowrap}.no{color:var(--bad);font-weight:700;white-space:nowrap}
 .refused,.apart{background:var(--badp)}
+thead th{overflow-wrap:normal}td ol{margin:.2rem 0;padding-left:1.8rem}
 caption{text-align:left;font-weight:700;padding:.3rem 0}.runs{margin:.4rem 0}
 .runs th[scope=row]{font-size:inherit;color:inherit;font-weight:600}.runs td{white-space:nowrap}
 .raise{white-space:pre-wrap;overflow-wrap:anywhere}\

@@ -5,6 +5,7 @@ use crate::facts::{Facts, number_of};
 use crate::order::Order;
 use crate::page::{Page, Part};
 use crate::telling::{put_class_of, put_name};
+use crate::walks::{after_lines, put_pair_walk};
 use std::alloc::AllocError;
 use vsi_flows::Pair;
 
@@ -53,18 +54,37 @@ const TABLE: &[u8] = b"<div class=\"scroll\" tabindex=\"0\"><table>\n\
 <th scope=\"col\">To</th><th scope=\"col\">Verdict</th><th scope=\"col\">Fewest steps</th></tr>\
 </thead>\n<tbody>\n";
 
-/// Adds a table of the pairs that are allowed, or of those that are refused.
-fn put_rows(
+/// Adds the table of the pairs that are allowed.
+fn put_rows(page: &mut Page, order: &Order, facts: &Facts) -> Result<(), AllocError> {
+    page.put(TABLE)?;
+    for pair in &facts.pairs {
+        if pair.allowed {
+            put_row(page, order, facts, *pair)?;
+        }
+    }
+    page.put(b"</tbody></table></div>\n")
+}
+
+/// Adds the table of the pairs that are refused, each with its walk, if there are lines for them:
+/// one for each pair, and after it one for each of its steps.
+fn put_refused(
     page: &mut Page,
     order: &Order,
     facts: &Facts,
-    is_allowed: bool,
+    lines: &[u8],
 ) -> Result<(), AllocError> {
     page.put(TABLE)?;
+    let mut at: usize = 0;
     for pair in &facts.pairs {
-        if pair.allowed == is_allowed {
+        let first = after_lines(lines, at, 1);
+        let steps = pair.steps as usize;
+        if !pair.allowed {
             put_row(page, order, facts, *pair)?;
+            if first < lines.len() {
+                put_pair_walk(page, lines, first, steps)?;
+            }
         }
+        at = after_lines(lines, first, steps);
     }
     page.put(b"</tbody></table></div>\n")
 }
@@ -85,7 +105,7 @@ fn put_allowed(
             b" allowed pairs</summary>\n",
         )),
     ])?;
-    put_rows(page, order, facts, true)?;
+    put_rows(page, order, facts)?;
     page.put(b"</details>\n")
 }
 
@@ -102,8 +122,14 @@ fn put_counts(page: &mut Page, all: usize, refused: usize) -> Result<(), AllocEr
     ])
 }
 
-/// Adds the table of flows: the numbers of the pairs, the refused ones, and the allowed ones.
-pub(crate) fn put_table(page: &mut Page, order: &Order, facts: &Facts) -> Result<(), AllocError> {
+/// Adds the table of flows: the numbers of the pairs, the refused ones with the lines of their
+/// walks, and the allowed ones.
+pub(crate) fn put_table(
+    page: &mut Page,
+    order: &Order,
+    facts: &Facts,
+    lines: &[u8],
+) -> Result<(), AllocError> {
     page.put(b"<h3>All flows between declared variables</h3>\n")?;
     if facts.pairs.is_empty() {
         return page.put(b"<p>None: no declared variable flows to another one.</p>\n");
@@ -112,7 +138,7 @@ pub(crate) fn put_table(page: &mut Page, order: &Order, facts: &Facts) -> Result
     let refused = count_refused(&facts.pairs);
     put_counts(page, all, refused)?;
     if refused > 0 {
-        put_rows(page, order, facts, false)?;
+        put_refused(page, order, facts, lines)?;
     }
     if refused < all {
         put_allowed(page, order, facts, all.saturating_sub(refused))?;

@@ -1,6 +1,6 @@
 //! The sentences of a page that explain a refused flow.
 
-use crate::facts::{Facts, is_inferred, number_of, variable_class, variable_name};
+use crate::facts::{Facts, is_drawn, is_inferred, number_of, variable_class, variable_name};
 use crate::lattice_picture::colour;
 use crate::order::{Order, name_of};
 use crate::page::{Page, Part};
@@ -222,8 +222,14 @@ fn put_why(
     )
 }
 
-/// Adds the links from a step to the one before it and the one after it.
-fn put_turns(page: &mut Page, number: usize, count: usize) -> Result<(), AllocError> {
+/// Adds the links from a step to the one before it, to the one after it, and to its arrow, if the
+/// flows are drawn.
+fn put_turns(
+    page: &mut Page,
+    number: usize,
+    count: usize,
+    is_drawn: bool,
+) -> Result<(), AllocError> {
     page.put(b"<p class=\"turn\">")?;
     if number > 1 {
         page.put_parts(&[
@@ -235,6 +241,12 @@ fn put_turns(page: &mut Page, number: usize, count: usize) -> Result<(), AllocEr
         page.put_parts(&[
             Part::Value(b"<a href=\"#s", number.saturating_add(1)),
             Part::Markup(b">next step</a> "),
+        ])?;
+    }
+    if is_drawn {
+        page.put_parts(&[
+            Part::Value(b"<a href=\"#a", number),
+            Part::Markup(b">arrow</a> "),
         ])?;
     }
     page.put(b"<a href=\"#why\">all steps</a></p></li>\n")
@@ -288,7 +300,7 @@ fn put_steps(page: &mut Page, subject: &Told<'_>, walk: &[Step]) -> Result<(), A
         let number = place.saturating_add(1);
         page.put_parts(&[Part::Value(b"<li id=\"s", number), Part::Markup(b">")])?;
         put_step(page, subject, step)?;
-        put_turns(page, number, walk.len())?;
+        put_turns(page, number, walk.len(), is_drawn(subject.facts))?;
     }
     Ok(())
 }

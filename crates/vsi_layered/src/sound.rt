@@ -1,0 +1,116 @@
+//! The test of a drawing.
+
+ghost use Rattle.std.specs.Prelude.{◌≡◌, ◌≤◌, ◌<◌, ◌+◌, ℕ, length, IsTrue};
+ghost use Rattle.std.specs.List.{slice_index_or};
+ghost use Rattle.vsi_layered.specs.Drawing.{IsWithin, AreApart, AllApart, AllWithin, IsSound};
+ghost use Rattle.vsi_layered.specs.declared.graph.Place.{Place as Box};
+
+use crate::graph::{Drawing, Node, Place};
+
+/// Whether a stretch is within another one.
+fn stretch_within(from: usize, length: usize, outer: usize, whole: usize) -> bool
+    ensures { IsTrue result → (outer ≤ from) × (from + length ≤ outer + whole) }
+{
+    if from < outer {
+        return false;
+    }
+    if whole < length {
+        return false;
+    }
+    from - outer <= whole - length
+}
+
+/// Whether a stretch ends before a number.
+fn ends_before(from: usize, length: usize, other: usize) -> bool
+    ensures { IsTrue result → from + length ≤ other }
+{
+    if other < from {
+        return false;
+    }
+    length <= other - from
+}
+
+/// Whether a box is within another one.
+fn is_within(inner: Place, outer: Place) -> bool
+    ensures { IsTrue result → IsWithin inner outer }
+{
+    if !stretch_within(inner.left, inner.wide, outer.left, outer.wide) {
+        return false;
+    }
+    stretch_within(inner.top, inner.high, outer.top, outer.high)
+}
+
+/// Whether two boxes have no point in common.
+fn are_apart(one: Place, other: Place) -> bool
+    ensures { IsTrue result → AreApart one other }
+{
+    if ends_before(one.left, one.wide, other.left) {
+        return true;
+    }
+    if ends_before(other.left, other.wide, one.left) {
+        return true;
+    }
+    if ends_before(one.top, one.high, other.top) {
+        return true;
+    }
+    ends_before(other.top, other.high, one.top)
+}
+
+/// Whether a box and each one before it have no point in common.
+fn is_apart_from_first(places: &[Place], place: usize) -> bool
+    requires { place < length places.now }
+    ensures { IsTrue result → (j : ℕ) (d : Box) → j < place
+        → AreApart (slice_index_or places.now j d) (slice_index_or places.now place d) }
+{
+    for other in 0..place {
+        if !are_apart(places[other], places[place]) {
+            return false;
+        }
+    }
+    true
+}
+
+/// Whether no two boxes have a point in common.
+fn are_all_apart(places: &[Place]) -> bool
+    ensures { IsTrue result → AllApart places.now }
+{
+    for place in 0..places.len() {
+        if !is_apart_from_first(places, place) {
+            return false;
+        }
+    }
+    true
+}
+
+/// Whether the box of each node is within the box of its group.
+fn are_all_within(nodes: &[Node], places: &[Place], groups: &[Place]) -> bool
+    requires { length nodes.now ≤ length places.now }
+    ensures { IsTrue result → AllWithin nodes.now places.now groups.now }
+{
+    for node in 0..nodes.len() {
+        if groups.len() <= nodes[node].group {
+            return false;
+        }
+        if !is_within(places[node], groups[nodes[node].group]) {
+            return false;
+        }
+    }
+    true
+}
+
+/// Whether a drawing has a box for each node, within the box of its group, and no two boxes of
+/// nodes or of groups overlap.
+pub(crate) fn is_sound(nodes: &[Node], drawing: &Drawing) -> bool
+    ensures { IsTrue result → IsSound nodes.now drawing.now }
+{
+    if drawing.places.len() != nodes.len() {
+        return false;
+    }
+    if !are_all_within(nodes, &drawing.places, &drawing.groups) {
+        return false;
+    }
+    if !are_all_apart(&drawing.places) {
+        return false;
+    }
+    are_all_apart(&drawing.groups)
+}
