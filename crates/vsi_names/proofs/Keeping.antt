@@ -1,5 +1,6 @@
 -- Programs that are the same but for a name.
-use Rattle.std.proofs.Common.{◌≡◌, ℕ, List, Bool, true, Result, Ok, Err, IfOk}
+use Rattle.std.proofs.Common.{◌≡◌, ℕ, List, Bool, true, Result, Ok, Err}
+use Rattle.std.specs.Prelude.{IfOk}
 use Rattle.vsi_lattice.specs.Known.{Known}
 use Rattle.vsi_scope.specs.Program.{Resolved}
 use Rattle.vsi_compiler.specs.Stands.{Stands}
