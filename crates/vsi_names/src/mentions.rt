@@ -60,32 +60,6 @@ fn read(tour: &mut Tour, e: &Ex) -> Result<(), AllocError> {
     }
 }
 
-/// Walks over a choice.
-#[cycle(tour)]
-fn walk_if(
-    entries: &[Entry<'_>],
-    tour: &mut Tour,
-    then_branch: &[Cmd],
-    else_branch: &[Cmd],
-    guard: &Ex,
-) -> Result<(), AllocError> {
-    read(tour, guard)?;
-    walk_commands(entries, tour, then_branch)?;
-    walk_commands(entries, tour, else_branch)
-}
-
-/// Walks over a loop.
-#[cycle(tour)]
-fn walk_while(
-    entries: &[Entry<'_>],
-    tour: &mut Tour,
-    body: &[Cmd],
-    guard: &Ex,
-) -> Result<(), AllocError> {
-    read(tour, guard)?;
-    walk_commands(entries, tour, body)
-}
-
 /// Notes the declaration of the next letvar.
 fn note_letvar(entries: &[Entry<'_>], tour: &mut Tour) -> Result<usize, AllocError> {
     let variable = tour.globals.saturating_add(tour.letvars);
@@ -130,8 +104,15 @@ fn walk_command(entries: &[Entry<'_>], tour: &mut Tour, c: &Cmd) -> Result<(), A
             note_location(tour, *loc, *span)?;
             read(tour, value)
         }
-        Cmd::If { guard, yes, no } => walk_if(entries, tour, yes, no, guard),
-        Cmd::While { guard, body } => walk_while(entries, tour, body, guard),
+        Cmd::If { guard, yes, no } => {
+            read(tour, guard)?;
+            walk_commands(entries, tour, yes)?;
+            walk_commands(entries, tour, no)
+        }
+        Cmd::While { guard, body } => {
+            read(tour, guard)?;
+            walk_commands(entries, tour, body)
+        }
         Cmd::Letvar { value, body } => walk_letvar(entries, tour, body, value),
     }
 }
