@@ -145,7 +145,7 @@ pub(crate) const LATTICE_OPTION: Argument = Argument {
 
 pub(crate) const SERVED_LATTICE: Argument = Argument {
     name: "lattice",
-    form: Form::Value("LATTICE"),
+    form: Form::Value("FILE"),
     line: "The lattice file of texts that name none",
     whole: word_help::SERVED_LATTICE,
 };
