@@ -7,8 +7,8 @@
 //! `laid_again` that a layout is laid out as itself, and `canonical_kept` that it has the canonical
 //! text of the text.
 //!
-//! To be believed: `specs/Comments` and `specs/Layout`; the other files in `specs/` say how a text
-//! is laid out, and no promise depends on that.
+//! To be believed: `specs/Comments`, `specs/Layout` and `specs/Places`; the other files in `specs/`
+//! say how a text is laid out, and no promise depends on that.
 #![tactic(auto)]
 
 mod comparing;

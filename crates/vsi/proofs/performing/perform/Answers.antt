@@ -100,6 +100,9 @@ returns-in-Run-clause-performed g c = rw c.in-Run.is c.run.ensures.performed
 pub returns-in-Drive-clause-performed : goal.returns-in-Drive-clause-performed
 returns-in-Drive-clause-performed g c = rw c.in-Drive.is c.drive.ensures.performed
 
+pub returns-in-Layout-clause-performed : goal.returns-in-Layout-clause-performed
+returns-in-Layout-clause-performed g c = rw c.in-Layout.is c.lay_out.ensures.performed
+
 pub returns-in-View-clause-performed : goal.returns-in-View-clause-performed
 returns-in-View-clause-performed g c = rw c.in-View.is c.view.ensures.performed
 
@@ -220,6 +223,9 @@ pub returns-in-Lsp-clause-left : goal.returns-in-Lsp-clause-left
 returns-in-Lsp-clause-left g c = rw c.in-Lsp.is
     (cut_leaves _ _ _ c.serve.result c.serve.ensures.cut)
 
+pub returns-in-Layout-clause-left : goal.returns-in-Layout-clause-left
+returns-in-Layout-clause-left g c = rw c.in-Layout.is c.lay_out.ensures.left
+
 -- ---- why it has stopped.
 
 pub returns-in-Classes-clause-stopped : goal.returns-in-Classes-clause-stopped
@@ -321,6 +327,9 @@ returns-in-View-clause-stopped g c = rw c.in-View.is c.view.ensures.stopped
 
 pub returns-in-Drive-clause-stopped : goal.returns-in-Drive-clause-stopped
 returns-in-Drive-clause-stopped g c = rw c.in-Drive.is c.drive.ensures.stopped
+
+pub returns-in-Layout-clause-stopped : goal.returns-in-Layout-clause-stopped
+returns-in-Layout-clause-stopped g c = rw c.in-Layout.is c.lay_out.ensures.stopped
 
 pub returns-in-Bound-clause-stopped : goal.returns-in-Bound-clause-stopped
 returns-in-Bound-clause-stopped g c = rw c.in-Bound.is c.bound.ensures.stopped
