@@ -10,3 +10,4 @@ pub mod Following
 pub mod Apart
 pub mod Small
 pub mod Whole
+pub mod Prepaid

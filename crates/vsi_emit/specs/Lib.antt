@@ -12,3 +12,4 @@ pub mod Laws
 pub mod Closed
 pub mod Depths
 pub mod Translation
+pub mod Prepaid

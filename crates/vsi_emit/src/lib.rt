@@ -4,7 +4,8 @@
 //! `emit_c` promises that its text is the writing of a function of a small C, `specs/SmallC`. Each
 //! call of this function gives the answer of the image's run: 0 and the final globals if the run
 //! halts within the budget, otherwise 1 and unchanged globals. The budget is exact, and is paid a
-//! block at a time. `specs/Writing` defines how the small C is written. A test of equality or of
+//! block at a time; a block also pays in advance for blocks that surely follow it, and these have
+//! no test. `specs/Writing` defines how the small C is written. A test of equality or of
 //! order is arithmetic on bits, and the compiler can't see its value. The exception is a test that
 //! a guard takes at once: it is the test of the branch. So the only jumps of the text are those of
 //! the code and those of the budget. Whenever two runs of the image are at the same positions, the
@@ -24,6 +25,8 @@ mod frame;
 pub mod laws;
 mod marks;
 mod operands;
+mod paid;
+mod parts;
 mod pieces;
 mod statements;
 
