@@ -16,10 +16,8 @@ const BEFORE: &[u8] =
     b"The least raise of classes under which the text is accepted (`vsi mend`):\n";
 
 /// The meaning of a raise.
-const MEANING: &[u8] = b"\
-Whoever sees the class before `->` but not the one after it saw the variable
-until now, and no longer does.
-";
+const MEANING: &[u8] =
+    b"Whoever sees only the class before `->` no longer sees the variable.\n";
 
 /// The line for raises that are left out.
 const LEFT: &[u8] = b"`vsi mend` prints the others, too.\n";
