@@ -16,8 +16,7 @@ const BEFORE: &[u8] =
     b"The least raise of classes under which the text is accepted (`vsi mend`):\n";
 
 /// The meaning of a raise.
-const MEANING: &[u8] =
-    b"Whoever sees only the class before `->` no longer sees the variable.\n";
+const MEANING: &[u8] = b"Whoever sees only the class before `->` no longer sees the variable.\n";
 
 /// The line for raises that are left out.
 const LEFT: &[u8] = b"`vsi mend` prints the others, too.\n";
