@@ -30,12 +30,14 @@ fn messages_out_of_turn(rt: HostRuntime) -> Result<(), Fail> {
         early.as_slice()
             == b"Content-Length: 91\r\n\r\n{\"error\":{\"code\":-32002,\
 \"message\":\"`initialize` has to come first\"},\"id\":1,\"jsonrpc\":\"2.0\"}"
+                .as_slice()
     );
     let malformed = send(&mut server, b"Content-Length: 1\r\n\r\n{")?;
     assert!(rt;
         malformed.as_slice()
             == b"Content-Length: 89\r\n\r\n{\"error\":{\"code\":-32700,\
 \"message\":\"the message can't be read\"},\"id\":null,\"jsonrpc\":\"2.0\"}"
+                .as_slice()
     );
     assert!(rt; !server.has_exited());
     let exit = send(
@@ -72,6 +74,7 @@ fn messages_in_turn(rt: HostRuntime) -> Result<(), Fail> {
         end.as_slice()
             == b"Content-Length: 38\r\n\r\n{\"id\":2,\"jsonrpc\":\"2.0\",\
 \"result\":null}"
+                .as_slice()
     );
     let exit = send(
         &mut server,

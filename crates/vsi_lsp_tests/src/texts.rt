@@ -40,12 +40,12 @@ fn changes(rt: HostRuntime) -> Result<(), Fail> {
         },
     ];
     let text = changed_by(rt.alloc(), Encoding::Utf16, TEXT, &changes)?;
-    assert!(rt; text.as_slice() == b"axyzb\r\nc!");
+    assert!(rt; text.as_slice() == b"axyzb\r\nc!".as_slice());
     let whole = [Change {
         range: None,
         text: b"new",
     }];
     let text = changed_by(rt.alloc(), Encoding::Utf8, TEXT, &whole)?;
-    assert!(rt; text.as_slice() == b"new");
+    assert!(rt; text.as_slice() == b"new".as_slice());
     Ok(())
 }
