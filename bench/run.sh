@@ -66,7 +66,7 @@ awk '
     for (i = 1; i <= 3; i++) { p = programs[i]
       printf "| %s | %d | %.3f | %.3f | %.2f |\n", p, count[p], best[p " C"], best[p " machine"], best[p " machine"] / best[p " C"] }
     print ""
-    print "| Program | C by hand, ms | emitted C, ms | machine, ms | emitted by hand's | machine by emitted's |"
+    print "| Program | C by hand, ms | emitted C, ms | machine, ms | emitted to hand | machine to emitted |"
     print "|---|---|---|---|---|---|"
     for (i = 1; i <= 3; i++) { p = programs[i]; ms = count[p] / 1e6; e = best[p " emitted"]
       printf "| %s | %.1f | %.1f | %.1f | %.2f | %.1f |\n", p, best[p " hand"] * ms, e * ms, best[p " machine"] * ms, e / best[p " hand"], best[p " machine"] / e } }
