@@ -8,6 +8,9 @@ from typing import NamedTuple
 SILENT = ["-std=c99", "-Wall", "-Wextra", "-Wpedantic", "-Wconversion", "-Werror"]
 LEVELS = ["-O0", "-O1", "-O2", "-O3", "-Os"]
 SANITIZED = ["-fsanitize=undefined", "-fno-sanitize-recover=all"]
+# A trial has the functions of many images in one file. Without this, GCC has one of two functions with the same code call
+# the other, and then warns if their arrays differ in length.
+APART = "-fno-ipa-icf"
 
 
 class Target(NamedTuple):
@@ -40,10 +43,10 @@ class Fault(Exception):
     """What is wrong."""
 
 
-HOSTS = [Target("gcc", ["gcc", *SANITIZED], [], LEVELS), Target("clang", ["clang", *SANITIZED], [], LEVELS)]
+HOSTS = [Target("gcc", ["gcc", APART, *SANITIZED], [], LEVELS), Target("clang", ["clang", *SANITIZED], [], LEVELS)]
 # Another order of bytes, other sizes of words and other code: two levels of each show the compiler's ways.
 OTHERS = [
-    Target(f"{processor} gcc", [f"{processor}-linux-{system}-gcc", "-static"], [emulator], ["-O0", "-O2", "-Os"])
+    Target(f"{processor} gcc", [f"{processor}-linux-{system}-gcc", "-static", APART], [emulator], ["-O0", "-O2", "-Os"])
     for processor, system, emulator in [
         ("arm", "gnueabihf", "qemu-arm"), ("aarch64", "gnu", "qemu-aarch64"), ("riscv64", "gnu", "qemu-riscv64"),
         ("s390x", "gnu", "qemu-s390x")]]
