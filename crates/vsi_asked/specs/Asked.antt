@@ -95,7 +95,8 @@ flags_of (Classes compilation) = (codes "--strict", compilation.is_strict) ∷ [
 flags_of (Flows compilation has_walks) =
     (codes "--strict", compilation.is_strict) ∷ (codes "--walks", has_walks) ∷ []
 flags_of (Mend mending) =
-    (codes "--strict", mending.compilation.is_strict) ∷ (codes "--apply", mending.is_applied) ∷ []
+    (codes "--strict", mending.compilation.is_strict) ∷ (codes "--apply", mending.is_applied)
+    ∷ (codes "--json", mending.is_json) ∷ []
 flags_of (Build compilation image) = (codes "--strict", compilation.is_strict) ∷ []
 flags_of (Listing image) = []
 flags_of (Audit audit) = (codes "--strict", audit.is_strict) ∷ (codes "--steady", audit.is_steady) ∷ []

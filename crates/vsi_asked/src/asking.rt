@@ -305,6 +305,7 @@ fn asks_mend(words: &[String], mending: &Mending<'_>) -> bool
     let flags = [
         ("--strict", mending.compilation.is_strict),
         ("--apply", mending.is_applied),
+        ("--json", mending.is_json),
     ];
     asks_compilation(words, "mend", &mending.compilation, flags.as_slice())
 }
