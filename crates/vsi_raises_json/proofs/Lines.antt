@@ -1,5 +1,5 @@
 -- The line of raises, from its parts.
-use Rattle.std.proofs.Common.{◌≡◌, ◌∙◌, ℕ, Bool, false, List, [], ◌∷◌, map, codes, refl, ap}
+use Rattle.std.proofs.Common.{◌≡◌, ◌≢◌, ◌∙◌, ℕ, Bool, false, List, [], ◌∷◌, map, codes, refl, ap}
 use Rattle.serde_json.specs.Data.{Data, Members, no_members}
 use Rattle.serde_json.specs.View.{items_of}
 use Rattle.serde_json.specs.Written.{items_have_float, members_have_float}
@@ -13,6 +13,8 @@ use Rattle.vsi_types.specs.Security.{program}
 use Rattle.vsi_types.specs.Walks.{declared_class}
 use Rattle.vsi_types.specs.declared.rules.Profile.{Profile}
 use Rattle.vsi_infer.specs.Explanation.{class_text, name_of}
+use Rattle.vsi_infer.specs.declared.walk.Walk.{Walk}
+use Rattle.vsi_compiler.specs.declared.error.CompileError.TheVariants.{Flow, Memory}
 use Rattle.vsi_compiler.specs.Source.{Reads}
 use Rattle.vsi_compiler.specs.SourceView.{Source, IsSource}
 use Rattle.vsi_raise.specs.declared.raise.Raise.{Raise}
@@ -48,6 +50,10 @@ raises_plain l source globals r (raise ∷ raises) =
     both (members_have_float (json.raise_members l source globals r raise))
     (items_have_float (items_of (json.raise_objects l source globals r raises)))
     (raise_plain l source globals r raise) (raises_plain l source globals r raises)
+
+-- A refused flow isn't lack of memory.
+pub walk_apart : (walk : Walk) → Flow walk ≢ Memory
+walk_apart walk q = absurd cc
 
 module _ (s : Source) (is : IsSource s) (P : Profile) where
   -- The line of the least raises, with parts of the source under whatever names.

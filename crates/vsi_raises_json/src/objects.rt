@@ -57,8 +57,8 @@ fn raise_object(
     requires globals { All (IsClass (order lattice.now)) (program_of program.now).globals }
     requires declared { AreClasses (order lattice.now) (program_of program.now).declared }
     requires new { IsClass (order lattice.now) raise.now.new }
-    ensures { IfOk result (λ map. members_view map.entries ≡ spec.raise_members lattice.now
-        source.now (map declared declarations.now) program.now raise.now) }
+    ensures { IfOk result (λ members. members_view members.entries ≡ spec.raise_members
+        lattice.now source.now (map declared declarations.now) program.now raise.now) }
 {
     let mut members = Map::new(alloc);
     let start = name_start(declarations, program.letvars(), raise.variable);
