@@ -302,6 +302,9 @@ fn asks_flows(words: &[String], compilation: &Compilation<'_>, has_walks: bool) 
 fn asks_mend(words: &[String], mending: &Mending<'_>) -> bool
     ensures { result ≡ true → spec.Spells words.now (request.Mend mending.now) }
 {
+    if mending.is_applied && mending.is_json {
+        return false;
+    }
     let flags = [
         ("--strict", mending.compilation.is_strict),
         ("--apply", mending.is_applied),
