@@ -238,7 +238,8 @@ WhyCheck false holds asked old new =
 abbrev pub WhyMend : Bool → Holding → Mending → Option (List ℕ) → Option (List ℕ) → Stop → Type 0
 WhyMend true holds asked old new =
     StopsBy (RefusesLattice holds asked.compilation.lattice.now)
-    (IsDifference (Writes (OfFiles holds asked.compilation (ToldUnserved (profile_of asked.compilation.is_strict))) old new))
+    (IsDifference
+    (Writes (OfFiles holds asked.compilation (ToldUnserved (profile_of asked.compilation.is_strict))) old new))
 WhyMend false holds asked old new =
     StopsBy (RefusesFiles holds asked.compilation (AsksMend asked.is_applied asked.compilation.is_strict)) NoOther
 

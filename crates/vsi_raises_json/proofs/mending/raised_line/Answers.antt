@@ -14,14 +14,16 @@ line_of-requires c =
     let s = c.args.source.now in
     subst (HasClassesIn (order s.lattice)) (sym c.deref.ensures.value)
     (classes_in (order s.lattice) c.args.profile (program s.resolved) c.in-Raised.raises.items
-    (subst (Answers (order s.lattice) c.args.profile (program s.resolved)) c.in-Raised.is c.in_ok-raising.ensures.answer))
+    (subst (Answers (order s.lattice) c.args.profile (program s.resolved)) c.in-Raised.is
+    c.in_ok-raising.ensures.answer))
 
 pub returns-in_ok-line-in-Raised : goal.returns-in_ok-line-in-Raised
 returns-in_ok-line-in-Raised c =
     let s = c.args.source.now in
     c.in_ok-line-in-Raised.ensures c.args.profile
     (subst (AreLeastRaises (order s.lattice) c.args.profile (program s.resolved)) (sym c.deref.ensures.value)
-    (subst (Answers (order s.lattice) c.args.profile (program s.resolved)) c.in-Raised.is c.in_ok-raising.ensures.answer))
+    (subst (Answers (order s.lattice) c.args.profile (program s.resolved)) c.in-Raised.is
+    c.in_ok-raising.ensures.answer))
 
 pub returns-in-Refused : goal.returns-in-Refused
 returns-in-Refused c =
@@ -30,5 +32,6 @@ returns-in-Refused c =
       error = Flow c.in-Refused._walk;
       other = walk_apart c.in-Refused._walk;
       refused = final_walk s c.resolved-program.ensures.kept c.args.profile c.in-Refused._walk.steps.items
-          (subst (Answers (order s.lattice) c.args.profile (program s.resolved)) c.in-Refused.is c.in_ok-raising.ensures.answer);
+          (subst (Answers (order s.lattice) c.args.profile (program s.resolved)) c.in-Refused.is
+          c.in_ok-raising.ensures.answer);
     }
