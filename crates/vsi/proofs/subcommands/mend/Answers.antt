@@ -1,3 +1,4 @@
+use Rattle.std.proofs.Common.{false}
 use Rattle.vsi.specs.Performed.{ToldRaises}
 use Rattle.vsi.specs.Reasons.{AsksMend}
 use Rattle.vsi.proofs.Refused.{refuses_files, refuses_lattice}

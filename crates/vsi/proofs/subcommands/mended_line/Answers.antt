@@ -1,3 +1,4 @@
+use Rattle.std.proofs.Common.{true, false}
 use Rattle.vsi.specs.Performed.{profile_of}
 use Rattle.vsi.proofs.Mended.{mended_so}
 use Rattle.vsi.proofs.subcommands.mended_line.Goals as goal
