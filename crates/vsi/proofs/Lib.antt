@@ -10,6 +10,7 @@ pub mod Filled
 pub mod Driven
 pub mod Stopped
 pub mod Checked
+pub mod Mended
 pub mod Obeyed
 pub mod Refused
 pub mod Unrun

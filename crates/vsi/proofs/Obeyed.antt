@@ -4,6 +4,7 @@ use Rattle.std.specs.Prelude.{IfErr, String}
 use Rattle.std.specs.declared.alloc.Global.{Global}
 use Rattle.std.proofs.lemmas.Result.{IfErr-weaker}
 use Rattle.vsi_arguments.specs.declared.request.Judging.{Judging}
+use Rattle.vsi_arguments.specs.declared.request.Mending.{Mending}
 use Rattle.vsi_arguments.specs.declared.request.Request.{Request}
 use Rattle.vsi_arguments.specs.declared.request.Request.TheVariants as request
 use Rattle.vsi_answers.specs.declared.unanswered.Unanswered.{Unanswered}
@@ -14,7 +15,7 @@ use Rattle.vsi.specs.Done.{IsStopOf, Stopped, StopsAt}
 use Rattle.vsi.specs.Holding.{Holding}
 use Rattle.vsi.specs.Input.{TellsStop}
 use Rattle.vsi.specs.Partly.{Answers}
-use Rattle.vsi.specs.Reasons.{StopsBy, Why, WhyCheck}
+use Rattle.vsi.specs.Reasons.{StopsBy, Why, WhyCheck, WhyMend}
 use Rattle.vsi.specs.Stops.{status_of}
 use Rattle.vsi.proofs.Leaving.{leaves_memory}
 use Rattle.vsi.proofs.Reasons.{late_stops}
@@ -39,13 +40,19 @@ memory_check : (is_json : Bool) (holds : Holding) (asked : Judging) (old new : O
 memory_check true holds asked old new = tt
 memory_check false holds asked old new = tt
 
+-- Nor for `mend`.
+memory_mend : (is_json : Bool) (holds : Holding) (asked : Mending) (old new : Option (List ℕ)) →
+    WhyMend is_json holds asked old new Memory
+memory_mend true holds asked old new = tt
+memory_mend false holds asked old new = tt
+
 -- Lack of memory claims no reason for any request.
 memory_why : (holds : Holding) (asked : Request) (old new : Option (List ℕ)) → Why holds asked old new Memory
 memory_why holds (request.Check asked) old new = memory_check asked.is_json holds asked old new
 memory_why holds (request.Conform asked) old new = tt
 memory_why holds (request.Classes c) old new = tt
 memory_why holds (request.Flows c has_walks) old new = tt
-memory_why holds (request.Mend asked) old new = tt
+memory_why holds (request.Mend asked) old new = memory_mend asked.is_json holds asked old new
 memory_why holds (request.Build c image) old new = tt
 memory_why holds (request.List image) old new = tt
 memory_why holds (request.Audit asked) old new = tt

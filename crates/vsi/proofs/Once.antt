@@ -7,7 +7,7 @@ use Rattle.vsi_arguments.specs.declared.request.Compilation.{Compilation}
 use Rattle.vsi_arguments.specs.declared.request.Execution.{Execution}
 use Rattle.vsi_arguments.specs.declared.request.Outset.{Outset}
 use Rattle.vsi_arguments.specs.declared.request.Request.{Request}
-use Rattle.vsi_arguments.specs.declared.request.Request.TheVariants.{Build, Explain, Layout, View}
+use Rattle.vsi_arguments.specs.declared.request.Request.TheVariants.{Build, Explain, Layout, Mend, View}
 use Rattle.vsi_asked.specs.Asked.{AsksFor, Spells, given, name_of}
 use Rattle.vsi_asked.specs.Words.{has_flag, operands_in, shown, texts, values_in}
 
@@ -69,6 +69,9 @@ one_build words c i asks (Explain page) asked =
 one_build words c i asks (Layout laid) asked =
     absurd (other_name (texts words) (codes "build") (codes "fmt") asks.spelled.rest asked.spelled.asks.rest
     asks.spelled.named asked.spelled.asks.named refl refl)
+one_build words c i asks (Mend mending) asked =
+    absurd (other_name (texts words) (codes "build") (codes "mend") asks.spelled.rest asked.spelled.asks.rest
+    asks.spelled.named asked.spelled.asks.named refl refl)
 one_build words c i asks request asked =
     absurd (other_name (texts words) (codes "build") (name_of request) asks.spelled.rest asked.spelled.rest
     asks.spelled.named asked.spelled.named refl refl)
@@ -129,6 +132,9 @@ one_view words l x e o asks (Explain page) asked =
     asks.spelled.named asked.spelled.asks.named refl refl)
 one_view words l x e o asks (Layout laid) asked =
     absurd (other_name (texts words) (codes "view") (codes "fmt") asks.spelled.rest asked.spelled.asks.rest
+    asks.spelled.named asked.spelled.asks.named refl refl)
+one_view words l x e o asks (Mend mending) asked =
+    absurd (other_name (texts words) (codes "view") (codes "mend") asks.spelled.rest asked.spelled.asks.rest
     asks.spelled.named asked.spelled.asks.named refl refl)
 one_view words l x e o asks request asked =
     absurd (other_name (texts words) (codes "view") (name_of request) asks.spelled.rest asked.spelled.rest

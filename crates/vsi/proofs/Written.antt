@@ -107,7 +107,7 @@ told_flows false is_strict l source text told = told
 
 -- The answer to the request of `mend` is the text that it writes.
 pub told_raises : (is_applied is_strict : Bool) (l : Lattice) (source : List ℕ) (text : Vec ℕ) →
-    AsksMend is_applied is_strict l source (Ok text) → ToldRaises is_applied is_strict l source text
+    AsksMend is_applied is_strict l source (Ok text) → ToldRaises false is_applied is_strict l source text
 told_raises true is_strict l source text told = told
 told_raises false is_strict l source text told = told
 

@@ -10,6 +10,7 @@ pub mod Served
 pub mod Shaping
 pub mod Seeing
 pub mod Laying
+pub mod Raises
 pub mod Admitted
 pub mod Performed
 pub mod Reasons

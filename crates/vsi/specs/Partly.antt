@@ -16,6 +16,7 @@ use Rattle.vsi_arguments.specs.declared.request.Comparison.{Comparison}
 use Rattle.vsi_arguments.specs.declared.request.Driving.{Driving}
 use Rattle.vsi_arguments.specs.declared.request.Execution.{Execution}
 use Rattle.vsi_arguments.specs.declared.request.Judging.{Judging}
+use Rattle.vsi_arguments.specs.declared.request.Mending.{Mending}
 use Rattle.vsi_arguments.specs.declared.request.Outset.{Outset}
 use Rattle.vsi_arguments.specs.declared.request.Request.{Request}
 use Rattle.vsi_arguments.specs.declared.request.Request.TheVariants as request
@@ -25,7 +26,8 @@ use Rattle.vsi.specs.Admitted.{IsAdmitted}
 use Rattle.vsi.specs.Driven.{lines_of}
 use Rattle.vsi.specs.Holding.{Holding, IsImageAt}
 use Rattle.vsi.specs.Laying.{AnswersLayout, ToldCanonical}
-use Rattle.vsi.specs.Performed.{AuditsFiles, BeginsAt, BoundsFile, ComparesFiles, ConformsFiles, DrawsFiles, EmitsFile, IsBudgetOf, IsStoredAt, LooksAt, OfFile, OfFiles, RunsFiles, SearchesFiles, SourceOfFile, ToldAccepted, ToldClasses, ToldFlows, ToldJson, ToldListing, ToldPage, ToldRaises, ViewsFiles, control_of, judgement_of, shown}
+use Rattle.vsi.specs.Performed.{AuditsFiles, BeginsAt, BoundsFile, ComparesFiles, ConformsFiles, DrawsFiles, EmitsFile, IsBudgetOf, IsStoredAt, LooksAt, OfFile, OfFiles, RunsFiles, SearchesFiles, SourceOfFile, ToldAccepted, ToldClasses, ToldFlows, ToldJson, ToldListing, ToldPage, ToldRaises, ViewsFiles, control_of, judgement_of, profile_of, shown}
+use Rattle.vsi.specs.Raises.{ToldUnserved}
 use Rattle.vsi.specs.Reasons.{ToldRefusal}
 use Rattle.vsi.specs.Seeing.{SeesFiles}
 use Rattle.vsi.specs.Shaping.{ShapedText}
@@ -55,6 +57,14 @@ AnswersCheck true holds asked = λ text.
     ⊎ OfFiles holds asked.compilation (ToldRefusal (judgement_of asked)) text
 AnswersCheck false holds asked =
     OfFiles holds asked.compilation (ToldAccepted asked.is_steady asked.compilation.is_strict)
+
+-- `mend`; with `--json` the line for a text that no raise serves is an answer too.
+abbrev pub AnswersMend : Bool → Holding → Mending → Vec ℕ → Type 0
+AnswersMend true holds asked = λ text.
+    OfFiles holds asked.compilation (ToldRaises true asked.is_applied asked.compilation.is_strict) text
+    ⊎ OfFiles holds asked.compilation (ToldUnserved (profile_of asked.compilation.is_strict)) text
+AnswersMend false holds asked =
+    OfFiles holds asked.compilation (ToldRaises false asked.is_applied asked.compilation.is_strict)
 
 -- `run`: the whole trace of the run, and nothing without `--trace`.
 pub record TracesRun (holds : Holding) (e : Execution) (o : Outset) (traced : Bool) (bytes : List ℕ) : Type 0 where
@@ -117,8 +127,7 @@ Answers holds given (request.Conform asked) =
     BytesOf (λ text. (conforms : Bool) × ConformsFiles holds asked conforms text)
 Answers holds given (request.Classes c) = BytesOf (OfFiles holds c (ToldClasses c.is_strict))
 Answers holds given (request.Flows c has_walks) = BytesOf (OfFiles holds c (ToldFlows has_walks c.is_strict))
-Answers holds given (request.Mend asked) =
-    BytesOf (OfFiles holds asked.compilation (ToldRaises asked.is_applied asked.compilation.is_strict))
+Answers holds given (request.Mend asked) = BytesOf (AnswersMend asked.is_json holds asked)
 Answers holds given (request.Build c image) = λ bytes. ⊥
 Answers holds given (request.List image) = BytesOf (OfFile holds image.now ToldListing)
 Answers holds given (request.Audit asked) = λ bytes. AuditsFiles holds asked × (bytes ≡ codes "accepted\n")

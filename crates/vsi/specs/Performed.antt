@@ -47,7 +47,7 @@ use Rattle.vsi_conform.specs.declared.interface.Judgement.TheVariants as judgeme
 use Rattle.vsi_conform.specs.Checking.{TellsAccepted}
 use Rattle.vsi_answers.specs.Bounds.{IsBound, TellsBound}
 use Rattle.vsi_answers.specs.Judged.{AreImage, Declares}
-use Rattle.vsi_answers.specs.Requests.{AppliesTo, BuildsTo, ChecksSteadyTo, ChecksTo, ClassesTo, ComparesTo, FlowsTo, ListsTo, MendsTo, ViewsTo, WalksTo}
+use Rattle.vsi_answers.specs.Requests.{BuildsTo, ChecksSteadyTo, ChecksTo, ClassesTo, ComparesTo, FlowsTo, ListsTo, ViewsTo, WalksTo}
 use Rattle.vsi_answers.specs.declared.bounds.BoundAnswer.{BoundAnswer}
 use Rattle.vsi_arguments.specs.declared.request.Audit.{Audit}
 use Rattle.vsi_arguments.specs.declared.request.Bounding.{Bounding}
@@ -61,6 +61,7 @@ use Rattle.vsi_arguments.specs.declared.request.Driving.{Driving}
 use Rattle.vsi_arguments.specs.declared.request.Emission.{Emission}
 use Rattle.vsi_arguments.specs.declared.request.Execution.{Execution}
 use Rattle.vsi_arguments.specs.declared.request.Judging.{Judging}
+use Rattle.vsi_arguments.specs.declared.request.Mending.{Mending}
 use Rattle.vsi_arguments.specs.declared.request.Outset.{Outset}
 use Rattle.vsi_arguments.specs.declared.request.Search.{Search}
 use Rattle.vsi_arguments.specs.declared.request.Request.{Request}
@@ -70,6 +71,7 @@ use Rattle.vsi.specs.Driven.{DrivesInput}
 use Rattle.vsi.specs.Holding.{Delivers, Fills, Holding, IsImageAt, IsLatticeAt, IsReadAt, IsStoreAt}
 use Rattle.vsi.specs.Laying.{PerformsLayout, ToldCanonical}
 use Rattle.vsi.specs.Naming.{function_name}
+use Rattle.vsi.specs.Raises.{ToldMended}
 use Rattle.vsi.specs.Seeing.{SeesFiles}
 use Rattle.vsi.specs.Served.{Serves}
 use Rattle.vsi.specs.Shaping.{ShapedText}
@@ -164,10 +166,9 @@ abbrev pub ToldFlows : Bool → Bool → Lattice → List ℕ → Vec ℕ → Ty
 ToldFlows true is_strict l source text = WalksTo l (profile_of is_strict) source (Ok text)
 ToldFlows false is_strict l source text = FlowsTo l (profile_of is_strict) source (Ok text)
 
--- The lines of the least raises of a text, and with `--apply` the accepted text with these raises.
-abbrev pub ToldRaises : Bool → Bool → Lattice → List ℕ → Vec ℕ → Type 0
-ToldRaises true is_strict l source text = AppliesTo l (profile_of is_strict) source (Ok text)
-ToldRaises false is_strict l source text = MendsTo l (profile_of is_strict) source (Ok text)
+-- The lines of the least raises of a text, their line of JSON, or the accepted text with these raises.
+abbrev pub ToldRaises : Bool → Bool → Bool → Lattice → List ℕ → Vec ℕ → Type 0
+ToldRaises is_json is_applied is_strict = ToldMended is_json is_applied (profile_of is_strict)
 
 -- The bytes of the image of an accepted text.
 abbrev pub ToldImage : Bool → Lattice → List ℕ → Vec ℕ → Type 0
@@ -395,6 +396,11 @@ PerformsCheck true holds asked = Writes (OfFiles holds asked.compilation (ToldJs
 PerformsCheck false holds asked =
     Writes (OfFiles holds asked.compilation (ToldAccepted asked.is_steady asked.compilation.is_strict))
 
+-- `mend`, with `--json` or without.
+abbrev pub PerformsMend : Bool → Holding → Mending → Option (List ℕ) → Option (List ℕ) → Type 0
+PerformsMend is_json holds asked =
+    Writes (OfFiles holds asked.compilation (ToldRaises is_json asked.is_applied asked.compilation.is_strict))
+
 -- The image's bytes have been put into its file.
 pub record BuildsFile (holds : Holding) (c : Compilation) (image : List ℕ) (left : Holding) : Type 0 where
   pub bytes : Vec ℕ
@@ -479,8 +485,7 @@ Performs holds given (request.Conform asked) left = Alone (Writes (ConformsFiles
 Performs holds given (request.Classes c) left = Alone (Writes (OfFiles holds c (ToldClasses c.is_strict))) holds left
 Performs holds given (request.Flows c has_walks) left =
     Alone (Writes (OfFiles holds c (ToldFlows has_walks c.is_strict))) holds left
-Performs holds given (request.Mend asked) left =
-    Alone (Writes (OfFiles holds asked.compilation (ToldRaises asked.is_applied asked.compilation.is_strict))) holds left
+Performs holds given (request.Mend asked) left = Alone (PerformsMend asked.is_json holds asked) holds left
 Performs holds given (request.Build c image) left = PerformsBuild holds c image.now left
 Performs holds given (request.List image) left = Alone (Writes (OfFile holds image.now ToldListing)) holds left
 Performs holds given (request.Audit asked) left = Alone (PerformsAudit holds asked) holds left

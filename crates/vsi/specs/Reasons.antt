@@ -54,6 +54,7 @@ use Rattle.vsi_arguments.specs.declared.request.Driving.{Driving}
 use Rattle.vsi_arguments.specs.declared.request.Emission.{Emission}
 use Rattle.vsi_arguments.specs.declared.request.Execution.{Execution}
 use Rattle.vsi_arguments.specs.declared.request.Judging.{Judging}
+use Rattle.vsi_arguments.specs.declared.request.Mending.{Mending}
 use Rattle.vsi_arguments.specs.declared.request.Outset.{Outset}
 use Rattle.vsi_arguments.specs.declared.request.Search.{Search}
 use Rattle.vsi_arguments.specs.declared.request.Request.{Request}
@@ -63,6 +64,7 @@ use Rattle.vsi.specs.declared.stop.Stop.TheVariants as stops
 use Rattle.vsi.specs.Admitted.{IsShort}
 use Rattle.vsi.specs.Holding.{Holding, IsImageAt, IsLatticeAt, IsReadAt, IsStoreAt}
 use Rattle.vsi.specs.Laying.{OtherLayout}
+use Rattle.vsi.specs.Raises.{ToldUnserved}
 use Rattle.vsi.specs.Input.{two_classes}
 use Rattle.vsi.specs.Served.{Serves, unended_line}
 use Rattle.vsi.specs.Tried.{AreTried, BeginsSet, IsMade, IsTriedUnder, RunsMade, policy_path}
@@ -231,6 +233,15 @@ WhyCheck true holds asked old new =
     (IsDifference (Writes (OfFiles holds asked.compilation (ToldRefusal (judgement_of asked))) old new))
 WhyCheck false holds asked old new =
     StopsBy (RefusesFiles holds asked.compilation (AsksCheck asked.is_steady asked.compilation.is_strict)) NoOther
+
+-- `mend`: the text has no answer, and with `--json` the line about that has been written.
+abbrev pub WhyMend : Bool → Holding → Mending → Option (List ℕ) → Option (List ℕ) → Stop → Type 0
+WhyMend true holds asked old new =
+    StopsBy (RefusesLattice holds asked.compilation.lattice.now)
+    (IsDifference
+    (Writes (OfFiles holds asked.compilation (ToldUnserved (profile_of asked.compilation.is_strict))) old new))
+WhyMend false holds asked old new =
+    StopsBy (RefusesFiles holds asked.compilation (AsksMend asked.is_applied asked.compilation.is_strict)) NoOther
 
 -- The lattice of an interface is refused: that of the file that it names, or its own tables.
 abbrev pub RefusesPolicy : Holding → List ℕ → Policy → Unanswered → Type 0
@@ -520,8 +531,7 @@ Why holds (request.Conform asked) old new =
     StopsBy (RefusesAsked holds asked.interface.now) (DiffersConform holds asked old new)
 Why holds (request.Classes c) old new = StopsBy (RefusesFiles holds c (AsksClasses c.is_strict)) NoOther
 Why holds (request.Flows c has_walks) old new = StopsBy (RefusesFiles holds c (AsksFlows has_walks c.is_strict)) NoOther
-Why holds (request.Mend asked) old new =
-    StopsBy (RefusesFiles holds asked.compilation (AsksMend asked.is_applied asked.compilation.is_strict)) NoOther
+Why holds (request.Mend asked) old new = WhyMend asked.is_json holds asked old new
 Why holds (request.Build c image) old new = StopsBy (RefusesFiles holds c (AsksImage c.is_strict)) NoOther
 Why holds (request.List image) old new = StopsBy (RefusesFile holds image.now ListsTo) NoOther
 Why holds (request.Audit asked) old new =

@@ -2,11 +2,11 @@
 
 ghost use Rattle.std.specs.Prelude.{◌≡◌, ◌<◌, ◌⊎◌, Err, IfErr, IsOkAnd, OnOk, codes};
 ghost use Rattle.std.specs.Io.KnownBytes.{Appends, Keeps};
-ghost use Rattle.vsi.specs.Performed.{Performs, PerformsCheck};
-ghost use Rattle.vsi.specs.Partly.{Answers, AnswersCheck, BytesOf, Leaves, WritesPart, cut_from};
+ghost use Rattle.vsi.specs.Performed.{Performs, PerformsCheck, PerformsMend};
+ghost use Rattle.vsi.specs.Partly.{Answers, AnswersCheck, AnswersMend, BytesOf, Leaves, WritesPart, cut_from};
 ghost use Rattle.vsi.specs.Stops.{TellsFault, status_of};
 ghost use Rattle.vsi_devices.specs.Counted.{device_of, faults_of};
-ghost use Rattle.vsi.specs.Reasons.{Why, WhyCheck};
+ghost use Rattle.vsi.specs.Reasons.{Why, WhyCheck, WhyMend};
 
 use crate::auditing::{audit, source};
 use crate::bounding::bound;
@@ -24,12 +24,14 @@ use crate::running::{Running, run, view};
 use crate::serving::serve;
 use crate::shaping::lattice;
 use crate::stop::{Stop, write};
-use crate::subcommands::{build, check, check_as_json, classes, flows, format, list, mend};
+use crate::subcommands::{
+    build, check, check_as_json, classes, flows, format, list, mend, mend_as_json,
+};
 use crate::telling::Told;
 use crate::trying::try_source;
 use std::alloc::Global;
 use std::io::{Read, Write};
-use vsi_arguments::{Judging, Request};
+use vsi_arguments::{Judging, Mending, Request};
 use vsi_devices::Counted;
 
 /// Writes `accepted` if nothing is wrong.
@@ -98,6 +100,32 @@ fn put_check<'a, F: Files, W: Write>(
     }
 }
 
+/// Writes the raises of the source text, in the requested manner.
+fn put_mend<'a, F: Files, W: Write>(
+    desk: &mut Desk,
+    asked: Mending<'a>,
+    files: &mut F,
+    output: &mut Counted<W>,
+) -> Result<(), Stop<'a>>
+    requires { faults_of output.old < u64.MAX }
+    ensures kept { F.holds files.new ≡ F.holds files.old }
+    ensures fault { TellsFault (faults_of output.old) (faults_of output.new) result }
+    ensures left { IfErr result (Leaves (BytesOf (AnswersMend asked.entry.is_json (F.holds files.old) asked.entry)) 4
+        (W.contents (device_of output.old)) (W.contents (device_of output.new))) }
+    ensures performed { OnOk result
+        (PerformsMend asked.entry.is_json (F.holds files.old) asked.entry
+        (W.contents (device_of output.old)) (W.contents (device_of output.new))) }
+    ensures stopped { IfErr result
+        (WhyMend asked.entry.is_json (F.holds files.old) asked.entry
+        (W.contents (device_of output.old)) (W.contents (device_of output.new))) }
+{
+    if asked.is_json {
+        return mend_as_json(desk, asked, files, output);
+    }
+    let (compilation, is_applied) = (asked.compilation, asked.is_applied);
+    put(mend(desk, compilation, is_applied, files), output)
+}
+
 /// Does one subcommand.
 pub(crate) fn perform<'a, F: Files, R: Read, W: Write>(
     desk: &mut Desk,
@@ -131,12 +159,7 @@ pub(crate) fn perform<'a, F: Files, R: Read, W: Write>(
             compilation,
             has_walks,
         } => put(flows(desk, compilation, has_walks, files), output),
-        Request::Mend(asked) => {
-            put(
-                mend(desk, asked.compilation, asked.is_applied, files),
-                output,
-            )
-        }
+        Request::Mend(asked) => put_mend(desk, asked, files, output),
         Request::Build(compilation, image) => build(desk, compilation, image, files),
         Request::List(image) => put(list(desk, image, files), output),
         Request::Audit(asked) => accept(audit(desk, asked, files), output),

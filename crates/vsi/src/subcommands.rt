@@ -2,10 +2,11 @@
 
 ghost use Rattle.std.specs.Prelude.{◌≡◌, ◌<◌, true, false, IfErr, IfOk, OnOk};
 ghost use Rattle.vsi.specs.Laying.{ToldCanonical};
-ghost use Rattle.vsi.specs.Performed.{AreFiles, BuildsFile, OfFile, OfFiles, ToldAccepted, ToldClasses, ToldFlows, ToldImage, ToldJson, ToldListing, ToldRaises, Writes};
+ghost use Rattle.vsi.specs.Performed.{AreFiles, BuildsFile, OfFile, OfFiles, PerformsMend, ToldAccepted, ToldClasses, ToldFlows, ToldImage, ToldJson, ToldListing, ToldRaises, Writes};
 ghost use Rattle.vsi.specs.Performed.{judgement_of, profile_of};
-ghost use Rattle.vsi.specs.Reasons.{AsksCanonical, AsksCheck, AsksClasses, AsksFlows, AsksImage, AsksMend, NoOther, RefusesFile, RefusesFiles, RefusesLattice, StopsBy, ToldRefusal, WhyCheck};
-ghost use Rattle.vsi.specs.Partly.{AnswersCheck, BytesOf, Leaves};
+ghost use Rattle.vsi.specs.Reasons.{AsksCanonical, AsksCheck, AsksClasses, AsksFlows, AsksImage, AsksMend, NoOther, RefusesFile, RefusesFiles, RefusesLattice, StopsBy, ToldRefusal, WhyCheck, WhyMend};
+ghost use Rattle.vsi.specs.Raises.{ToldUnserved};
+ghost use Rattle.vsi.specs.Partly.{AnswersCheck, AnswersMend, BytesOf, Leaves};
 ghost use Rattle.vsi.specs.Stops.{TellsFault, status_of};
 ghost use Rattle.vsi_answers.specs.Requests.{ListsTo};
 ghost use Rattle.vsi_devices.specs.Counted.{device_of, faults_of};
@@ -18,10 +19,11 @@ use crate::stop::{Stop, write_answer};
 use std::alloc::Global;
 use std::io::Write;
 use vsi_answers::Unanswered;
-use vsi_arguments::{Compilation, Judging};
+use vsi_arguments::{Compilation, Judging, Mending};
 use vsi_conform::{Checked, Judgement, check_json};
 use vsi_devices::Counted;
 use vsi_lattice::Lattice;
+use vsi_raises_json::{Mended, mend_json};
 use vsi_types::Profile;
 
 /// The profile that judges a text or an image.
@@ -226,7 +228,7 @@ pub(crate) fn mend<'a, F: Files>(
 ) -> Result<Vec<u8>, Stop<'a>>
     ensures kept { F.holds files.new ≡ F.holds files.old }
     ensures told { IfOk result (OfFiles (F.holds files.old) compilation.entry
-        (ToldRaises is_applied compilation.entry.is_strict)) }
+        (ToldRaises false is_applied compilation.entry.is_strict)) }
     ensures stopped { IfErr result (StopsBy (RefusesFiles (F.holds files.old) compilation.entry
         (AsksMend is_applied compilation.entry.is_strict)) NoOther) }
 {
@@ -239,6 +241,49 @@ pub(crate) fn mend<'a, F: Files>(
         &classes,
         source,
     ))
+}
+
+/// The raises as a line of JSON, and whether they serve.
+fn mended_line<'a, F: Files>(
+    desk: &mut Desk,
+    asked: Mending<'a>,
+    files: &mut F,
+) -> Result<Mended, Stop<'a>>
+    ensures kept { F.holds files.new ≡ F.holds files.old }
+    ensures told { IfOk result (λ mended. mended.is_served ≡ true → OfFiles (F.holds files.old)
+        asked.entry.compilation (ToldRaises true asked.entry.is_applied
+        asked.entry.compilation.is_strict) mended.line) }
+    ensures unserved { IfOk result (λ mended. mended.is_served ≡ false
+        → OfFiles (F.holds files.old) asked.entry.compilation
+        (ToldUnserved (profile_of asked.entry.compilation.is_strict)) mended.line) }
+    ensures stopped { IfErr result (StopsBy
+        (RefusesLattice (F.holds files.old) asked.entry.compilation.lattice.now) NoOther) }
+{
+    let (classes, text) = policy_and_text(desk, asked.compilation, files)?;
+    let profile = profile(asked.compilation.is_strict);
+    let mended = mend_json(desk.alloc, profile, &classes, text.as_slice())?;
+    Ok(mended)
+}
+
+/// Writes the raises as a line of JSON.
+pub(crate) fn mend_as_json<'a, F: Files, W: Write>(
+    desk: &mut Desk,
+    asked: Mending<'a>,
+    files: &mut F,
+    output: &mut Counted<W>,
+) -> Result<(), Stop<'a>>
+    requires { faults_of output.old < u64.MAX }
+    ensures kept { F.holds files.new ≡ F.holds files.old }
+    ensures fault { TellsFault (faults_of output.old) (faults_of output.new) result }
+    ensures left { IfErr result (Leaves (BytesOf (AnswersMend true (F.holds files.old) asked.entry)) 4
+        (W.contents (device_of output.old)) (W.contents (device_of output.new))) }
+    ensures performed { OnOk result (PerformsMend true (F.holds files.old) asked.entry
+        (W.contents (device_of output.old)) (W.contents (device_of output.new))) }
+    ensures stopped { IfErr result (WhyMend true (F.holds files.old) asked.entry
+        (W.contents (device_of output.old)) (W.contents (device_of output.new))) }
+{
+    let mended = mended_line(desk, asked, files)?;
+    write_answer(&mended.line, mended.is_served, output)
 }
 
 /// The bytes of the image of the source text.

@@ -192,6 +192,13 @@ pub(crate) const CHECK_JSON: Argument = Argument {
     whole: word_help::CHECK_JSON,
 };
 
+pub(crate) const MEND_JSON: Argument = Argument {
+    name: "json",
+    form: Form::Flag,
+    line: "Writes the answer as JSON",
+    whole: word_help::MEND_JSON,
+};
+
 pub(crate) const WALKS: Argument = Argument {
     name: "walks",
     form: Form::Flag,

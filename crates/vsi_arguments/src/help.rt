@@ -159,7 +159,9 @@ Example:
   $ vsi mend two.toml leak.vsi
   1:16 l : L -> H, since h reaches it
   $ vsi mend --apply two.toml leak.vsi
-  var h : H; var l : H; l := h";
+  var h : H; var l : H; l := h
+  $ vsi mend --json two.toml up.vsi
+  {\"accepted\":true,\"raises\":[]}";
 
 /// The long help of `build`.
 pub(crate) const BUILD: &str = "\

@@ -54,6 +54,8 @@ enum Mistake {
     NoName,
     /// A text is to be both compared with its layout and replaced by it.
     CheckAndWrite,
+    /// The text with the raised classes is to be printed as JSON.
+    ApplyAndJson,
     NoSubcommand,
 }
 
@@ -65,7 +67,7 @@ impl Mistake {
             | Mistake::NoSubject
             | Mistake::ImageIsRead
             | Mistake::NoName => ErrorKind::ValueValidation,
-            Mistake::CheckAndWrite => ErrorKind::ArgumentConflict,
+            Mistake::CheckAndWrite | Mistake::ApplyAndJson => ErrorKind::ArgumentConflict,
             Mistake::NoTwoStores => ErrorKind::WrongNumberOfValues,
             Mistake::NoSubcommand => ErrorKind::MissingSubcommand,
         }
@@ -83,6 +85,7 @@ impl Mistake {
             Mistake::ImageIsRead => "the image would replace a file that is read",
             Mistake::NoName => "the name isn't an identifier of C, or it is a keyword",
             Mistake::CheckAndWrite => "`--check` writes nothing, so it doesn't go with `--write`",
+            Mistake::ApplyAndJson => "`--apply` prints a text, so it doesn't go with `--json`",
             Mistake::NoSubcommand => "a subcommand is needed",
         }
     }
@@ -159,6 +162,7 @@ fn named<'a>(
         "compare" => Ok(compare_request(inner)),
         "lattice" => Ok(Ok(Request::Lattice(texts(alloc, inner, "SHAPE")?))),
         "explain" => Ok(explain_request(inner)),
+        "mend" => Ok(mend_request(inner)),
         "build" => Ok(build_request(inner)),
         "emit-c" => Ok(emission_request(inner)),
         "fmt" => Ok(format_request(inner)),
@@ -173,7 +177,6 @@ fn requested<'a>(name: &str, inner: &ArgMatches<'a>) -> Request<'a> {
         "conform" => Request::Conform(conformance_in(inner)),
         "classes" => Request::Classes(compilation_in(inner)),
         "flows" => flows_request(inner),
-        "mend" => mend_request(inner),
         "list" => Request::List(text(inner, "IMAGE")),
         "audit" => Request::Audit(audit_in(inner)),
         "source" => Request::Source(text(inner, "IMAGE")),
@@ -228,11 +231,16 @@ fn flows_request<'a>(matches: &ArgMatches<'a>) -> Request<'a> {
     }
 }
 
-fn mend_request<'a>(matches: &ArgMatches<'a>) -> Request<'a> {
-    Request::Mend(Mending {
+fn mend_request<'a>(matches: &ArgMatches<'a>) -> Result<Request<'a>, Mistake> {
+    let (is_applied, is_json) = (matches.get_flag("apply"), matches.get_flag("json"));
+    if is_applied && is_json {
+        return Err(Mistake::ApplyAndJson);
+    }
+    Ok(Request::Mend(Mending {
         compilation: compilation_in(matches),
-        is_applied: matches.get_flag("apply"),
-    })
+        is_applied,
+        is_json,
+    }))
 }
 
 fn try_request<'a>(alloc: Global, matches: &ArgMatches<'a>) -> Result<Request<'a>, AllocError> {

@@ -149,12 +149,13 @@ pub struct Attempt<'a> {
     pub settings: Vec<&'a [u8]>,
 }
 
-/// A request for raises: the files of a compilation, and whether the text with the raised classes
-/// is printed instead of a line for each raise.
+/// A request for raises: the files of a compilation, and whether the text with the raised classes,
+/// or a line of JSON, is printed instead of a line for each raise.
 #[derive(Clone, Copy)]
 pub struct Mending<'a> {
     pub compilation: Compilation<'a>,
     pub is_applied: bool,
+    pub is_json: bool,
 }
 
 /// A language server: the path of the lattice file of texts that name none, and whether the strict

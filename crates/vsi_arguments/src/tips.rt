@@ -23,7 +23,7 @@ const OWNERS: [(&str, &str); 28] = [
     ),
     ("'--full-store'", "run and view"),
     ("'--header'", "emit-c"),
-    ("'--json'", "check and conform"),
+    ("'--json'", "check, conform and mend"),
     ("'--keep-comments'", "fmt"),
     ("'--lattice'", "try, emit-c and lsp"),
     ("'--name'", "emit-c"),

@@ -60,7 +60,7 @@ const SUBCOMMANDS: [Subcommand; 21] = [
         line: "Prints which classes have to rise for the text to be accepted",
         whole: help::MEND,
         example: help::MEND_EXAMPLE,
-        arguments: &[LATTICE, SOURCE, STRICT, APPLY],
+        arguments: &[LATTICE, SOURCE, STRICT, APPLY, MEND_JSON],
     },
     Subcommand {
         name: "build",

@@ -285,6 +285,11 @@ pub(crate) const JSON: &str = "\
 Writes the answer as a line of JSON: an object with `conforms` and
 `points`.";
 
+/// The answer of `mend` as JSON.
+pub(crate) const MEND_JSON: &str = "\
+Writes the answer as a line of JSON: an object with `accepted` and
+`raises`, or the line of `check --json` if no classes help.";
+
 /// `--keep-comments`.
 pub(crate) const KEEP_COMMENTS: &str = "\
 Keeps each comment, between the same two tokens as before. One at the

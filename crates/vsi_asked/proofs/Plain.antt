@@ -7,7 +7,7 @@ use Rattle.std.proofs.lemmas.Bool.{cases_Bool}
 use Rattle.std.proofs.lemmas.Slice.Eq.{bytes_eq-Decides}
 use Rattle.vsi_arguments.specs.declared.request.Judging.{Judging}
 use Rattle.vsi_arguments.specs.declared.request.Request.{Request}
-use Rattle.vsi_arguments.specs.declared.request.Request.TheVariants.{Check, Explain, Layout}
+use Rattle.vsi_arguments.specs.declared.request.Request.TheVariants.{Check, Explain, Layout, Mend}
 use Rattle.vsi_asked.specs.Asked.{AsksFor, Spells, name_of}
 use Rattle.vsi_asked.specs.Help.{front_of, is_first, is_help, is_short}
 use Rattle.vsi_asked.specs.Laws.{ArePlainCheck, CheckIsAsked, IsPlainCheck}
@@ -113,6 +113,8 @@ one_request words lattice source plain (Explain page) asks =
     absurd (unnamed (texts words) _ asks.spelled.asks.rest (codes "explain") plain.are asks.spelled.asks.named refl)
 one_request words lattice source plain (Layout layout) asks =
     absurd (unnamed (texts words) _ asks.spelled.asks.rest (codes "fmt") plain.are asks.spelled.asks.named refl)
+one_request words lattice source plain (Mend mending) asks =
+    absurd (unnamed (texts words) _ asks.spelled.asks.rest (codes "mend") plain.are asks.spelled.asks.named refl)
 one_request words lattice source plain request asks =
     absurd (unnamed (texts words) _ asks.spelled.rest (name_of request) plain.are asks.spelled.named refl)
 

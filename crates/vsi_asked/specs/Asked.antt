@@ -1,5 +1,5 @@
 -- How the arguments of a command line spell a request.
-use Rattle.std.specs.Prelude.{◌≡◌, ℕ, Bool, true, false, not, ◌||◌, if◌then◌else◌, List, [], ◌∷◌, ◌++◌, map, Option, Some, None, option_map, option_to_list, codes, IsTrue, String}
+use Rattle.std.specs.Prelude.{◌≡◌, ℕ, Bool, true, false, not, ◌&&◌, ◌||◌, if◌then◌else◌, List, [], ◌∷◌, ◌++◌, map, Option, Some, None, option_map, option_to_list, codes, IsTrue, String}
 use Rattle.std.specs.List.{list_all}
 use Rattle.std.specs.Option.{option_and_then, option_or}
 use Rattle.std.specs.declared.alloc.Global.{Global}
@@ -10,6 +10,7 @@ use Rattle.vsi_arguments.specs.declared.request.Budget.TheVariants.{Number, Auto
 use Rattle.vsi_arguments.specs.declared.request.Compilation.{Compilation}
 use Rattle.vsi_arguments.specs.declared.request.Execution.{Execution}
 use Rattle.vsi_arguments.specs.declared.request.Layout.{Layout as Laid}
+use Rattle.vsi_arguments.specs.declared.request.Mending.{Mending}
 use Rattle.vsi_arguments.specs.declared.request.Outset.{Outset}
 use Rattle.vsi_arguments.specs.declared.request.Request.{Request}
 use Rattle.vsi_arguments.specs.declared.request.Request.TheVariants.{Try, Lsp, Check, Conform, Classes, Flows, Mend, Build, List as Listing, Audit, Source, EmitC, Bound, Run, View, Drive, Compare, Leak, Report, Draw, Policy, Format, Layout, Lattice as Shaped, Explain}
@@ -95,7 +96,8 @@ flags_of (Classes compilation) = (codes "--strict", compilation.is_strict) ∷ [
 flags_of (Flows compilation has_walks) =
     (codes "--strict", compilation.is_strict) ∷ (codes "--walks", has_walks) ∷ []
 flags_of (Mend mending) =
-    (codes "--strict", mending.compilation.is_strict) ∷ (codes "--apply", mending.is_applied) ∷ []
+    (codes "--strict", mending.compilation.is_strict) ∷ (codes "--apply", mending.is_applied)
+    ∷ (codes "--json", mending.is_json) ∷ []
 flags_of (Build compilation image) = (codes "--strict", compilation.is_strict) ∷ []
 flags_of (Listing image) = []
 flags_of (Audit audit) = (codes "--strict", audit.is_strict) ∷ (codes "--steady", audit.is_steady) ∷ []
@@ -209,9 +211,15 @@ pub record AsksLayout (words : List (String Global)) (layout : Laid) : Type 0 wh
   pub asks : Asks words (codes "fmt") (layout.source.now ∷ []) (flags_of (Layout layout)) [] []
   pub kept : keeps_comments layout ≡ true
 
+-- The arguments are `mend` with both files and flags that don't ask for a text as JSON.
+pub record AsksRaises (words : List (String Global)) (mending : Mending) : Type 0 where
+  pub asks : Asks words (codes "mend") (compiled mending.compilation) (flags_of (Mend mending)) [] []
+  pub apart : (mending.is_applied && mending.is_json) ≡ false
+
 -- The arguments spell the request: its subcommand, then its operands, flags, options and numbers or, for `explain`, an
 -- operand that names its page.
 abbrev pub Spells : List (String Global) → Request → Type 0
+Spells words (Mend mending) = AsksRaises words mending
 Spells words (Layout layout) = AsksLayout words layout
 Spells words (Explain page) = AsksPage words page.now
 Spells words request =

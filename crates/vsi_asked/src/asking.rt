@@ -302,9 +302,13 @@ fn asks_flows(words: &[String], compilation: &Compilation<'_>, has_walks: bool) 
 fn asks_mend(words: &[String], mending: &Mending<'_>) -> bool
     ensures { result ≡ true → spec.Spells words.now (request.Mend mending.now) }
 {
+    if mending.is_applied && mending.is_json {
+        return false;
+    }
     let flags = [
         ("--strict", mending.compilation.is_strict),
         ("--apply", mending.is_applied),
+        ("--json", mending.is_json),
     ];
     asks_compilation(words, "mend", &mending.compilation, flags.as_slice())
 }

@@ -30,7 +30,7 @@ const CONFORM: [&[u8]; 2] = [b"--json", b"--explain"];
 const FLOWS: [&[u8]; 3] = [b"--strict", b"--walks", b"--explain"];
 
 /// The flags of `mend`.
-const MEND: [&[u8]; 3] = [b"--strict", b"--apply", b"--explain"];
+const MEND: [&[u8]; 4] = [b"--strict", b"--apply", b"--json", b"--explain"];
 
 /// The flags of `fmt` with comments kept.
 const LAYOUT: [&[u8]; 4] = [b"--keep-comments", b"--check", b"--write", b"--explain"];

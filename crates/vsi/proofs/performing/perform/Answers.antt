@@ -4,7 +4,7 @@ use Rattle.std.specs.Io.KnownBytes.{Appends}
 use Rattle.vsi_devices.specs.Counted.{device_of}
 use Rattle.vsi_answers.specs.Requests.{ListsTo}
 use Rattle.vsi.specs.Shaping.{ShapedText}
-use Rattle.vsi.specs.Reasons.{AsksCanonical, AsksClasses, AsksFlows, AsksMend, HasNoText, LacksEmitBound, LacksTried, NoOther, OtherLeak, RefusesAudit, RefusesFile, RefusesFiles, RefusesImage, RefusesLattice, RefusesSource, WhyDraw, WhyEmit, WhyPolicy, WhyTry}
+use Rattle.vsi.specs.Reasons.{AsksCanonical, AsksClasses, AsksFlows, HasNoText, LacksEmitBound, LacksTried, NoOther, OtherLeak, RefusesAudit, RefusesFile, RefusesFiles, RefusesImage, RefusesLattice, RefusesSource, WhyDraw, WhyEmit, WhyPolicy, WhyTry}
 use Rattle.vsi.proofs.Filled.{alone}
 use Rattle.vsi.proofs.Obeyed.{put_stops}
 use Rattle.vsi.proofs.Unrun.{Unseen, fault_stopped}
@@ -26,8 +26,7 @@ returns-in-Flows-clause-performed g c = rw c.in-Flows.is
 
 pub returns-in-Mend-clause-performed : goal.returns-in-Mend-clause-performed
 returns-in-Mend-clause-performed g c = rw c.in-Mend.is
-    (put_alone _ _ _ _ _ c.mend.result c.put-in-Mend.result c.mend.ensures.kept c.mend.ensures.told
-    c.put-in-Mend.ensures.done)
+    (alone _ c.put_mend.result _ _ c.put_mend.ensures.kept c.put_mend.ensures.performed)
 
 pub returns-in-List-clause-performed : goal.returns-in-List-clause-performed
 returns-in-List-clause-performed g c = rw c.in-List.is
@@ -141,8 +140,7 @@ returns-in-Flows-clause-left g c = rw c.in-Flows.is
     (put_leaves _ _ _ c.flows.result c.put-in-Flows.result c.flows.ensures.told c.put-in-Flows.ensures.left)
 
 pub returns-in-Mend-clause-left : goal.returns-in-Mend-clause-left
-returns-in-Mend-clause-left g c = rw c.in-Mend.is
-    (put_leaves _ _ _ c.mend.result c.put-in-Mend.result c.mend.ensures.told c.put-in-Mend.ensures.left)
+returns-in-Mend-clause-left g c = rw c.in-Mend.is c.put_mend.ensures.left
 
 pub returns-in-List-clause-left : goal.returns-in-List-clause-left
 returns-in-List-clause-left g c = rw c.in-List.is
@@ -242,11 +240,7 @@ returns-in-Flows-clause-stopped g c = rw c.in-Flows.is
     c.flows.result c.put-in-Flows.result c.flows.ensures.stopped c.put-in-Flows.ensures.stopped)
 
 pub returns-in-Mend-clause-stopped : goal.returns-in-Mend-clause-stopped
-returns-in-Mend-clause-stopped g c = rw c.in-Mend.is
-    (put_stops (RefusesFiles (g.F.Files.holds c.args.files.now) c.in-Mend.asked.compilation
-    (AsksMend c.in-Mend.asked.is_applied c.in-Mend.asked.compilation.is_strict))
-    NoOther
-    c.mend.result c.put-in-Mend.result c.mend.ensures.stopped c.put-in-Mend.ensures.stopped)
+returns-in-Mend-clause-stopped g c = rw c.in-Mend.is c.put_mend.ensures.stopped
 
 pub returns-in-List-clause-stopped : goal.returns-in-List-clause-stopped
 returns-in-List-clause-stopped g c = rw c.in-List.is

@@ -1,3 +1,4 @@
+use Rattle.std.proofs.Common.{false}
 use Rattle.vsi.specs.Performed.{ToldRaises}
 use Rattle.vsi.specs.Reasons.{AsksMend}
 use Rattle.vsi.proofs.Refused.{refuses_files, refuses_lattice}
@@ -14,7 +15,7 @@ pub returns-clause-told : goal.returns-clause-told
 returns-clause-told g c =
     let is_applied = c.args.is_applied in
     let is_strict = c.args.compilation.is_strict in
-    told_files _ _ (AsksMend is_applied is_strict) (ToldRaises is_applied is_strict) _ _ _ c.raised.result
+    told_files _ _ (AsksMend is_applied is_strict) (ToldRaises false is_applied is_strict) _ _ _ c.raised.result
     c.answered.result (told_raises is_applied is_strict) c.in_ok-classes.ensures.told c.as_slice-source.ensures.value
     c.answered.ensures c.raised.ensures
 

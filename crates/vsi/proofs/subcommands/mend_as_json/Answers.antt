@@ -1,0 +1,62 @@
+use Rattle.std.proofs.Common.{◌≡◌, true, false, refl, subst}
+use Rattle.std.proofs.lemmas.Result.{on_ok_weaker}
+use Rattle.std.specs.Io.KnownBytes.{Appends}
+use Rattle.vsi_devices.specs.Counted.{device_of}
+use Rattle.vsi.specs.Partly.{AnswersMend, BytesOf}
+use Rattle.vsi.specs.Performed.{OfFiles, Writes, profile_of}
+use Rattle.vsi.specs.Raises.{ToldUnserved}
+use Rattle.vsi.specs.Reasons.{IsDifference, RefusesLattice}
+use Rattle.vsi.proofs.Mended.{mend_answer}
+use Rattle.vsi.proofs.Partly.{answer_leaves, kept_leaves}
+use Rattle.vsi.proofs.Unrun.{answer_stopped}
+use Rattle.vsi.proofs.subcommands.mend_as_json.Goals as goal
+
+pub returns-clause-performed : goal.returns-clause-performed
+returns-clause-performed g c =
+    let old = g.W.Write.contents (device_of c.args.output.now) in
+    let new = g.W.Write.contents (device_of c.write_answer.new.output) in
+    on_ok_weaker c.write_answer.result
+    (λ told. record {
+      text = c.in_ok-mended.mended.line;
+      is = c.in_ok-mended.ensures.told told.0;
+      written = subst (Appends old new) c.deref.ensures.value told.1;
+    })
+    c.write_answer.ensures.whole
+
+pub returns-clause-stopped : goal.returns-clause-stopped
+returns-clause-stopped g c =
+    let holds = g.F.Files.holds c.args.files.now in
+    let compilation = c.args.asked.compilation in
+    let old = g.W.Write.contents (device_of c.args.output.now) in
+    let new = g.W.Write.contents (device_of c.write_answer.new.output) in
+    answer_stopped (RefusesLattice holds compilation.lattice.now)
+    (IsDifference (Writes (OfFiles holds compilation (ToldUnserved (profile_of compilation.is_strict))) old new))
+    ((c.in_ok-mended.mended.is_served ≡ false) × Appends old new c.deref.result.now) c.write_answer.result
+    c.write_answer.ensures.stopped
+    (λ told. (
+      refl,
+      record {
+        text = c.in_ok-mended.mended.line;
+        is = c.in_ok-mended.ensures.unserved told.0;
+        written = subst (Appends old new) c.deref.ensures.value told.1;
+      },
+    ))
+
+pub returns-in_err-mended-clause-left : goal.returns-in_err-mended-clause-left
+returns-in_err-mended-clause-left g c = kept_leaves _ 4 _ c.from_residual.result
+
+pub returns-clause-left : goal.returns-clause-left
+returns-clause-left g c =
+    let holds = g.F.Files.holds c.args.files.now in
+    let old = g.W.Write.contents (device_of c.args.output.now) in
+    let new = g.W.Write.contents (device_of c.write_answer.new.output) in
+    let mended = c.in_ok-mended.mended in
+    answer_leaves (BytesOf (AnswersMend true holds c.args.asked))
+    ((mended.is_served ≡ false) × Appends old new c.deref.result.now) old new c.deref.result.now
+    c.write_answer.result (
+      mended.line,
+      mend_answer holds c.args.asked mended.is_served mended.line c.in_ok-mended.ensures.told
+          c.in_ok-mended.ensures.unserved,
+      c.deref.ensures.value,
+    )
+    c.write_answer.ensures.stopped c.write_answer.ensures.part
