@@ -1,4 +1,4 @@
-//! Answers to requests about the names of a program, and the canonical form of a text.
+//! Answers to requests about the names of a program, and the layout of a text.
 
 use crate::diagnostics::Page;
 use crate::objects::{location_object, place_object, range_object, text, text_at};
@@ -7,8 +7,9 @@ use crate::replies::Fault;
 use serde_json::{Map, Value, json, put};
 use std::alloc::{AllocError, Global};
 use vsi_client::{Change, Range};
-use vsi_compiler::{CompileError, format_text, read_source};
+use vsi_compiler::{CompileError, read_source};
 use vsi_lattice::Lattice;
+use vsi_layout::{LayoutError, layout};
 use vsi_names::{Mention, rename};
 use vsi_syntax::Span;
 use vsi_types::Profile;
@@ -236,15 +237,11 @@ fn renaming(
     }
 }
 
-/// The change that gives a text without comments its canonical form: nothing for a text that has a
-/// comment or no tree.
+/// The change that lays a text out and keeps its comments: nothing for a text that is no program's.
 pub(crate) fn formatting(alloc: Global, page: Page<'_>) -> Result<Value, AllocError> {
-    if page.text.contains(&b'#') {
-        return Ok(Value::Null);
-    }
-    let text = match format_text(alloc, page.text) {
+    let text = match layout(alloc, page.text) {
         Ok(text) => text,
-        Err(CompileError::Memory) => return Err(AllocError),
+        Err(LayoutError::Memory) => return Err(AllocError),
         Err(_) => return Ok(Value::Null),
     };
     let whole = Span {
