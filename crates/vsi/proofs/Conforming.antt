@@ -9,7 +9,8 @@ use Rattle.vsi_conform.specs.declared.reader.Asked.{Asked}
 use Rattle.vsi.specs.declared.stop.Stop.{Stop}
 use Rattle.vsi.specs.Holding.{Holding}
 use Rattle.vsi.specs.Performed.{IsAskedAt, IsVerdict}
-use Rattle.vsi.specs.Reasons.{NoOther, RefusesAsked, RefusesPolicy, StopsBy}
+use Rattle.vsi.specs.Refusals.{NoOther, StopsBy}
+use Rattle.vsi.specs.Reasons.{RefusesAsked, RefusesPolicy}
 use Rattle.vsi.proofs.Reasons.{stops_by}
 
 -- A Boolean that is true exactly if a text conforms, where no line is about its bound, gives its verdict.

@@ -4,7 +4,8 @@ use Rattle.std.specs.Prelude.{IsSomeAnd, Option, Some, None}
 use Rattle.std.specs.Borrow.{Bor}
 use Rattle.vsi_answers.specs.declared.unanswered.Unanswered.{Unanswered}
 use Rattle.vsi.specs.Holding.{Holding}
-use Rattle.vsi.specs.Reasons.{RefusesLattice, WhyPolicy}
+use Rattle.vsi.specs.Refusals.{RefusesLattice}
+use Rattle.vsi.specs.Reasons.{WhyPolicy}
 
 -- A lattice file that is refused is a reason.
 pub policy_lattice : (holds : Holding) (lattice : List ℕ) (old : Option (Bor (List ℕ))) (reason : Unanswered) →

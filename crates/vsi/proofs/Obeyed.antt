@@ -15,7 +15,8 @@ use Rattle.vsi.specs.Done.{IsStopOf, Stopped, StopsAt}
 use Rattle.vsi.specs.Holding.{Holding}
 use Rattle.vsi.specs.Input.{TellsStop}
 use Rattle.vsi.specs.Partly.{Answers}
-use Rattle.vsi.specs.Reasons.{StopsBy, Why, WhyCheck, WhyMend}
+use Rattle.vsi.specs.Refusals.{StopsBy}
+use Rattle.vsi.specs.Reasons.{Why, WhyCheck, WhyMend}
 use Rattle.vsi.specs.Stops.{status_of}
 use Rattle.vsi.proofs.Leaving.{leaves_memory}
 use Rattle.vsi.proofs.Reasons.{late_stops}

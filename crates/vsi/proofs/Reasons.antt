@@ -5,7 +5,7 @@ use Rattle.vsi_answers.specs.declared.unanswered.Unanswered.{Unanswered}
 use Rattle.vsi_answers.specs.declared.unanswered.Unanswered.TheVariants as unanswered
 use Rattle.vsi.specs.declared.stop.Stop.{Stop}
 use Rattle.vsi.specs.declared.stop.Stop.TheVariants.{Refused, Interface, Audit, Unsteady, Differs, Usage, NoClass, OutOfBudget, FileFault, LostFile, Memory}
-use Rattle.vsi.specs.Reasons.{NoOther, StopsBy}
+use Rattle.vsi.specs.Refusals.{NoOther, StopsBy}
 use Rattle.vsi.specs.Stops.{status_of, stop_of}
 
 -- A fault of a file, and lack of memory, claim no reason.

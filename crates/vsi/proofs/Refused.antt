@@ -21,7 +21,8 @@ use Rattle.vsi.specs.declared.stop.Stop.{Stop}
 use Rattle.vsi.specs.Holding.{Holding, IsLatticeAt, IsReadAt}
 use Rattle.vsi.specs.Input.{two_classes}
 use Rattle.vsi.specs.Performed.{AreFiles, profile_of}
-use Rattle.vsi.specs.Reasons.{AsksCanonical, LacksClass, LacksClassAt, NoOther, OtherLeak, RefusesFile, RefusesFiles, RefusesLattice, RefusesProgramAt, RefusesSource, StopsBy, WhyDraw}
+use Rattle.vsi.specs.Refusals.{AsksCanonical, LacksClass, LacksClassAt, NoOther, RefusesFile, RefusesFiles, RefusesLattice, RefusesProgramAt, RefusesSource, StopsBy}
+use Rattle.vsi.specs.Reasons.{OtherLeak, WhyDraw}
 use Rattle.vsi.specs.Stops.{stop_of}
 use Rattle.vsi_answers.proofs.Told.{source_told}
 use Rattle.vsi.proofs.Reasons.{StopsBy-weaker, answered_stops, handed, stopped_by, stops_by}

@@ -7,7 +7,8 @@ use Rattle.vsi.specs.declared.stop.Stop.{Stop}
 use Rattle.vsi.specs.declared.stop.Stop.TheVariants as stops
 use Rattle.vsi.specs.Holding.{Holding}
 use Rattle.vsi.specs.Performed.{IsEmittedFrom}
-use Rattle.vsi.specs.Reasons.{IsUnbounded, LacksEmitBound, StopsBy}
+use Rattle.vsi.specs.Refusals.{IsUnbounded, StopsBy}
+use Rattle.vsi.specs.Reasons.{LacksEmitBound}
 use Rattle.vsi.proofs.Reasons.{StopsBy-weaker}
 
 -- A stop that says why no bound was found for the requested image has the line of `bound`.

@@ -16,7 +16,8 @@ use Rattle.vsi_arguments.specs.declared.request.Driving.{Driving}
 use Rattle.vsi.specs.declared.stop.Stop.{Stop}
 use Rattle.vsi.specs.Holding.{Holding, IsImageAt}
 use Rattle.vsi.specs.Performed.{IsBudgetOf, LooksAt}
-use Rattle.vsi.specs.Reasons.{IsNoMemory, LacksDrive, NoOther, SaysShort, StopsBy, WhyDrive}
+use Rattle.vsi.specs.Refusals.{IsNoMemory, NoOther, StopsBy}
+use Rattle.vsi.specs.Reasons.{LacksDrive, SaysShort, WhyDrive}
 use Rattle.vsi.proofs.Reasons.{StopsBy-weaker, handed, stops_by}
 use Rattle.vsi.proofs.Unrun.{kind_told}
 

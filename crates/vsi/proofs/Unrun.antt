@@ -32,7 +32,8 @@ use Rattle.vsi.specs.declared.stop.Stop.TheVariants as stops
 use Rattle.vsi.specs.Holding.{Holding, IsImageAt, IsLatticeAt, IsStoreAt}
 use Rattle.vsi.specs.Input.{two_classes}
 use Rattle.vsi.specs.Performed.{BeginsAt}
-use Rattle.vsi.specs.Reasons.{HasNoText, IsNoMemory, IsUnusable, LacksBound, LacksBoundAt, LacksClass, LacksClassAt, NoOther, RefusesImage, RefusesLattice, RefusesStart, RefusesStore, StopsBy}
+use Rattle.vsi.specs.Refusals.{IsNoMemory, LacksBound, LacksBoundAt, LacksClass, LacksClassAt, NoOther, RefusesImage, RefusesLattice, RefusesStart, RefusesStore, StopsBy}
+use Rattle.vsi.specs.Reasons.{HasNoText, IsUnusable}
 use Rattle.vsi.specs.Stops.{status_of}
 use Rattle.vsi.proofs.Reasons.{StopsBy-weaker, handed, late_stops, stopped_by, stops_by}
 

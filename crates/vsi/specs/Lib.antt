@@ -13,6 +13,7 @@ pub mod Laying
 pub mod Raises
 pub mod Admitted
 pub mod Performed
+pub mod Refusals
 pub mod Reasons
 pub mod Partly
 pub mod Done

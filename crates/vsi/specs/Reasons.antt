@@ -1,20 +1,14 @@
 -- The reason why a request has stopped early, given the contents of its files.
-use Rattle.std.specs.Prelude.{◌≡◌, ◌≢◌, ◌⊎◌, ℕ, ℤ, Bool, true, false, List, Option, Some, None, Result, Err, IsSomeAnd}
+use Rattle.std.specs.Prelude.{◌≡◌, ◌⊎◌, ℕ, ℤ, Bool, true, false, List, Option, Some, None, Err, IsSomeAnd}
 use Rattle.std.specs.Global.{Vec}
 use Rattle.std.specs.Borrow.{Bor}
 use Rattle.std.specs.Io.KnownBytes.{Appends}
 use Rattle.vsi_lattice.specs.LatticeView.{class_named, order}
-use Rattle.vsi_lattice.specs.NamePlaces.{texts}
 use Rattle.vsi_lattice.specs.declared.lattice.Lattice.{Lattice}
 use Rattle.vsi_lattice.specs.declared.fault.LatticeError.TheVariants as lattice
-use Rattle.vsi_image.specs.declared.decoder.DecodeError.TheVariants as decoder
 use Rattle.vsi_image.specs.declared.instr.Image.{Image}
 use Rattle.vsi_image.specs.Fields.{globals}
 use Rattle.vsi_store.specs.declared.comparison.Comparison as found
-use Rattle.vsi_store.specs.declared.error.StoreError.TheVariants as store
-use Rattle.vsi_store.specs.declared.views.ViewError.TheVariants as views
-use Rattle.vsi_diagnostics.specs.declared.fault.Fault.{Fault}
-use Rattle.vsi_diagnostics.specs.declared.fault.Fault.TheVariants as fault
 use Rattle.vsi_compiler.specs.Headline.{IsImageOf}
 use Rattle.vsi_compiler.specs.Readable.{HasProgram}
 use Rattle.vsi_audit.specs.Refusal as audited
@@ -34,9 +28,8 @@ use Rattle.vsi_conform.specs.declared.reader.Policy.{Policy}
 use Rattle.vsi_conform.specs.declared.reader.Policy.TheVariants.{File, Tables}
 use Rattle.vsi_conform.specs.Checking.{TellsRefused}
 use Rattle.vsi_answers.specs.Answers.{Because}
-use Rattle.vsi_answers.specs.Bounds as bounds
-use Rattle.vsi_answers.specs.Judged.{Declares, IsProgramFault, IsStoreFault, IsViewFault, TellsFault, TellsSource}
-use Rattle.vsi_answers.specs.Requests.{Answer, AppliesTo, BeginsWith, BuildsTo, ChecksSteadyTo, ChecksTo, ClassesTo, ComparesTo, FlowsTo, FormatsTo, ListsTo, MendsTo, ReadsImage, ReadsLattice, ViewsTo, WalksTo}
+use Rattle.vsi_answers.specs.Judged.{Declares, IsViewFault, TellsFault}
+use Rattle.vsi_answers.specs.Requests.{BuildsTo, ComparesTo, ListsTo, ReadsLattice, ViewsTo}
 use Rattle.vsi_answers.specs.declared.unanswered.Unanswered.{Unanswered}
 use Rattle.vsi_answers.specs.declared.unanswered.Unanswered.TheVariants as unanswered
 use Rattle.vsi_answers.specs.declared.bounds.BoundAnswer.{BoundAnswer}
@@ -45,10 +38,7 @@ use Rattle.vsi_policy.specs.Named.{named_policy}
 use Rattle.vsi_arguments.specs.declared.request.Attempt.{Attempt}
 use Rattle.vsi_arguments.specs.declared.request.Audit.{Audit}
 use Rattle.vsi_arguments.specs.declared.request.Bounding.{Bounding}
-use Rattle.vsi_arguments.specs.declared.request.Budget.{Budget}
-use Rattle.vsi_arguments.specs.declared.request.Budget.TheVariants.{Auto}
 use Rattle.vsi_arguments.specs.declared.request.Comparison.{Comparison}
-use Rattle.vsi_arguments.specs.declared.request.Compilation.{Compilation}
 use Rattle.vsi_arguments.specs.declared.request.Conformance.{Conformance}
 use Rattle.vsi_arguments.specs.declared.request.Driving.{Driving}
 use Rattle.vsi_arguments.specs.declared.request.Emission.{Emission}
@@ -62,163 +52,14 @@ use Rattle.vsi_arguments.specs.declared.request.Request.TheVariants as request
 use Rattle.vsi.specs.declared.stop.Stop.{Stop}
 use Rattle.vsi.specs.declared.stop.Stop.TheVariants as stops
 use Rattle.vsi.specs.Admitted.{IsShort}
-use Rattle.vsi.specs.Holding.{Holding, IsImageAt, IsLatticeAt, IsReadAt, IsStoreAt}
+use Rattle.vsi.specs.Holding.{Holding, IsImageAt, IsLatticeAt, IsReadAt}
 use Rattle.vsi.specs.Laying.{OtherLayout}
 use Rattle.vsi.specs.Raises.{ToldUnserved}
 use Rattle.vsi.specs.Input.{two_classes}
 use Rattle.vsi.specs.Served.{Serves, unended_line}
 use Rattle.vsi.specs.Tried.{AreTried, BeginsSet, IsMade, IsTriedUnder, RunsMade, policy_path}
-use Rattle.vsi.specs.Performed.{AreFiles, BeginsAt, BoundsFile, ComparesFiles, ConformsFiles, IsAskedAt, IsBudgetOf, IsEmittedFrom, LooksAt, LooksFor, OfFiles, Writes, compilation_of, judgement_of, named_path, profile_of, wanted_of}
-
--- ---- the meaning of a stop.
-
--- The first property holds for the reason of a refused file or text and of a run out of budget, the second holds for
--- the other stops of status 1 and for a missing class, and nothing is claimed about mistaken arguments, file faults and
--- lack of memory.
-abbrev pub StopsBy : (Unanswered → Type 0) → (Stop → Type 0) → Stop → Type 0
-StopsBy why other (stops.Refused text (Some cause)) = why (unanswered.Refused text cause)
-StopsBy why other (stops.Refused text None) = other (stops.Refused text None)
-StopsBy why other (stops.Interface text error) = other (stops.Interface text error)
-StopsBy why other (stops.Audit text error) = other (stops.Audit text error)
-StopsBy why other (stops.Unsteady text error) = other (stops.Unsteady text error)
-StopsBy why other stops.Differs = other stops.Differs
-StopsBy why other (stops.Usage text) = Unit {0}
-StopsBy why other (stops.NoClass name) = other (stops.NoClass name)
-StopsBy why other stops.OutOfBudget = why unanswered.OutOfBudget
-StopsBy why other (stops.FileFault path) = Unit {0}
-StopsBy why other (stops.LostFile path) = Unit {0}
-StopsBy why other stops.Memory = Unit {0}
-
--- There is no other stop of status 1, and no class is missing.
-abbrev pub NoOther : Stop → Type 0
-NoOther stop = ⊥
-
--- The fault isn't lack of memory.
-abbrev pub IsNoMemory : Fault → Type 0
-IsNoMemory (fault.Lattice e) = e ≢ lattice.Memory
-IsNoMemory (fault.Decode e) = e ≢ decoder.Memory
-IsNoMemory (fault.Verify e) = Unit {0}
-IsNoMemory (fault.Store e) = e ≢ store.Memory
-IsNoMemory (fault.View e) = e ≢ views.Memory
-
--- The stop is a difference, and it has been reported in this way.
-abbrev pub IsDifference : Type 0 → Stop → Type 0
-IsDifference told stop = (stop ≡ stops.Differs) × told
-
--- A lattice has no class of this name, and the stop gives that name.
-abbrev pub LacksClass : Lattice → List ℕ → Stop → Type 0
-LacksClass l name (stops.NoClass told) = (told.now ≡ name) × (class_named l name ≡ None)
-LacksClass l name stop = ⊥
-
--- The text of the stop says why no bound was found for an image.
-abbrev pub IsUnbounded : Image → Stop → Type 0
-IsUnbounded image (stops.Refused text None) = bounds.LacksBound image text.items
-IsUnbounded image stop = ⊥
-
--- With the budget `auto` no bound was found for an image, and the text of the stop says why.
-abbrev pub LacksBound : Budget → Image → Stop → Type 0
-LacksBound budget image (stops.Refused text None) = (budget ≡ Auto) × bounds.LacksBound image text.items
-LacksBound budget image stop = ⊥
-
--- ---- the refused file, or the request about it.
-
--- The lattice of a file has no class of this name.
-abbrev pub LacksClassAt : Holding → List ℕ → List ℕ → Stop → Type 0
-LacksClassAt holds path name stop = (l : Lattice) × IsLatticeAt holds path l × LacksClass l name stop
-
--- With the budget `auto` no bound was found for the image of a file.
-abbrev pub LacksBoundAt : Holding → List ℕ → Budget → Stop → Type 0
-LacksBoundAt holds path budget stop = (image : Image) × IsImageAt holds path image × LacksBound budget image stop
-
--- The lattice of a file has no class of this name, or no bound was found for the image of another one.
-abbrev pub LacksEither : Holding → List ℕ → List ℕ → List ℕ → Budget → Stop → Type 0
-LacksEither holds lattice class path budget stop =
-    LacksClassAt holds lattice class stop ⊎ LacksBoundAt holds path budget stop
-
--- A request about the bytes of a file has no answer, for this reason.
-pub record RefusesFile {T : Type 0} (holds : Holding) (path : List ℕ) (Ask : List ℕ → Result T Unanswered → Type 0)
-    (reason : Unanswered) : Type 0 where
-  pub bytes : List ℕ
-  pub read : IsReadAt holds path bytes
-  pub is : Ask bytes (Err reason)
-
--- A lattice file is refused.
-abbrev pub RefusesLattice : Holding → List ℕ → Unanswered → Type 0
-RefusesLattice holds path = RefusesFile holds path ReadsLattice
-
--- An image file is refused.
-abbrev pub RefusesImage : Holding → List ℕ → Unanswered → Type 0
-RefusesImage holds path = RefusesFile holds path ReadsImage
-
--- A request about a lattice and a source text has no answer, for this reason.
-pub record RefusesText (holds : Holding) (c : Compilation) (Ask : Lattice → List ℕ → Answer → Type 0)
-    (reason : Unanswered) : Type 0 where
-  pub lattice : Lattice
-  pub source : List ℕ
-  pub files : AreFiles holds c lattice source
-  pub is : Ask lattice source (Err reason)
-
--- A request about a compilation has no answer, for this reason: its lattice file is refused, or else its source text.
-abbrev pub RefusesFiles : Holding → Compilation → (Lattice → List ℕ → Answer → Type 0) → Unanswered → Type 0
-RefusesFiles holds c Ask reason = RefusesLattice holds c.lattice.now reason ⊎ RefusesText holds c Ask reason
-
--- The words that a run begins with are refused: the store file, or the settings applied to it.
-pub record RefusesStart (holds : Holding) (e : Execution) (o : Outset) (reason : Unanswered) : Type 0 where
-  pub image : Image
-  pub held : IsImageAt holds e.image.now image
-  pub file : List ℕ
-  pub read : IsStoreAt holds e.store file
-  pub is : BeginsWith image file (texts o.settings.items) o.is_full (Err reason)
-
--- A store file is refused for the image of a file.
-pub record RefusesStore (holds : Holding) (path : List ℕ) (store : Option (Bor (List ℕ))) (reason : Unanswered)
-    : Type 0 where
-  pub image : Image
-  pub held : IsImageAt holds path image
-  pub file : List ℕ
-  pub read : IsStoreAt holds store file
-  pub is : Because (TellsFault (IsStoreFault image file)) ⊥ reason
-
--- The source text of a file has no program under a lattice, and is refused.
-pub record RefusesProgramAt (holds : Holding) (l : Lattice) (path : List ℕ) (reason : Unanswered) : Type 0 where
-  pub text : List ℕ
-  pub read : IsReadAt holds path text
-  pub is : Because (TellsSource (IsProgramFault l text) l text) ⊥ reason
-
--- The same under the lattice of a file.
-pub record RefusesSource (holds : Holding) (lattice source : List ℕ) (reason : Unanswered) : Type 0 where
-  pub classes : Lattice
-  pub declared : IsLatticeAt holds lattice classes
-  pub refused : RefusesProgramAt holds classes source reason
-
--- ---- what is asked.
-
--- The request of `check`, and that of `check --steady`.
-abbrev pub AsksCheck : Bool → Bool → Lattice → List ℕ → Answer → Type 0
-AsksCheck true is_strict l source = ChecksSteadyTo l source
-AsksCheck false is_strict l source = ChecksTo l (profile_of is_strict) source
-
--- The request of `classes`.
-abbrev pub AsksClasses : Bool → Lattice → List ℕ → Answer → Type 0
-AsksClasses is_strict l source = ClassesTo l (profile_of is_strict) source
-
--- The request of `flows`, and that of `flows --walks`.
-abbrev pub AsksFlows : Bool → Bool → Lattice → List ℕ → Answer → Type 0
-AsksFlows true is_strict l source = WalksTo l (profile_of is_strict) source
-AsksFlows false is_strict l source = FlowsTo l (profile_of is_strict) source
-
--- The request of `mend`, and that of `mend --apply`.
-abbrev pub AsksMend : Bool → Bool → Lattice → List ℕ → Answer → Type 0
-AsksMend true is_strict l source = AppliesTo l (profile_of is_strict) source
-AsksMend false is_strict l source = MendsTo l (profile_of is_strict) source
-
--- The request of `build`.
-abbrev pub AsksImage : Bool → Lattice → List ℕ → Answer → Type 0
-AsksImage is_strict l source = BuildsTo l (profile_of is_strict) source
-
--- The request of `fmt`, whose refusals need no lattice and are reported as under two classes.
-abbrev pub AsksCanonical : List ℕ → Answer → Type 0
-AsksCanonical source answer = (l : Lattice) × Declares two_classes l × FormatsTo l source answer
+use Rattle.vsi.specs.Performed.{BeginsAt, BoundsFile, ComparesFiles, ConformsFiles, IsAskedAt, IsBudgetOf, LooksAt, LooksFor, OfFiles, Writes, compilation_of, judgement_of, named_path, profile_of, wanted_of}
+use Rattle.vsi.specs.Refusals.{AsksCanonical, AsksCheck, AsksClasses, AsksFlows, AsksImage, AsksMend, IsDifference, LacksBoundAt, LacksClass, LacksClassAt, LacksEither, NoOther, RefusesFile, RefusesFiles, RefusesImage, RefusesLattice, RefusesSource, RefusesStart, RefusesStore, StopsBy}
 
 -- ---- why each subcommand has stopped.
 

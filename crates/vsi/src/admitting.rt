@@ -2,7 +2,8 @@
 
 ghost use Rattle.std.specs.Prelude.{◌≡◌, false, IfErr, IfOk, MatchResult, OnOk};
 ghost use Rattle.vsi.specs.Admitted.{IsAdmitted, IsEnough, IsShort, short_line};
-ghost use Rattle.vsi.specs.Reasons.{SaysShort, StopsBy};
+ghost use Rattle.vsi.specs.Refusals.{StopsBy};
+ghost use Rattle.vsi.specs.Reasons.{SaysShort};
 ghost use Rattle.vsi_answers.specs.Bounds.{IsBound};
 
 use crate::stop::Stop;

@@ -4,7 +4,8 @@ ghost use Rattle.std.specs.Prelude.{◌≡◌, ◌⊎◌, ℕ, IfErr, IfOk, OnOk
 ghost use Rattle.vsi_audit.specs.Telling.{IsAuditText};
 ghost use Rattle.vsi_steady.specs.Telling.{IsUnsteadyText};
 ghost use Rattle.vsi.specs.Performed.{AuditsFiles, Passes, SourceOfFile};
-ghost use Rattle.vsi.specs.Reasons.{HasNoText, IsRefusedImage, RefusesAudit, RefusesImage, RefusesLattice, StopsBy};
+ghost use Rattle.vsi.specs.Refusals.{RefusesImage, RefusesLattice, StopsBy};
+ghost use Rattle.vsi.specs.Reasons.{HasNoText, IsRefusedImage, RefusesAudit};
 ghost use Rattle.vsi.specs.declared.stop.Stop.TheVariants as stops;
 ghost use Rattle.std.specs.Global.{Vec};
 

@@ -2,7 +2,7 @@
 
 ghost use Rattle.std.specs.Prelude.{IfErr, IfOk};
 ghost use Rattle.vsi.specs.Performed.{IsBoundedC};
-ghost use Rattle.vsi.specs.Reasons.{IsUnbounded, StopsBy};
+ghost use Rattle.vsi.specs.Refusals.{IsUnbounded, StopsBy};
 ghost use Rattle.vsi_answers.specs.Bounds.{IsBound};
 
 use crate::stop::Stop;

@@ -5,7 +5,8 @@ ghost use Rattle.std.specs.Prelude.{◌≡◌, ◌<◌, false, IfErr, IfOk, OnOk
 ghost use Rattle.vsi.specs.Holding.{IsImageAt};
 ghost use Rattle.vsi.specs.Partly.{AnswersBound, Leaves};
 ghost use Rattle.vsi.specs.Performed.{BoundsFile, BoundsImage, IsBuiltAt, PerformsBound, compilation_of};
-ghost use Rattle.vsi.specs.Reasons.{AsksImage, DiffersBound, IsDifference, NoOther, RefusesFiles, RefusesImage, StopsBy, WhyEmit};
+ghost use Rattle.vsi.specs.Refusals.{AsksImage, IsDifference, NoOther, RefusesFiles, RefusesImage, StopsBy};
+ghost use Rattle.vsi.specs.Reasons.{DiffersBound, WhyEmit};
 ghost use Rattle.vsi.specs.Stops.{TellsFault};
 ghost use Rattle.vsi_devices.specs.Counted.{device_of, faults_of};
 

@@ -3,7 +3,7 @@
 ghost use Rattle.std.specs.Prelude.{IfErr, IfOk};
 ghost use Rattle.vsi.specs.Performed.{IsBudgetOf};
 ghost use Rattle.vsi_arguments.specs.declared.request.Budget.TheVariants.{Auto};
-ghost use Rattle.vsi.specs.Reasons.{LacksBound, StopsBy};
+ghost use Rattle.vsi.specs.Refusals.{LacksBound, StopsBy};
 
 use crate::stop::Stop;
 use std::alloc::Global;

@@ -5,7 +5,8 @@ ghost use Rattle.vsi.specs.Performed.{ComparesFiles, PerformsCompare};
 ghost use Rattle.vsi.specs.Partly.{AnswersCompare, Leaves};
 ghost use Rattle.vsi.specs.Stops.{TellsFault};
 ghost use Rattle.vsi_devices.specs.Counted.{device_of, faults_of};
-ghost use Rattle.vsi.specs.Reasons.{LacksCompare, OtherCompare, StopsBy, WhyCompare};
+ghost use Rattle.vsi.specs.Refusals.{StopsBy};
+ghost use Rattle.vsi.specs.Reasons.{LacksCompare, OtherCompare, WhyCompare};
 
 use crate::budgets::budget_of;
 use crate::desk::Desk;

@@ -8,7 +8,8 @@ ghost use Rattle.vsi.specs.Partly.{BytesOf, Leaves};
 ghost use Rattle.vsi.specs.Stops.{TellsFault};
 ghost use Rattle.vsi_conform.specs.Beside.{beside};
 ghost use Rattle.vsi_devices.specs.Counted.{device_of, faults_of};
-ghost use Rattle.vsi.specs.Reasons.{DiffersConform, IsUnusable, NoOther, RefusesAsked, RefusesPolicy, StopsBy};
+ghost use Rattle.vsi.specs.Refusals.{NoOther, StopsBy};
+ghost use Rattle.vsi.specs.Reasons.{DiffersConform, IsUnusable, RefusesAsked, RefusesPolicy};
 ghost use Rattle.vsi.specs.Stops.{status_of};
 
 use crate::desk::{Desk, Kind};

@@ -3,7 +3,8 @@
 ghost use Rattle.std.specs.Prelude.{◌≡◌, ◌≤◌, true, IfErr, IfOk, length};
 ghost use Rattle.vsi.specs.Naming as naming;
 ghost use Rattle.vsi.specs.Performed.{EmitsFile, IsBuiltAt, IsEmittedFrom, IsRequestedC, IsWrittenInC};
-ghost use Rattle.vsi.specs.Reasons.{AsksImage, IsUnbounded, LacksEmitBound, NoOther, RefusesFiles, StopsBy, WhyEmit};
+ghost use Rattle.vsi.specs.Refusals.{AsksImage, IsUnbounded, NoOther, RefusesFiles, StopsBy};
+ghost use Rattle.vsi.specs.Reasons.{LacksEmitBound, WhyEmit};
 ghost use Rattle.vsi.specs.declared.stop.Stop.TheVariants as stops;
 
 use crate::bounded::bounded_in_c;

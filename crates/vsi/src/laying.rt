@@ -4,7 +4,7 @@ ghost use Rattle.std.specs.Prelude.{◌≡◌, ◌<◌, ◌⊎◌, IfErr, IfOk, 
 ghost use Rattle.std.specs.Io.KnownBytes.{Keeps};
 ghost use Rattle.vsi.specs.Laying.{AnswersLayout, LaysOut, OtherLayout, PerformsLayout, PutsBack, TellsChanges, ToldChanges};
 ghost use Rattle.vsi.specs.Partly.{Leaves};
-ghost use Rattle.vsi.specs.Reasons.{AsksCanonical, NoOther, RefusesFile, StopsBy};
+ghost use Rattle.vsi.specs.Refusals.{AsksCanonical, NoOther, RefusesFile, StopsBy};
 ghost use Rattle.vsi.specs.Stops.{TellsFault, status_of};
 ghost use Rattle.vsi_devices.specs.Counted.{device_of, faults_of};
 

@@ -4,7 +4,8 @@ ghost use Rattle.std.specs.Prelude.{◌≡◌, ◌⊎◌, IfErr, IfOk, IfSome, I
 ghost use Rattle.vsi.specs.Performed.{LooksFor, SearchesFiles};
 ghost use Rattle.vsi_lattice.specs.LatticeView.{order};
 ghost use Rattle.vsi_lattice.specs.Order.{IsClass};
-ghost use Rattle.vsi.specs.Reasons.{LacksClass, OtherLeak, RefusesLattice, RefusesSource, StopsBy};
+ghost use Rattle.vsi.specs.Refusals.{LacksClass, RefusesLattice, RefusesSource, StopsBy};
+ghost use Rattle.vsi.specs.Reasons.{OtherLeak};
 
 use crate::desk::{Desk, Kind};
 use crate::files::Files;

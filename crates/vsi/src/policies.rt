@@ -1,7 +1,8 @@
 //! The classes that each class sees under a lattice.
 
 ghost use Rattle.std.specs.Prelude.{◌≡◌, ◌⊎◌, Some, IfErr, IfOk, IsSomeAnd};
-ghost use Rattle.vsi.specs.Reasons.{NoOther, RefusesLattice, StopsBy, WhyPolicy};
+ghost use Rattle.vsi.specs.Refusals.{NoOther, RefusesLattice, StopsBy};
+ghost use Rattle.vsi.specs.Reasons.{WhyPolicy};
 ghost use Rattle.vsi.specs.Seeing.{SeesFiles, ToldPolicy};
 
 use crate::desk::Desk;

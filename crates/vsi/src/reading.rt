@@ -4,7 +4,7 @@ ghost use Rattle.std.specs.Prelude.{◌≡◌, ◌<◌, ◌⊎◌, false, Some, 
 ghost use Rattle.vsi.specs.Holding.{IsImageAt, IsLatticeAt, IsReadAt, IsStoreAt};
 ghost use Rattle.vsi.specs.Input.{two_classes};
 ghost use Rattle.vsi.specs.Performed.{LooksAt};
-ghost use Rattle.vsi.specs.Reasons.{IsNoMemory, LacksClass, LacksClassAt, NoOther, RefusesImage, RefusesLattice, StopsBy};
+ghost use Rattle.vsi.specs.Refusals.{IsNoMemory, LacksClass, LacksClassAt, NoOther, RefusesImage, RefusesLattice, StopsBy};
 ghost use Rattle.vsi.specs.Stops.{status_of, stop_of};
 ghost use Rattle.vsi.specs.declared.stop.Stop.TheVariants as stops;
 ghost use Rattle.vsi_answers.specs.Answers.{Because};

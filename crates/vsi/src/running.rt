@@ -8,7 +8,8 @@ ghost use Rattle.vsi.specs.declared.stop.Stop.TheVariants.{Memory};
 ghost use Rattle.vsi_answers.specs.Requests.{BeginsWith};
 ghost use Rattle.vsi_devices.specs.Counted.{device_of, faults_of};
 ghost use Rattle.vsi_lattice.specs.NamePlaces.{texts};
-ghost use Rattle.vsi.specs.Reasons.{LacksBoundAt, LacksEither, NoOther, RefusesImage, RefusesStart, StopsBy, WhyRun, WhyView};
+ghost use Rattle.vsi.specs.Refusals.{LacksBoundAt, LacksEither, NoOther, RefusesImage, RefusesStart, StopsBy};
+ghost use Rattle.vsi.specs.Reasons.{WhyRun, WhyView};
 
 use crate::budgets::budget_of;
 use crate::desk::{Desk, Kind};

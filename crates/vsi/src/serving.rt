@@ -2,7 +2,8 @@
 
 ghost use Rattle.std.specs.Prelude.{◌≡◌, ◌<◌, IfErr, IfOk, OnOk};
 ghost use Rattle.vsi.specs.Partly.{Partly};
-ghost use Rattle.vsi.specs.Reasons.{SaysLine, StopsBy};
+ghost use Rattle.vsi.specs.Refusals.{StopsBy};
+ghost use Rattle.vsi.specs.Reasons.{SaysLine};
 ghost use Rattle.vsi.specs.Served.{Serves, unended_line};
 ghost use Rattle.vsi.specs.Stops.{TellsFault, status_of};
 ghost use Rattle.vsi_devices.specs.Counted.{device_of, faults_of};

@@ -2,7 +2,7 @@
 
 ghost use Rattle.std.specs.Prelude.{◌<◌, IfErr, IfOk};
 ghost use Rattle.vsi.specs.Shaping.{ShapedText};
-ghost use Rattle.vsi.specs.Reasons.{NoOther, StopsBy};
+ghost use Rattle.vsi.specs.Refusals.{NoOther, StopsBy};
 
 use crate::stop::Stop;
 use std::alloc::{AllocError, Global};

@@ -4,7 +4,8 @@ ghost use Rattle.std.specs.Prelude.{◌≡◌, ◌<◌, true, false, IfErr, IfOk
 ghost use Rattle.vsi.specs.Laying.{ToldCanonical};
 ghost use Rattle.vsi.specs.Performed.{AreFiles, BuildsFile, OfFile, OfFiles, PerformsMend, ToldAccepted, ToldClasses, ToldFlows, ToldImage, ToldJson, ToldListing, ToldRaises, Writes};
 ghost use Rattle.vsi.specs.Performed.{judgement_of, profile_of};
-ghost use Rattle.vsi.specs.Reasons.{AsksCanonical, AsksCheck, AsksClasses, AsksFlows, AsksImage, AsksMend, NoOther, RefusesFile, RefusesFiles, RefusesLattice, StopsBy, ToldRefusal, WhyCheck, WhyMend};
+ghost use Rattle.vsi.specs.Refusals.{AsksCanonical, AsksCheck, AsksClasses, AsksFlows, AsksImage, AsksMend, NoOther, RefusesFile, RefusesFiles, RefusesLattice, StopsBy};
+ghost use Rattle.vsi.specs.Reasons.{ToldRefusal, WhyCheck, WhyMend};
 ghost use Rattle.vsi.specs.Raises.{ToldUnserved};
 ghost use Rattle.vsi.specs.Partly.{AnswersCheck, AnswersMend, BytesOf, Leaves};
 ghost use Rattle.vsi.specs.Stops.{TellsFault, status_of};

@@ -1,7 +1,8 @@
 //! The answer of `try`: the output of the run of a source text, or why there is none.
 
 ghost use Rattle.std.specs.Prelude.{◌≡◌, IfErr, IfOk, IfSome, Ok, Err, length};
-ghost use Rattle.vsi.specs.Reasons.{LacksGiven, LacksTried, NoOther, RefusesLattice, RefusesNamed, RefusesRun, RefusesUnder, StopsBy, WhyTry};
+ghost use Rattle.vsi.specs.Refusals.{NoOther, RefusesLattice, StopsBy};
+ghost use Rattle.vsi.specs.Reasons.{LacksGiven, LacksTried, RefusesNamed, RefusesRun, RefusesUnder, WhyTry};
 ghost use Rattle.vsi.specs.Tried.{BeginsSet, IsMade, IsNamedLattice, IsTriedUnder, Looks, RunsMade, ShowsTo, TriesFile, policy_path};
 ghost use Rattle.vsi.specs.Holding.{IsLatticeAt};
 ghost use Rattle.vsi_answers.specs.Requests.{BuildsTo};

@@ -1,7 +1,8 @@
 use Rattle.std.proofs.Common.{inl, inr, subst}
 use Rattle.std.proofs.lemmas.Result.{IfErr-weaker, on_ok_weaker}
 use Rattle.vsi.specs.Holding.{IsImageAt}
-use Rattle.vsi.specs.Reasons.{IsRefusedImage, RefusesAudit, RefusesImage, RefusesLattice, StopsBy}
+use Rattle.vsi.specs.Refusals.{RefusesImage, RefusesLattice, StopsBy}
+use Rattle.vsi.specs.Reasons.{IsRefusedImage, RefusesAudit}
 use Rattle.vsi.proofs.Reasons.{StopsBy-weaker, stopped_by}
 use Rattle.vsi.proofs.Unrun.{Unseen, held_stopped}
 use Rattle.vsi.proofs.auditing.audit.Goals as goal

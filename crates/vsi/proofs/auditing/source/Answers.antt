@@ -1,4 +1,5 @@
-use Rattle.vsi.specs.Reasons.{HasNoText, RefusesImage, StopsBy}
+use Rattle.vsi.specs.Refusals.{RefusesImage, StopsBy}
+use Rattle.vsi.specs.Reasons.{HasNoText}
 use Rattle.vsi.proofs.Reasons.{handed, stops_by}
 use Rattle.vsi.proofs.Unrun.{memory_stops, textless_stops}
 use Rattle.vsi.proofs.auditing.source.Goals as goal

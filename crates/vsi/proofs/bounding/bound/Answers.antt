@@ -3,7 +3,8 @@ use Rattle.std.proofs.lemmas.Result.{on_ok_weaker}
 use Rattle.std.specs.Io.KnownBytes.{Appends}
 use Rattle.vsi_devices.specs.Counted.{device_of}
 use Rattle.vsi.specs.Partly.{AnswersBound}
-use Rattle.vsi.specs.Reasons.{DiffersBound, IsDifference, WhyEmit}
+use Rattle.vsi.specs.Refusals.{IsDifference}
+use Rattle.vsi.specs.Reasons.{DiffersBound, WhyEmit}
 use Rattle.vsi.proofs.Partly.{answer_leaves, kept_leaves}
 use Rattle.vsi.proofs.Reasons.{stopped_by}
 use Rattle.vsi.proofs.Unrun.{answer_stopped}

@@ -1,4 +1,4 @@
-use Rattle.vsi.specs.Reasons.{NoOther, RefusesImage, StopsBy}
+use Rattle.vsi.specs.Refusals.{NoOther, RefusesImage, StopsBy}
 use Rattle.vsi.proofs.Reasons.{handed}
 use Rattle.vsi.proofs.bounding.image_bound.Goals as goal
 

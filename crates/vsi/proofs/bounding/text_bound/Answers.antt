@@ -2,7 +2,7 @@ use Rattle.std.proofs.Common.{Ok, Err, false, inr, subst}
 use Rattle.vsi_types.specs.declared.rules.Profile.TheVariants.{Base}
 use Rattle.vsi_answers.specs.Requests.{BuildsTo}
 use Rattle.vsi.specs.Performed.{compilation_of}
-use Rattle.vsi.specs.Reasons.{AsksImage, NoOther, RefusesFiles}
+use Rattle.vsi.specs.Refusals.{AsksImage, NoOther, RefusesFiles}
 use Rattle.vsi.proofs.Reasons.{stopped_by}
 use Rattle.vsi.proofs.Refused.{refuses_lattice}
 use Rattle.vsi.proofs.bounding.text_bound.Goals as goal

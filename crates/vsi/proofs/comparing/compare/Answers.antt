@@ -3,7 +3,8 @@ use Rattle.std.proofs.lemmas.Result.{on_ok_weaker}
 use Rattle.std.specs.Io.KnownBytes.{Appends}
 use Rattle.vsi_devices.specs.Counted.{device_of}
 use Rattle.vsi.specs.Partly.{AnswersCompare}
-use Rattle.vsi.specs.Reasons.{LacksCompare, OtherCompare, StopsBy, WhyCompare}
+use Rattle.vsi.specs.Refusals.{StopsBy}
+use Rattle.vsi.specs.Reasons.{LacksCompare, OtherCompare, WhyCompare}
 use Rattle.vsi.proofs.Partly.{answer_leaves, kept_leaves}
 use Rattle.vsi.proofs.Reasons.{StopsBy-weaker, handed}
 use Rattle.vsi.proofs.Unrun.{answer_stopped}

@@ -2,7 +2,8 @@ use Rattle.std.proofs.Common.{◌∙◌, Ok, inl, inr, subst}
 use Rattle.std.specs.Prelude.{Some}
 use Rattle.vsi_answers.specs.Requests.{ComparesTo}
 use Rattle.vsi.specs.Performed.{IsStoredAt}
-use Rattle.vsi.specs.Reasons.{LacksClassAt, LacksCompare, WhyCompare}
+use Rattle.vsi.specs.Refusals.{LacksClassAt}
+use Rattle.vsi.specs.Reasons.{LacksCompare, WhyCompare}
 use Rattle.vsi.proofs.Reasons.{handed_reason}
 use Rattle.vsi.proofs.Unrun.{more_stopped, store_stopped, unbounded_stopped, unseen_stopped}
 use Rattle.vsi.proofs.comparing.compared.Goals as goal

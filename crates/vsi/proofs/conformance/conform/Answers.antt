@@ -4,7 +4,8 @@ use Rattle.std.specs.Io.KnownBytes.{Appends}
 use Rattle.vsi_devices.specs.Counted.{device_of}
 use Rattle.vsi.specs.Partly.{BytesOf}
 use Rattle.vsi.specs.Performed.{ConformsFiles}
-use Rattle.vsi.specs.Reasons.{DiffersConform, IsUnusable, RefusesAsked, StopsBy}
+use Rattle.vsi.specs.Refusals.{StopsBy}
+use Rattle.vsi.specs.Reasons.{DiffersConform, IsUnusable, RefusesAsked}
 use Rattle.vsi.proofs.Partly.{answer_leaves, kept_leaves}
 use Rattle.vsi.proofs.Reasons.{StopsBy-weaker, handed}
 use Rattle.vsi.proofs.Unrun.{answer_stopped}

@@ -1,6 +1,7 @@
 use Rattle.std.proofs.Common.{subst}
 use Rattle.vsi_conform.specs.Reading.{IsReadAs}
-use Rattle.vsi.specs.Reasons.{IsUnusable, StopsBy}
+use Rattle.vsi.specs.Refusals.{StopsBy}
+use Rattle.vsi.specs.Reasons.{IsUnusable}
 use Rattle.vsi.proofs.Reasons.{handed, late_stops}
 use Rattle.vsi.proofs.conformance.interface_in.Goals as goal
 

@@ -2,7 +2,8 @@ use Rattle.std.proofs.Common.{◌∙◌, sym, subst}
 use Rattle.std.proofs.lemmas.Result.{IfOk-weaker}
 use Rattle.vsi.specs.Holding.{IsReadAt}
 use Rattle.vsi.specs.Performed.{ConformsFiles, IsPolicyAt, TellsConforming}
-use Rattle.vsi.specs.Reasons.{IsUnusable, RefusesAsked, StopsBy}
+use Rattle.vsi.specs.Refusals.{StopsBy}
+use Rattle.vsi.specs.Reasons.{IsUnusable, RefusesAsked}
 use Rattle.vsi.proofs.Conforming.{refuses_asked}
 use Rattle.vsi.proofs.Reasons.{handed, late_stops}
 use Rattle.vsi.proofs.Unrun.{handed_late, unusable_stops}

@@ -1,7 +1,8 @@
 use Rattle.std.proofs.Common.{rules, subst}
 use Rattle.std.specs.Prelude.{IsSomeAnd}
 use Rattle.vsi.specs.Performed.{ToldFlowsGraph}
-use Rattle.vsi.specs.Reasons.{NoOther, RefusesLattice, RefusesProgramAt, WhyDraw}
+use Rattle.vsi.specs.Refusals.{NoOther, RefusesLattice, RefusesProgramAt}
+use Rattle.vsi.specs.Reasons.{WhyDraw}
 use Rattle.vsi.proofs.Reasons.{stopped_by}
 use Rattle.vsi.proofs.Refused.{draw_lattice, draw_source}
 use Rattle.vsi.proofs.drawing.draw.Goals as goal

@@ -1,6 +1,6 @@
 use Rattle.std.proofs.Common.{subst}
 use Rattle.std.specs.Result.{IfErr}
-use Rattle.vsi.specs.Reasons.{NoOther, RefusesLattice, StopsBy}
+use Rattle.vsi.specs.Refusals.{NoOther, RefusesLattice, StopsBy}
 use Rattle.vsi.proofs.Reasons.{handed}
 use Rattle.vsi.proofs.Refused.{refuses_declared}
 use Rattle.vsi.proofs.drawing.policy_in.Goals as goal

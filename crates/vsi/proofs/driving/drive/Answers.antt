@@ -8,7 +8,8 @@ use Rattle.vsi.specs.Driven.{DrivesInput}
 use Rattle.vsi.specs.Holding.{Delivers}
 use Rattle.vsi.specs.Partly.{AnswersDrive, DrivenText, Partly}
 use Rattle.vsi.specs.Performed.{IsStoredAt}
-use Rattle.vsi.specs.Reasons.{LacksClassAt, LacksDrive, WhyDrive}
+use Rattle.vsi.specs.Refusals.{LacksClassAt}
+use Rattle.vsi.specs.Reasons.{LacksDrive, WhyDrive}
 use Rattle.vsi.proofs.Driven.{control_is, written_back}
 use Rattle.vsi.proofs.Cut.{input_driven}
 use Rattle.vsi.proofs.Leaving.{driven_answers}

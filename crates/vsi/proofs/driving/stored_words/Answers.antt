@@ -1,7 +1,7 @@
 use Rattle.std.proofs.Common.{subst}
 use Rattle.vsi_image.specs.Fields.{globals}
 use Rattle.vsi_store.specs.File.{IsRefusal, Tells}
-use Rattle.vsi.specs.Reasons.{NoOther, StopsBy}
+use Rattle.vsi.specs.Refusals.{NoOther, StopsBy}
 use Rattle.vsi.proofs.Reasons.{handed, late_stops}
 use Rattle.vsi.proofs.Unrun.{RefusesWords, words_stop}
 use Rattle.vsi.proofs.driving.stored_words.Goals as goal

@@ -1,6 +1,6 @@
 use Rattle.std.proofs.Common.{subst}
 use Rattle.vsi_answers.specs.Judged.{AreImage}
-use Rattle.vsi.specs.Reasons.{AsksImage, NoOther, RefusesFiles, StopsBy}
+use Rattle.vsi.specs.Refusals.{AsksImage, NoOther, RefusesFiles, StopsBy}
 use Rattle.vsi.proofs.Reasons.{handed}
 use Rattle.vsi.proofs.emitting.built_image.Goals as goal
 

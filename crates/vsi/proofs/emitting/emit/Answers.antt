@@ -1,7 +1,8 @@
 use Rattle.std.proofs.Common.{subst}
 use Rattle.std.specs.Prelude.{IfErr, IfOk}
 use Rattle.vsi.specs.Performed.{EmitsFile}
-use Rattle.vsi.specs.Reasons.{LacksEmitBound, StopsBy, WhyEmit}
+use Rattle.vsi.specs.Refusals.{StopsBy}
+use Rattle.vsi.specs.Reasons.{LacksEmitBound, WhyEmit}
 use Rattle.vsi.proofs.Reasons.{handed}
 use Rattle.vsi.proofs.emitting.emit.Goals as goal
 

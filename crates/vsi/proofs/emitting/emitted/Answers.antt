@@ -1,7 +1,8 @@
 use Rattle.std.proofs.Common.{◌≡◌, true, subst}
 use Rattle.std.proofs.lemmas.Result.{IfErr-weaker, IfOk-weaker}
 use Rattle.vsi.specs.Performed.{EmitsFile, IsRequestedC}
-use Rattle.vsi.specs.Reasons.{IsUnbounded, LacksEmitBound, StopsBy, WhyEmit}
+use Rattle.vsi.specs.Refusals.{IsUnbounded, StopsBy}
+use Rattle.vsi.specs.Reasons.{LacksEmitBound, WhyEmit}
 use Rattle.vsi.proofs.Reasons.{stopped_by}
 use Rattle.vsi.proofs.Unbounded.{lacks_bound}
 use Rattle.vsi.proofs.emitting.emitted.Goals as goal

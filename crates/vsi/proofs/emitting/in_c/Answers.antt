@@ -1,6 +1,6 @@
 use Rattle.std.proofs.Common.{◌≡◌, true}
 use Rattle.std.proofs.lemmas.Result.{IfErr-weaker}
-use Rattle.vsi.specs.Reasons.{IsUnbounded, StopsBy}
+use Rattle.vsi.specs.Refusals.{IsUnbounded, StopsBy}
 use Rattle.vsi.specs.declared.stop.Stop.{Stop}
 use Rattle.vsi.specs.declared.stop.Stop.TheVariants as stops
 use Rattle.vsi.proofs.Unbounded.{bounded_lacks}

@@ -1,7 +1,7 @@
 use Rattle.std.proofs.Common.{subst}
 use Rattle.std.specs.Prelude.{IfErr, ℕ}
 use Rattle.std.specs.Global.{Vec}
-use Rattle.vsi.specs.Reasons.{AsksCanonical, NoOther, RefusesFile, StopsBy}
+use Rattle.vsi.specs.Refusals.{AsksCanonical, NoOther, RefusesFile, StopsBy}
 use Rattle.vsi.proofs.Reasons.{handed}
 use Rattle.vsi.proofs.Refused.{refuses_tree}
 use Rattle.vsi.proofs.laying.laid.Goals as goal

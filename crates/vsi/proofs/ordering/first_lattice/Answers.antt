@@ -1,4 +1,4 @@
-use Rattle.vsi.specs.Reasons.{NoOther, RefusesLattice}
+use Rattle.vsi.specs.Refusals.{NoOther, RefusesLattice}
 use Rattle.vsi.proofs.Reasons.{stops_by}
 use Rattle.vsi.proofs.Refused.{refuses_declared}
 use Rattle.vsi.proofs.ordering.first_lattice.Goals as goal

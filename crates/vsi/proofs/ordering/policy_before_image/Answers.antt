@@ -1,6 +1,6 @@
 use Rattle.std.proofs.Common.{inl, inr, subst}
 use Rattle.vsi.specs.Holding.{IsImageAt}
-use Rattle.vsi.specs.Reasons.{LacksClassAt, RefusesImage, RefusesLattice}
+use Rattle.vsi.specs.Refusals.{LacksClassAt, RefusesImage, RefusesLattice}
 use Rattle.vsi.proofs.Reasons.{stopped_by}
 use Rattle.vsi.proofs.Unrun.{Unseen, held_stopped, lacks_stopped}
 use Rattle.vsi.proofs.ordering.policy_before_image.Goals as goal

@@ -4,7 +4,8 @@ use Rattle.std.specs.Io.KnownBytes.{Appends}
 use Rattle.vsi_devices.specs.Counted.{device_of}
 use Rattle.vsi_answers.specs.Requests.{ListsTo}
 use Rattle.vsi.specs.Shaping.{ShapedText}
-use Rattle.vsi.specs.Reasons.{AsksCanonical, AsksClasses, AsksFlows, HasNoText, LacksEmitBound, LacksTried, NoOther, OtherLeak, RefusesAudit, RefusesFile, RefusesFiles, RefusesImage, RefusesLattice, RefusesSource, WhyDraw, WhyEmit, WhyPolicy, WhyTry}
+use Rattle.vsi.specs.Refusals.{AsksCanonical, AsksClasses, AsksFlows, NoOther, RefusesFile, RefusesFiles, RefusesImage, RefusesLattice, RefusesSource}
+use Rattle.vsi.specs.Reasons.{HasNoText, LacksEmitBound, LacksTried, OtherLeak, RefusesAudit, WhyDraw, WhyEmit, WhyPolicy, WhyTry}
 use Rattle.vsi.proofs.Filled.{alone}
 use Rattle.vsi.proofs.Obeyed.{put_stops}
 use Rattle.vsi.proofs.Unrun.{Unseen, fault_stopped}

@@ -1,4 +1,4 @@
-use Rattle.vsi.specs.Reasons.{AsksMend, NoOther, RefusesFiles}
+use Rattle.vsi.specs.Refusals.{AsksMend, NoOther, RefusesFiles}
 use Rattle.vsi.proofs.Written.{put_writes}
 use Rattle.vsi.proofs.Obeyed.{put_stops}
 use Rattle.vsi.proofs.Partly.{put_leaves}

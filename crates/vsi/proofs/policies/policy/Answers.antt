@@ -1,6 +1,7 @@
 use Rattle.std.proofs.Common.{subst}
 use Rattle.std.specs.Prelude.{IsSomeAnd}
-use Rattle.vsi.specs.Reasons.{NoOther, RefusesLattice, WhyPolicy}
+use Rattle.vsi.specs.Refusals.{NoOther, RefusesLattice}
+use Rattle.vsi.specs.Reasons.{WhyPolicy}
 use Rattle.vsi.specs.Seeing.{ToldPolicy}
 use Rattle.vsi.proofs.Reasons.{stopped_by}
 use Rattle.vsi.proofs.Looked.{policy_lattice, policy_old}

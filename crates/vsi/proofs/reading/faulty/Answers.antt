@@ -2,7 +2,7 @@ use Rattle.std.proofs.Common.{◌≡◌, refl, subst, sym}
 use Rattle.vsi_answers.specs.Answers.{Because}
 use Rattle.vsi_answers.specs.Judged.{TellsFault}
 use Rattle.vsi_answers.proofs.Told.{fault_told}
-use Rattle.vsi.specs.Reasons.{IsNoMemory, NoOther, StopsBy}
+use Rattle.vsi.specs.Refusals.{IsNoMemory, NoOther, StopsBy}
 use Rattle.vsi.proofs.Reasons.{reason_stops}
 use Rattle.vsi.proofs.reading.faulty.Goals as goal
 

@@ -1,7 +1,7 @@
 use Rattle.std.proofs.Common.{Err, sym, subst}
 use Rattle.vsi_answers.specs.Requests.{ReadsImage}
 use Rattle.vsi.specs.Holding.{IsReadAt}
-use Rattle.vsi.specs.Reasons.{NoOther, RefusesImage}
+use Rattle.vsi.specs.Refusals.{NoOther, RefusesImage}
 use Rattle.vsi.proofs.Reasons.{handed_reason}
 use Rattle.vsi.proofs.reading.image_in.Goals as goal
 

@@ -1,6 +1,6 @@
 use Rattle.std.proofs.Common.{inl, inr, subst}
 use Rattle.vsi.specs.Holding.{IsImageAt}
-use Rattle.vsi.specs.Reasons.{NoOther, RefusesImage}
+use Rattle.vsi.specs.Refusals.{NoOther, RefusesImage}
 use Rattle.vsi.proofs.Reasons.{late_stopped}
 use Rattle.vsi.proofs.Unrun.{Unstarted, begins_at, held_stopped, start_stopped}
 use Rattle.vsi.proofs.running.image_and_words.Goals as goal

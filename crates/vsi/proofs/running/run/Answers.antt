@@ -5,7 +5,8 @@ use Rattle.std.specs.Io.KnownBytes.{Appends}
 use Rattle.vsi_devices.specs.Counted.{device_of}
 use Rattle.vsi.specs.Partly.{AnswersRun}
 use Rattle.vsi.specs.Performed.{BeginsAt, shown}
-use Rattle.vsi.specs.Reasons.{LacksBoundAt, WhyRun}
+use Rattle.vsi.specs.Refusals.{LacksBoundAt}
+use Rattle.vsi.specs.Reasons.{WhyRun}
 use Rattle.vsi.proofs.Filled.{both_done, delivered_of}
 use Rattle.vsi.proofs.Leaving.{cut_part, device_leaf, shown_part, traced_part}
 use Rattle.vsi.proofs.Partly.{kept_leaves, memory_handed, spent_leaf, spent_leaves}

@@ -1,7 +1,8 @@
 use Rattle.std.proofs.Common.{Ok, Err, inl, inr, subst}
 use Rattle.vsi_answers.specs.Requests.{ViewsTo}
 use Rattle.vsi.specs.Holding.{IsStoreAt}
-use Rattle.vsi.specs.Reasons.{LacksClassAt, LacksEither, WhyView}
+use Rattle.vsi.specs.Refusals.{LacksClassAt, LacksEither}
+use Rattle.vsi.specs.Reasons.{WhyView}
 use Rattle.vsi.proofs.Reasons.{handed_reason, late_stopped}
 use Rattle.vsi.proofs.Unrun.{begins_at, more_stopped, start_stopped, unbounded_stopped, unseen_stopped}
 use Rattle.vsi.proofs.running.seen.Goals as goal

@@ -4,7 +4,8 @@ use Rattle.std.specs.Io.KnownBytes.{Appends}
 use Rattle.vsi_devices.specs.Counted.{device_of}
 use Rattle.vsi.specs.Partly.{AnswersView}
 use Rattle.vsi.specs.Performed.{shown}
-use Rattle.vsi.specs.Reasons.{LacksEither, StopsBy, WhyView}
+use Rattle.vsi.specs.Refusals.{LacksEither, StopsBy}
+use Rattle.vsi.specs.Reasons.{WhyView}
 use Rattle.vsi.proofs.Filled.{both_done, delivered_of}
 use Rattle.vsi.proofs.Partly.{kept_leaves, late_leaves}
 use Rattle.vsi.proofs.Reasons.{handed}

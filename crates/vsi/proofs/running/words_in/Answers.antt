@@ -1,7 +1,7 @@
 use Rattle.std.proofs.Common.{Err, subst}
 use Rattle.vsi_answers.specs.Requests.{BeginsWith}
 use Rattle.vsi_lattice.specs.NamePlaces.{texts}
-use Rattle.vsi.specs.Reasons.{NoOther}
+use Rattle.vsi.specs.Refusals.{NoOther}
 use Rattle.vsi.proofs.Reasons.{handed_reason}
 use Rattle.vsi.proofs.Unrun.{memory_stopped}
 use Rattle.vsi.proofs.running.words_in.Goals as goal

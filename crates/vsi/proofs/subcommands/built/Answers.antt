@@ -1,5 +1,5 @@
 use Rattle.vsi_answers.specs.Requests.{BuildsTo}
-use Rattle.vsi.specs.Reasons.{AsksImage}
+use Rattle.vsi.specs.Refusals.{AsksImage}
 use Rattle.vsi.proofs.Refused.{refuses_by, refuses_lattice}
 use Rattle.vsi.proofs.Written.{told_by}
 use Rattle.vsi.proofs.subcommands.built.Goals as goal

@@ -1,5 +1,5 @@
 use Rattle.vsi.specs.Performed.{ToldAccepted}
-use Rattle.vsi.specs.Reasons.{AsksCheck}
+use Rattle.vsi.specs.Refusals.{AsksCheck}
 use Rattle.vsi.proofs.Refused.{refuses_files, refuses_lattice}
 use Rattle.vsi.proofs.Written.{told_accepted, told_files}
 use Rattle.vsi.proofs.subcommands.check.Goals as goal

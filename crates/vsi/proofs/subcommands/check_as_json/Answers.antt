@@ -4,7 +4,8 @@ use Rattle.std.specs.Io.KnownBytes.{Appends}
 use Rattle.vsi_devices.specs.Counted.{device_of}
 use Rattle.vsi.specs.Partly.{AnswersCheck, BytesOf}
 use Rattle.vsi.specs.Performed.{OfFiles, Writes, judgement_of}
-use Rattle.vsi.specs.Reasons.{IsDifference, RefusesLattice, ToldRefusal}
+use Rattle.vsi.specs.Refusals.{IsDifference, RefusesLattice}
+use Rattle.vsi.specs.Reasons.{ToldRefusal}
 use Rattle.vsi.proofs.Leaving.{check_answer}
 use Rattle.vsi.proofs.Partly.{answer_leaves, kept_leaves}
 use Rattle.vsi.proofs.Unrun.{answer_stopped}

@@ -1,5 +1,5 @@
 use Rattle.vsi_answers.specs.Requests.{ClassesTo}
-use Rattle.vsi.specs.Reasons.{AsksClasses}
+use Rattle.vsi.specs.Refusals.{AsksClasses}
 use Rattle.vsi.proofs.Refused.{refuses_by, refuses_lattice}
 use Rattle.vsi.proofs.Written.{told_by}
 use Rattle.vsi.proofs.subcommands.classes.Goals as goal

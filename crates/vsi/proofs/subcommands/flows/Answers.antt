@@ -1,5 +1,5 @@
 use Rattle.vsi.specs.Performed.{ToldFlows}
-use Rattle.vsi.specs.Reasons.{AsksFlows}
+use Rattle.vsi.specs.Refusals.{AsksFlows}
 use Rattle.vsi.proofs.Refused.{refuses_files, refuses_lattice}
 use Rattle.vsi.proofs.Written.{told_files, told_flows}
 use Rattle.vsi.proofs.subcommands.flows.Goals as goal

@@ -1,7 +1,7 @@
 use Rattle.std.proofs.Common.{Err, subst}
 use Rattle.vsi_answers.specs.Requests.{ListsTo}
 use Rattle.vsi.specs.Performed.{ToldListing}
-use Rattle.vsi.specs.Reasons.{NoOther, RefusesFile}
+use Rattle.vsi.specs.Refusals.{NoOther, RefusesFile}
 use Rattle.vsi.proofs.Reasons.{handed_reason}
 use Rattle.vsi.proofs.subcommands.list.Goals as goal
 

@@ -1,6 +1,6 @@
 use Rattle.std.proofs.Common.{false}
 use Rattle.vsi.specs.Performed.{ToldRaises}
-use Rattle.vsi.specs.Reasons.{AsksMend}
+use Rattle.vsi.specs.Refusals.{AsksMend}
 use Rattle.vsi.proofs.Refused.{refuses_files, refuses_lattice}
 use Rattle.vsi.proofs.Written.{told_files, told_raises}
 use Rattle.vsi.proofs.subcommands.mend.Goals as goal

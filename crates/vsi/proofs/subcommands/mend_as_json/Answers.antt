@@ -5,7 +5,7 @@ use Rattle.vsi_devices.specs.Counted.{device_of}
 use Rattle.vsi.specs.Partly.{AnswersMend, BytesOf}
 use Rattle.vsi.specs.Performed.{OfFiles, Writes, profile_of}
 use Rattle.vsi.specs.Raises.{ToldUnserved}
-use Rattle.vsi.specs.Reasons.{IsDifference, RefusesLattice}
+use Rattle.vsi.specs.Refusals.{IsDifference, RefusesLattice}
 use Rattle.vsi.proofs.Mended.{mend_answer}
 use Rattle.vsi.proofs.Partly.{answer_leaves, kept_leaves}
 use Rattle.vsi.proofs.Unrun.{answer_stopped}

@@ -1,7 +1,8 @@
 use Rattle.std.proofs.Common.{◌≡◌, Some, None, subst}
 use Rattle.std.specs.Prelude.{IfErr, IfOk}
 use Rattle.std.proofs.lemmas.Result.{IfErr-weaker}
-use Rattle.vsi.specs.Reasons.{NoOther, RefusesNamed, StopsBy}
+use Rattle.vsi.specs.Refusals.{NoOther, StopsBy}
+use Rattle.vsi.specs.Reasons.{RefusesNamed}
 use Rattle.vsi.specs.Tried.{IsNamedLattice}
 use Rattle.vsi.specs.declared.stop.Stop.TheVariants as stops
 use Rattle.vsi_policy.specs.Named.{named_policy}

@@ -2,7 +2,8 @@ use Rattle.std.proofs.Common.{Ok, Err, inl, inr, subst}
 use Rattle.std.proofs.lemmas.Result.{IfErr-weaker, IfOk-weaker}
 use Rattle.vsi_answers.specs.Requests.{BuildsTo}
 use Rattle.vsi_types.specs.declared.rules.Profile.TheVariants.{Base}
-use Rattle.vsi.specs.Reasons.{NoOther, RefusesRun, StopsBy}
+use Rattle.vsi.specs.Refusals.{NoOther, StopsBy}
+use Rattle.vsi.specs.Reasons.{RefusesRun}
 use Rattle.vsi.specs.Tried.{BeginsSet, RunsMade, ShowsTo}
 use Rattle.vsi.proofs.Reasons.{stopped_by, stops_by}
 use Rattle.vsi.proofs.trying.ran.Goals as goal

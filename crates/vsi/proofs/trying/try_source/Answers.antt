@@ -1,7 +1,8 @@
 use Rattle.std.proofs.Common.{◌∙◌, Ok, inl, inr, sym, subst}
 use Rattle.std.proofs.lemmas.Result.{IfErr-weaker, IfOk-weaker}
 use Rattle.vsi.specs.Holding.{IsReadAt}
-use Rattle.vsi.specs.Reasons.{LacksGiven, LacksTried, NoOther, RefusesRun, RefusesUnder, StopsBy, WhyTry}
+use Rattle.vsi.specs.Refusals.{NoOther, StopsBy}
+use Rattle.vsi.specs.Reasons.{LacksGiven, LacksTried, RefusesRun, RefusesUnder, WhyTry}
 use Rattle.vsi.specs.Tried.{IsTriedUnder, RunsMade, TriesFile}
 use Rattle.vsi.proofs.Reasons.{StopsBy-weaker, handed, late_stopped, stops_by}
 use Rattle.vsi.proofs.Unrun.{held_stopped}

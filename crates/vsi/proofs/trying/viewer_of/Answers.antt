@@ -1,5 +1,6 @@
 use Rattle.std.proofs.Common.{Some, refl}
-use Rattle.vsi.specs.Reasons.{LacksGiven, StopsBy}
+use Rattle.vsi.specs.Refusals.{StopsBy}
+use Rattle.vsi.specs.Reasons.{LacksGiven}
 use Rattle.vsi.proofs.Reasons.{handed}
 use Rattle.vsi.proofs.trying.viewer_of.Goals as goal
 

@@ -1,5 +1,5 @@
 use Rattle.std.proofs.Common.{Err}
-use Rattle.vsi.specs.Reasons.{NoOther}
+use Rattle.vsi.specs.Refusals.{NoOther}
 use Rattle.vsi.specs.Tried.{BeginsSet}
 use Rattle.vsi.proofs.Reasons.{handed_reason}
 use Rattle.vsi.proofs.Unrun.{memory_stopped}
