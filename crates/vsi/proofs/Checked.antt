@@ -9,7 +9,8 @@ use Rattle.vsi_asked.specs.Laws.{IsPlainCheck}
 use Rattle.vsi_asked.proofs.Plain.{check_is_asked}
 use Rattle.vsi.specs.Holding.{Holding, IsReadAt}
 use Rattle.vsi.specs.Laws.{CheckedIsAccepted, IsAcceptedAt}
-use Rattle.vsi.specs.Performed.{OfFiles, Performs, PerformsCheck, ToldAccepted, Writes}
+use Rattle.vsi.specs.Files.{OfFiles, Writes}
+use Rattle.vsi.specs.Performed.{Performs, PerformsCheck, ToldAccepted}
 
 -- Where a judgement of two files by the base profile has been performed, the source text is accepted.
 pub accepted_at : (holds : Holding) (judging : Judging) (lattice source : List ℕ) (old new : Option (List ℕ)) →

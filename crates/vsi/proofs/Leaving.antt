@@ -25,7 +25,8 @@ use Rattle.vsi.specs.declared.stop.Stop.TheVariants.{Memory}
 use Rattle.vsi.specs.Admitted.{IsAdmitted}
 use Rattle.vsi.specs.Holding.{Holding, IsImageAt}
 use Rattle.vsi.specs.Partly.{AnswersCheck, AnswersDrive, AnswersRun, DrivenText, Leaves, Partly, WritesPart, cut_from}
-use Rattle.vsi.specs.Performed.{BeginsAt, IsBudgetOf, IsStoredAt, LooksAt, OfFiles, ToldJson, control_of, judgement_of, shown}
+use Rattle.vsi.specs.Files.{BeginsAt, IsBudgetOf, IsStoredAt, LooksAt, OfFiles, shown}
+use Rattle.vsi.specs.Performed.{ToldJson, control_of, judgement_of}
 use Rattle.vsi.specs.Reasons.{ToldRefusal}
 use Rattle.vsi.specs.Stops.{status_of}
 use Rattle.vsi.proofs.Partly.{Partly-weaker, spent_leaf, whole_part}

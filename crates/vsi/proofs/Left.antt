@@ -33,7 +33,8 @@ use Rattle.vsi_asked.specs.Help.{AsksHelp}
 use Rattle.vsi.specs.Done.{Done}
 use Rattle.vsi.specs.Holding.{Delivers, Holding, HoldsAt, IsImageAt, IsLatticeAt, IsReadAt, IsStoreAt, KeepsOthers}
 use Rattle.vsi.specs.Laws.{BeginAlike, LeftIsSeenAlike, Shows}
-use Rattle.vsi.specs.Performed.{BeginsAt, LooksAt, PerformsBuild, PerformsView, Performs, profile_of, shown}
+use Rattle.vsi.specs.Files.{BeginsAt, LooksAt, shown}
+use Rattle.vsi.specs.Performed.{PerformsBuild, PerformsView, Performs, profile_of}
 use Rattle.vsi.proofs.Declared.{AreAlike, declared_alike}
 use Rattle.vsi.proofs.Once.{SameBuild, SameView, one_build, one_view}
 use Rattle.vsi.proofs.Short.{built_short, read_again, read_whole}

@@ -7,7 +7,8 @@ use Rattle.vsi_arguments.specs.declared.request.Mending.{Mending}
 use Rattle.vsi_raises_json.specs.Answers.{TellsMended}
 use Rattle.vsi.specs.Holding.{Holding}
 use Rattle.vsi.specs.Partly.{AnswersMend}
-use Rattle.vsi.specs.Performed.{OfFiles, ToldRaises, profile_of}
+use Rattle.vsi.specs.Files.{OfFiles}
+use Rattle.vsi.specs.Performed.{ToldRaises, profile_of}
 use Rattle.vsi.specs.Raises.{ToldUnserved}
 
 -- An answer of this outcome is the answer of an outcome that is the same, under the same profile and of the same text.

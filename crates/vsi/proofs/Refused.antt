@@ -20,7 +20,8 @@ use Rattle.vsi_arguments.specs.declared.request.Search.{Search}
 use Rattle.vsi.specs.declared.stop.Stop.{Stop}
 use Rattle.vsi.specs.Holding.{Holding, IsLatticeAt, IsReadAt}
 use Rattle.vsi.specs.Input.{two_classes}
-use Rattle.vsi.specs.Performed.{AreFiles, profile_of}
+use Rattle.vsi.specs.Files.{AreFiles}
+use Rattle.vsi.specs.Performed.{profile_of}
 use Rattle.vsi.specs.Refusals.{AsksCanonical, LacksClass, LacksClassAt, NoOther, RefusesFile, RefusesFiles, RefusesLattice, RefusesProgramAt, RefusesSource, StopsBy}
 use Rattle.vsi.specs.Reasons.{OtherLeak, WhyDraw}
 use Rattle.vsi.specs.Stops.{stop_of}

@@ -15,7 +15,7 @@ use Rattle.vsi_answers.specs.declared.unanswered.Unanswered.{Unanswered}
 use Rattle.vsi_arguments.specs.declared.request.Driving.{Driving}
 use Rattle.vsi.specs.declared.stop.Stop.{Stop}
 use Rattle.vsi.specs.Holding.{Holding, IsImageAt}
-use Rattle.vsi.specs.Performed.{IsBudgetOf, LooksAt}
+use Rattle.vsi.specs.Files.{IsBudgetOf, LooksAt}
 use Rattle.vsi.specs.Refusals.{IsNoMemory, NoOther, StopsBy}
 use Rattle.vsi.specs.Reasons.{LacksDrive, SaysShort, WhyDrive}
 use Rattle.vsi.proofs.Reasons.{StopsBy-weaker, handed, stops_by}

@@ -31,7 +31,7 @@ use Rattle.vsi.specs.declared.stop.Stop.{Stop}
 use Rattle.vsi.specs.declared.stop.Stop.TheVariants as stops
 use Rattle.vsi.specs.Holding.{Holding, IsImageAt, IsLatticeAt, IsStoreAt}
 use Rattle.vsi.specs.Input.{two_classes}
-use Rattle.vsi.specs.Performed.{BeginsAt}
+use Rattle.vsi.specs.Files.{BeginsAt}
 use Rattle.vsi.specs.Refusals.{IsNoMemory, LacksBound, LacksBoundAt, LacksClass, LacksClassAt, NoOther, RefusesImage, RefusesLattice, RefusesStart, RefusesStore, StopsBy}
 use Rattle.vsi.specs.Reasons.{HasNoText, IsUnusable}
 use Rattle.vsi.specs.Stops.{status_of}

@@ -14,7 +14,8 @@ use Rattle.vsi_arguments.specs.declared.request.Audit.{Audit}
 use Rattle.vsi_arguments.specs.declared.request.Compilation.{Compilation}
 use Rattle.vsi.specs.declared.stop.Stop.{Stop}
 use Rattle.vsi.specs.Holding.{Holding}
-use Rattle.vsi.specs.Performed.{AreFiles, AuditsFiles, BuildsFile, OfFiles, PerformsAudit, PerformsBuild, ToldAccepted, ToldFlows, ToldRaises, Writes, profile_of}
+use Rattle.vsi.specs.Files.{AreFiles, OfFiles, Writes}
+use Rattle.vsi.specs.Performed.{AuditsFiles, BuildsFile, PerformsAudit, PerformsBuild, ToldAccepted, ToldFlows, ToldRaises, profile_of}
 use Rattle.vsi.specs.Refusals.{AsksCheck, AsksFlows, AsksMend}
 use Rattle.vsi.specs.Stops.{status_of, stop_of}
 use Rattle.vsi.proofs.Answered.{answered_told}

@@ -21,7 +21,8 @@ use Rattle.vsi_asked.specs.Help.{AsksHelp}
 use Rattle.vsi_asked.specs.Laws.{ArePlainCheck}
 use Rattle.vsi.specs.Done.{Done}
 use Rattle.vsi.specs.Holding.{Delivers, Holding, IsReadAt}
-use Rattle.vsi.specs.Performed.{BeginsAt, LooksAt, OfFiles, ToldImage, ViewsFiles, shown}
+use Rattle.vsi.specs.Files.{BeginsAt, LooksAt, OfFiles, shown}
+use Rattle.vsi.specs.Performed.{ToldImage, ViewsFiles}
 
 -- The file at one path declares a lattice, and the source text at the other is accepted under it.
 pub record IsAcceptedAt (holds : Holding) (lattice source : List ℕ) : Type 0 where

@@ -5,8 +5,6 @@ use Rattle.std.specs.Global.{Vec}
 use Rattle.std.specs.Io.KnownBytes.{Appends, Keeps}
 use Rattle.std.specs.Str.Lossy.{utf8_lossy}
 use Rattle.vsi_lattice.specs.LatticeView.{class_named, order}
-use Rattle.vsi_lattice.specs.NamePlaces.{texts}
-use Rattle.vsi_lattice.specs.Order.{IsClass}
 use Rattle.vsi_lattice.specs.declared.lattice.Lattice.{Lattice}
 use Rattle.vsi_types.specs.declared.rules.Profile.{Profile}
 use Rattle.vsi_types.specs.declared.rules.Profile.TheVariants.{Base, Strict}
@@ -16,14 +14,12 @@ use Rattle.vsi_emit.specs.Bounded.{IsEmittedBounded}
 use Rattle.vsi_emit.specs.BoundedWriting.{bounded_header_text}
 use Rattle.vsi_emit.specs.Emitted.{IsEmitted}
 use Rattle.vsi_emit.specs.Writing.{header_text}
-use Rattle.vsi_store.specs.File.{Tells}
 use Rattle.vsi_store.specs.Text.{store_text_of}
 use Rattle.vsi_store.specs.declared.comparison.Comparison as found
-use Rattle.vsi_compiler.specs.Observation.{EndsAlike, IsNoninterfering, IsStoreOf}
+use Rattle.vsi_compiler.specs.Observation.{EndsAlike, IsNoninterfering}
 use Rattle.vsi_compiler.specs.Readable.{HasProgram}
 use Rattle.vsi_steady.specs.Steady.{IsSteady}
 use Rattle.vsi_drive.specs.Control.{Control}
-use Rattle.vsi_drive.specs.Starts.{Begins}
 use Rattle.vsi_devices.specs.Running.{RunsApart}
 use Rattle.vsi_leak.specs.declared.whole.Wanted.{Wanted}
 use Rattle.vsi_audit.specs.Standing.{HasKnownClasses}
@@ -51,8 +47,6 @@ use Rattle.vsi_answers.specs.Requests.{BuildsTo, ChecksSteadyTo, ChecksTo, Class
 use Rattle.vsi_answers.specs.declared.bounds.BoundAnswer.{BoundAnswer}
 use Rattle.vsi_arguments.specs.declared.request.Audit.{Audit}
 use Rattle.vsi_arguments.specs.declared.request.Bounding.{Bounding}
-use Rattle.vsi_arguments.specs.declared.request.Budget.{Budget}
-use Rattle.vsi_arguments.specs.declared.request.Budget.TheVariants.{Number, Auto}
 use Rattle.vsi_arguments.specs.declared.request.Comparison.{Comparison}
 use Rattle.vsi_arguments.specs.declared.request.Compilation.{Compilation}
 use Rattle.vsi_arguments.specs.declared.request.Conformance.{Conformance}
@@ -68,7 +62,7 @@ use Rattle.vsi_arguments.specs.declared.request.Request.{Request}
 use Rattle.vsi_arguments.specs.declared.request.Request.TheVariants as request
 use Rattle.vsi.specs.Admitted.{IsAdmitted}
 use Rattle.vsi.specs.Driven.{DrivesInput}
-use Rattle.vsi.specs.Holding.{Delivers, Fills, Holding, IsImageAt, IsLatticeAt, IsReadAt, IsStoreAt}
+use Rattle.vsi.specs.Holding.{Delivers, Fills, Holding, IsImageAt, IsLatticeAt, IsReadAt}
 use Rattle.vsi.specs.Laying.{PerformsLayout, ToldCanonical}
 use Rattle.vsi.specs.Naming.{function_name}
 use Rattle.vsi.specs.Raises.{ToldMended}
@@ -76,65 +70,7 @@ use Rattle.vsi.specs.Seeing.{SeesFiles}
 use Rattle.vsi.specs.Served.{Serves}
 use Rattle.vsi.specs.Shaping.{ShapedText}
 use Rattle.vsi.specs.Tried.{TriesFile}
-
--- ---- what is written.
-
--- A text of this kind has been written.
-pub record Writes (Kind : Vec ℕ → Type 0) (old new : Option (List ℕ)) : Type 0 where
-  pub text : Vec ℕ
-  pub is : Kind text
-  pub written : Appends old new text.items
-
--- The part of a text that goes to the output: nothing if it is put into a file.
-abbrev pub shown : Option (Bor (List ℕ)) → List ℕ → List ℕ
-shown None text = text
-shown (Some path) text = []
-
--- ---- of which files.
-
--- The lattice and the source text of a compilation, as the files hold them.
-pub record AreFiles (holds : Holding) (c : Compilation) (l : Lattice) (source : List ℕ) : Type 0 where
-  pub lattice : IsLatticeAt holds c.lattice.now l
-  pub read : IsReadAt holds c.source.now source
-
--- The text written for the files of a compilation, where `Kind` describes it for a lattice and a source text.
-pub record OfFiles (holds : Holding) (c : Compilation) (Kind : Lattice → List ℕ → Vec ℕ → Type 0) (text : Vec ℕ)
-    : Type 0 where
-  pub lattice : Lattice
-  pub source : List ℕ
-  pub files : AreFiles holds c lattice source
-  pub is : Kind lattice source text
-
--- The text written for one file, where `Kind` describes it for the file's bytes.
-pub record OfFile (holds : Holding) (path : List ℕ) (Kind : List ℕ → Vec ℕ → Type 0) (text : Vec ℕ) : Type 0 where
-  pub bytes : List ℕ
-  pub read : IsReadAt holds path bytes
-  pub is : Kind bytes text
-
--- The image in a file, and the words that a run of it begins with: those of the store file, changed by the settings.
-pub record BeginsAt (holds : Holding) (e : Execution) (o : Outset) (im : Image) (words : List ℤ) : Type 0 where
-  pub image : IsImageAt holds e.image.now im
-  pub file : List ℕ
-  pub read : IsStoreAt holds e.store file
-  pub begins : Begins im file (texts o.settings.items) o.is_full words
-  pub whole : IsStoreOf im words
-
--- The words that a store file gives to the globals of an image.
-pub record IsStoredAt (holds : Holding) (path : Option (Bor (List ℕ))) (im : Image) (words : List ℤ) : Type 0 where
-  pub file : List ℕ
-  pub read : IsStoreAt holds path file
-  pub told : Tells file (globals im.globals.items) words
-
--- The class of the viewer, under the lattice that a file declares.
-pub record LooksAt (holds : Holding) (path name : List ℕ) (l : Lattice) (class : ℕ) : Type 0 where
-  pub lattice : IsLatticeAt holds path l
-  pub named : class_named l name ≡ Some class
-  pub is : IsClass (order l) class
-
--- The number of a budget: the given one, or with `auto` one within which the image halts from every store.
-abbrev pub IsBudgetOf : Budget → Image → ℕ → Type 0
-IsBudgetOf (Number given) image number = number ≡ given
-IsBudgetOf Auto image number = IsBound image number
+use Rattle.vsi.specs.Files.{BeginsAt, IsBudgetOf, IsStoredAt, LooksAt, OfFile, OfFiles, Writes, shown}
 
 -- ---- the output.
 

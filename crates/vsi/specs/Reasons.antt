@@ -58,7 +58,8 @@ use Rattle.vsi.specs.Raises.{ToldUnserved}
 use Rattle.vsi.specs.Input.{two_classes}
 use Rattle.vsi.specs.Served.{Serves, unended_line}
 use Rattle.vsi.specs.Tried.{AreTried, BeginsSet, IsMade, IsTriedUnder, RunsMade, policy_path}
-use Rattle.vsi.specs.Performed.{BeginsAt, BoundsFile, ComparesFiles, ConformsFiles, IsAskedAt, IsBudgetOf, LooksAt, LooksFor, OfFiles, Writes, compilation_of, judgement_of, named_path, profile_of, wanted_of}
+use Rattle.vsi.specs.Files.{BeginsAt, IsBudgetOf, LooksAt, OfFiles, Writes}
+use Rattle.vsi.specs.Performed.{BoundsFile, ComparesFiles, ConformsFiles, IsAskedAt, LooksFor, compilation_of, judgement_of, named_path, profile_of, wanted_of}
 use Rattle.vsi.specs.Refusals.{AsksCanonical, AsksCheck, AsksClasses, AsksFlows, AsksImage, AsksMend, IsDifference, LacksBoundAt, LacksClass, LacksClassAt, LacksEither, NoOther, RefusesFile, RefusesFiles, RefusesImage, RefusesLattice, RefusesSource, RefusesStart, RefusesStore, StopsBy}
 
 -- ---- why each subcommand has stopped.

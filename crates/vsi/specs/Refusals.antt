@@ -26,7 +26,8 @@ use Rattle.vsi.specs.declared.stop.Stop.{Stop}
 use Rattle.vsi.specs.declared.stop.Stop.TheVariants as stops
 use Rattle.vsi.specs.Holding.{Holding, IsImageAt, IsLatticeAt, IsReadAt, IsStoreAt}
 use Rattle.vsi.specs.Input.{two_classes}
-use Rattle.vsi.specs.Performed.{AreFiles, profile_of}
+use Rattle.vsi.specs.Files.{AreFiles}
+use Rattle.vsi.specs.Performed.{profile_of}
 
 -- ---- the meaning of a stop.
 

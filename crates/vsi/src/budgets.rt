@@ -1,7 +1,7 @@
 //! The budget of a run.
 
 ghost use Rattle.std.specs.Prelude.{IfErr, IfOk};
-ghost use Rattle.vsi.specs.Performed.{IsBudgetOf};
+ghost use Rattle.vsi.specs.Files.{IsBudgetOf};
 ghost use Rattle.vsi_arguments.specs.declared.request.Budget.TheVariants.{Auto};
 ghost use Rattle.vsi.specs.Refusals.{LacksBound, StopsBy};
 

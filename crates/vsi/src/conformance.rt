@@ -3,7 +3,8 @@
 ghost use Rattle.std.specs.Prelude.{◌≡◌, ◌<◌, Bool, true, IfErr, IfOk, OnOk};
 ghost use Rattle.std.specs.Str.Lossy.{utf8_lossy};
 ghost use Rattle.vsi.specs.Holding.{IsReadAt};
-ghost use Rattle.vsi.specs.Performed.{ConformsFiles, IsAskedAt, IsPolicyAt, IsWrittenAs, TellsConforming, Writes};
+ghost use Rattle.vsi.specs.Files.{Writes};
+ghost use Rattle.vsi.specs.Performed.{ConformsFiles, IsAskedAt, IsPolicyAt, IsWrittenAs, TellsConforming};
 ghost use Rattle.vsi.specs.Partly.{BytesOf, Leaves};
 ghost use Rattle.vsi.specs.Stops.{TellsFault};
 ghost use Rattle.vsi_conform.specs.Beside.{beside};

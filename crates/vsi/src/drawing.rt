@@ -2,7 +2,8 @@
 
 ghost use Rattle.std.specs.Prelude.{◌≡◌, Some, IfErr, IfOk, IsSomeAnd};
 ghost use Rattle.vsi.specs.Holding.{IsLatticeAt};
-ghost use Rattle.vsi.specs.Performed.{DrawsFiles, OfFiles, ToldFlowsGraph, ToldPage};
+ghost use Rattle.vsi.specs.Files.{OfFiles};
+ghost use Rattle.vsi.specs.Performed.{DrawsFiles, ToldFlowsGraph, ToldPage};
 ghost use Rattle.vsi_report.specs.Page.{HasPanel};
 ghost use Rattle.vsi.specs.Refusals.{NoOther, RefusesLattice, RefusesProgramAt, StopsBy};
 ghost use Rattle.vsi.specs.Reasons.{WhyDraw};

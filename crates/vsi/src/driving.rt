@@ -3,7 +3,8 @@
 ghost use Rattle.std.specs.Prelude.{◌≡◌, ◌<◌, ◌≤◌, ◌∷◌, ◌++◌, [], ℕ, List, length, IfOk, IfErr, OnOk};
 ghost use Rattle.std.specs.Io.KnownBytes.{Appends};
 ghost use Rattle.vsi.specs.Driven.{Drives, DrivesInput, begun, last_line, whole_lines};
-ghost use Rattle.vsi.specs.Performed.{IsStoredAt, PerformsDrive};
+ghost use Rattle.vsi.specs.Files.{IsStoredAt};
+ghost use Rattle.vsi.specs.Performed.{PerformsDrive};
 ghost use Rattle.vsi.specs.Partly.{AnswersDrive, DrivenText, Leaves, Partly, WritesPart};
 ghost use Rattle.vsi.specs.Stops.{TellsFault, status_of};
 ghost use Rattle.vsi_devices.specs.Counted.{device_of, faults_of};

@@ -4,7 +4,7 @@ ghost use Rattle.std.specs.Prelude.{◌<◌, IfErr, OnOk};
 ghost use Rattle.std.specs.Io.KnownBytes.{Appends};
 ghost use Rattle.vsi.specs.Holding.{Delivers, Fills, Replaces};
 ghost use Rattle.vsi.specs.Partly.{WritesPart};
-ghost use Rattle.vsi.specs.Performed.{shown};
+ghost use Rattle.vsi.specs.Files.{shown};
 ghost use Rattle.vsi.specs.Stops.{TellsFault, status_of};
 ghost use Rattle.vsi_devices.specs.Counted.{device_of, faults_of};
 

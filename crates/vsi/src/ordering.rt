@@ -2,7 +2,7 @@
 
 ghost use Rattle.std.specs.Prelude.{◌≡◌, ◌⊎◌, IfErr, IfOk};
 ghost use Rattle.vsi.specs.Holding.{IsImageAt, IsLatticeAt};
-ghost use Rattle.vsi.specs.Performed.{LooksAt};
+ghost use Rattle.vsi.specs.Files.{LooksAt};
 ghost use Rattle.vsi.specs.Refusals.{LacksClassAt, NoOther, RefusesImage, RefusesLattice, StopsBy};
 
 use crate::desk::{Desk, Kind};

@@ -3,7 +3,7 @@
 ghost use Rattle.std.specs.Prelude.{◌≡◌, ◌<◌, ◌⊎◌, false, Some, IfOk, IfErr, Ok, Err, MatchResult};
 ghost use Rattle.vsi.specs.Holding.{IsImageAt, IsLatticeAt, IsReadAt, IsStoreAt};
 ghost use Rattle.vsi.specs.Input.{two_classes};
-ghost use Rattle.vsi.specs.Performed.{LooksAt};
+ghost use Rattle.vsi.specs.Files.{LooksAt};
 ghost use Rattle.vsi.specs.Refusals.{IsNoMemory, LacksClass, LacksClassAt, NoOther, RefusesImage, RefusesLattice, StopsBy};
 ghost use Rattle.vsi.specs.Stops.{status_of, stop_of};
 ghost use Rattle.vsi.specs.declared.stop.Stop.TheVariants as stops;

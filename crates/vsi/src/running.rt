@@ -1,7 +1,8 @@
 //! Runs of images.
 
 ghost use Rattle.std.specs.Prelude.{◌≡◌, ◌<◌, ◌⊎◌, length, IfOk, IfErr, OnOk, Ok, Err};
-ghost use Rattle.vsi.specs.Performed.{BeginsAt, PerformsRun, PerformsView, ViewsFiles};
+ghost use Rattle.vsi.specs.Files.{BeginsAt};
+ghost use Rattle.vsi.specs.Performed.{PerformsRun, PerformsView, ViewsFiles};
 ghost use Rattle.vsi.specs.Partly.{AnswersRun, AnswersView, Leaves};
 ghost use Rattle.vsi.specs.Stops.{TellsFault, status_of};
 ghost use Rattle.vsi.specs.declared.stop.Stop.TheVariants.{Memory};

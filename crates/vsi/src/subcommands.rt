@@ -2,7 +2,8 @@
 
 ghost use Rattle.std.specs.Prelude.{◌≡◌, ◌<◌, true, false, IfErr, IfOk, OnOk};
 ghost use Rattle.vsi.specs.Laying.{ToldCanonical};
-ghost use Rattle.vsi.specs.Performed.{AreFiles, BuildsFile, OfFile, OfFiles, PerformsMend, ToldAccepted, ToldClasses, ToldFlows, ToldImage, ToldJson, ToldListing, ToldRaises, Writes};
+ghost use Rattle.vsi.specs.Files.{AreFiles, OfFile, OfFiles, Writes};
+ghost use Rattle.vsi.specs.Performed.{BuildsFile, PerformsMend, ToldAccepted, ToldClasses, ToldFlows, ToldImage, ToldJson, ToldListing, ToldRaises};
 ghost use Rattle.vsi.specs.Performed.{judgement_of, profile_of};
 ghost use Rattle.vsi.specs.Refusals.{AsksCanonical, AsksCheck, AsksClasses, AsksFlows, AsksImage, AsksMend, NoOther, RefusesFile, RefusesFiles, RefusesLattice, StopsBy};
 ghost use Rattle.vsi.specs.Reasons.{ToldRefusal, WhyCheck, WhyMend};

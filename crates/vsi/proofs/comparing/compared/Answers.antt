@@ -1,7 +1,7 @@
 use Rattle.std.proofs.Common.{◌∙◌, Ok, inl, inr, subst}
 use Rattle.std.specs.Prelude.{Some}
 use Rattle.vsi_answers.specs.Requests.{ComparesTo}
-use Rattle.vsi.specs.Performed.{IsStoredAt}
+use Rattle.vsi.specs.Files.{IsStoredAt}
 use Rattle.vsi.specs.Refusals.{LacksClassAt}
 use Rattle.vsi.specs.Reasons.{LacksCompare, WhyCompare}
 use Rattle.vsi.proofs.Reasons.{handed_reason}

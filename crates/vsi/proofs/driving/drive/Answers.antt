@@ -7,7 +7,7 @@ use Rattle.vsi_store.specs.Text.{store_text_of}
 use Rattle.vsi.specs.Driven.{DrivesInput}
 use Rattle.vsi.specs.Holding.{Delivers}
 use Rattle.vsi.specs.Partly.{AnswersDrive, DrivenText, Partly}
-use Rattle.vsi.specs.Performed.{IsStoredAt}
+use Rattle.vsi.specs.Files.{IsStoredAt}
 use Rattle.vsi.specs.Refusals.{LacksClassAt}
 use Rattle.vsi.specs.Reasons.{LacksDrive, WhyDrive}
 use Rattle.vsi.proofs.Driven.{control_is, written_back}

@@ -4,7 +4,7 @@ use Rattle.std.proofs.lemmas.Result.{on_ok_weaker}
 use Rattle.std.specs.Io.KnownBytes.{Appends}
 use Rattle.vsi_devices.specs.Counted.{device_of}
 use Rattle.vsi.specs.Partly.{AnswersRun}
-use Rattle.vsi.specs.Performed.{BeginsAt, shown}
+use Rattle.vsi.specs.Files.{BeginsAt, shown}
 use Rattle.vsi.specs.Refusals.{LacksBoundAt}
 use Rattle.vsi.specs.Reasons.{WhyRun}
 use Rattle.vsi.proofs.Filled.{both_done, delivered_of}

@@ -3,7 +3,7 @@ use Rattle.std.proofs.lemmas.Result.{on_ok_weaker}
 use Rattle.std.specs.Io.KnownBytes.{Appends}
 use Rattle.vsi_devices.specs.Counted.{device_of}
 use Rattle.vsi.specs.Partly.{AnswersView}
-use Rattle.vsi.specs.Performed.{shown}
+use Rattle.vsi.specs.Files.{shown}
 use Rattle.vsi.specs.Refusals.{LacksEither, StopsBy}
 use Rattle.vsi.specs.Reasons.{WhyView}
 use Rattle.vsi.proofs.Filled.{both_done, delivered_of}

@@ -3,7 +3,8 @@ use Rattle.std.proofs.lemmas.Result.{on_ok_weaker}
 use Rattle.std.specs.Io.KnownBytes.{Appends}
 use Rattle.vsi_devices.specs.Counted.{device_of}
 use Rattle.vsi.specs.Partly.{AnswersCheck, BytesOf}
-use Rattle.vsi.specs.Performed.{OfFiles, Writes, judgement_of}
+use Rattle.vsi.specs.Files.{OfFiles, Writes}
+use Rattle.vsi.specs.Performed.{judgement_of}
 use Rattle.vsi.specs.Refusals.{IsDifference, RefusesLattice}
 use Rattle.vsi.specs.Reasons.{ToldRefusal}
 use Rattle.vsi.proofs.Leaving.{check_answer}

@@ -3,7 +3,8 @@ use Rattle.std.proofs.lemmas.Result.{on_ok_weaker}
 use Rattle.std.specs.Io.KnownBytes.{Appends}
 use Rattle.vsi_devices.specs.Counted.{device_of}
 use Rattle.vsi.specs.Partly.{AnswersMend, BytesOf}
-use Rattle.vsi.specs.Performed.{OfFiles, Writes, profile_of}
+use Rattle.vsi.specs.Files.{OfFiles, Writes}
+use Rattle.vsi.specs.Performed.{profile_of}
 use Rattle.vsi.specs.Raises.{ToldUnserved}
 use Rattle.vsi.specs.Refusals.{IsDifference, RefusesLattice}
 use Rattle.vsi.proofs.Mended.{mend_answer}
