@@ -1,24 +1,46 @@
-//! Answers to requests about the names of a program, and the layout of a text.
+//! Answers to requests about a document.
 
 use crate::diagnostics::Page;
-use crate::objects::{location_object, place_object, range_object, text, text_at};
+use crate::objects::{location_object, place_at, text_at};
 use crate::reading::{Reading, reading_of};
 use crate::replies::Fault;
-use serde_json::{Map, Value, json, put};
+use serde_json::{Value, json};
 use std::alloc::{AllocError, Global};
+use vsi_choices::{
+    completion, document_edits, edit, fixes, folds, layout_edits, place_object, range_object,
+    text_value,
+};
 use vsi_client::{Change, Range};
 use vsi_compiler::{CompileError, read_source};
 use vsi_lattice::Lattice;
-use vsi_layout::{LayoutError, layout};
 use vsi_names::{Mention, rename};
 use vsi_syntax::Span;
 use vsi_types::Profile;
 
-/// Whether a request is about the names of a program.
-pub(crate) fn is_of_names(method: &str) -> bool {
+/// Whether a request is about a text alone.
+pub(crate) fn is_of_text(method: &str) -> bool {
+    method == "textDocument/formatting" || method == "textDocument/foldingRange"
+}
+
+/// The answer to a request about a text alone.
+pub(crate) fn text_answer(
+    alloc: Global,
+    page: Page<'_>,
+    method: &str,
+) -> Result<Value, AllocError> {
+    if method == "textDocument/foldingRange" {
+        return folds(alloc, page.text);
+    }
+    layout_edits(alloc, page.encoding, page.text)
+}
+
+/// Whether a request is about a text and its lattice.
+pub(crate) fn is_of_lattice(method: &str) -> bool {
     matches!(
         method,
-        "textDocument/hover"
+        "textDocument/completion"
+            | "textDocument/codeAction"
+            | "textDocument/hover"
             | "textDocument/inlayHint"
             | "textDocument/definition"
             | "textDocument/references"
@@ -28,8 +50,34 @@ pub(crate) fn is_of_names(method: &str) -> bool {
     )
 }
 
+/// The answer to a request about a text and its lattice.
+pub(crate) fn lattice_answer(
+    alloc: Global,
+    profile: Profile,
+    lattice: &Lattice,
+    page: Page<'_>,
+    method: &str,
+    value: &Value,
+) -> Result<Result<Value, Fault>, AllocError> {
+    let Page {
+        uri,
+        text,
+        encoding,
+    } = page;
+    match method {
+        "textDocument/completion" => match place_at(value, "/params/position") {
+            Some(place) => Ok(Ok(completion(alloc, encoding, lattice, text, place)?)),
+            None => Ok(Err(Fault::Parameters)),
+        },
+        "textDocument/codeAction" => Ok(Ok(fixes(
+            alloc, encoding, profile, lattice, uri, text, value,
+        )?)),
+        _ => names_answer(alloc, profile, lattice, page, method, value),
+    }
+}
+
 /// The answer to a request about the names of a program: nothing if the text has none.
-pub(crate) fn names_answer(
+fn names_answer(
     alloc: Global,
     profile: Profile,
     lattice: &Lattice,
@@ -95,7 +143,7 @@ fn hover(alloc: Global, reading: &Reading<'_>, mention: Mention) -> Result<Value
     if reading.is_inferred(mention.variable) {
         shown.extend_from_slice(b" (inferred)")?;
     }
-    let contents = text(alloc, &shown)?;
+    let contents = text_value(alloc, &shown)?;
     let range = range_object(alloc, reading.page.range(mention.span))?;
     json!(in alloc; {"contents": contents, "range": range})
 }
@@ -138,7 +186,7 @@ fn parts(
 /// The object of a class that isn't declared, after a name.
 fn hint(alloc: Global, range: Range, label: &[u8]) -> Result<Value, AllocError> {
     let place = place_object(alloc, range.stop)?;
-    let label = text(alloc, label)?;
+    let label = text_value(alloc, label)?;
     json!(in alloc; {"position": place, "label": label, "kind": 1})
 }
 
@@ -160,8 +208,8 @@ fn hints(alloc: Global, reading: &Reading<'_>) -> Result<Value, AllocError> {
 
 /// The object of a declaration.
 fn symbol(alloc: Global, reading: &Reading<'_>, mention: Mention) -> Result<Value, AllocError> {
-    let name = text(alloc, reading.text_of(mention.span))?;
-    let class = text(alloc, reading.class_of(mention.variable).unwrap_or(b""))?;
+    let name = text_value(alloc, reading.text_of(mention.span))?;
+    let class = text_value(alloc, reading.class_of(mention.variable).unwrap_or(b""))?;
     let range = range_object(alloc, reading.page.range(mention.span))?;
     let copy = range.clone()?;
     json!(in alloc; {
@@ -180,13 +228,6 @@ fn symbols(alloc: Global, reading: &Reading<'_>) -> Result<Value, AllocError> {
     Ok(Value::Array(list))
 }
 
-/// The change of a part of a text.
-fn edit(alloc: Global, range: Range, new: &[u8]) -> Result<Value, AllocError> {
-    let range = range_object(alloc, range)?;
-    let new = text(alloc, new)?;
-    json!(in alloc; {"range": range, "newText": new})
-}
-
 /// The objects of changes at positions.
 fn edits(alloc: Global, changes: &[Change<'_>]) -> Result<Value, AllocError> {
     let mut list = Vec::new(alloc);
@@ -196,14 +237,6 @@ fn edits(alloc: Global, changes: &[Change<'_>]) -> Result<Value, AllocError> {
         }
     }
     Ok(Value::Array(list))
-}
-
-/// The changes of a document.
-fn document_edits(alloc: Global, uri: &[u8], list: Value) -> Result<Value, AllocError> {
-    let mut documents = Map::new(alloc);
-    let name = String::from_utf8_lossy(alloc, uri)?;
-    put(&mut documents, alloc, name.as_str(), list)?;
-    json!(in alloc; {"changes": Value::Object(documents)})
 }
 
 /// The changes that rename a variable, unless they would change the program.
@@ -235,19 +268,4 @@ fn renaming(
         }
         None => Ok(Err(Fault::Rename)),
     }
-}
-
-/// The change that lays a text out and keeps its comments: nothing for a text that is no program's.
-pub(crate) fn formatting(alloc: Global, page: Page<'_>) -> Result<Value, AllocError> {
-    let text = match layout(alloc, page.text) {
-        Ok(text) => text,
-        Err(LayoutError::Memory) => return Err(AllocError),
-        Err(_) => return Ok(Value::Null),
-    };
-    let whole = Span {
-        start: 0,
-        stop: page.text.len(),
-    };
-    let change = edit(alloc, page.range(whole), &text)?;
-    json!(in alloc; [change])
 }

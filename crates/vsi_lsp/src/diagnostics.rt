@@ -6,9 +6,10 @@ ghost use Rattle.vsi_compiler.specs.Acceptance.{IsAccepted};
 ghost use Rattle.vsi_compiler.specs.declared.error.CompileError.TheVariants.{Memory};
 ghost use Rattle.vsi_lsp.specs.Verdict as spec;
 
-use crate::objects::{location_object, range_object, text};
+use crate::objects::location_object;
 use serde_json::{Value, json, put};
 use std::alloc::{AllocError, Global};
+use vsi_choices::{range_object, text_value};
 use vsi_client::{Encoding, Range, range_of};
 use vsi_compiler::{CompileError, judge, read_source};
 use vsi_diagnostics::{refusal_diagnostic, refusal_text};
@@ -113,7 +114,7 @@ pub(crate) fn error_object(
     message: &[u8],
 ) -> Result<Value, AllocError> {
     let range = range_object(alloc, page.range(span))?;
-    let message = text(alloc, message)?;
+    let message = text_value(alloc, message)?;
     json!(in alloc; {
         "range": range, "severity": 1, "code": code, "source": "vsi", "message": message
     })
@@ -172,7 +173,7 @@ fn step_object(
     line: &[u8],
 ) -> Result<Value, AllocError> {
     let location = location_object(alloc, page.uri, page.range(span))?;
-    let message = text(alloc, unplaced(line))?;
+    let message = text_value(alloc, unplaced(line))?;
     json!(in alloc; {"location": location, "message": message})
 }
 

@@ -1,10 +1,10 @@
 //! Open documents, and the errors that are published for them.
 
 use crate::diagnostics::{Page, error_object, errors_in, only};
-use crate::objects::text;
 use crate::replies::notification;
 use serde_json::{Value, json};
 use std::alloc::{AllocError, Global};
+use vsi_choices::text_value;
 use vsi_client::Encoding;
 use vsi_diagnostics::{Fault, fault_diagnostic, fault_text};
 use vsi_lattice::{LatticeError, read_lattice};
@@ -74,8 +74,11 @@ impl Document {
         }
     }
 
-    /// The bytes of the lattice file of the document, if it can be read.
+    /// The bytes of the lattice file of the document, if it is a text and the file can be read.
     pub(crate) fn policy_bytes(&self) -> Option<&[u8]> {
+        if self.kind() != Kind::Source {
+            return None;
+        }
         match &self.policy {
             Policy::Two => Some(TWO_CLASSES),
             Policy::File(bytes) => Some(bytes.as_slice()),
@@ -193,7 +196,7 @@ fn publication(
     version: Option<i64>,
     errors: Vec<Value>,
 ) -> Result<Value, AllocError> {
-    let uri = text(alloc, uri)?;
+    let uri = text_value(alloc, uri)?;
     let errors = Value::Array(errors);
     let parameters = match version {
         Some(version) => {
@@ -222,7 +225,7 @@ pub(crate) fn cleared(alloc: Global, uri: &[u8]) -> Result<Value, AllocError> {
 
 /// A message for the log of the client.
 pub(crate) fn said(alloc: Global, line: &[u8]) -> Result<Value, AllocError> {
-    let line = text(alloc, line)?;
+    let line = text_value(alloc, line)?;
     let parameters = json!(in alloc; {"type": 3, "message": line})?;
     notification(alloc, "window/logMessage", parameters)
 }

@@ -1,25 +1,9 @@
-//! JSON objects of positions, and what is at a path of a client's object.
+//! JSON objects of parts of documents, and what is at a path of a client's object.
 
 use serde_json::{Value, json};
 use std::alloc::{AllocError, Global};
+use vsi_choices::{range_object, text_value};
 use vsi_client::{Place, Range};
-
-/// The text of bytes, with those that aren't UTF-8 replaced.
-pub(crate) fn text(alloc: Global, bytes: &[u8]) -> Result<Value, AllocError> {
-    Ok(Value::String(String::from_utf8_lossy(alloc, bytes)?))
-}
-
-/// The object of a position.
-pub(crate) fn place_object(alloc: Global, place: Place) -> Result<Value, AllocError> {
-    json!(in alloc; {"line": place.line, "character": place.character})
-}
-
-/// The object of a part of a text.
-pub(crate) fn range_object(alloc: Global, range: Range) -> Result<Value, AllocError> {
-    let start = place_object(alloc, range.start)?;
-    let stop = place_object(alloc, range.stop)?;
-    json!(in alloc; {"start": start, "end": stop})
-}
 
 /// The object of a part of a document.
 pub(crate) fn location_object(
@@ -27,7 +11,7 @@ pub(crate) fn location_object(
     uri: &[u8],
     range: Range,
 ) -> Result<Value, AllocError> {
-    let uri = text(alloc, uri)?;
+    let uri = text_value(alloc, uri)?;
     let range = range_object(alloc, range)?;
     json!(in alloc; {"uri": uri, "range": range})
 }

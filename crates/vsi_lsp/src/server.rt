@@ -3,7 +3,7 @@
 ghost use Rattle.std.specs.Prelude.{IfOk};
 ghost use Rattle.vsi_lsp.specs.Frames.{AreFrames};
 
-use crate::asking::{formatting, is_of_names, names_answer};
+use crate::asking::{is_of_lattice, is_of_text, lattice_answer, text_answer};
 use crate::documents::{Document, Kind, Policy, cleared, published, said};
 use crate::frames::framed;
 use crate::objects::{range_at, text_at};
@@ -196,9 +196,8 @@ impl Server {
                 self.phase = Phase::ShutDown;
                 Ok(Ok(Value::Null))
             }
-            "textDocument/formatting" => self.tell(method, value),
             _ => {
-                if is_of_names(method) {
+                if is_of_text(method) || is_of_lattice(method) {
                     return self.tell(method, value);
                 }
                 Ok(Err(Fault::Method))
@@ -215,14 +214,14 @@ impl Server {
             return Ok(Err(Fault::Parameters));
         };
         let page = document.page(self.encoding);
-        if !is_of_names(method) {
-            return Ok(Ok(formatting(self.alloc, page)?));
+        if is_of_text(method) {
+            return Ok(Ok(text_answer(self.alloc, page, method)?));
         }
         let Some(bytes) = document.policy_bytes() else {
             return Ok(Ok(Value::Null));
         };
         match read_lattice(self.alloc, bytes) {
-            Ok(lattice) => names_answer(self.alloc, self.profile, &lattice, page, method, value),
+            Ok(lattice) => lattice_answer(self.alloc, self.profile, &lattice, page, method, value),
             Err(LatticeError::Memory) => Err(AllocError),
             Err(_) => Ok(Ok(Value::Null)),
         }

@@ -7,14 +7,15 @@ use vsi_client::Encoding;
 /// The capabilities of the server, without the encoding of positions.
 const CAPABILITIES: &str = r#"{
 "textDocumentSync": {"openClose": true, "change": 2, "save": {"includeText": false}},
-"hoverProvider": true,
-"inlayHintProvider": true,
+"hoverProvider": true, "inlayHintProvider": true,
 "definitionProvider": true,
 "referencesProvider": true,
 "documentHighlightProvider": true,
-"documentSymbolProvider": true,
-"renameProvider": true,
-"documentFormattingProvider": true
+"documentSymbolProvider": true, "renameProvider": true,
+"documentFormattingProvider": true,
+"completionProvider": {"triggerCharacters": [":"]},
+"codeActionProvider": {"codeActionKinds": ["quickfix"]},
+"foldingRangeProvider": true
 }"#;
 
 /// The encoding of positions for a client: UTF-8 if it offers that, otherwise UTF-16.

@@ -59,8 +59,10 @@ fn messages_in_turn(rt: HostRuntime) -> Result<(), Fail> {
         first.starts_with(b"Content-Length: ")
             && first.ends_with(
                 b"\"jsonrpc\":\"2.0\",\
-\"result\":{\"capabilities\":{\"definitionProvider\":true,\"documentFormattingProvider\":true,\
-\"documentHighlightProvider\":true,\"documentSymbolProvider\":true,\"hoverProvider\":true,\
+\"result\":{\"capabilities\":{\"codeActionProvider\":{\"codeActionKinds\":[\"quickfix\"]},\
+\"completionProvider\":{\"triggerCharacters\":[\":\"]},\"definitionProvider\":true,\
+\"documentFormattingProvider\":true,\"documentHighlightProvider\":true,\
+\"documentSymbolProvider\":true,\"foldingRangeProvider\":true,\"hoverProvider\":true,\
 \"inlayHintProvider\":true,\"positionEncoding\":\"utf-16\",\"referencesProvider\":true,\
 \"renameProvider\":true,\"textDocumentSync\":{\"change\":2,\"openClose\":true,\
 \"save\":{\"includeText\":false}}},\"serverInfo\":{\"name\":\"vsi\"}}}"

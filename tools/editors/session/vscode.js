@@ -31,6 +31,10 @@ const vscode = {
   DocumentHighlight: made('range'),
   InlayHint: made('position', 'label', 'kind'),
   Hover: made('contents', 'range'),
+  CompletionItem: made('label', 'kind'),
+  FoldingRange: made('start', 'end'),
+  CodeAction: made('title', 'kind'),
+  CodeActionKind: { QuickFix: 'quickfix' },
   WorkspaceEdit: class { set(place, changes) { edits.push(...changes); } },
   DiagnosticSeverity: { Error: 0 },
   SymbolKind: { Variable: 12 },
@@ -68,6 +72,13 @@ async function main() {
   const results = {};
   extension.activate({ subscriptions: [] });
   results.refused = await settled(1);
+  const whole = new vscode.Range(new vscode.Position(1, 0), new vscode.Position(1, 22));
+  results.fixes = (await registered.registerCodeActionsProvider.provideCodeActions(
+    text, whole, { diagnostics: results.refused })).map((found) => found.title);
+  results.fixed = edits.splice(0);
+  results.items = (await registered.registerCompletionItemProvider.provideCompletionItems(
+    text, new vscode.Position(1, 18))).map((found) => [found.label, found.kind]);
+  results.folds = await registered.registerFoldingRangeProvider.provideFoldingRanges(text);
   text.version = 2;
   text.content = text.content.replace('l := t', 'h := t');
   const part = new vscode.Range(new vscode.Position(1, 17), new vscode.Position(1, 18));

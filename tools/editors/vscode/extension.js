@@ -131,6 +131,29 @@ function hint(found) {
   return new vscode.InlayHint(position(found.position), label, vscode.InlayHintKind.Type);
 }
 
+function item(found) {
+  return new vscode.CompletionItem(found.label, found.kind - 1);
+}
+
+function fold(found) {
+  return new vscode.FoldingRange(found.startLine, found.endLine);
+}
+
+function edited(changes) {
+  const made = new vscode.WorkspaceEdit();
+  for (const [uri, list] of Object.entries(changes || {})) {
+    made.set(vscode.Uri.parse(uri), list.map(edit));
+  }
+  return made;
+}
+
+function action(found) {
+  const made = new vscode.CodeAction(found.title, vscode.CodeActionKind.QuickFix);
+  made.edit = edited(found.edit.changes);
+  made.isPreferred = found.isPreferred;
+  return made;
+}
+
 function at(document, place) {
   return { textDocument: { uri: document.uri.toString() }, position: { line: place.line, character: place.character } };
 }
@@ -191,11 +214,24 @@ function providers(server) {
         if (!answer || answer.error) {
           throw new Error(answer ? answer.error.message : 'the server is lost');
         }
-        const made = new vscode.WorkspaceEdit();
-        for (const [uri, changes] of Object.entries((answer.result && answer.result.changes) || {})) {
-          made.set(vscode.Uri.parse(uri), changes.map(edit));
-        }
-        return made;
+        return edited(answer.result && answer.result.changes);
+      },
+    },
+    registerCompletionItemProvider: {
+      provideCompletionItems(document, place) {
+        return list('textDocument/completion', at(document, place), item);
+      },
+    },
+    registerCodeActionsProvider: {
+      provideCodeActions(document, part, context) {
+        const diagnostics = context.diagnostics.map((found) => ({ range: found.range, message: found.message, code: found.code }));
+        return list('textDocument/codeAction',
+          { textDocument: { uri: document.uri.toString() }, range: part, context: { diagnostics } }, action);
+      },
+    },
+    registerFoldingRangeProvider: {
+      provideFoldingRanges(document) {
+        return list('textDocument/foldingRange', { textDocument: { uri: document.uri.toString() } }, fold);
       },
     },
   };

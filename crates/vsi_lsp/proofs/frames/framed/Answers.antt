@@ -1,4 +1,4 @@
-use Rattle.std.proofs.Common.{◌∙◌, subst, sym}
+use Rattle.std.proofs.Common.{subst, sym}
 use Rattle.vsi_lsp.specs.Frames.{AreFrames}
 use Rattle.vsi_lsp.proofs.Framing.{one_framed}
 use Rattle.vsi_lsp.proofs.frames.framed.Goals as goal

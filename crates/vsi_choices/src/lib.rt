@@ -1,0 +1,23 @@
+//! What an editor offers at a place of a text or for all of it, as JSON objects: words to go on with,
+//! a repair of a refused flow, the layout, and the blocks that fold.
+//!
+//! `completion` offers the words and symbols with which some program goes on, and the names in scope
+//! or the classes where one may come. `layout_edits` writes the text of `laid_out`, which keeps the
+//! program and the comments (clause `laid`), and `fixes` the text of `repaired`, which is accepted
+//! (clause `accepted`). `folds` lists the blocks of several lines.
+//!
+//! To be believed: the definitions of the crates below that the clauses cite.
+#![tactic(auto)]
+
+mod completing;
+mod folding;
+mod laying;
+mod objects;
+mod repairing;
+mod scope;
+
+pub use completing::completion;
+pub use folding::folds;
+pub use laying::{laid_out, layout_edits};
+pub use objects::{document_edits, edit, place_object, range_object, text_value};
+pub use repairing::{fixes, repaired};
