@@ -1,4 +1,4 @@
-//! What an editor offers.
+//! Offers of an editor: words, repairs, layouts and blocks that fold.
 
 use std::alloc::{AllocError, Global};
 use std::test::Fail;
