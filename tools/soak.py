@@ -72,8 +72,14 @@ LEAK = re.compile(rb"leak at \w+\n" + ROWS + rb"\w+ sees\n" + ROWS)
 COMPARED = rb"\w+ sees before\n" + ROWS + rb"\w+ sees after\n" + ROWS
 INTERFACE_REFUSAL = re.compile(rb"refused interface: (?s:.*)\n")
 # The output at status 1 of a subcommand that answers on standard output.
-TOLD = {"compare": re.compile(COMPARED),
+NO_BOUND = rb"no bound: .*\n"
+TOLD = {"compare": re.compile(COMPARED), "bound": re.compile(NO_BOUND), "fmt": re.compile(rb"(?:\d+:\d+ differs\n)+"),
         "conform": re.compile(rb'\{"conforms":false,"points":\[.*\]\}\n|(?:[^{\n].*\n)+')}
+MESSAGES = rb"(?:Content-Length: \d+\r\n\r\n\{.*\})*"
+# The notes of an answer on standard error at status 0, or 1 for `lsp`, and refusals that no number has.
+NOTES = {"drive": re.compile(rb"(?:" + NO_BOUND + rb"|budget below the bound: \d+ of \d+ instructions\n)?"),
+         "policy": re.compile(rb"(?:warning: .*\n)*"), "lsp": re.compile(rb"(?:[ -~]+\n){0,2}")}
+UNNUMBERED = {"drive": NOTES["drive"], "emit-c": re.compile(NO_BOUND), "lsp": NOTES["lsp"]}
 TRACE = rb"(?:\d+: [A-Z]+(?: -?\d+)? \|(?: -?\d+)*\n)*"
 DONE = {command: re.compile(form) for command, form in {
     "": STORE_TEXT, "view": STORE_TEXT, "run": TRACE + STORE_TEXT, "check": rb"accepted\n", "build": rb"",
@@ -85,11 +91,14 @@ DONE = {command: re.compile(form) for command, form in {
     "conform": rb'conforms\n|\{"conforms":true,"points":\[\]\}\n', "audit": rb"accepted\n",
     "report": rb"<!DOCTYPE html>(?s:.*)</html>\n", "explain": rb"\d+ \w+(?s:.*)\n",
     "draw": rb"digraph lattice \{\n(?:  .*\n)*\}\n(?:digraph flows \{\n(?:  .*\n)*\}\n)?",
+    "bound": rb"halts within \d+ instructions\n", "emit-c": rb"(?:[ -~]*\n)+", "lsp": MESSAGES,
+    "policy": rb"(?:\w+ (?:sees|now sees|no longer sees) .+\n)*(?:no class sees more or less than before\n)?",
     "list": rb"globals \d+\nslots \d+\nstack \d+\n(?:\w+ : \w+\n)*(?:\d+: [A-Z]+(?: -?\d+)?\n)+"}.items()}
 UNFINISHED = re.compile(TRACE)
+NOTHING = re.compile(b"")
 
 # The options that add output, for each subcommand that takes them.
-FURTHER = {command: ("--explain",) for command in DONE if command not in ("", "?", "explain")}
+FURTHER = {command: ("--explain",) for command in DONE if command not in ("", "?", "explain", "lsp")}
 FURTHER["run"] += ("--count",)
 FURTHER["check"] += ("--json",)
 TOLD_FURTHER = re.compile(rb"[ -~\n]*")
@@ -156,7 +165,9 @@ def error_fault(given, answer):
     """What is wrong with the text on standard error, or None."""
     status, error = answer.status, answer.error
     if status == 1:
-        if not error and given.command in (*TOLD, "?"):
+        if not error and (given.command in (*TOLD, "?") or "--json" in given.words):
+            return None
+        if given.command in UNNUMBERED and UNNUMBERED[given.command].fullmatch(error):
             return None
         if given.command in ("leak", "?") and LEAK.fullmatch(error):
             return None
@@ -172,6 +183,8 @@ def error_fault(given, answer):
         paths = {b"file fault: " + word.encode() + b"\n" for word in given.words}
         names_another = given.command == "conform" and error.startswith(b"file fault: ")
         return None if error in paths or names_another else "a file fault of another form"
+    if status == 0 and given.command in NOTES:
+        return None if NOTES[given.command].fullmatch(error) else "a note of another form"
     wanted = {0: b"", 3: b"out of budget\n", 5: b"out of memory\n"}[status]
     return None if error == wanted else "another text on standard error"
 
@@ -183,11 +196,15 @@ def faults_of(given, answer):
     faults = [error_fault(given, answer)]
     form = DONE[given.command] if answer.status == 0 else None
     if answer.status == 1 and not answer.error:
-        form = TOLD.get(given.command, form)
+        form = DONE["?"] if given.command == "mend" and "--json" in given.words else TOLD.get(given.command)
     if given.command == "?":
         form = DONE["?"]
-    if form and "--apply" in given.words:
+    if form and {"--apply", "--json", "--keep-comments"} & {*given.words} and given.command != "conform":
         form = DONE["?"]
+    if "--check" in given.words and answer.status == 0:
+        form = NOTHING
+    if given.command == "lsp" and answer.status in (1, 4):
+        form = DONE["lsp"]
     if answer.status == 3 and "--trace" in given.words:
         form = UNFINISHED
     if not form.fullmatch(answer.output) if form else answer.output:

@@ -1,5 +1,6 @@
 """The inputs of tools/soak.py and tools/compare_second.py: command lines with files, drawn from a generator of numbers."""
 
+import json
 import random
 import re
 import struct
@@ -326,18 +327,19 @@ INTERFACES = [text.encode() for text in (
     'lattice = "lattice"\nprofile = "strict"\norder = "set"\nglobals = [["l", "L"], ["h", "H"]]\n'
     '[[runs]]\nstore = { h = 7, l = 1 }\nbudget = 100\nexpect = { l = 2, h = 2 }\n',
     'classes = ["L", "H"]\nbelow = [["L", "H"]]\nprofile = "steady"\nglobals = []\n',
+    'lattice = "lattice"\nprofile = "base"\nbounded = true\norder = "set"\nglobals = [["l", "L"], ["h", "H"]]\n',
     'classes = ["L"]\nbelow = []\nprofile = "base"\nglobals = [["x", "L"], ["y", "L"]]\n',
 )]
 
 # The subcommands of the second implementation; and all of them, with those more often.
 COMPILING = ("", "", "check", "check", "classes", "fmt", "build", "list", "run", "run", "view")
 ALL = COMPILING * 2 + ("flows", "flows", "mend", "leak", "audit", "audit", "source", "compare", "drive", "conform",
-                       "conform", "report", "draw", "explain")
+                       "conform", "report", "draw", "explain", "bound", "policy", "emit-c", "lsp")
 
 # How the arguments after a subcommand are made, if not by its own name.
 FORMS = {"": "source_alone", "fmt": "source_alone", "list": "image_alone", "source": "image_alone",
          "check": "compilation", "classes": "compilation", "build": "compilation", "flows": "compilation",
-         "mend": "compilation", "report": "compilation"}
+         "mend": "compilation", "report": "compilation", "emit-c": "emission"}
 
 
 def a_class(rng):
@@ -353,7 +355,8 @@ class Input:
 
     def __init__(self, rng, subcommands):
         self.command = rng.choice(subcommands)
-        self.options = {"check": ["--steady"], "flows": ["--walks"], "mend": ["--apply"]} if subcommands is ALL else {}
+        self.options = {"check": ["--steady"], "flows": ["--walks"], "mend": ["--apply", "--json"],
+                        "fmt": ["--keep-comments", "--check"]} if subcommands is ALL else {}
         self.files = {"source": b"", "lattice": b"", "image": b"", "store": b"", "other": b""}
         self.words = [self.command] if self.command else []
         getattr(self, "with_" + FORMS.get(self.command, self.command))(rng)
@@ -382,7 +385,9 @@ class Input:
         self.files["image"], self.files["lattice"] = some_image(rng), a_lattice(rng)
         lines = b"".join(rng.choice(LINES) for _ in range(rng.choice((0, 1, 3, 10))))
         self.files["source"] = changed(rng, lines, SOURCE) if lines and rng.random() < 0.4 else lines
-        self.words += ["lattice", "image", "--class", a_class(rng), "--budget", a_budget(rng)]
+        self.words += ["lattice", "image", "--class", a_class(rng)]
+        self.words += ["--budget", rng.choice((a_budget(rng), "auto"))] if rng.random() < 0.7 else []
+        self.words += ["--unbounded"] if rng.random() < 0.5 else []
         if rng.random() < 0.35:
             self.files["store"] = a_store(rng)
             self.words += ["--store", "store"]
@@ -398,13 +403,51 @@ class Input:
         self.words += ["lattice"] + (["source"] if rng.random() < 0.7 else [])
         self.words += ["--strict"] if rng.random() < 0.3 else []
 
+    def with_bound(self, rng):
+        if rng.random() < 0.5:
+            self.with_image_alone(rng)
+        else:
+            self.with_compilation(rng)
+
+    def with_policy(self, rng):
+        self.files["lattice"], self.files["other"] = a_lattice(rng), a_lattice(rng)
+        self.words += ["lattice"] + (["other"] if rng.random() < 0.6 else [])
+
+    def with_emission(self, rng):
+        self.with_image_alone(rng)
+        self.words += [word for word in ("--header", "--bounded") if rng.random() < 0.4]
+
+    def with_lsp(self, rng):
+        """Its messages are standard input, which is the file `source`: some of a conversation, perhaps changed."""
+        text = a_source(rng).decode("latin-1")
+        document, place = {"uri": "file:///source"}, {"line": rng.randrange(4), "character": rng.randrange(30)}
+        at = {"textDocument": document, "position": place}
+        messages = [("initialize", {"capabilities": {}}), ("initialized", {}),
+                    ("textDocument/didOpen", {"textDocument": {**document, "version": 1, "text": text}})]
+        for _ in range(rng.choice((0, 1, 3, 10))):
+            messages.append(rng.choice((
+                ("textDocument/didChange", {"textDocument": {**document, "version": 2}, "contentChanges": [
+                    {"range": {"start": place, "end": place}, "text": rng.choice(("x", "h", ";", "\n", "{", ""))}]}),
+                ("textDocument/hover", at), ("textDocument/completion", at), ("textDocument/definition", at),
+                ("textDocument/rename", {**at, "newName": rng.choice(("x", "y", "if", "2"))}),
+                ("textDocument/formatting", {"textDocument": document}),
+                ("textDocument/foldingRange", {"textDocument": document}))))
+        messages += [("shutdown", None), ("exit", None)] if rng.random() < 0.8 else []
+        bodies = [json.dumps({"jsonrpc": "2.0", "id": number, "method": method, "params": params}).encode()
+                  for number, (method, params) in enumerate(messages)]
+        stream = b"".join(b"Content-Length: %d\r\n\r\n%b" % (len(body), body) for body in bodies)
+        self.files["source"] = changed(rng, stream, SOURCE) if rng.random() < 0.4 else stream
+        self.files["lattice"] = a_lattice(rng)
+        self.words += ["--lattice", "lattice"] if rng.random() < 0.5 else []
+        self.words += ["--strict"] if rng.random() < 0.3 else []
+
     def with_explain(self, rng):
         self.words.append(str(rng.choice((rng.randrange(60), rng.randrange(2 ** 65)))))
 
     def with_source_alone(self, rng):
         self.files["source"] = a_source(rng)
         if self.command:
-            self.words.append("source")
+            self.words += ["source"] + [word for word in self.options.get(self.command, []) if rng.random() < 0.4]
 
     def with_image_alone(self, rng):
         self.files["image"] = some_image(rng)
