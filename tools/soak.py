@@ -161,13 +161,18 @@ class Runner:
         return Answer(os.waitstatus_to_exitcode(state), output, error, self.written()), seconds
 
 
+def has_form(forms, given, error):
+    """Whether the text on standard error has the form for the command, or for some command if that isn't known."""
+    return any(form.fullmatch(error) for command, form in forms.items() if given.command in (command, "?"))
+
+
 def error_fault(given, answer):
     """What is wrong with the text on standard error, or None."""
     status, error = answer.status, answer.error
     if status == 1:
         if not error and (given.command in (*TOLD, "?") or "--json" in given.words):
             return None
-        if given.command in UNNUMBERED and UNNUMBERED[given.command].fullmatch(error):
+        if has_form(UNNUMBERED, given, error):
             return None
         if given.command in ("leak", "?") and LEAK.fullmatch(error):
             return None
@@ -183,8 +188,8 @@ def error_fault(given, answer):
         paths = {b"file fault: " + word.encode() + b"\n" for word in given.words}
         names_another = given.command == "conform" and error.startswith(b"file fault: ")
         return None if error in paths or names_another else "a file fault of another form"
-    if status == 0 and given.command in NOTES:
-        return None if NOTES[given.command].fullmatch(error) else "a note of another form"
+    if status == 0 and has_form(NOTES, given, error):
+        return None
     wanted = {0: b"", 3: b"out of budget\n", 5: b"out of memory\n"}[status]
     return None if error == wanted else "another text on standard error"
 
