@@ -206,7 +206,7 @@ def faults_of(given, answer):
         form = DONE["?"]
     if form and {"--apply", "--json", "--keep-comments"} & {*given.words} and given.command != "conform":
         form = DONE["?"]
-    if "--check" in given.words and answer.status == 0:
+    if "--check" in given.words and answer.status == 0 and given.command != "?":
         form = NOTHING
     if given.command == "lsp" and answer.status in (1, 4):
         form = DONE["lsp"]
