@@ -10,8 +10,11 @@ use Rattle.vsi.specs.declared.stop.Stop.{Stop}
 use Rattle.vsi_lattice.specs.LatticeView.{class_named, order}
 use Rattle.vsi_lattice.specs.declared.lattice.Lattice.{Lattice}
 use Rattle.vsi_image.specs.declared.instr.Image.{Image}
-use Rattle.vsi_drive.specs.Control.{Control}
+use Rattle.vsi_drive.specs.Boundary.{Boundary}
+use Rattle.vsi_drive.specs.Control.{Control, within}
 use Rattle.vsi_drive.specs.Cycles.{cycle, store_behind, text_of}
+use Rattle.vsi_arguments.specs.declared.request.NameLists.{NameLists}
+use Rattle.vsi.specs.Boundaries.{requested}
 use Rattle.vsi.specs.Performed.{control_of}
 use Rattle.vsi.specs.Driven.{Drives, DrivesInput, begun, grown, last_line, whole_lines}
 
@@ -149,11 +152,19 @@ driven_whole c m mid words bytes cur line first rest last old between new result
     })
     done
 
--- The control of a controller, part by part.
-pub control_is : (k : Control) (l : Lattice) (class : ℕ) (im : Image) (budget : ℕ) → k.known ≡ class_named l →
-    k.order ≡ order l → k.class ≡ class → k.image ≡ im → k.budget ≡ budget → k ≡ control_of l class im budget
-control_is k l class im budget known ordered seen is within =
-    λ i. record { known = known i; order = ordered i; class = seen i; image = is i; budget = within i }
+-- The control of a controller within a boundary, part by part.
+pub control_is : (k c : Control) (b : Boundary) (lists : NameLists) (l : Lattice) (class : ℕ) (im : Image)
+    (budget : ℕ) → k ≡ within c b → b ≡ requested lists → c.known ≡ class_named l → c.order ≡ order l →
+    c.class ≡ class → c.image ≡ im → c.budget ≡ budget → k ≡ control_of lists l class im budget
+control_is k c b lists l class im budget is bounds known ordered seen shown spent =
+    is ∙ (λ i. record {
+      known = known i;
+      order = ordered i;
+      class = seen i;
+      image = shown i;
+      budget = spent i;
+      boundary = bounds i;
+    })
 
 -- The first part of a concatenation, taken by its length, is that part.
 pub written_back : (n : ℕ) (xs ys : List ℤ) → length xs ≡ n → take n (xs ++ ys) ≡ xs

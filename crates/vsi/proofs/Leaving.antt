@@ -200,7 +200,7 @@ pub driven_answers : (holds : Holding) (d : Driving) (given old new : Option (Li
     (image : Image) (first : List ℤ) (budget : ℕ) (k : Control) → IsBudgetOf d.execution.budget image budget →
     LooksAt holds d.lattice.now d.class.now l driver →
     IsImageAt holds d.execution.image.now image → IsStoredAt holds d.execution.store image first →
-    k ≡ control_of l driver image budget → IsAdmitted d.is_unbounded l image budget →
+    k ≡ control_of d.lists l driver image budget → IsAdmitted d.is_unbounded l image budget →
     Partly (DrivenText k first given) old new → Partly (AnswersDrive holds d given) old new
 driven_answers holds d given old new l driver image first budget k within looks held stored same admitted =
     Partly-weaker (DrivenText k first given) (AnswersDrive holds d given) old new

@@ -1,5 +1,5 @@
 -- The reason why a controller doesn't begin, as a stop claims it.
-use Rattle.std.proofs.Common.{◌≡◌, ℕ, Result, Some, false, inr, sym, subst}
+use Rattle.std.proofs.Common.{◌≡◌, ℕ, Result, Some, false, inl, inr, refl, sym, subst}
 use Rattle.std.specs.Prelude.{IfErr, IsErrAnd}
 use Rattle.vsi_lattice.specs.LatticeView.{class_named}
 use Rattle.vsi_lattice.specs.declared.lattice.Lattice.{Lattice}
@@ -9,16 +9,25 @@ use Rattle.vsi_store.specs.View.{first_unknown}
 use Rattle.vsi_store.specs.declared.views.ViewError.{ViewError}
 use Rattle.vsi_store.specs.declared.views.ViewError.TheVariants as views
 use Rattle.vsi_diagnostics.specs.declared.fault.Fault.TheVariants as fault
+use Rattle.vsi_drive.specs.BoundaryFaults.{boundary_fault}
+use Rattle.vsi_drive.specs.declared.boundary.BoundaryFault.{BoundaryFault}
+use Rattle.vsi_drive.specs.declared.starts.StartFault.{StartFault}
+use Rattle.vsi_drive.specs.declared.starts.StartFault.TheVariants as start
 use Rattle.vsi_answers.specs.Answers.{Because}
-use Rattle.vsi_answers.specs.Judged.{IsViewFault, TellsFault}
+use Rattle.vsi_answers.specs.Judged.{IsViewFault, TellsFault, TellsStartFault}
+use Rattle.vsi_answers.specs.declared.unanswered.Cause.TheVariants as cause
 use Rattle.vsi_answers.specs.declared.unanswered.Unanswered.{Unanswered}
+use Rattle.vsi_answers.specs.declared.unanswered.Unanswered.TheVariants as unanswered
 use Rattle.vsi_arguments.specs.declared.request.Driving.{Driving}
+use Rattle.vsi_arguments.specs.declared.request.NameLists.{NameLists}
 use Rattle.vsi.specs.declared.stop.Stop.{Stop}
 use Rattle.vsi.specs.Holding.{Holding, IsImageAt}
 use Rattle.vsi.specs.Files.{IsBudgetOf, LooksAt}
 use Rattle.vsi.specs.Refusals.{IsNoMemory, NoOther, StopsBy}
-use Rattle.vsi.specs.Reasons.{LacksDrive, SaysShort, WhyDrive}
-use Rattle.vsi.proofs.Reasons.{StopsBy-weaker, handed, stops_by}
+use Rattle.vsi.specs.Performed.{control_of}
+use Rattle.vsi.specs.Reasons.{IsBoundaryStart, LacksDrive, RefusesControl, SaysShort, WhyDrive}
+use Rattle.vsi.specs.Stops.{stop_of}
+use Rattle.vsi.proofs.Reasons.{StopsBy-weaker, handed, reason_stops, stopped_by, stops_by}
 use Rattle.vsi.proofs.Unrun.{kind_told}
 
 -- Why there is no controller: a global, the first such one, has a class that the lattice lacks.
@@ -32,24 +41,68 @@ lacking_fault : (l : Lattice) (image : Image) (error : ViewError) → LacksContr
     IsViewFault l image (fault.View error)
 lacking_fault l image error (i, first, is) = subst (λ e. IsViewFault l image (fault.View e)) (sym is) first
 
--- The stop for that fault claims it.
-pub controller_stops : (holds : Holding) (d : Driving) (l : Lattice) (driver : ℕ) (image : Image) (error : ViewError)
-    (stop : Stop) → LooksAt holds d.lattice.now d.class.now l driver →
-    IsImageAt holds d.execution.image.now image → LacksController l image error →
+-- The stop for that fault claims that the controller is refused.
+pub controller_stops : (lists : NameLists) (l : Lattice) (driver : ℕ) (image : Image) (budget : ℕ) (error : ViewError)
+    (stop : Stop) → LacksController l image error →
     StopsBy (Because (TellsFault (λ f. (f ≡ fault.View error) × IsNoMemory f)) ⊥) NoOther stop →
-    StopsBy (WhyDrive holds d) (LacksDrive holds d) stop
-controller_stops holds d l driver image error stop looks held lacks told =
-    stops_by (Because (TellsFault (λ f. (f ≡ fault.View error) × IsNoMemory f)) ⊥) (WhyDrive holds d)
-    (LacksDrive holds d)
-    (λ reason is. inr (inr (inr (record {
-      lattice = l;
-      driver = driver;
-      looks = looks;
-      image = image;
-      held = held;
-      is = kind_told (IsViewFault l image) (fault.View error) (λ other. lacking_fault l image error lacks) reason is;
-    }))))
+    StopsBy (RefusesControl lists l driver image budget) NoOther stop
+controller_stops lists l driver image budget error stop lacks told =
+    stops_by (Because (TellsFault (λ f. (f ≡ fault.View error) × IsNoMemory f)) ⊥)
+    (RefusesControl lists l driver image budget) NoOther
+    (λ reason is. inl (kind_told (IsViewFault l image) (fault.View error) (λ other. lacking_fault l image error lacks)
+    reason is))
     stop told
+
+-- A report of one fault of a start is a report of a fault of its kind.
+start_told : (Kind : StartFault → Type 0) (f : StartFault) → Kind f → (reason : Unanswered) →
+    Because (TellsStartFault (λ g. g ≡ f)) ⊥ reason → Because (TellsStartFault Kind) ⊥ reason
+start_told Kind f kind (unanswered.Refused text (cause.Source e)) told = absurd told
+start_told Kind f kind (unanswered.Refused text (cause.File g)) told = absurd told
+start_told Kind f kind (unanswered.Refused text (cause.Start g)) told = (subst Kind (sym told.0) kind, told.1)
+start_told Kind f kind (unanswered.Refused text (cause.Steady e)) told = absurd told
+start_told Kind f kind (unanswered.Refused text (cause.Raised e)) told = absurd told
+start_told Kind f kind unanswered.OutOfBudget told = absurd told
+start_told Kind f kind unanswered.Memory told = tt
+
+-- The stop for a fault of the boundary claims that the controller is refused.
+pub boundary_stops : (lists : NameLists) (l : Lattice) (driver : ℕ) (image : Image) (budget : ℕ) (f : BoundaryFault)
+    (reason : Unanswered) → boundary_fault (control_of lists l driver image budget) ≡ Some f →
+    Because (TellsStartFault (λ g. g ≡ start.Boundary f)) ⊥ reason →
+    StopsBy (RefusesControl lists l driver image budget) NoOther (stop_of reason)
+boundary_stops lists l driver image budget f reason is told =
+    reason_stops (RefusesControl lists l driver image budget) NoOther reason
+    (inr (start_told (IsBoundaryStart (control_of lists l driver image budget)) (start.Boundary f) (f, refl, is) reason
+    told))
+
+-- A drive whose controller is refused stops for that reason.
+pub control_stopped : {T : Type 0} (holds : Holding) (d : Driving) (l : Lattice) (driver : ℕ) (image : Image)
+    (budget : ℕ) (result : Result T Stop) (stop : Stop) → LooksAt holds d.lattice.now d.class.now l driver →
+    IsImageAt holds d.execution.image.now image → IsBudgetOf d.execution.budget image budget →
+    IsErrAnd result (λ s. s ≡ stop) → StopsBy (RefusesControl d.lists l driver image budget) NoOther stop →
+    IfErr result (StopsBy (WhyDrive holds d) (LacksDrive holds d))
+control_stopped holds d l driver image budget result stop looks held within is told =
+    stopped_by (RefusesControl d.lists l driver image budget) (WhyDrive holds d) (LacksDrive holds d)
+    (λ reason refused. elim refused [
+      | inl view ↦ inr (inr (inr (inl (record {
+        lattice = l;
+        driver = driver;
+        looks = looks;
+        image = image;
+        held = held;
+        is = view;
+      }))))
+      | inr boundary ↦ inr (inr (inr (inr (record {
+        lattice = l;
+        driver = driver;
+        looks = looks;
+        image = image;
+        held = held;
+        budget = budget;
+        within = within;
+        is = boundary;
+      }))))
+    ])
+    result stop is told
 
 -- If the budget isn't enough for the image of a file, the caller that passes the stop on says so.
 pub short_stopped : {T : Type 0} (holds : Holding) (d : Driving) (why : Unanswered → Type 0) (l : Lattice)

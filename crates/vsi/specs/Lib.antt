@@ -12,6 +12,7 @@ pub mod Seeing
 pub mod Laying
 pub mod Raises
 pub mod Admitted
+pub mod Boundaries
 pub mod Files
 pub mod Performed
 pub mod Refusals

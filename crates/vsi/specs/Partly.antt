@@ -110,7 +110,7 @@ pub record AnswersDrive (holds : Holding) (d : Driving) (given : Option (List �
   pub budget : ℕ
   pub within : IsBudgetOf d.execution.budget image budget
   pub admitted : IsAdmitted d.is_unbounded lattice image budget
-  pub driven : DrivenText (control_of lattice driver image budget) first given text
+  pub driven : DrivenText (control_of d.lists lattice driver image budget) first given text
 
 -- `compare`: what the class sees of both runs, the same or not.
 abbrev pub AnswersCompare : Holding → Comparison → List ℕ → Type 0

@@ -19,6 +19,7 @@ use Rattle.vsi_store.specs.declared.comparison.Comparison as found
 use Rattle.vsi_compiler.specs.Observation.{EndsAlike, IsNoninterfering}
 use Rattle.vsi_compiler.specs.Readable.{HasProgram}
 use Rattle.vsi_steady.specs.Steady.{IsSteady}
+use Rattle.vsi_drive.specs.BoundaryFaults.{boundary_fault}
 use Rattle.vsi_drive.specs.Control.{Control}
 use Rattle.vsi_devices.specs.Running.{RunsApart}
 use Rattle.vsi_leak.specs.declared.whole.Wanted.{Wanted}
@@ -56,11 +57,13 @@ use Rattle.vsi_arguments.specs.declared.request.Emission.{Emission}
 use Rattle.vsi_arguments.specs.declared.request.Execution.{Execution}
 use Rattle.vsi_arguments.specs.declared.request.Judging.{Judging}
 use Rattle.vsi_arguments.specs.declared.request.Mending.{Mending}
+use Rattle.vsi_arguments.specs.declared.request.NameLists.{NameLists}
 use Rattle.vsi_arguments.specs.declared.request.Outset.{Outset}
 use Rattle.vsi_arguments.specs.declared.request.Search.{Search}
 use Rattle.vsi_arguments.specs.declared.request.Request.{Request}
 use Rattle.vsi_arguments.specs.declared.request.Request.TheVariants as request
 use Rattle.vsi.specs.Admitted.{IsAdmitted}
+use Rattle.vsi.specs.Boundaries.{requested}
 use Rattle.vsi.specs.Driven.{DrivesInput}
 use Rattle.vsi.specs.Holding.{Delivers, Fills, Holding, IsImageAt, IsLatticeAt, IsReadAt}
 use Rattle.vsi.specs.Laying.{PerformsLayout, ToldCanonical}
@@ -378,13 +381,21 @@ pub record PerformsView (holds : Holding) (path class : List ℕ) (e : Execution
   pub written : Appends old new (shown o.out text.items)
   pub delivered : Delivers o.out text.items holds left
 
--- An image, and the class that drives it by a lattice, within a budget for each cycle.
-abbrev pub control_of : Lattice → ℕ → Image → ℕ → Control
-control_of l class im budget =
-    record { known = class_named l; order = order l; class = class; image = im; budget = budget }
+-- An image, the class that drives it by a lattice, the budget of each cycle, and the boundary with the names in lists.
+abbrev pub control_of : NameLists → Lattice → ℕ → Image → ℕ → Control
+control_of lists l class im budget =
+    record {
+      known = class_named l;
+      order = order l;
+      class = class;
+      image = im;
+      budget = budget;
+      boundary = requested lists;
+    }
 
--- `drive`: its budget is enough or `--unbounded` is given, a cycle has run for each line of the input, beginning with
--- the words of the store file, its text has been written, and the last store goes to a file if one is given.
+-- `drive`: its boundary has no fault, its budget is enough or `--unbounded` is given, a cycle has run for each line of
+-- the input, beginning with the words of the store file, its text has been written, and the last store goes to a file if
+-- one is given.
 pub record PerformsDrive (holds : Holding) (d : Driving) (given : Option (List ℕ)) (left : Holding)
     (old new : Option (List ℕ)) : Type 0 where
   pub lattice : Lattice
@@ -398,7 +409,8 @@ pub record PerformsDrive (holds : Holding) (d : Driving) (given : Option (List �
   pub budget : ℕ
   pub within : IsBudgetOf d.execution.budget image budget
   pub admitted : IsAdmitted d.is_unbounded lattice image budget
-  pub drives : DrivesInput (control_of lattice driver image budget) first words given old new
+  pub sound : boundary_fault (control_of d.lists lattice driver image budget) ≡ None
+  pub drives : DrivesInput (control_of d.lists lattice driver image budget) first words given old new
   pub saved : Delivers d.save (store_text_of (globals image.globals.items) words) holds left
 
 -- `compare`: the class sees no difference, and what it sees has been written.

@@ -11,6 +11,11 @@ use Rattle.vsi_image.specs.Fields.{globals}
 use Rattle.vsi_store.specs.declared.comparison.Comparison as found
 use Rattle.vsi_compiler.specs.Headline.{IsImageOf}
 use Rattle.vsi_compiler.specs.Readable.{HasProgram}
+use Rattle.vsi_drive.specs.BoundaryFaults.{boundary_fault}
+use Rattle.vsi_drive.specs.Control.{Control}
+use Rattle.vsi_drive.specs.declared.boundary.BoundaryFault.{BoundaryFault}
+use Rattle.vsi_drive.specs.declared.starts.StartFault.{StartFault}
+use Rattle.vsi_drive.specs.declared.starts.StartFault.TheVariants as start
 use Rattle.vsi_audit.specs.Refusal as audited
 use Rattle.vsi_audit.specs.Telling.{IsAuditText}
 use Rattle.vsi_audit.specs.declared.error.AuditError.{AuditError}
@@ -28,7 +33,7 @@ use Rattle.vsi_conform.specs.declared.reader.Policy.{Policy}
 use Rattle.vsi_conform.specs.declared.reader.Policy.TheVariants.{File, Tables}
 use Rattle.vsi_conform.specs.Checking.{TellsRefused}
 use Rattle.vsi_answers.specs.Answers.{Because}
-use Rattle.vsi_answers.specs.Judged.{Declares, IsViewFault, TellsFault}
+use Rattle.vsi_answers.specs.Judged.{Declares, IsViewFault, TellsFault, TellsStartFault}
 use Rattle.vsi_answers.specs.Requests.{BuildsTo, ComparesTo, ListsTo, ReadsLattice, ViewsTo}
 use Rattle.vsi_answers.specs.declared.unanswered.Unanswered.{Unanswered}
 use Rattle.vsi_answers.specs.declared.unanswered.Unanswered.TheVariants as unanswered
@@ -45,6 +50,7 @@ use Rattle.vsi_arguments.specs.declared.request.Emission.{Emission}
 use Rattle.vsi_arguments.specs.declared.request.Execution.{Execution}
 use Rattle.vsi_arguments.specs.declared.request.Judging.{Judging}
 use Rattle.vsi_arguments.specs.declared.request.Mending.{Mending}
+use Rattle.vsi_arguments.specs.declared.request.NameLists.{NameLists}
 use Rattle.vsi_arguments.specs.declared.request.Outset.{Outset}
 use Rattle.vsi_arguments.specs.declared.request.Search.{Search}
 use Rattle.vsi_arguments.specs.declared.request.Request.{Request}
@@ -59,7 +65,7 @@ use Rattle.vsi.specs.Input.{two_classes}
 use Rattle.vsi.specs.Served.{Serves, unended_line}
 use Rattle.vsi.specs.Tried.{AreTried, BeginsSet, IsMade, IsTriedUnder, RunsMade, policy_path}
 use Rattle.vsi.specs.Files.{BeginsAt, IsBudgetOf, LooksAt, OfFiles, Writes}
-use Rattle.vsi.specs.Performed.{BoundsFile, ComparesFiles, ConformsFiles, IsAskedAt, LooksFor, compilation_of, judgement_of, named_path, profile_of, wanted_of}
+use Rattle.vsi.specs.Performed.{BoundsFile, ComparesFiles, ConformsFiles, IsAskedAt, LooksFor, compilation_of, control_of, judgement_of, named_path, profile_of, wanted_of}
 use Rattle.vsi.specs.Refusals.{AsksCanonical, AsksCheck, AsksClasses, AsksFlows, AsksImage, AsksMend, IsDifference, LacksBoundAt, LacksClass, LacksClassAt, LacksEither, NoOther, RefusesFile, RefusesFiles, RefusesImage, RefusesLattice, RefusesSource, RefusesStart, RefusesStore, StopsBy}
 
 -- ---- why each subcommand has stopped.
@@ -285,12 +291,34 @@ pub record RefusesController (holds : Holding) (d : Driving) (reason : Unanswere
   pub held : IsImageAt holds d.execution.image.now image
   pub is : Because (TellsFault (IsViewFault lattice image)) ⊥ reason
 
+-- The boundary of a controller has this fault, so that no drive begins.
+abbrev pub IsBoundaryStart : Control → StartFault → Type 0
+IsBoundaryStart c fault = (f : BoundaryFault) × (fault ≡ start.Boundary f) × (boundary_fault c ≡ Some f)
+
+-- A controller is refused: the lattice lacks the class of a global, or the boundary has a fault.
+abbrev pub RefusesControl : NameLists → Lattice → ℕ → Image → ℕ → Unanswered → Type 0
+RefusesControl lists l driver image budget reason =
+    Because (TellsFault (IsViewFault l image)) ⊥ reason
+    ⊎ Because (TellsStartFault (IsBoundaryStart (control_of lists l driver image budget))) ⊥ reason
+
+-- `drive`: the boundary has a fault.
+pub record RefusesBoundary (holds : Holding) (d : Driving) (reason : Unanswered) : Type 0 where
+  pub lattice : Lattice
+  pub driver : ℕ
+  pub looks : LooksAt holds d.lattice.now d.class.now lattice driver
+  pub image : Image
+  pub held : IsImageAt holds d.execution.image.now image
+  pub budget : ℕ
+  pub within : IsBudgetOf d.execution.budget image budget
+  pub is : Because (TellsStartFault (IsBoundaryStart (control_of d.lists lattice driver image budget))) ⊥ reason
+
 -- `drive`: the lattice is refused, or the image, or the store file, or no controller begins; a wrong line of the input
 -- isn't a reason, because its cycle writes the fault.
 abbrev pub WhyDrive : Holding → Driving → Unanswered → Type 0
 WhyDrive holds d reason =
     RefusesLattice holds d.lattice.now reason ⊎ RefusesImage holds d.execution.image.now reason
     ⊎ RefusesStore holds d.execution.image.now d.execution.store reason ⊎ RefusesController holds d reason
+    ⊎ RefusesBoundary holds d reason
 
 -- The text of the stop says why a budget isn't enough.
 abbrev pub SaysShort : Lattice → Image → ℕ → Stop → Type 0

@@ -12,6 +12,8 @@ pub(crate) enum Kind {
     Interface,
     /// A setting of the command line, which isn't a file.
     Setting,
+    /// A list of names on the command line, which isn't one either.
+    Names,
 }
 
 impl Kind {

@@ -9,7 +9,7 @@ use vsi_answers::Cause;
 use vsi_audit::AuditError;
 use vsi_conform::{steady_diagnostic, unsteady_diagnostic};
 use vsi_diagnostics::{Diagnostic, Field, fault_diagnostic, refusal_diagnostic};
-use vsi_drive::{LineFault, StartFault};
+use vsi_drive::{BoundaryFault, LineFault, StartFault};
 
 /// The refusal of a setting.
 fn setting_diagnostic(fault: LineFault) -> Diagnostic<'static>
@@ -20,7 +20,27 @@ fn setting_diagnostic(fault: LineFault) -> Diagnostic<'static>
         LineFault::BadSetting(n) => Diagnostic::new(45, b"BadSetting", Field::Number(n)),
         LineFault::UnknownGlobal(n) => Diagnostic::new(46, b"NoGlobal", Field::Number(n)),
         LineFault::AboveClass(n) => Diagnostic::new(47, b"AboveClass", Field::Number(n)),
+        LineFault::NotAnInput(n) => Diagnostic::new(60, b"NotAnInput", Field::Number(n)),
         LineFault::NotANumber(n) => Diagnostic::new(48, b"NoNumber", Field::Number(n)),
+    }
+}
+
+/// The refusal of a faulty boundary.
+fn boundary_diagnostic(fault: BoundaryFault) -> Diagnostic<'static>
+    ensures { diagnostic_of result ≡ spec.boundary_diagnostic fault }
+{
+    match fault {
+        BoundaryFault::UnknownInput(n) => { Diagnostic::new(61, b"UnknownInput", Field::Number(n)) }
+        BoundaryFault::InputAboveClass(n) => {
+            Diagnostic::new(62, b"InputAboveClass", Field::Number(n))
+        }
+        BoundaryFault::UnknownOutput(n) => {
+            Diagnostic::new(63, b"UnknownOutput", Field::Number(n))
+        }
+        BoundaryFault::OutputAboveClass(n) => {
+            Diagnostic::new(64, b"OutputAboveClass", Field::Number(n))
+        }
+        BoundaryFault::NotAnOutput(n) => Diagnostic::new(65, b"NotAnOutput", Field::Number(n)),
     }
 }
 
@@ -30,6 +50,7 @@ fn start_diagnostic(fault: StartFault) -> Diagnostic<'static>
 {
     match fault {
         StartFault::Setting(fault) => setting_diagnostic(fault),
+        StartFault::Boundary(fault) => boundary_diagnostic(fault),
         StartFault::Unnamed(i) => Diagnostic::new(56, b"GlobalNotNamed", Field::Number(i)),
     }
 }

@@ -20,6 +20,7 @@ ghost use Rattle.vsi_answers.specs.Judged.{IsStoreFault};
 ghost use Rattle.vsi_answers.specs.Judged as judged;
 
 use crate::admitting::admit;
+use crate::boundaries::{controller_of, names_in};
 use crate::budgets::budget_of;
 use crate::desk::Desk;
 use crate::files::Files;
@@ -74,20 +75,25 @@ pub(crate) fn drive<'a, F: Files, R: Read, W: Write>(
     )?;
     let mut words = stored_words(desk, &verified, driving.execution.store, files)?;
     let budget = budget_of(desk.alloc, driving.execution.budget, &verified)?;
-    match Controller::new(&classes, &verified, driver, budget) {
-        Ok(controller) => {
-            admit(
-                desk.alloc,
-                driving.is_unbounded,
-                &classes,
-                &verified,
-                budget,
-                note,
-            )?;
-            drive_input(desk.alloc, &controller, &mut words, input, output)?;
-        }
-        Err(error) => return Err(faulty(desk.alloc, Fault::View(error))),
-    }
+    let names = names_in(desk.alloc, driving.lists)?;
+    let controller = controller_of(
+        desk,
+        driving.lists,
+        &names,
+        &classes,
+        driver,
+        &verified,
+        budget,
+    )?;
+    admit(
+        desk.alloc,
+        driving.is_unbounded,
+        &classes,
+        &verified,
+        budget,
+        note,
+    )?;
+    drive_input(desk.alloc, &controller, &mut words, input, output)?;
     save(desk.alloc, &verified, &words, driving.save, files)
 }
 

@@ -376,16 +376,19 @@ fn read_policy(desk: &Desk) -> Option<Lattice> {
     read_lattice(desk.alloc, desk.last(Kind::Lattice)?.bytes.as_slice()).ok()
 }
 
-/// The text that keeps a run from beginning: a setting, the store file, or else the image.
+/// The text that keeps a run from beginning: a setting, a list of names, the store file, or else the
+/// image.
 fn faulty_start<'d>(desk: &'d Desk, fault: StartFault) -> Option<&'d Kept> {
     match fault {
         StartFault::Setting(
             LineFault::BadSetting(number)
             | LineFault::UnknownGlobal(number)
             | LineFault::AboveClass(number)
+            | LineFault::NotAnInput(number)
             | LineFault::NotANumber(number),
         ) => desk.behind(Kind::Setting, number),
         StartFault::Setting(LineFault::TooLong) => None,
+        StartFault::Boundary(_) => desk.last(Kind::Names),
         StartFault::Unnamed(_) => match desk.last(Kind::Store) {
             Some(kept) => Some(kept),
             None => desk.last(Kind::Image),

@@ -15,6 +15,7 @@
 
 mod admitting;
 mod auditing;
+mod boundaries;
 mod bounded;
 mod bounding;
 mod budgets;
@@ -101,12 +102,15 @@ pub use vsi_diagnostics::fault_text;
 pub use vsi_diagnostics::line_text;
 pub use vsi_diagnostics::refusal_diagnostic;
 pub use vsi_diagnostics::refusal_text;
+pub use vsi_drive::Boundary;
+pub use vsi_drive::BoundaryFault;
 pub use vsi_drive::Controller;
 pub use vsi_drive::CycleEnding;
 pub use vsi_drive::LINE_LIMIT;
 pub use vsi_drive::LineFault;
 pub use vsi_drive::StartFault;
 pub use vsi_drive::first_words;
+pub use vsi_drive::names_of;
 pub use vsi_drive::start_fault_line;
 pub use vsi_flows::FlowsError;
 pub use vsi_flows::Pair;

@@ -10,6 +10,7 @@ ghost use Rattle.vsi_caret.specs.declared.manner.Manner.TheVariants.{Plain};
 ghost use Rattle.vsi_caret.specs.Safe.{all_plain};
 
 mod audits;
+mod boundaries;
 mod interface_places;
 mod interface_runs;
 mod interfaces;
@@ -38,8 +39,8 @@ pub enum Refused<'a> {
         lattice: Option<&'a Lattice>,
         error: &'a InterfaceError,
     },
-    /// A run of an image that doesn't begin: for a setting, with these bytes, or for a global that
-    /// has no word.
+    /// A run of an image that doesn't begin: for a setting or a list of names, with these bytes, or
+    /// for a global that has no word.
     Start {
         bytes: &'a [u8],
         image: &'a Image,

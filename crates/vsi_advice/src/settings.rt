@@ -1,5 +1,6 @@
-//! The explanation of a setting, and of a store that isn't full.
+//! The explanation of a run that doesn't begin: of a setting, and of a store that isn't full.
 
+use crate::boundaries::put_boundary;
 use std::alloc::{AllocError, Global};
 use vsi_drive::{LineFault, StartFault};
 use vsi_image::Image;
@@ -180,6 +181,7 @@ pub(crate) fn put_start(
             put_unnamed(words, global_name(image, number))?;
             Ok(None)
         }
+        StartFault::Boundary(fault) => put_boundary(alloc, words, setting, image, fault),
         StartFault::Setting(LineFault::UnknownGlobal(_)) => put_name(alloc, words, setting, image),
         StartFault::Setting(LineFault::NotANumber(_)) => put_number(words, setting),
         StartFault::Setting(_) => put_form(words, setting),

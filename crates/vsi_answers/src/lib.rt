@@ -22,7 +22,7 @@ pub use bounds::{BoundAnswer, bound, bound_in, enough_budget};
 pub use files::{declared_lattice, judged_image, list};
 pub use places::Place;
 pub use raising::{apply, mend};
-pub use refusing::{refused_file, refused_source};
+pub use refusing::{refused_file, refused_source, refused_start};
 pub use runs::{compare, run, run_source, start_words, view};
 pub use steady::check_steady;
 pub use texts::{build, check, check_files, classes, flows, format, walks};

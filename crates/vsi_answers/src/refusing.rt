@@ -41,7 +41,7 @@ pub fn refused_file(alloc: Global, fault: Fault) -> Unanswered
 }
 
 /// Why there is no answer for a run that doesn't start because of this fault.
-pub(crate) fn refused_start(alloc: Global, fault: StartFault) -> Unanswered
+pub fn refused_start(alloc: Global, fault: StartFault) -> Unanswered
     ensures { Because (TellsStartFault (λ f. f ≡ fault)) ⊥ result }
 {
     match start_fault_line(alloc, fault) {

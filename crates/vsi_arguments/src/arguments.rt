@@ -373,3 +373,24 @@ pub(crate) const SAVE: Argument = Argument {
     line: "The file to write the last store to",
     whole: word_help::SAVE,
 };
+
+pub(crate) const INPUTS: Argument = Argument {
+    name: "inputs",
+    form: Form::Value("NAMES"),
+    line: "The globals that a line may set; default: all C sees",
+    whole: word_help::INPUTS,
+};
+
+pub(crate) const OUTPUTS: Argument = Argument {
+    name: "outputs",
+    form: Form::Value("NAMES"),
+    line: "The globals that are written; default: all C sees",
+    whole: word_help::OUTPUTS,
+};
+
+pub(crate) const RELEASE: Argument = Argument {
+    name: "release",
+    form: Form::Value("NAMES"),
+    line: "Outputs that are written although C doesn't see them",
+    whole: word_help::RELEASE,
+};

@@ -332,6 +332,15 @@ fn driving_in<'a>(matches: &ArgMatches<'a>) -> Driving<'a> {
         execution: execution_in(matches),
         save: matches.get_str("save"),
         is_unbounded: matches.get_flag("unbounded"),
+        lists: name_lists_in(matches),
+    }
+}
+
+fn name_lists_in<'a>(matches: &ArgMatches<'a>) -> NameLists<'a> {
+    NameLists {
+        inputs: matches.get_str("inputs"),
+        outputs: matches.get_str("outputs"),
+        released: matches.get_str("release"),
     }
 }
 

@@ -36,9 +36,19 @@ pub struct Outset<'a> {
     pub out: Option<&'a str>,
 }
 
+/// The lists of names that bound a controller: of its inputs, of its outputs, and of the outputs
+/// that are released. Each has commas between its names.
+#[derive(Clone, Copy)]
+pub struct NameLists<'a> {
+    pub inputs: Option<&'a str>,
+    pub outputs: Option<&'a str>,
+    pub released: Option<&'a str>,
+}
+
 /// The driving of a controller: the path of a lattice file, the class that sets inputs and sees
-/// outputs, the run of each cycle, the path of a file that receives the last store, and whether a
-/// budget is taken that runs may exceed for a reason that the class doesn't see.
+/// outputs, the run of each cycle, the path of a file that receives the last store, whether a
+/// budget is taken that runs may exceed for a reason that the class doesn't see, and the lists that
+/// bound the controller.
 #[derive(Clone, Copy)]
 pub struct Driving<'a> {
     pub lattice: &'a str,
@@ -46,6 +56,7 @@ pub struct Driving<'a> {
     pub execution: Execution<'a>,
     pub save: Option<&'a str>,
     pub is_unbounded: bool,
+    pub lists: NameLists<'a>,
 }
 
 /// A comparison: the paths of a lattice file, of an image and of two store files, the class of the

@@ -78,7 +78,8 @@ Runs an image once for each line of standard input.
 Reads the lattice file, looks for the class in it, reads and verifies the image,
 and reads the store file, if one is given. Then each line of standard input sets
 globals at or below the class, the image runs, and the globals that the class
-sees are written as one line of the same form. The final store of a run is the
+sees are written as one line of the same form, or those that --inputs, --outputs
+and --release name instead. The final store of a run is the
 initial store of the next. A faulty line, or a run that is out of budget, is
 answered by a line that says so, and leaves the store as it was. After the last
 line the store is written to the file that --save gives, if any. Without

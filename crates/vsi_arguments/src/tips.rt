@@ -4,7 +4,7 @@ use std::alloc::{AllocError, Global};
 
 /// The options that only some subcommands have, as a mistake quotes them, and the subcommands that
 /// have each.
-const OWNERS: [(&str, &str); 28] = [
+const OWNERS: [(&str, &str); 31] = [
     ("'--apply'", "mend"),
     ("'--bounded'", "emit-c"),
     ("'--budget'", "try, run, view, drive, compare and leak"),
@@ -23,11 +23,14 @@ const OWNERS: [(&str, &str); 28] = [
     ),
     ("'--full-store'", "run and view"),
     ("'--header'", "emit-c"),
+    ("'--inputs'", "drive"),
     ("'--json'", "check, conform and mend"),
     ("'--keep-comments'", "fmt"),
     ("'--lattice'", "try, emit-c and lsp"),
     ("'--name'", "emit-c"),
     ("'--out'", "run and view"),
+    ("'--outputs'", "drive"),
+    ("'--release'", "drive"),
     ("'--save'", "drive"),
     ("'--seed'", "leak"),
     ("'--set'", "try, run and view"),

@@ -307,3 +307,22 @@ pub(crate) const WRITE: &str = "\
 Puts the layout into the file, with comments kept, if the text isn't
 laid out so already: first into a new file beside it, which then takes
 its place. Nothing is printed, and a refused text stays as it is.";
+
+/// `--inputs`.
+pub(crate) const INPUTS: &str = "\
+Names of globals with commas between them, as in `typed,code`. A line
+may set these and no others. Each is at or below the class. Without
+this option a line may set every global at or below the class.";
+
+/// `--outputs`.
+pub(crate) const OUTPUTS: &str = "\
+Names of globals with commas between them. These are written and no
+others. Each is at or below the class, or named under --release.
+Without this option all globals are written that the class sees, and
+those that are released.";
+
+/// `--release`.
+pub(crate) const RELEASE: &str = "\
+Names of globals with commas between them, each that of an output.
+They are written although the class doesn't see them: whoever reads
+the output learns their values, and whatever follows from these.";

@@ -11,6 +11,7 @@ use Rattle.vsi_arguments.specs.declared.request.Compilation.{Compilation}
 use Rattle.vsi_arguments.specs.declared.request.Execution.{Execution}
 use Rattle.vsi_arguments.specs.declared.request.Layout.{Layout as Laid}
 use Rattle.vsi_arguments.specs.declared.request.Mending.{Mending}
+use Rattle.vsi_arguments.specs.declared.request.NameLists.{NameLists}
 use Rattle.vsi_arguments.specs.declared.request.Outset.{Outset}
 use Rattle.vsi_arguments.specs.declared.request.Request.{Request}
 use Rattle.vsi_arguments.specs.declared.request.Request.TheVariants.{Try, Lsp, Check, Conform, Classes, Flows, Mend, Build, List as Listing, Audit, Source, EmitC, Bound, Run, View, Drive, Compare, Leak, Report, Draw, Policy, Format, Layout, Lattice as Shaped, Explain}
@@ -128,6 +129,12 @@ starting execution outset =
     (codes "--store", given execution.store) ∷ (codes "--out", given outset.out)
     ∷ (codes "--set", shown outset.settings.items) ∷ []
 
+-- The options that bound a controller, each with its values.
+abbrev pub bounding : NameLists → List (List ℕ × List (List ℕ))
+bounding lists =
+    (codes "--inputs", given lists.inputs) ∷ (codes "--outputs", given lists.outputs)
+    ∷ (codes "--release", given lists.released) ∷ []
+
 -- The options of a request, each with its values; `numbers_of` has the options that take numbers.
 abbrev pub options_of : Request → List (List ℕ × List (List ℕ))
 options_of (Try attempt) =
@@ -139,7 +146,7 @@ options_of (Run execution outset has_trace has_count) = starting execution outse
 options_of (View lattice class execution outset) = (codes "--class", class.now ∷ []) ∷ starting execution outset
 options_of (Drive driving) =
     (codes "--class", driving.class.now ∷ []) ∷ (codes "--store", given driving.execution.store)
-    ∷ (codes "--save", given driving.save) ∷ []
+    ∷ (codes "--save", given driving.save) ∷ bounding driving.lists
 options_of (Compare comparison) =
     (codes "--class", comparison.class.now ∷ [])
     ∷ (codes "--store", comparison.stores.0.now ∷ comparison.stores.1.now ∷ []) ∷ []

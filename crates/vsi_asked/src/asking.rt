@@ -10,8 +10,8 @@ use crate::own::has_own_alone;
 use crate::reading::{has_flag, has_operands, has_values};
 use vsi_arguments::{
     Attempt, Audit, Bounding, Comparison, Compilation, Conformance, Drawing, Driving, Emission,
-    Execution, Judging, Layout, Looking, Mending, Outset, Request, SEARCH, Search, Serving,
-    TRY_BUDGET,
+    Execution, Judging, Layout, Looking, Mending, NameLists, Outset, Request, SEARCH, Search,
+    Serving, TRY_BUDGET,
 };
 use vsi_explain::{page, subject_page};
 
@@ -109,6 +109,15 @@ fn has_outset(words: &[String], execution: &Execution<'_>, outset: &Outset<'_>) 
         && has_values(words, b"--set", outset.settings.as_slice())
 }
 
+/// Whether the arguments give these lists of names.
+fn has_lists(words: &[String], lists: &NameLists<'_>) -> bool
+    ensures { result ≡ true → spec.HasOptions (texts words.now) (spec.bounding lists.now) }
+{
+    has_value(words, "--inputs", lists.inputs)
+        && has_value(words, "--outputs", lists.outputs)
+        && has_value(words, "--release", lists.released)
+}
+
 /// Whether the arguments request an attempt.
 fn asks_try(words: &[String], attempt: &Attempt<'_>) -> bool
     ensures { result ≡ true → spec.Spells words.now (request.Try attempt.now) }
@@ -182,6 +191,7 @@ fn asks_drive(words: &[String], driving: &Driving<'_>) -> bool
     has_value(rest, "--class", Some(driving.class))
         && has_value(rest, "--store", driving.execution.store)
         && has_value(rest, "--save", driving.save)
+        && has_lists(rest, &driving.lists)
         && has_budget_or_auto(rest, driving.execution.budget)
 }
 

@@ -67,7 +67,16 @@ const VIEW_OPTIONS: [&[u8]; 6] = [
 const DRIVE: [&[u8]; 2] = [b"--unbounded", b"--explain"];
 
 /// The options of `drive`.
-const DRIVE_OPTIONS: [&[u8]; 5] = [b"--class", b"--store", b"--save", b"--budget", b"--color"];
+const DRIVE_OPTIONS: [&[u8]; 8] = [
+    b"--class",
+    b"--store",
+    b"--save",
+    b"--inputs",
+    b"--outputs",
+    b"--release",
+    b"--budget",
+    b"--color",
+];
 
 /// The options of `compare`.
 const COMPARE_OPTIONS: [&[u8]; 4] = [b"--class", b"--store", b"--budget", b"--color"];

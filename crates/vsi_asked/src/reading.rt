@@ -5,13 +5,16 @@ ghost use Rattle.std.specs.Prelude.{option_map};
 ghost use Rattle.vsi_asked.specs.Words as spec;
 
 /// The options that take a value.
-const VALUED: [&[u8]; 11] = [
+const VALUED: [&[u8]; 14] = [
     b"--budget",
     b"--class",
     b"--color",
+    b"--inputs",
     b"--lattice",
     b"--name",
     b"--out",
+    b"--outputs",
+    b"--release",
     b"--save",
     b"--seed",
     b"--set",

@@ -1,22 +1,22 @@
--- Cycles of a controller: a line sets globals, the image runs, and the globals that the class sees are written.
+-- Cycles of a controller: a line sets globals, the image runs, and the globals that the class sees, or that are
+-- released, are written.
 use Rattle.std.specs.Prelude.{◌≡◌, ℕ, ◌-◌, ◌≤◌, ℤ, List, [], ◌∷◌, ◌++◌, length, take, Option, Some, None, Result, Ok, Err, if◌then◌else◌, codes}
 use Rattle.std.specs.Fmt.{signed_decimal}
 use Rattle.vsi_image.specs.Fields.{Global, globals}
 use Rattle.vsi_image.specs.Meaning.{State}
 use Rattle.vsi_machine.specs.Runs.{globals_of, run_of}
-use Rattle.vsi_store.specs.View.{is_seen}
 use Rattle.vsi_drive.specs.declared.fault.LineFault.{LineFault}
 use Rattle.vsi_drive.specs.declared.controller.CycleEnding.{CycleEnding}
 use Rattle.vsi_drive.specs.declared.controller.CycleEnding.TheVariants.{Halted, OutOfBudget, Refused}
-use Rattle.vsi_drive.specs.Control.{Control}
+use Rattle.vsi_drive.specs.Control.{Control, is_written}
 use Rattle.vsi_drive.specs.Settings.{Setting, settings_of, applied, fault_line}
 
--- `NAME = NUMBER` and a space for a global that the class sees, and nothing for any other.
+-- `NAME = NUMBER` and a space for a global that is written, and nothing for any other.
 abbrev pub global_seen : Control → Global → ℤ → List ℕ
 global_seen c g w =
-    if is_seen c.known c.order c.class g.1 then g.0 ++ codes " = " ++ signed_decimal w ++ codes " " else []
+    if is_written c g then g.0 ++ codes " = " ++ signed_decimal w ++ codes " " else []
 
--- The text of the globals that the class sees of a store.
+-- The text of the globals of a store that are written.
 abbrev pub globals_seen : Control → List Global → List ℤ → List ℕ
 globals_seen c [] words = []
 globals_seen c (g ∷ gs) [] = []

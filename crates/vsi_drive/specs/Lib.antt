@@ -1,6 +1,8 @@
+pub mod Boundary
 pub mod Control
 pub mod Fields
 pub mod Settings
+pub mod BoundaryFaults
 pub mod Reaches
 pub mod Starts
 pub mod Cycles

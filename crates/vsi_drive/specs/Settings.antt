@@ -2,34 +2,38 @@
 use Rattle.std.specs.Prelude.{ℕ, ◌+◌, nat_lt, ℤ, List, [], ◌∷◌, ◌++◌, length, Bool, true, Option, Some, None, Result, Ok, Err, if◌then◌else◌, bytes_eq, codes, decimal, slice_set}
 use Rattle.vsi_image.specs.declared.instr.Image.{Image}
 use Rattle.vsi_image.specs.Fields.{Global, globals}
-use Rattle.vsi_store.specs.View.{is_seen}
 use Rattle.vsi_drive.specs.declared.fault.LineFault.{LineFault}
-use Rattle.vsi_drive.specs.declared.fault.LineFault.TheVariants.{TooLong, BadSetting, UnknownGlobal, AboveClass, NotANumber}
-use Rattle.vsi_drive.specs.Control.{Control}
+use Rattle.vsi_drive.specs.declared.fault.LineFault.TheVariants.{TooLong, BadSetting, UnknownGlobal, AboveClass, NotAnInput, NotANumber}
+use Rattle.vsi_drive.specs.Control.{Control, is_input, sees}
 use Rattle.vsi_drive.specs.Fields.{fields_of, word_of}
 
 -- The number of a global, and the word that it is set to.
 abbrev pub Setting : Type 0
 Setting = ℕ × ℤ
 
--- Which globals of an image may be set: those whose class name passes a test.
+-- Which globals of an image may be set: those whose class name passes a test, and whose own name passes another.
 pub record Settable : Type 0 where
   pub may : List ℕ → Bool
+  pub takes : List ℕ → Bool
   pub image : Image
 
--- A class may set the globals at or below it.
+-- A class may set the inputs at or below it.
 abbrev pub at_or_below : Control → Settable
-at_or_below c = record { may = λ name. is_seen c.known c.order c.class name; image = c.image }
+at_or_below c = record { may = λ name. sees c name; takes = λ name. is_input c name; image = c.image }
 
 -- A user who starts a run may set every global.
 abbrev pub any_of : Image → Settable
-any_of image = record { may = λ name. true; image = image }
+any_of image = record { may = λ name. true; takes = λ name. true; image = image }
+
+-- The number of a global that a setting names, if it may be set.
+abbrev pub place_of : Settable → ℕ → ℕ → Global → Result ℕ LineFault
+place_of s n i g = if s.may g.1 then (if s.takes g.0 then Ok i else Err (NotAnInput n)) else Err (AboveClass n)
 
 -- The number of the global that a setting names, which may be set; these globals have numbers from i on.
 abbrev pub target_from : Settable → ℕ → ℕ → List Global → List ℕ → Result ℕ LineFault
 target_from s n i [] name = Err (UnknownGlobal n)
 target_from s n i (g ∷ gs) name =
-    if bytes_eq g.0 name then (if s.may g.1 then Ok i else Err (AboveClass n)) else target_from s n (i + 1) gs name
+    if bytes_eq g.0 name then place_of s n i g else target_from s n (i + 1) gs name
 
 -- The setting of a global to the word that a field spells.
 abbrev pub with_word : ℕ → Result ℕ LineFault → Option ℤ → Result Setting LineFault
@@ -81,6 +85,7 @@ fault_name TooLong = codes "44 LineTooLong"
 fault_name (BadSetting n) = numbered (codes "45 BadSetting") n
 fault_name (UnknownGlobal n) = numbered (codes "46 NoGlobal") n
 fault_name (AboveClass n) = numbered (codes "47 AboveClass") n
+fault_name (NotAnInput n) = numbered (codes "60 NotAnInput") n
 fault_name (NotANumber n) = numbered (codes "48 NoNumber") n
 
 -- The line of a fault.

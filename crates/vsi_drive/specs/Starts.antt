@@ -7,6 +7,7 @@ use Rattle.vsi_drive.specs.declared.fault.LineFault.{LineFault}
 use Rattle.vsi_drive.specs.declared.fault.LineFault.TheVariants.{BadSetting}
 use Rattle.vsi_drive.specs.declared.starts.StartFault.{StartFault}
 use Rattle.vsi_drive.specs.declared.starts.StartFault.TheVariants as fault
+use Rattle.vsi_drive.specs.BoundaryFaults.{boundary_fault_name}
 use Rattle.vsi_drive.specs.Fields.{fields_of}
 use Rattle.vsi_drive.specs.Settings.{Setting, Settable, any_of, applied, fault_name, in_front, numbered, setting}
 
@@ -74,14 +75,16 @@ pub record Lacks (image : Image) (file : List ℕ) (texts : List (List ℕ)) (is
   pub set : set_behind (settings_each (any_of image) 0 texts) first ≡ Ok behind
   pub lacks : unnamed_in is_full behind.named ≡ Some i
 
--- Why a run doesn't begin: the first faulty setting, or a global that must be named.
+-- Why a run doesn't begin: the first faulty setting, or a global that must be named. Its globals have no boundary.
 abbrev pub IsStartFault : Image → List ℕ → List (List ℕ) → Bool → StartFault → Type 0
 IsStartFault image file texts is_full (fault.Setting f) = settings_each (any_of image) 0 texts ≡ Err f
+IsStartFault image file texts is_full (fault.Boundary f) = ⊥
 IsStartFault image file texts is_full (fault.Unnamed i) = Lacks image file texts is_full i
 
 -- The number, the name and the field of a fault.
 abbrev pub start_fault_name : StartFault → List ℕ
 start_fault_name (fault.Setting f) = fault_name f
+start_fault_name (fault.Boundary f) = boundary_fault_name f
 start_fault_name (fault.Unnamed i) = numbered (codes "56 GlobalNotNamed") i
 
 -- The line of a fault.

@@ -1,13 +1,14 @@
 //! A controller and its cycles.
 
-ghost use Rattle.std.specs.Prelude.{◌≡◌, ℕ, length, Some, None, IfOk, IfErr, OnOk, OnErr, MatchResult};
-ghost use Rattle.vsi_image.specs.Fields.{globals};
+ghost use Rattle.std.specs.Prelude.{◌≡◌, ℕ, [], length, Some, None, IfOk, IfErr, OnOk, OnErr, MatchResult, option_map, unwrap_or};
+ghost use Rattle.vsi_image.specs.Fields.{global, globals};
 ghost use Rattle.vsi_lattice.specs.LatticeView.{class_named, order};
 ghost use Rattle.vsi_lattice.specs.NamePlaces.{texts};
 ghost use Rattle.vsi_lattice.specs.Order.{IsClass};
 ghost use Rattle.vsi_store.specs.View.{first_unknown, is_seen};
 ghost use Rattle.vsi_store.specs.declared.views.ViewError.TheVariants.{Memory};
 
+use crate::boundary::{Boundary, BoundaryFault, Role, is_among, is_listed};
 use crate::fault::LineFault;
 use crate::settings::words_set;
 use crate::texts::{fault_line, line_seen, spent_line};
@@ -28,19 +29,23 @@ pub enum CycleEnding {
     Refused(LineFault),
 }
 
-/// An image that runs once per cycle, the budget of a cycle, and the class that sets and sees its
-/// globals.
+/// An image that runs once per cycle, the budget of a cycle, the class that sets and sees its
+/// globals, and the boundary.
 #[derive(Drop)]
 pub struct Controller<'a> {
     lattice: &'a Lattice,
     verified: &'a Verified,
     class: Class,
     budget: u64,
+    boundary: Boundary<'a>,
     pub ghost within: { IsClass (order lattice.now) class },
 }
 
 impl<'a> Controller<'a> {
-    ghost use Rattle.vsi_drive.specs.Control.{control};
+    ghost use Rattle.vsi_drive.specs.Boundary.{boundary_of, listed, no_boundary};
+    ghost use Rattle.vsi_drive.specs.BoundaryFaults.{boundary_fault, class_of, name_fault, names_fault};
+    ghost use Rattle.vsi_drive.specs.declared.boundary.Role.TheVariants.{Input, Output, Released};
+    ghost use Rattle.vsi_drive.specs.Control.{control, is_input, is_written, within};
     ghost use Rattle.vsi_drive.specs.Cycles as spec;
 
     /// A controller of this image.
@@ -60,6 +65,7 @@ impl<'a> Controller<'a> {
         ensures class { IfOk result (λ c. (control c).class ≡ class) }
         ensures image { IfOk result (λ c. (control c).image ≡ verified.now) }
         ensures budget { IfOk result (λ c. (control c).budget ≡ budget) }
+        ensures boundary { IfOk result (λ c. (control c).boundary ≡ no_boundary) }
         ensures all { OnOk result
             (first_unknown (class_named lattice.now) 0 (globals verified.now.globals.items)
             ≡ None) }
@@ -78,7 +84,141 @@ impl<'a> Controller<'a> {
             verified,
             class,
             budget,
+            boundary: Boundary::none(),
         })
+    }
+
+    /// The same controller with this boundary.
+    ///
+    /// # Errors
+    ///
+    /// The first fault of the boundary: of its inputs, then of its outputs, then of its released
+    /// names.
+    pub fn within(self, boundary: Boundary<'a>) -> Result<Controller<'a>, BoundaryFault>
+        ensures control { IfOk result
+            (λ c. control c ≡ within (control self.entry) (boundary_of boundary.entry)) }
+        ensures sound { IfOk result (λ c. boundary_fault (control c) ≡ None) }
+        ensures fault { IfErr result (λ f.
+            boundary_fault (within (control self.entry) (boundary_of boundary.entry)) ≡ Some f) }
+    {
+        let controller = Controller {
+            lattice: self.lattice,
+            verified: self.verified,
+            class: self.class,
+            budget: self.budget,
+            boundary,
+        };
+        match controller.boundary_fault() {
+            Some(fault) => Err(fault),
+            None => Ok(controller),
+        }
+    }
+
+    /// The first fault of the boundary.
+    fn boundary_fault(&self) -> Option<BoundaryFault>
+        ensures { result ≡ boundary_fault (control self.now) }
+    {
+        if let Some(fault) = self.list_fault(Role::Input, self.boundary.inputs) {
+            return Some(fault);
+        }
+        if let Some(fault) = self.list_fault(Role::Output, self.boundary.outputs) {
+            return Some(fault);
+        }
+        self.names_fault(Role::Released, self.boundary.released)
+    }
+
+    /// The first fault of the list of a role, if there is one.
+    fn list_fault(&self, role: Role, list: Option<&[&[u8]]>) -> Option<BoundaryFault>
+        ensures { result ≡ names_fault (control self.now) role 0 (unwrap_or (listed list.entry) []) }
+    {
+        match list {
+            Some(names) => self.names_fault(role, names),
+            None => None,
+        }
+    }
+
+    /// The first fault of the names of a role.
+    fn names_fault(&self, role: Role, names: &[&[u8]]) -> Option<BoundaryFault>
+        ensures { result ≡ names_fault (control self.now) role 0 (texts names.now) }
+    {
+        for (number, name) in names.iter().enumerate() {
+            if let Some(fault) = self.name_fault(role, number, name) {
+                return Some(fault);
+            }
+        }
+        None
+    }
+
+    /// The fault of a name with this number in the list of a role.
+    fn name_fault(&self, role: Role, number: usize, name: &[u8]) -> Option<BoundaryFault>
+        ensures { result ≡ name_fault (control self.now) role number name.now }
+    {
+        match role {
+            Role::Input => self.input_fault(number, name),
+            Role::Output => self.output_fault(number, name),
+            Role::Released => self.released_fault(number, name),
+        }
+    }
+
+    /// The fault of an input.
+    fn input_fault(&self, number: usize, name: &[u8]) -> Option<BoundaryFault>
+        ensures { result ≡ name_fault (control self.now) Input number name.now }
+    {
+        match self.class_of(name) {
+            None => Some(BoundaryFault::UnknownInput(number)),
+            Some(class) if self.sees(class) => None,
+            Some(_) => Some(BoundaryFault::InputAboveClass(number)),
+        }
+    }
+
+    /// The fault of an output.
+    fn output_fault(&self, number: usize, name: &[u8]) -> Option<BoundaryFault>
+        ensures { result ≡ name_fault (control self.now) Output number name.now }
+    {
+        match self.class_of(name) {
+            None => Some(BoundaryFault::UnknownOutput(number)),
+            Some(class) if self.sees(class) || is_among(self.boundary.released, name) => None,
+            Some(_) => Some(BoundaryFault::OutputAboveClass(number)),
+        }
+    }
+
+    /// The fault of a released name.
+    fn released_fault(&self, number: usize, name: &[u8]) -> Option<BoundaryFault>
+        ensures { result ≡ name_fault (control self.now) Released number name.now }
+    {
+        match self.class_of(name) {
+            Some(_) if is_listed(self.boundary.outputs, name) => None,
+            _ => Some(BoundaryFault::NotAnOutput(number)),
+        }
+    }
+
+    /// The name of the class of the global with this name.
+    fn class_of(&self, name: &[u8]) -> Option<&[u8]>
+        ensures { option_map (λ class. class.now) result
+            ≡ class_of (globals (control self.now).image.globals.items) name.now }
+    {
+        for variable in self.globals() {
+            if variable.0.as_slice() == name {
+                return Some(variable.1.as_slice());
+            }
+        }
+        None
+    }
+
+    /// Whether a global of this name is an input.
+    pub(crate) fn takes(&self, name: &[u8]) -> bool
+        ensures { result ≡ is_input (control self.now) name.now }
+    {
+        is_listed(self.boundary.inputs, name)
+    }
+
+    /// Whether a cycle writes a global.
+    pub(crate) fn writes(&self, variable: &(Vec<u8>, Vec<u8>)) -> bool
+        ensures { result ≡ is_written (control self.now) (global variable.now) }
+    {
+        let name = variable.0.as_slice();
+        is_listed(self.boundary.outputs, name)
+            && (self.sees(variable.1.as_slice()) || is_among(self.boundary.released, name))
     }
 
     /// The names of the globals and of their classes.

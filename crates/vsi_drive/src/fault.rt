@@ -22,6 +22,9 @@ pub enum LineFault {
     /// The global isn't at or below the class that sets it.
     #[error("setting {0} names a global that is not at or below the class")]
     AboveClass(usize),
+    /// The global isn't one of the controller's inputs.
+    #[error("setting {0} names a global that is no input")]
+    NotAnInput(usize),
     /// The third field isn't a number that fits in a word.
     #[error("setting {0} has no number")]
     NotANumber(usize),

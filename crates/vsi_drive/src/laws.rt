@@ -1,8 +1,8 @@
 //! The laws of drives. Each function's contract is a law, and its body does nothing.
 
-ghost use Rattle.vsi_drive.specs.Laws.{SameCompiledDrives, SameDrives, SameSteadyDrives};
+ghost use Rattle.vsi_drive.specs.Laws.{SameCompiledDrives, SameDrives, SameReleasedCompiledDrives, SameReleasedDrives, SameReleasedSteadyDrives, SameSteadyDrives};
 
-/// For a noninterfering image, two drives over lines that set the same write the same output and
+/// For a noninterfering image and a controller that releases nothing, two drives over lines that set the same write the same output and
 /// lead to stores that agree, if the first stores agree at and below the class and no cycle is out
 /// of budget.
 pub fn same_drives()
@@ -18,4 +18,21 @@ pub fn same_compiled_drives()
 /// cycles may be out of budget.
 pub fn same_steady_drives()
     ensures { SameSteadyDrives }
+{}
+
+/// For a noninterfering image and any boundary: what an observer learns from the output is what is
+/// released. The same as `same_drives` holds of two drives whose cycles release the same words, one
+/// by one.
+pub fn same_released_drives()
+    ensures { SameReleasedDrives }
+{}
+
+/// The same for an image that `compile_in` made, over the lattice with which it was compiled.
+pub fn same_released_compiled_drives()
+    ensures { SameReleasedCompiledDrives }
+{}
+
+/// The same for an image that `steady_in` of `vsi_steady` accepts. Here cycles may be out of budget.
+pub fn same_released_steady_drives()
+    ensures { SameReleasedSteadyDrives }
 {}

@@ -13,6 +13,7 @@
 //! `specs/Starts`. The other files of `specs/` only support proofs.
 #![tactic(auto)]
 
+mod boundary;
 mod controller;
 mod fault;
 mod fields;
@@ -22,6 +23,7 @@ mod settings;
 mod starts;
 mod texts;
 
+pub use boundary::{Boundary, BoundaryFault, names_of};
 pub use controller::{Controller, CycleEnding};
 pub use fault::{LINE_LIMIT, LineFault};
 pub use starts::{StartFault, first_words};

@@ -26,6 +26,16 @@ impl<'r, 'a> Reach<'r, 'a> {
         }
     }
 
+    /// Whether a global of this name is an input.
+    pub(crate) fn takes(&self, name: &[u8]) -> bool
+        ensures { result ≡ (settable self.now).takes name.now }
+    {
+        match self {
+            Reach::UpTo(controller) => controller.takes(name),
+            Reach::All(_) => true,
+        }
+    }
+
     /// Whether a global of this class name may be set.
     pub(crate) fn may_set(&self, class: &[u8]) -> bool
         ensures { result ≡ (settable self.now).may class.now }

@@ -21,11 +21,13 @@ fn target(reach: &Reach, number: usize, name: &[u8]) -> Result<usize, LineFault>
 {
     for (i, variable) in reach.globals().iter().enumerate() {
         if variable.0.as_slice() == name {
-            return if reach.may_set(variable.1.as_slice()) {
-                Ok(i)
-            } else {
-                Err(LineFault::AboveClass(number))
-            };
+            if !reach.may_set(variable.1.as_slice()) {
+                return Err(LineFault::AboveClass(number));
+            }
+            if !reach.takes(variable.0.as_slice()) {
+                return Err(LineFault::NotAnInput(number));
+            }
+            return Ok(i);
         }
     }
     Err(LineFault::UnknownGlobal(number))

@@ -8,6 +8,7 @@ ghost use Rattle.vsi_drive.specs.Fields as fields_spec;
 ghost use Rattle.vsi_drive.specs.Reaches.{settable};
 ghost use Rattle.vsi_drive.specs.Starts as spec;
 
+use crate::boundary::BoundaryFault;
 use crate::fault::LineFault;
 use crate::fields::fields_of;
 use crate::reach::Reach;
@@ -23,6 +24,9 @@ pub enum StartFault {
     /// A setting has a fault. Its number is the number of the text.
     #[error("{0}")]
     Setting(LineFault),
+    /// The boundary of a controller has a fault, so its first cycle doesn't begin.
+    #[error("{0}")]
+    Boundary(BoundaryFault),
     /// The global with this number, from 0, is the first that has no key in the store file and
     /// isn't set.
     #[error("global {0} is not in the store file and not set")]

@@ -3,10 +3,12 @@
 ghost use Rattle.std.specs.Prelude.{◌≡◌, ◌++◌, ◌-◌, length, take, codes, decimal, IfOk, OnOk};
 ghost use Rattle.vsi_image.specs.Fields.{global, globals};
 ghost use Rattle.vsi_drive.specs.Settings as settings;
+ghost use Rattle.vsi_drive.specs.BoundaryFaults as faults;
 ghost use Rattle.vsi_drive.specs.Control.{control};
 ghost use Rattle.vsi_drive.specs.Cycles as spec;
 ghost use Rattle.vsi_drive.specs.Starts as starts;
 
+use crate::boundary::BoundaryFault;
 use crate::controller::Controller;
 use crate::fault::LineFault;
 use crate::starts::StartFault;
@@ -31,6 +33,7 @@ fn push_fault(text: &mut Vec<u8>, fault: LineFault) -> Result<(), AllocError>
         LineFault::BadSetting(n) => push_numbered(text, b"45 BadSetting", n),
         LineFault::UnknownGlobal(n) => push_numbered(text, b"46 NoGlobal", n),
         LineFault::AboveClass(n) => push_numbered(text, b"47 AboveClass", n),
+        LineFault::NotAnInput(n) => push_numbered(text, b"60 NotAnInput", n),
         LineFault::NotANumber(n) => push_numbered(text, b"48 NoNumber", n),
     }
 }
@@ -45,6 +48,19 @@ pub(crate) fn fault_line(alloc: Global, fault: LineFault) -> Result<Vec<u8>, All
     Ok(text)
 }
 
+/// Adds the number, the name and the field of a fault of a boundary.
+fn push_boundary_fault(text: &mut Vec<u8>, fault: BoundaryFault) -> Result<(), AllocError>
+    ensures { OnOk result (text.new.items ≡ text.old.items ++ faults.boundary_fault_name fault) }
+{
+    match fault {
+        BoundaryFault::UnknownInput(n) => push_numbered(text, b"61 UnknownInput", n),
+        BoundaryFault::InputAboveClass(n) => push_numbered(text, b"62 InputAboveClass", n),
+        BoundaryFault::UnknownOutput(n) => push_numbered(text, b"63 UnknownOutput", n),
+        BoundaryFault::OutputAboveClass(n) => push_numbered(text, b"64 OutputAboveClass", n),
+        BoundaryFault::NotAnOutput(n) => push_numbered(text, b"65 NotAnOutput", n),
+    }
+}
+
 /// The line that says why a run doesn't begin.
 pub fn start_fault_line(alloc: Global, fault: StartFault) -> Result<Vec<u8>, AllocError>
     ensures { IfOk result (λ text. text.items ≡ starts.start_fault_line fault) }
@@ -52,6 +68,7 @@ pub fn start_fault_line(alloc: Global, fault: StartFault) -> Result<Vec<u8>, All
     let mut text = Vec::from_slice(alloc, b"refused: ")?;
     match fault {
         StartFault::Setting(fault) => push_fault(&mut text, fault)?,
+        StartFault::Boundary(fault) => push_boundary_fault(&mut text, fault)?,
         StartFault::Unnamed(i) => push_numbered(&mut text, b"56 GlobalNotNamed", i)?,
     }
     text.extend_from_slice(b"\n")?;
@@ -65,7 +82,7 @@ pub(crate) fn spent_line(alloc: Global) -> Result<Vec<u8>, AllocError>
     Vec::from_slice(alloc, b"out of budget\n")
 }
 
-/// Adds one global and a space, if the class sees it.
+/// Adds one global and a space, if it is written.
 fn push_seen(
     text: &mut Vec<u8>,
     controller: &Controller,
@@ -75,7 +92,7 @@ fn push_seen(
     ensures { OnOk result (text.new.items ≡ text.old.items
         ++ spec.global_seen (control controller.now) (global variable.now) word) }
 {
-    if controller.sees(variable.1.as_slice()) {
+    if controller.writes(variable) {
         text.extend_from_slice(variable.0.as_slice())?;
         text.extend_from_slice(b" = ")?;
         put_word(text, word)?;
@@ -84,7 +101,7 @@ fn push_seen(
     Ok(())
 }
 
-/// The globals of a store that the class sees, with a space after each.
+/// The globals of a store that are written, with a space after each.
 fn globals_seen(
     alloc: Global,
     controller: &Controller,
@@ -103,7 +120,7 @@ fn globals_seen(
     Ok(text)
 }
 
-/// The globals of a store that the class sees, as a line.
+/// The globals of a store that are written, as a line.
 pub(crate) fn line_seen(
     alloc: Global,
     controller: &Controller,

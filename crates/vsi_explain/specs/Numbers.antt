@@ -25,7 +25,11 @@ is_image_refusal n = is_from 26 38 n || is_from 49 51 n
 abbrev pub is_store_refusal : ℕ → Bool
 is_store_refusal n = is_from 39 48 n || n == 56
 
+-- The refusals of a controller's inputs, outputs and released names.
+abbrev pub is_boundary_refusal : ℕ → Bool
+is_boundary_refusal n = is_from 60 65 n
+
 -- All refusals.
 abbrev pub is_refusal : ℕ → Bool
 is_refusal n =
-    is_lattice_refusal n || (is_text_refusal n || (is_scope_refusal n || (is_image_refusal n || is_store_refusal n)))
+    is_lattice_refusal n || (is_text_refusal n || (is_scope_refusal n || (is_image_refusal n || (is_store_refusal n || is_boundary_refusal n))))

@@ -1,6 +1,7 @@
 -- The page of each refusal.
 use Rattle.std.specs.Prelude.{ℕ, ◌==◌, List, [], ◌∷◌, Option}
 use Rattle.std.specs.Map.{lookup}
+use Rattle.vsi_explain.specs.declared.boundary.TheConstants as boundary
 use Rattle.vsi_explain.specs.declared.image.TheConstants as image
 use Rattle.vsi_explain.specs.declared.lattice.TheConstants as lattice
 use Rattle.vsi_explain.specs.declared.scope.TheConstants as scope
@@ -60,6 +61,12 @@ PAGES =
     ∷ (50, image.WRONG_FIELDS.now)
     ∷ (51, image.NO_TEXT.now)
     ∷ (56, store.GLOBAL_NOT_NAMED.now)
+    ∷ (60, boundary.NOT_AN_INPUT.now)
+    ∷ (61, boundary.UNKNOWN_INPUT.now)
+    ∷ (62, boundary.INPUT_ABOVE_CLASS.now)
+    ∷ (63, boundary.UNKNOWN_OUTPUT.now)
+    ∷ (64, boundary.OUTPUT_ABOVE_CLASS.now)
+    ∷ (65, boundary.NOT_AN_OUTPUT.now)
     ∷ []
 
 -- The page of the refusal of this number.

@@ -1,6 +1,7 @@
-use Rattle.std.proofs.Common.{◌∙◌, arith, inl, inr, sym, subst}
+use Rattle.std.proofs.Common.{◌≡◌, ◌∙◌, None, arith, inl, inr, sym, subst}
 use Rattle.std.proofs.lemmas.Result.{on_ok_weaker}
 use Rattle.vsi_devices.specs.Counted.{device_of}
+use Rattle.vsi_drive.specs.BoundaryFaults.{boundary_fault}
 use Rattle.vsi_drive.specs.Control.{control}
 use Rattle.vsi_image.specs.Fields.{globals}
 use Rattle.vsi_store.specs.Text.{store_text_of}
@@ -10,12 +11,12 @@ use Rattle.vsi.specs.Partly.{AnswersDrive, DrivenText, Partly}
 use Rattle.vsi.specs.Files.{IsStoredAt}
 use Rattle.vsi.specs.Refusals.{LacksClassAt}
 use Rattle.vsi.specs.Reasons.{LacksDrive, WhyDrive}
-use Rattle.vsi.proofs.Driven.{control_is, written_back}
+use Rattle.vsi.proofs.Driven.{written_back}
 use Rattle.vsi.proofs.Cut.{input_driven}
 use Rattle.vsi.proofs.Leaving.{driven_answers}
-use Rattle.vsi.proofs.Partly.{kept_leaf, kept_leaves, late_handed, late_leaves}
+use Rattle.vsi.proofs.Partly.{kept_leaves, late_handed, late_leaves}
 use Rattle.vsi.proofs.Reasons.{late_stopped}
-use Rattle.vsi.proofs.Undriven.{controller_stops, short_stopped}
+use Rattle.vsi.proofs.Undriven.{control_stopped, short_stopped}
 use Rattle.vsi.proofs.Unrun.{handed_late, more_stopped, store_stopped, unbounded_stopped, unseen_stopped}
 use Rattle.vsi.proofs.driving.drive.Goals as goal
 
@@ -40,19 +41,18 @@ returns-clause-performed g c =
       words = c.deref.result.now;
       budget = c.in_ok-budget.budget;
       within = c.in_ok-budget.ensures.budget;
-      admitted = c.in_ok-admit-in-Ok.ensures.admitted;
+      admitted = c.in_ok-admit.ensures.admitted;
+      sound = subst (λ k. boundary_fault k ≡ None) c.in_ok-controller.ensures.control c.in_ok-controller.ensures.sound;
       drives = subst (λ k. DrivesInput k c.in_ok-words.words.items c.deref.result.now given old new)
-          (control_is (control c.in-Ok.controller) c.in_ok-classes.classes c.in_ok-classes.driver image
-          c.in_ok-budget.budget c.in-Ok.ensures.known c.in-Ok.ensures.order c.in-Ok.ensures.class c.in-Ok.ensures.image
-          c.in-Ok.ensures.budget)
-          (subst (λ m. DrivesInput (control c.in-Ok.controller) m c.deref.result.now given old new)
+          c.in_ok-controller.ensures.control
+          (subst (λ m. DrivesInput (control c.in_ok-controller.controller) m c.deref.result.now given old new)
           c.deref_mut.ensures.value
-          (subst (λ w. DrivesInput (control c.in-Ok.controller) c.deref_mut.result.now w given old new)
+          (subst (λ w. DrivesInput (control c.in_ok-controller.controller) c.deref_mut.result.now w given old new)
           (sym (c.deref.ensures.value ∙ written_back _ _ _ (omega (
             arith,
             c.drive_input.auto.store,
             c.deref_mut.ensures.len,
-          )))) c.in_ok-drive_input-in-Ok.ensures.driven));
+          )))) c.in_ok-drive_input.ensures.driven));
       saved = subst (λ h. Delivers c.args.driving.save (store_text_of (globals image.globals.items)
           c.deref.result.now) h left)
           (c.in_ok-words.ensures.kept ∙ c.in_ok-classes.ensures.kept) saved;
@@ -87,30 +87,31 @@ returns-in_err-budget-clause-stopped g c =
     c.from_residual-in_err-budget.result c.in_err-budget.field-0.0 c.in_ok-classes.ensures.held
     (λ s lacks. inl (inr lacks)) c.from_residual-in_err-budget.ensures.1 c.in_err-budget.ensures.stopped
 
-pub returns-in_err-admit-in-Ok-clause-stopped : goal.returns-in_err-admit-in-Ok-clause-stopped
-returns-in_err-admit-in-Ok-clause-stopped g c =
+pub returns-in_err-admit-clause-stopped : goal.returns-in_err-admit-clause-stopped
+returns-in_err-admit-clause-stopped g c =
     let holds = g.F.Files.holds c.args.files.now in
     short_stopped holds c.args.driving (WhyDrive holds c.args.driving) c.in_ok-classes.classes
     c.in_ok-classes.driver c.in_ok-classes.verified c.in_ok-budget.budget
-    c.from_residual-in_err-admit-in-Ok.result c.in_err-admit-in-Ok.field-0.0 c.in_ok-classes.ensures.looks
+    c.from_residual-in_err-admit.result c.in_err-admit.field-0.0 c.in_ok-classes.ensures.looks
     c.in_ok-classes.ensures.held c.in_ok-budget.ensures.budget
-    c.from_residual-in_err-admit-in-Ok.ensures.1 c.in_err-admit-in-Ok.ensures.stopped
+    c.from_residual-in_err-admit.ensures.1 c.in_err-admit.ensures.stopped
 
-pub returns-in_err-admit-in-Ok-clause-left : goal.returns-in_err-admit-in-Ok-clause-left
-returns-in_err-admit-in-Ok-clause-left g c = kept_leaves _ 4 _ c.from_residual-in_err-admit-in-Ok.result
+pub returns-in_err-admit-clause-left : goal.returns-in_err-admit-clause-left
+returns-in_err-admit-clause-left g c = kept_leaves _ 4 _ c.from_residual-in_err-admit.result
 
-pub returns-in_err-drive_input-in-Ok-clause-stopped : goal.returns-in_err-drive_input-in-Ok-clause-stopped
-returns-in_err-drive_input-in-Ok-clause-stopped g c =
+pub returns-in_err-drive_input-clause-stopped : goal.returns-in_err-drive_input-clause-stopped
+returns-in_err-drive_input-clause-stopped g c =
     let holds = g.F.Files.holds c.args.files.now in
     late_stopped (WhyDrive holds c.args.driving) (LacksDrive holds c.args.driving)
-    c.from_residual-in_err-drive_input-in-Ok.result c.in_err-drive_input-in-Ok.field-0.0
-    c.from_residual-in_err-drive_input-in-Ok.ensures.1 c.in_err-drive_input-in-Ok.ensures.stop
+    c.from_residual-in_err-drive_input.result c.in_err-drive_input.field-0.0
+    c.from_residual-in_err-drive_input.ensures.1 c.in_err-drive_input.ensures.stop
 
-pub returns-in-Err-clause-stopped : goal.returns-in-Err-clause-stopped
-returns-in-Err-clause-stopped g c =
-    controller_stops (g.F.Files.holds c.args.files.now) c.args.driving c.in_ok-classes.classes
-    c.in_ok-classes.driver c.in_ok-classes.verified c.in-Err.error c.faulty.result c.in_ok-classes.ensures.looks
-    c.in_ok-classes.ensures.held c.in-Err.ensures.unknown c.faulty.ensures
+pub returns-in_err-controller-clause-stopped : goal.returns-in_err-controller-clause-stopped
+returns-in_err-controller-clause-stopped g c =
+    control_stopped (g.F.Files.holds c.args.files.now) c.args.driving c.in_ok-classes.classes
+    c.in_ok-classes.driver c.in_ok-classes.verified c.in_ok-budget.budget c.from_residual-in_err-controller.result
+    c.in_err-controller.field-0.0 c.in_ok-classes.ensures.looks c.in_ok-classes.ensures.held
+    c.in_ok-budget.ensures.budget c.from_residual-in_err-controller.ensures.1 c.in_err-controller.ensures.stopped
 
 pub returns-clause-stopped : goal.returns-clause-stopped
 returns-clause-stopped g c =
@@ -127,31 +128,32 @@ returns-in_err-words-clause-left g c = kept_leaves _ 4 _ c.from_residual-in_err-
 pub returns-in_err-budget-clause-left : goal.returns-in_err-budget-clause-left
 returns-in_err-budget-clause-left g c = kept_leaves _ 4 _ c.from_residual-in_err-budget.result
 
-pub returns-in-Err-clause-left : goal.returns-in-Err-clause-left
-returns-in-Err-clause-left g c = kept_leaf _ 4 _ c.faulty.result
+pub returns-in_err-names-clause-left : goal.returns-in_err-names-clause-left
+returns-in_err-names-clause-left g c = kept_leaves _ 4 _ c.from_residual-in_err-names.result
 
-pub returns-in_err-drive_input-in-Ok-clause-left : goal.returns-in_err-drive_input-in-Ok-clause-left
-returns-in_err-drive_input-in-Ok-clause-left g c =
+pub returns-in_err-controller-clause-left : goal.returns-in_err-controller-clause-left
+returns-in_err-controller-clause-left g c = kept_leaves _ 4 _ c.from_residual-in_err-controller.result
+
+pub returns-in_err-drive_input-clause-left : goal.returns-in_err-drive_input-clause-left
+returns-in_err-drive_input-clause-left g c =
     let holds = g.F.Files.holds c.args.files.now in
     let given = g.R.Read.remaining (device_of c.args.input.now) in
     let old = g.W.Write.contents (device_of c.args.output.now) in
     let new = g.W.Write.contents (device_of c.drive_input.new.output) in
-    let drives = control c.in-Ok.controller in
+    let drives = control c.in_ok-controller.controller in
     let asked = c.args.driving.execution in
     let words = c.in_ok-words.words.items in
     let image = c.in_ok-classes.verified in
-    late_handed (AnswersDrive holds c.args.driving given) old new c.from_residual-in_err-drive_input-in-Ok.result
-    c.in_err-drive_input-in-Ok.field-0.0 c.from_residual-in_err-drive_input-in-Ok.ensures.1
-    c.in_err-drive_input-in-Ok.ensures.stop
+    late_handed (AnswersDrive holds c.args.driving given) old new c.from_residual-in_err-drive_input.result
+    c.in_err-drive_input.field-0.0 c.from_residual-in_err-drive_input.ensures.1
+    c.in_err-drive_input.ensures.stop
     (driven_answers holds c.args.driving given old new c.in_ok-classes.classes c.in_ok-classes.driver image words
     c.in_ok-budget.budget drives c.in_ok-budget.ensures.budget c.in_ok-classes.ensures.looks c.in_ok-classes.ensures.held
     (subst (λ h. IsStoredAt h asked.store image words) c.in_ok-classes.ensures.kept c.in_ok-words.ensures.stored)
-    (control_is drives c.in_ok-classes.classes c.in_ok-classes.driver image
-    c.in_ok-budget.budget c.in-Ok.ensures.known
-    c.in-Ok.ensures.order c.in-Ok.ensures.class c.in-Ok.ensures.image c.in-Ok.ensures.budget)
-    c.in_ok-admit-in-Ok.ensures.admitted
+    c.in_ok-controller.ensures.control
+    c.in_ok-admit.ensures.admitted
     (subst (λ m. Partly (DrivenText drives m given) old new) c.deref_mut.ensures.value
-    c.in_err-drive_input-in-Ok.ensures.cut))
+    c.in_err-drive_input.ensures.cut))
 
 pub returns-clause-left : goal.returns-clause-left
 returns-clause-left g c =
@@ -159,7 +161,7 @@ returns-clause-left g c =
     let given = g.R.Read.remaining (device_of c.args.input.now) in
     let old = g.W.Write.contents (device_of c.args.output.now) in
     let new = g.W.Write.contents (device_of c.drive_input.new.output) in
-    let drives = control c.in-Ok.controller in
+    let drives = control c.in_ok-controller.controller in
     let asked = c.args.driving.execution in
     let words = c.in_ok-words.words.items in
     let image = c.in_ok-classes.verified in
@@ -167,9 +169,7 @@ returns-clause-left g c =
     (driven_answers holds c.args.driving given old new c.in_ok-classes.classes c.in_ok-classes.driver image words
     c.in_ok-budget.budget drives c.in_ok-budget.ensures.budget c.in_ok-classes.ensures.looks c.in_ok-classes.ensures.held
     (subst (λ h. IsStoredAt h asked.store image words) c.in_ok-classes.ensures.kept c.in_ok-words.ensures.stored)
-    (control_is drives c.in_ok-classes.classes c.in_ok-classes.driver image
-    c.in_ok-budget.budget c.in-Ok.ensures.known
-    c.in-Ok.ensures.order c.in-Ok.ensures.class c.in-Ok.ensures.image c.in-Ok.ensures.budget)
-    c.in_ok-admit-in-Ok.ensures.admitted
+    c.in_ok-controller.ensures.control
+    c.in_ok-admit.ensures.admitted
     (subst (λ m. Partly (DrivenText drives m given) old new) c.deref_mut.ensures.value
-    (input_driven drives c.deref_mut.result.now _ given old new c.in_ok-drive_input-in-Ok.ensures.driven)))
+    (input_driven drives c.deref_mut.result.now _ given old new c.in_ok-drive_input.ensures.driven)))
