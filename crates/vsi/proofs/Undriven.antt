@@ -26,8 +26,7 @@ use Rattle.vsi.specs.Files.{IsBudgetOf, LooksAt}
 use Rattle.vsi.specs.Refusals.{IsNoMemory, NoOther, StopsBy}
 use Rattle.vsi.specs.Performed.{control_of}
 use Rattle.vsi.specs.Reasons.{IsBoundaryStart, LacksDrive, RefusesControl, SaysShort, WhyDrive}
-use Rattle.vsi.specs.Stops.{stop_of}
-use Rattle.vsi.proofs.Reasons.{StopsBy-weaker, handed, reason_stops, stopped_by, stops_by}
+use Rattle.vsi.proofs.Reasons.{StopsBy-weaker, handed, stopped_by, stops_by}
 use Rattle.vsi.proofs.Unrun.{kind_told}
 
 -- Why there is no controller: a global, the first such one, has a class that the lattice lacks.
@@ -41,17 +40,14 @@ lacking_fault : (l : Lattice) (image : Image) (error : ViewError) → LacksContr
     IsViewFault l image (fault.View error)
 lacking_fault l image error (i, first, is) = subst (λ e. IsViewFault l image (fault.View e)) (sym is) first
 
--- The stop for that fault claims that the controller is refused.
-pub controller_stops : (lists : NameLists) (l : Lattice) (driver : ℕ) (image : Image) (budget : ℕ) (error : ViewError)
-    (stop : Stop) → LacksController l image error →
+-- The stop for that fault claims it.
+pub controller_stops : (l : Lattice) (image : Image) (error : ViewError) (stop : Stop) → LacksController l image error →
     StopsBy (Because (TellsFault (λ f. (f ≡ fault.View error) × IsNoMemory f)) ⊥) NoOther stop →
-    StopsBy (RefusesControl lists l driver image budget) NoOther stop
-controller_stops lists l driver image budget error stop lacks told =
+    StopsBy (Because (TellsFault (IsViewFault l image)) ⊥) NoOther stop
+controller_stops l image error stop lacks told =
     stops_by (Because (TellsFault (λ f. (f ≡ fault.View error) × IsNoMemory f)) ⊥)
-    (RefusesControl lists l driver image budget) NoOther
-    (λ reason is. inl (kind_told (IsViewFault l image) (fault.View error) (λ other. lacking_fault l image error lacks)
-    reason is))
-    stop told
+    (Because (TellsFault (IsViewFault l image)) ⊥) NoOther
+    (kind_told (IsViewFault l image) (fault.View error) (λ other. lacking_fault l image error lacks)) stop told
 
 -- A report of one fault of a start is a report of a fault of its kind.
 start_told : (Kind : StartFault → Type 0) (f : StartFault) → Kind f → (reason : Unanswered) →
@@ -66,13 +62,15 @@ start_told Kind f kind unanswered.Memory told = tt
 
 -- The stop for a fault of the boundary claims that the controller is refused.
 pub boundary_stops : (lists : NameLists) (l : Lattice) (driver : ℕ) (image : Image) (budget : ℕ) (f : BoundaryFault)
-    (reason : Unanswered) → boundary_fault (control_of lists l driver image budget) ≡ Some f →
-    Because (TellsStartFault (λ g. g ≡ start.Boundary f)) ⊥ reason →
-    StopsBy (RefusesControl lists l driver image budget) NoOther (stop_of reason)
-boundary_stops lists l driver image budget f reason is told =
-    reason_stops (RefusesControl lists l driver image budget) NoOther reason
-    (inr (start_told (IsBoundaryStart (control_of lists l driver image budget)) (start.Boundary f) (f, refl, is) reason
-    told))
+    (stop : Stop) → boundary_fault (control_of lists l driver image budget) ≡ Some f →
+    StopsBy (Because (TellsStartFault (λ g. g ≡ start.Boundary f)) ⊥) NoOther stop →
+    StopsBy (RefusesControl lists l driver image budget) NoOther stop
+boundary_stops lists l driver image budget f stop is told =
+    stops_by (Because (TellsStartFault (λ g. g ≡ start.Boundary f)) ⊥) (RefusesControl lists l driver image budget)
+    NoOther
+    (λ reason why. inr (start_told (IsBoundaryStart (control_of lists l driver image budget)) (start.Boundary f)
+    (f, refl, is) reason why))
+    stop told
 
 -- A drive whose controller is refused stops for that reason.
 pub control_stopped : {T : Type 0} (holds : Holding) (d : Driving) (l : Lattice) (driver : ℕ) (image : Image)

@@ -4,7 +4,10 @@ ghost use Rattle.std.specs.Prelude.{◌≡◌, [], None, IfOk, IfErr, option_map
 ghost use Rattle.vsi_drive.specs.Boundary.{boundary_of, listed};
 ghost use Rattle.vsi_drive.specs.BoundaryFaults.{boundary_fault};
 ghost use Rattle.vsi_drive.specs.Control.{control};
-ghost use Rattle.vsi_lattice.specs.LatticeView.{order};
+ghost use Rattle.vsi_drive.specs.declared.starts.StartFault.TheVariants as start;
+ghost use Rattle.vsi_answers.specs.Answers.{Because};
+ghost use Rattle.vsi_answers.specs.Judged.{IsViewFault, TellsFault, TellsStartFault};
+ghost use Rattle.vsi_lattice.specs.LatticeView.{class_named, order};
 ghost use Rattle.vsi_lattice.specs.NamePlaces.{texts};
 ghost use Rattle.vsi_lattice.specs.Order.{IsClass};
 ghost use Rattle.vsi.specs.Boundaries.{boundary_in, given_names, read_names, requested};
@@ -105,7 +108,41 @@ fn faulty_list<'a>(lists: NameLists<'a>, fault: BoundaryFault) -> (&'static str,
     }
 }
 
-/// A controller of an image with the requested boundary. A list at fault is kept for an explanation.
+/// The stop for a fault of the boundary. The list at fault is kept for an explanation.
+fn boundary_stop<'a>(desk: &mut Desk, lists: NameLists<'a>, fault: BoundaryFault) -> Stop<'a>
+    ensures { StopsBy (Because (TellsStartFault (λ f. f ≡ start.Boundary fault)) ⊥) NoOther result }
+{
+    let (option, list) = faulty_list(lists, fault);
+    if desk.keep(Kind::Names, option, list.as_bytes()).is_err() {
+        return Stop::Memory;
+    }
+    Stop::from(refused_start(desk.alloc, StartFault::Boundary(fault)))
+}
+
+/// A controller of an image without lists.
+fn plain_controller<'a, 'c>(
+    alloc: Global,
+    classes: &'c Lattice,
+    driver: Class,
+    verified: &'c Verified,
+    budget: u64,
+) -> Result<Controller<'c>, Stop<'a>>
+    requires { IsClass (order classes.now) driver }
+    ensures known { IfOk result (λ c. (control c).known ≡ class_named classes.now) }
+    ensures order { IfOk result (λ c. (control c).order ≡ order classes.now) }
+    ensures class { IfOk result (λ c. (control c).class ≡ driver) }
+    ensures image { IfOk result (λ c. (control c).image ≡ verified.now) }
+    ensures budget { IfOk result (λ c. (control c).budget ≡ budget) }
+    ensures stopped { IfErr result
+        (StopsBy (Because (TellsFault (IsViewFault classes.now verified.now)) ⊥) NoOther) }
+{
+    match Controller::new(classes, verified, driver, budget) {
+        Ok(controller) => Ok(controller),
+        Err(error) => Err(faulty(alloc, Fault::View(error))),
+    }
+}
+
+/// A controller of an image with the requested boundary.
 pub(crate) fn controller_of<'a, 'c>(
     desk: &mut Desk,
     lists: NameLists<'a>,
@@ -123,16 +160,9 @@ pub(crate) fn controller_of<'a, 'c>(
     ensures stopped { IfErr result (StopsBy
         (RefusesControl lists.entry classes.now driver verified.now budget) NoOther) }
 {
-    let controller = match Controller::new(classes, verified, driver, budget) {
-        Ok(controller) => controller,
-        Err(error) => return Err(faulty(desk.alloc, Fault::View(error))),
-    };
-    match controller.within(names.boundary()) {
+    let plain = plain_controller(desk.alloc, classes, driver, verified, budget)?;
+    match plain.within(names.boundary()) {
         Ok(controller) => Ok(controller),
-        Err(fault) => {
-            let (option, list) = faulty_list(lists, fault);
-            desk.keep(Kind::Names, option, list.as_bytes())?;
-            Err(Stop::from(refused_start(desk.alloc, StartFault::Boundary(fault))))
-        }
+        Err(fault) => Err(boundary_stop(desk, lists, fault)),
     }
 }
