@@ -74,7 +74,7 @@ export function flowPairs(output) {
 
 /** A lattice from the graph of `draw`: the classes in their order, and the pairs that are directly above each other. */
 export function lattice(output) {
-  const classes = [...output.matchAll(/^ {2}"(\w+)";$/gm)].map((found) => found[1]);
+  const classes = [...output.matchAll(/^ {2}"(\w+)"(?: \[[^\]]*\])?;$/gm)].map((found) => found[1]);
   const covers = [...output.matchAll(/^ {2}"(\w+)" -> "(\w+)";$/gm)].map((found) => [found[1], found[2]]);
   const below = new Map(classes.map((name) => [name, new Set([name])]));
   for (let round = 0; round < classes.length; round += 1) {

@@ -90,7 +90,8 @@ DONE = {command: re.compile(form) for command, form in {
     "drive": rb"(?:(?:\w+ = -?\d+(?: \w+ = -?\d+)*)?\n|refused: 4[4-8] \w+(?: \d+)?\n|out of budget\n)*",
     "conform": rb'conforms\n|\{"conforms":true,"points":\[\]\}\n', "audit": rb"accepted\n",
     "report": rb"<!DOCTYPE html>(?s:.*)</html>\n", "explain": rb"\d+ \w+(?s:.*)\n",
-    "draw": rb"digraph lattice \{\n(?:  .*\n)*\}\n(?:digraph flows \{\n(?:  .*\n)*\}\n)?",
+    "draw": rb"digraph (?:lattice|flows) \{\n(?:  .*\n)*\}\n"
+            rb"|digraph policy \{\n(?:  .*\n)*(?:subgraph cluster_(?:lattice|flows) \{\n(?:  .*\n)*\}\n){2}\}\n",
     "bound": rb"halts within \d+ instructions\n", "emit-c": rb"(?:[ -~]*\n)+", "lsp": MESSAGES,
     "policy": rb"(?:\w+ (?:sees|now sees|no longer sees) .+\n)*(?:no class sees more or less than before\n)?",
     "list": rb"globals \d+\nslots \d+\nstack \d+\n(?:\w+ : \w+\n)*(?:\d+: [A-Z]+(?: -?\d+)?\n)+"}.items()}

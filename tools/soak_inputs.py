@@ -356,6 +356,7 @@ class Input:
     def __init__(self, rng, subcommands):
         self.command = rng.choice(subcommands)
         self.options = {"check": ["--steady"], "flows": ["--walks"], "mend": ["--apply", "--json"],
+                        "draw": ["--flows"],
                         "fmt": ["--keep-comments", "--check"]} if subcommands is ALL else {}
         self.files = {"source": b"", "lattice": b"", "image": b"", "store": b"", "other": b""}
         self.words = [self.command] if self.command else []

@@ -25,7 +25,7 @@ use Rattle.vsi_devices.specs.Running.{RunsApart}
 use Rattle.vsi_leak.specs.declared.whole.Wanted.{Wanted}
 use Rattle.vsi_audit.specs.Standing.{HasKnownClasses}
 use Rattle.vsi_audit.specs.Text.{IsSourceText}
-use Rattle.vsi_report.specs.FlowsGraph.{IsFlowsGraph}
+use Rattle.vsi_report.specs.FlowsGraph.{IsFlowsGraph, IsPolicyGraph}
 use Rattle.vsi_report.specs.Graph.{IsLatticeGraph}
 use Rattle.vsi_report.specs.Page.{HasPanel}
 use Rattle.vsi_conform.specs.Beside.{beside}
@@ -184,21 +184,22 @@ pub record AuditsFiles (holds : Holding) (a : Audit) : Type 0 where
   pub held : IsImageAt holds a.image.now image
   pub passes : Passes a.is_steady a.is_strict lattice image
 
--- The graph of the flows of a source text, and nothing where none is given.
-abbrev pub ToldFlowsGraph : Holding → Option (Bor (List ℕ)) → Bool → Lattice → List ℕ → Type 0
-ToldFlowsGraph holds None is_strict l graph = graph ≡ []
-ToldFlowsGraph holds (Some path) is_strict l graph =
-    (source : List ℕ) × IsReadAt holds path.now source × IsFlowsGraph l (profile_of is_strict) source graph
+-- The graph of the flows of a source text under a lattice, alone or beside that of the lattice.
+abbrev pub GraphOf : Bool → Profile → Lattice → List ℕ → List ℕ → Type 0
+GraphOf true P l source graph = IsFlowsGraph l P source graph
+GraphOf false P l source graph = IsPolicyGraph l P source graph
 
--- The graph of a lattice, followed by the graph of the flows.
+-- The graph of a lattice, or with a source text that of its flows.
+abbrev pub DrawsGraph : Holding → Option (Bor (List ℕ)) → Bool → Bool → Lattice → List ℕ → Type 0
+DrawsGraph holds None is_strict is_alone l graph = IsLatticeGraph l graph
+DrawsGraph holds (Some path) is_strict is_alone l graph =
+    (source : List ℕ) × IsReadAt holds path.now source × GraphOf is_alone (profile_of is_strict) l source graph
+
+-- The graph of a lattice file, or with a source text that of its flows.
 pub record DrawsFiles (holds : Holding) (d : Drawing) (text : Vec ℕ) : Type 0 where
   pub lattice : Lattice
   pub declared : IsLatticeAt holds d.lattice.now lattice
-  pub classes : List ℕ
-  pub of_classes : IsLatticeGraph lattice classes
-  pub flows : List ℕ
-  pub of_flows : ToldFlowsGraph holds d.source d.is_strict lattice flows
-  pub parts : text.items ≡ classes ++ flows
+  pub graph : DrawsGraph holds d.source d.is_strict d.is_alone lattice text.items
 
 -- A search is at this class: that of the name that is given, or each class if none is given.
 abbrev pub LooksFor : Lattice → Option (Bor (List ℕ)) → Option ℕ → Type 0

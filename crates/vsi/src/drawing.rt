@@ -1,9 +1,16 @@
 //! Pages and pictures.
 
-ghost use Rattle.std.specs.Prelude.{◌≡◌, Some, IfErr, IfOk, IsSomeAnd};
+ghost use Rattle.std.specs.Prelude.{◌≡◌, List, Some, IfErr, IfOk, IsSomeAnd};
+ghost use Rattle.vsi_lattice.specs.LatticeView.{class_named};
+ghost use Rattle.vsi_syntax.specs.Tree.{Whole};
+ghost use Rattle.vsi_scope.specs.Language.{Command};
+ghost use Rattle.vsi_scope.specs.Resolving.{IsResolution};
+ghost use Rattle.vsi_compiler.specs.Source.{Reads};
+ghost use Rattle.vsi_compiler.specs.declared.error.CompileError.TheVariants.{Memory};
+ghost use Rattle.vsi_compiler.specs.Refusal.{RefusesProgram};
 ghost use Rattle.vsi.specs.Holding.{IsLatticeAt};
 ghost use Rattle.vsi.specs.Files.{OfFiles};
-ghost use Rattle.vsi.specs.Performed.{DrawsFiles, ToldFlowsGraph, ToldPage};
+ghost use Rattle.vsi.specs.Performed.{DrawsFiles, DrawsGraph, GraphOf, ToldPage, profile_of};
 ghost use Rattle.vsi_report.specs.Page.{HasPanel};
 ghost use Rattle.vsi.specs.Refusals.{NoOther, RefusesLattice, RefusesProgramAt, StopsBy};
 ghost use Rattle.vsi.specs.Reasons.{WhyDraw};
@@ -15,8 +22,9 @@ use crate::stop::Stop;
 use crate::subcommands::profile;
 use std::alloc::Global;
 use vsi_arguments::{Compilation, Drawing};
+use vsi_compiler::CompileError;
 use vsi_lattice::Lattice;
-use vsi_report::{Filing, ReportError, filed_page, flows_dot, lattice_dot};
+use vsi_report::{Filing, ReportError, filed_page, flows_dot, lattice_dot, policy_dot};
 
 /// The bytes of a lattice file, and its lattice.
 fn policy_in<'a, F: Files>(
@@ -74,48 +82,73 @@ pub(crate) fn report<'a, F: Files>(
     Ok(page_of(desk.alloc, compilation, &read.0, &read.1, text.as_slice())?)
 }
 
-/// The graph of the flows of the source text.
+/// The graph of a text's flows, alone or beside that of its lattice.
+fn graph_of(
+    alloc: Global,
+    is_strict: bool,
+    is_alone: bool,
+    classes: &Lattice,
+    text: &[u8],
+) -> Result<Vec<u8>, CompileError>
+    ensures graph { IfOk result (λ graph.
+        GraphOf is_alone (profile_of is_strict) classes.now text.now graph.items) }
+    ensures refused { IfErr result (RefusesProgram (class_named classes.now) text.now) }
+    ensures exact { (tree : Whole) (commands : List Command) → Reads text.now tree
+        → IsResolution (class_named classes.now) tree commands
+        → IfErr result (λ e. e ≡ Memory) }
+{
+    let judged = profile(is_strict);
+    if is_alone {
+        flows_dot(alloc, judged, classes, text)
+    } else {
+        policy_dot(alloc, judged, classes, text)
+    }
+}
+
+/// The graph of the flows of the source text, alone or beside that of the lattice.
 fn flows_graph<'a, F: Files>(
     desk: &mut Desk,
     classes: &Lattice,
     source: &'a str,
     is_strict: bool,
+    is_alone: bool,
     files: &mut F,
 ) -> Result<Vec<u8>, Stop<'a>>
     ensures kept { F.holds files.new ≡ F.holds files.old }
-    ensures told { IfOk result (λ graph. ToldFlowsGraph (F.holds files.old)
-        (Some source.entry) is_strict classes.now graph.items) }
+    ensures told { IfOk result (λ graph. DrawsGraph (F.holds files.old)
+        (Some source.entry) is_strict is_alone classes.now graph.items) }
     ensures stopped { IfErr result
         (StopsBy (RefusesProgramAt (F.holds files.old) classes.now source.now) NoOther) }
 {
     let text = bytes_in(desk, Kind::Source, source, files)?;
-    match flows_dot(desk.alloc, profile(is_strict), classes, text.as_slice()) {
+    match graph_of(desk.alloc, is_strict, is_alone, classes, text.as_slice()) {
         Ok(graph) => Ok(graph),
         Err(error) => Err(refused(desk.alloc, classes, text.as_slice(), error)),
     }
 }
 
-/// The graph of the flows of a source text, or nothing if none is given.
-fn flows_behind<'a, F: Files>(
+/// The graph of the lattice, or with a source text that of its flows, alone or beside the lattice.
+fn graph_for<'a, F: Files>(
     desk: &mut Desk,
     classes: &Lattice,
     source: Option<&'a str>,
     is_strict: bool,
+    is_alone: bool,
     files: &mut F,
 ) -> Result<Vec<u8>, Stop<'a>>
     ensures kept { F.holds files.new ≡ F.holds files.old }
-    ensures told { IfOk result (λ graph. ToldFlowsGraph (F.holds files.old) source.entry is_strict
-        classes.now graph.items) }
+    ensures told { IfOk result (λ graph. DrawsGraph (F.holds files.old) source.entry is_strict
+        is_alone classes.now graph.items) }
     ensures stopped { IfErr result (StopsBy (λ reason. IsSomeAnd source.entry
         (λ path. RefusesProgramAt (F.holds files.old) classes.now path.now reason)) NoOther) }
 {
     match source {
-        Some(source) => flows_graph(desk, classes, source, is_strict, files),
-        None => Ok(Vec::new(desk.alloc)),
+        Some(source) => flows_graph(desk, classes, source, is_strict, is_alone, files),
+        None => Ok(lattice_dot(desk.alloc, classes)?),
     }
 }
 
-/// The graph of the lattice, followed by the graph of the flows if a source text is given.
+/// The graph that a drawing requests.
 pub(crate) fn draw<'a, F: Files>(
     desk: &mut Desk,
     drawing: Drawing<'a>,
@@ -127,8 +160,13 @@ pub(crate) fn draw<'a, F: Files>(
         (WhyDraw (F.holds files.old) drawing.entry.lattice.now drawing.entry.source) NoOther) }
 {
     let classes = lattice_in(desk, drawing.lattice, files)?;
-    let mut graphs = lattice_dot(desk.alloc, &classes)?;
-    let flows = flows_behind(desk, &classes, drawing.source, drawing.is_strict, files)?;
-    graphs.extend_from_slice(&flows)?;
-    Ok(graphs)
+    let graph = graph_for(
+        desk,
+        &classes,
+        drawing.source,
+        drawing.is_strict,
+        drawing.is_alone,
+        files,
+    )?;
+    Ok(graph)
 }

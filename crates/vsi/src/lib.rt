@@ -154,6 +154,7 @@ pub use vsi_report::ReportError;
 pub use vsi_report::filed_page;
 pub use vsi_report::flows_dot;
 pub use vsi_report::lattice_dot;
+pub use vsi_report::policy_dot;
 pub use vsi_report::put_escaped;
 pub use vsi_report::report_page;
 pub use vsi_scope::ScopeError;

@@ -199,6 +199,13 @@ pub(crate) const MEND_JSON: Argument = Argument {
     whole: word_help::MEND_JSON,
 };
 
+pub(crate) const FLOWS_ALONE: Argument = Argument {
+    name: "flows",
+    form: Form::Flag,
+    line: "Draws the flows without the lattice",
+    whole: word_help::FLOWS_ALONE,
+};
+
 pub(crate) const WALKS: Argument = Argument {
     name: "walks",
     form: Form::Flag,

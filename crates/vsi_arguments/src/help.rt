@@ -333,13 +333,15 @@ Example:
 
 /// The long help of `draw`.
 pub(crate) const DRAW: &str = "\
-Prints a lattice, and the flows of a source text, as graphs.
+Prints a lattice, and the flows of a source text, as a graph.
 
 Reads and judges the lattice file, and prints a graph in the language of
 Graphviz with an edge from each class to each one directly above it. With a
-source text, which is read and judged except for its flows, a second graph has a
-node for each variable and an edge for each rule by which one flows to another
-in one step.
+source text, which is read and judged except for its flows, the graph has two
+boxes: in the second are a node for each variable, in the colour of its class
+and above those of lower classes, and an edge for each rule by which one flows
+to another in one step. The steps of a refused flow are thick, red and numbered.
+With --flows the second box is the whole graph.
 
 Statuses: 0 printed, 1 refused for a cause other than a flow, 2 usage,
 4 file fault, 5 out of memory.";
@@ -347,14 +349,7 @@ Statuses: 0 printed, 1 refused for a cause other than a flow, 2 usage,
 /// An example of `draw`.
 pub(crate) const DRAW_EXAMPLE: &str = "\
 Example:
-  $ vsi draw two.toml
-  digraph lattice {
-    rankdir=BT;
-    node [shape=box, style=rounded];
-    \"L\";
-    \"H\";
-    \"L\" -> \"H\";
-  }";
+  $ vsi draw two.toml leak.vsi | dot -Tsvg > leak.svg";
 
 /// The long help of `policy`.
 pub(crate) const POLICY: &str = "\

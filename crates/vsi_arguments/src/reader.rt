@@ -56,6 +56,8 @@ enum Mistake {
     CheckAndWrite,
     /// The text with the raised classes is to be printed as JSON.
     ApplyAndJson,
+    /// The flows of no text are to be drawn.
+    FlowsOfNothing,
     NoSubcommand,
 }
 
@@ -68,6 +70,7 @@ impl Mistake {
             | Mistake::ImageIsRead
             | Mistake::NoName => ErrorKind::ValueValidation,
             Mistake::CheckAndWrite | Mistake::ApplyAndJson => ErrorKind::ArgumentConflict,
+            Mistake::FlowsOfNothing => ErrorKind::MissingRequiredArgument,
             Mistake::NoTwoStores => ErrorKind::WrongNumberOfValues,
             Mistake::NoSubcommand => ErrorKind::MissingSubcommand,
         }
@@ -86,6 +89,7 @@ impl Mistake {
             Mistake::NoName => "the name isn't an identifier of C, or it is a keyword",
             Mistake::CheckAndWrite => "`--check` writes nothing, so it doesn't go with `--write`",
             Mistake::ApplyAndJson => "`--apply` prints a text, so it doesn't go with `--json`",
+            Mistake::FlowsOfNothing => "`--flows` needs a SOURCE, whose flows it draws",
             Mistake::NoSubcommand => "a subcommand is needed",
         }
     }
@@ -166,6 +170,7 @@ fn named<'a>(
         "build" => Ok(build_request(inner)),
         "emit-c" => Ok(emission_request(inner)),
         "fmt" => Ok(format_request(inner)),
+        "draw" => Ok(draw_request(inner)),
         _ => Ok(Ok(requested(name, inner))),
     }
 }
@@ -185,7 +190,6 @@ fn requested<'a>(name: &str, inner: &ArgMatches<'a>) -> Request<'a> {
         "leak" => Request::Leak(search_in(inner)),
         "lsp" => Request::Lsp(serving_in(inner)),
         "report" => Request::Report(compilation_in(inner)),
-        "draw" => Request::Draw(drawing_in(inner)),
         _ => Request::Policy(looking_in(inner)),
     }
 }
@@ -352,12 +356,18 @@ fn compilation_in<'a>(matches: &ArgMatches<'a>) -> Compilation<'a> {
     }
 }
 
-fn drawing_in<'a>(matches: &ArgMatches<'a>) -> Drawing<'a> {
-    Drawing {
-        lattice: text(matches, "LATTICE"),
-        source: matches.get_str("SOURCE"),
-        is_strict: matches.get_flag("strict"),
+fn draw_request<'a>(matches: &ArgMatches<'a>) -> Result<Request<'a>, Mistake> {
+    let source = matches.get_str("SOURCE");
+    let is_alone = matches.get_flag("flows");
+    if is_alone && source.is_none() {
+        return Err(Mistake::FlowsOfNothing);
     }
+    Ok(Request::Draw(Drawing {
+        lattice: text(matches, "LATTICE"),
+        source,
+        is_strict: matches.get_flag("strict"),
+        is_alone,
+    }))
 }
 
 fn looking_in<'a>(matches: &ArgMatches<'a>) -> Looking<'a> {

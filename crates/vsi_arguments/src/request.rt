@@ -104,13 +104,14 @@ pub struct Conformance<'a> {
     pub is_json: bool,
 }
 
-/// A drawing: the paths of a lattice file and, if flows are drawn too, of a source text, and
-/// whether the flows are those of the strict profile.
+/// A drawing: the paths of a lattice file and, if flows are drawn too, of a source text; whether
+/// the flows are those of the strict profile; and whether they are drawn without the lattice.
 #[derive(Clone, Copy)]
 pub struct Drawing<'a> {
     pub lattice: &'a str,
     pub source: Option<&'a str>,
     pub is_strict: bool,
+    pub is_alone: bool,
 }
 
 /// A look at a policy: the paths of a lattice file and, if it is compared with an older one, of that.

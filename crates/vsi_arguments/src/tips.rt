@@ -4,7 +4,7 @@ use std::alloc::{AllocError, Global};
 
 /// The options that only some subcommands have, as a mistake quotes them, and the subcommands that
 /// have each.
-const OWNERS: [(&str, &str); 31] = [
+const OWNERS: [(&str, &str); 32] = [
     ("'--apply'", "mend"),
     ("'--bounded'", "emit-c"),
     ("'--budget'", "try, run, view, drive, compare and leak"),
@@ -21,6 +21,7 @@ const OWNERS: [(&str, &str); 31] = [
         "every subcommand except lattice, lsp and explain, and comes after the subcommand, as in \
         `vsi try a.vsi --explain`",
     ),
+    ("'--flows'", "draw"),
     ("'--full-store'", "run and view"),
     ("'--header'", "emit-c"),
     ("'--inputs'", "drive"),

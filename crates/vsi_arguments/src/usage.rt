@@ -161,10 +161,10 @@ const SUBCOMMANDS: [Subcommand; 21] = [
     },
     Subcommand {
         name: "draw",
-        line: "Prints a lattice, and the flows of a source text, as graphs",
+        line: "Prints a lattice, and the flows of a source text, as a graph",
         whole: help::DRAW,
         example: help::DRAW_EXAMPLE,
-        arguments: &[LATTICE, DRAWN_SOURCE, STRICT],
+        arguments: &[LATTICE, DRAWN_SOURCE, STRICT, FLOWS_ALONE],
     },
     Subcommand {
         name: "policy",

@@ -142,6 +142,11 @@ each declaration whose class has to rise. Comments and layout stay.
 The new text is accepted: it has been judged. One that has grown too
 long is refused.";
 
+/// `--flows`.
+pub(crate) const FLOWS_ALONE: &str = "\
+Draws the flows of SOURCE without the lattice. Without SOURCE the
+lattice is drawn alone.";
+
 /// `--walks`.
 pub(crate) const WALKS: &str = "\
 Prints the steps of a shortest chain below each line, in the form that

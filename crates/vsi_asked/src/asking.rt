@@ -243,7 +243,10 @@ fn asks_lsp(words: &[String], serving: &Serving<'_>) -> bool
 fn asks_draw(words: &[String], drawing: &Drawing<'_>) -> bool
     ensures { result ≡ true → spec.Spells words.now (request.Draw drawing.now) }
 {
-    let flags = [("--strict", drawing.is_strict)];
+    let flags = [
+        ("--strict", drawing.is_strict),
+        ("--flows", drawing.is_alone),
+    ];
     match drawing.source {
         Some(source) => {
             let operands = [drawing.lattice.as_bytes(), source.as_bytes()];

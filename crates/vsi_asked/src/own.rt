@@ -29,6 +29,9 @@ const CONFORM: [&[u8]; 2] = [b"--json", b"--explain"];
 /// The flags of `flows`.
 const FLOWS: [&[u8]; 3] = [b"--strict", b"--walks", b"--explain"];
 
+/// The flags of `draw`.
+const DRAW: [&[u8]; 3] = [b"--strict", b"--flows", b"--explain"];
+
 /// The flags of `mend`.
 const MEND: [&[u8]; 4] = [b"--strict", b"--apply", b"--json", b"--explain"];
 
@@ -156,7 +159,7 @@ pub(crate) fn has_own_alone(words: &[String], request: &Request<'_>) -> bool
         Request::Classes(_) => are_own(words, STRICT.as_slice(), NO_OPTIONS.as_slice()),
         Request::Build(_, _) => are_own(words, STRICT.as_slice(), NO_OPTIONS.as_slice()),
         Request::Report(_) => are_own(words, STRICT.as_slice(), NO_OPTIONS.as_slice()),
-        Request::Draw(_) => are_own(words, STRICT.as_slice(), NO_OPTIONS.as_slice()),
+        Request::Draw(_) => are_own(words, DRAW.as_slice(), NO_OPTIONS.as_slice()),
         Request::Flows { .. } => are_own(words, FLOWS.as_slice(), NO_OPTIONS.as_slice()),
         Request::Mend(_) => are_own(words, MEND.as_slice(), NO_OPTIONS.as_slice()),
         Request::Audit(_) => are_own(words, AUDIT.as_slice(), NO_OPTIONS.as_slice()),

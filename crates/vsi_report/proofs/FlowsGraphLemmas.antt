@@ -10,7 +10,7 @@ use Rattle.vsi_types.proofs.Tables.{count_more}
 use Rattle.vsi_infer.specs.Flowing.{size_of}
 use Rattle.vsi_report.specs.declared.by_rule.Flows.{Flows}
 use Rattle.vsi_report.specs.ByRule.{flows_in_rows, HasFlows}
-use Rattle.vsi_report.specs.FlowsGraph.{Flowing, flow_line, line_by, lines_between, edge_lines, flows_by_step}
+use Rattle.vsi_report.specs.FlowsGraph.{Flowing, Shown, flow_line, line_by, lines_between, edge_lines, flows_by_step}
 
 -- The lines of one more number are added.
 pub more_lines : (f : ℕ → List ℕ) (start before after : List ℕ) (i : ℕ) → before ≡ start ++ flat_map f (count_from 0 i)
@@ -44,26 +44,28 @@ flat_same f g m (suc n) h =
     ∙ ap (λ l. g m ++ l) (flat_same f g (suc m) n (λ i lt. h i (omega (arith, lt))))
 
 -- Equal flows have equal lines between two numbers.
-between_same : (f g : Flowing) (a b : ℕ) → ((R : Rule) → f R a b ≡ g R a b) → lines_between f a b ≡ lines_between g a b
-between_same f g a b h =
-    ap (λ l. l ++ line_by f a b If ++ line_by f a b While ++ line_by f a b Letvar ++ line_by f a b Loop) (same Assign)
-    ∙ ap (λ l. line_by g a b Assign ++ l ++ line_by f a b While ++ line_by f a b Letvar ++ line_by f a b Loop)
+between_same : (s : Shown) (f g : Flowing) (a b : ℕ) → ((R : Rule) → f R a b ≡ g R a b) → 
+    lines_between s f a b ≡ lines_between s g a b
+between_same s f g a b h =
+    ap (λ l. l ++ line_by s f a b If ++ line_by s f a b While ++ line_by s f a b Letvar ++ line_by s f a b Loop)
+    (same Assign)
+    ∙ ap (λ l. line_by s g a b Assign ++ l ++ line_by s f a b While ++ line_by s f a b Letvar ++ line_by s f a b Loop)
     (same If)
-    ∙ ap (λ l. line_by g a b Assign ++ line_by g a b If ++ l ++ line_by f a b Letvar ++ line_by f a b Loop)
+    ∙ ap (λ l. line_by s g a b Assign ++ line_by s g a b If ++ l ++ line_by s f a b Letvar ++ line_by s f a b Loop)
     (same While)
-    ∙ ap (λ l. line_by g a b Assign ++ line_by g a b If ++ line_by g a b While ++ l ++ line_by f a b Loop)
+    ∙ ap (λ l. line_by s g a b Assign ++ line_by s g a b If ++ line_by s g a b While ++ l ++ line_by s f a b Loop)
     (same Letvar)
-    ∙ ap (λ l. line_by g a b Assign ++ line_by g a b If ++ line_by g a b While ++ line_by g a b Letvar ++ l)
+    ∙ ap (λ l. line_by s g a b Assign ++ line_by s g a b If ++ line_by s g a b While ++ line_by s g a b Letvar ++ l)
     (same Loop)
   where
-    same : (R : Rule) → line_by f a b R ≡ line_by g a b R
-    same R = ap (λ x. cond x (flow_line a b R) []) (h R)
+    same : (R : Rule) → line_by s f a b R ≡ line_by s g a b R
+    same R = ap (λ x. cond x (flow_line s a b R) []) (h R)
 
 -- The rows have the flows of the program's steps, and therefore the same lines.
-pub rows_lines : (P : Profile) (p : Program) (f : Flows) (n : ℕ) → n ≤ size_of p + 1 → HasFlows P p f →
-    edge_lines (flows_in_rows f) n ≡ edge_lines (flows_by_step P p) n
-rows_lines P p f n le h =
-    flat_same (λ a. flat_map (lines_between (flows_in_rows f) a) (count_from 0 n))
-    (λ a. flat_map (lines_between (flows_by_step P p) a) (count_from 0 n)) 0 n
-    (λ a _. flat_same (lines_between (flows_in_rows f) a) (lines_between (flows_by_step P p) a) 0 n
-    (λ b lt. between_same (flows_in_rows f) (flows_by_step P p) a b (λ R. h R a b (omega (arith, lt, le)))))
+pub rows_lines : (s : Shown) (P : Profile) (p : Program) (f : Flows) (n : ℕ) → n ≤ size_of p + 1 → HasFlows P p f →
+    edge_lines s (flows_in_rows f) n ≡ edge_lines s (flows_by_step P p) n
+rows_lines s P p f n le h =
+    flat_same (λ a. flat_map (lines_between s (flows_in_rows f) a) (count_from 0 n))
+    (λ a. flat_map (lines_between s (flows_by_step P p) a) (count_from 0 n)) 0 n
+    (λ a _. flat_same (lines_between s (flows_in_rows f) a) (lines_between s (flows_by_step P p) a) 0 n
+    (λ b lt. between_same s (flows_in_rows f) (flows_by_step P p) a b (λ R. h R a b (omega (arith, lt, le)))))

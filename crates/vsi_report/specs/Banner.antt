@@ -41,6 +41,13 @@ beginning v name style =
     first_lines ++ title v ++ escaped name ++ codes "</title>\n<style>\n" ++ untagged style
     ++ codes "</style>\n</head>\n<body>\n<main>\n" ++ banner v
 
+-- The page begins with the banner for the verdict, and after its heading has these sentences.
+pub record HasLead (v : Verdict) (lead page : List ℕ) : Type 0 where
+  pub name : List ℕ
+  pub style : List ℕ
+  pub rest : List ℕ
+  pub parts : page ≡ beginning v name style ++ (lead ++ rest)
+
 -- The page begins with the banner for the verdict.
 pub record HasBanner (v : Verdict) (page : List ℕ) : Type 0 where
   pub name : List ℕ

@@ -1,5 +1,5 @@
 -- The flows of a text in the language of Graphviz.
-use Rattle.std.specs.Prelude.{◌≡◌, ◌⊎◌, ℕ, ◌+◌, ◌-◌, cond, nat_lt, Bool, List, [], ◌++◌, length, Option, Some, None, codes, decimal, slice_get}
+use Rattle.std.specs.Prelude.{◌≡◌, ◌⊎◌, ℕ, suc, ◌+◌, ◌-◌, cond, nat_lt, Bool, false, List, [], ◌∷◌, ◌++◌, length, Option, Some, None, codes, decimal, slice_get}
 use Rattle.std.specs.List.{flat_map}
 use Rattle.vsi_lattice.specs.Order.{Lattice}
 use Rattle.vsi_lattice.specs.declared.lattice.Lattice.{Lattice as Declared}
@@ -9,44 +9,115 @@ use Rattle.vsi_types.specs.declared.rules.Profile.{Profile}
 use Rattle.vsi_types.specs.declared.rules.Profile.TheVariants.{Base, Strict}
 use Rattle.vsi_types.specs.declared.rules.Rule.{Rule}
 use Rattle.vsi_types.specs.declared.rules.Rule.TheVariants.{Assign, If, While, Letvar, Loop}
+use Rattle.vsi_types.specs.declared.rules.Step.{Step}
 use Rattle.vsi_types.specs.Security.{Program, program, count_from, steps_of}
 use Rattle.vsi_types.specs.Walks.{declared_class}
 use Rattle.vsi_infer.specs.Explanation.{name_of, rule_text}
 use Rattle.vsi_infer.specs.Flowing.{size_of, variable_at}
-use Rattle.vsi_infer.specs.Inference.{IsLeast}
-use Rattle.vsi_infer.specs.StepsBetween.{has_step_by}
+use Rattle.vsi_infer.specs.Inference.{IsLeast, IsShortest}
+use Rattle.vsi_infer.specs.StepsBetween.{has_step_by, leads_by}
 use Rattle.vsi_compiler.specs.Stands.{Stands}
-use Rattle.vsi_flows.specs.Table.{HasBadWalk}
-use Rattle.vsi_report.specs.Graph.{head_lines, name_at}
+use Rattle.vsi_report.specs.declared.drawn.Course.{Course}
+use Rattle.vsi_report.specs.declared.drawn.Course.TheVariants.{Upward, Against, Unclear}
+use Rattle.vsi_report.specs.Covering.{HasJust, IsCoveringPair}
+use Rattle.vsi_report.specs.Graph.{AreLatticeLines, graph, name_at, paint}
 
--- The classes of the letvars are the least typable choice, or none if the program is refused.
-abbrev pub AreShown : Lattice → Profile → Program → List ℕ → Type 0
-AreShown L P p chosen = IsLeast L P p chosen ⊎ ((chosen ≡ []) × HasBadWalk L P p)
+-- The classes of the letvars are the least typable choice, or the program is refused: then they have none, and the
+-- walk is a bad one such that no bad walk has fewer steps.
+abbrev pub AreShown : Lattice → Profile → Program → List ℕ → List Step → Type 0
+AreShown L P p chosen walk = (IsLeast L P p chosen × (walk ≡ [])) ⊎ ((chosen ≡ []) × IsShortest L P p walk)
+
+-- What a graph of flows shows: a program over a lattice whose classes have these names, the chosen classes of its
+-- letvars, and the steps of a refused walk.
+pub record Shown : Type 0 where
+  pub names : List (List ℕ)
+  pub lattice : Lattice
+  pub resolved : Resolved
+  pub chosen : List ℕ
+  pub walk : List Step
+
+-- The number of declarations.
+abbrev pub size : Shown → ℕ
+size s = size_of (program s.resolved)
 
 -- The first of two classes, if there is one, otherwise the second.
 abbrev pub either_class : Option ℕ → Option ℕ → Option ℕ
 either_class (Some c) other = Some c
 either_class None other = other
 
+-- The declared class of a variable.
+abbrev pub class_declared : Shown → ℕ → Option ℕ
+class_declared s v = declared_class s.lattice (program s.resolved) v
+
 -- The class of a variable: the declared one, otherwise the chosen one.
-abbrev pub class_shown : Lattice → Program → List ℕ → ℕ → Option ℕ
-class_shown L p chosen v = either_class (declared_class L p v) (slice_get chosen (v - length p.globals))
+abbrev pub class_shown : Shown → ℕ → Option ℕ
+class_shown s v = either_class (class_declared s v) (slice_get s.chosen (v - length (program s.resolved).globals))
 
 -- The text of a class after a name.
 abbrev pub class_words : List (List ℕ) → Option ℕ → List ℕ
 class_words ns None = []
 class_words ns (Some c) = codes " : " ++ name_at ns c
 
+-- The attributes of a node whose variable has this class.
+abbrev pub paint_words : Option ℕ → List ℕ
+paint_words None = []
+paint_words (Some c) = codes ", " ++ paint c
+
+-- The attribute of a node whose variable has this declared class; if it has none, its box is dashed.
+abbrev pub box_words : Option ℕ → List ℕ
+box_words None = codes ", style=\"rounded,dashed\""
+box_words (Some c) = []
+
+-- The name of the node with a number.
+abbrev pub node : ℕ → List ℕ
+node b = codes "\"v." ++ decimal b ++ codes "\""
+
 -- The line of a numbered node: the name of its variable and, if it has one, its class.
-abbrev pub variable_line : List (List ℕ) → Lattice → Resolved → List ℕ → ℕ → ℕ → List ℕ
-variable_line ns L r chosen k b =
-    codes "  v" ++ decimal b ++ codes " [label=\"" ++ name_of r (variable_at k b)
-    ++ class_words ns (class_shown L (program r) chosen (variable_at k b)) ++ codes "\"];\n"
+abbrev pub variable_line : Shown → ℕ → List ℕ
+variable_line s b =
+    codes "  " ++ node b ++ codes " [label=\"" ++ name_of s.resolved (variable_at (size s) b)
+    ++ class_words s.names (class_shown s (variable_at (size s) b)) ++ codes "\""
+    ++ paint_words (class_shown s (variable_at (size s) b))
+    ++ box_words (class_declared s (variable_at (size s) b)) ++ codes "];\n"
 
 -- The number of nodes; the ending of loops has one under the strict profile only.
 abbrev pub nodes_shown : Profile → ℕ → ℕ
 nodes_shown Base k = k
 nodes_shown Strict k = k + 1
+
+-- The invisible point below the variables of a class.
+abbrev pub foot : ℕ → List ℕ
+foot c = codes "\"below." ++ decimal c ++ codes "\""
+
+-- The invisible point above the variables of a class.
+abbrev pub top : ℕ → List ℕ
+top c = codes "\"above." ++ decimal c ++ codes "\""
+
+-- The line of a class's two points.
+abbrev pub points_line : ℕ → List ℕ
+points_line c = codes "  " ++ foot c ++ codes " -> " ++ top c ++ codes ";\n"
+
+-- The line that keeps a class above another one.
+abbrev pub above_line : ℕ × ℕ → List ℕ
+above_line p = codes "  " ++ top p.0 ++ codes " -> " ++ foot p.1 ++ codes " [minlen=0];\n"
+
+-- The line that keeps a numbered node between the points of its class.
+abbrev pub between_line : Option ℕ → ℕ → List ℕ
+between_line None b = []
+between_line (Some c) b =
+    codes "  " ++ foot c ++ codes " -> " ++ node b ++ codes " -> " ++ top c ++ codes ";\n"
+
+-- The line that keeps a numbered node above the lower classes and below the higher ones.
+abbrev pub kept_line : Shown → ℕ → List ℕ
+kept_line s b = between_line (class_shown s (variable_at (size s) b)) b
+
+-- The invisible lines that keep the variables of higher classes above those of lower ones.
+abbrev pub frame_lines : Profile → Shown → List (ℕ × ℕ) → List ℕ
+frame_lines P s pairs =
+    codes "  {\n  node [shape=point, style=invis];\n  edge [style=invis];\n"
+    ++ flat_map points_line (count_from 0 (length s.names)) ++ flat_map above_line pairs
+    ++ flat_map (kept_line s) (count_from 0 (nodes_shown P (size s)))
+    ++ codes "  }\n"
 
 -- The style of an edge.
 abbrev pub style_text : Rule → List ℕ
@@ -54,31 +125,77 @@ style_text Assign = codes "solid"
 style_text If = codes "dashed"
 style_text While = codes "dotted"
 style_text Letvar = codes "bold"
-style_text Loop = codes "tapered"
+style_text Loop = codes "\"dashed,bold\""
+
+-- Both are classes of the lattice, and the first is at or below the second.
+abbrev pub is_ordered : Lattice → ℕ → ℕ → Bool
+is_ordered L low high = cond (nat_lt low L.count) (cond (nat_lt high L.count) (L.leq low high) false) false
+
+-- The course of a flow from one class to another.
+abbrev pub course_between : Lattice → Option ℕ → Option ℕ → Course
+course_between L None high = Unclear
+course_between L (Some low) None = Unclear
+course_between L (Some low) (Some high) = cond (is_ordered L low high) Upward Against
+
+-- The course of the flow from a number to another.
+abbrev pub flow_course : Shown → ℕ → ℕ → Course
+flow_course s a b =
+    course_between s.lattice (class_shown s (variable_at (size s) a)) (class_shown s (variable_at (size s) b))
+
+-- The number of the first step from a to b by the rule, if the first step of the list has the number n.
+abbrev pub number_from : ℕ → List Step → Rule → ℕ → ℕ → Option ℕ
+number_from n [] R a b = None
+number_from n (s ∷ rest) R a b = cond (leads_by R a b s) (Some n) (number_from (suc n) rest R a b)
+
+-- The number of the step of the refused walk from a number to another by the rule.
+abbrev pub step_number : Shown → Rule → ℕ → ℕ → Option ℕ
+step_number s R a b = number_from 1 s.walk R (variable_at (size s) a) (variable_at (size s) b)
+
+-- The beginning of a label: blanks and, for a step of the refused walk, its number.
+abbrev pub number_words : Option ℕ → List ℕ
+number_words None = codes "  "
+number_words (Some n) = codes "  " ++ decimal n ++ codes " "
+
+-- The attributes of an edge: a step of the refused walk is thick and red, any other flow against the order red, and
+-- only flows upwards place the nodes.
+abbrev pub edge_words : Option ℕ → Course → List ℕ
+edge_words None Upward = []
+edge_words None Against = codes ", color=\"#b01e1e\", fontcolor=\"#b01e1e\", constraint=false"
+edge_words None Unclear = codes ", constraint=false"
+edge_words (Some n) Upward = codes ", color=\"#b01e1e\", fontcolor=\"#b01e1e\", penwidth=4"
+edge_words (Some n) Against =
+    codes ", color=\"#b01e1e\", fontcolor=\"#b01e1e\", penwidth=4, constraint=false"
+edge_words (Some n) Unclear =
+    codes ", color=\"#b01e1e\", fontcolor=\"#b01e1e\", penwidth=4, constraint=false"
+
+-- The label and the attributes of an edge.
+abbrev pub looks : Shown → ℕ → ℕ → Rule → List ℕ
+looks s a b R =
+    number_words (step_number s R a b) ++ rule_text R ++ codes "\", style=" ++ style_text R
+    ++ edge_words (step_number s R a b) (flow_course s a b)
 
 -- The line of an edge.
-abbrev pub flow_line : ℕ → ℕ → Rule → List ℕ
-flow_line a b R =
-    codes "  v" ++ decimal a ++ codes " -> v" ++ decimal b ++ codes " [label=\"" ++ rule_text R
-    ++ codes "\", style=" ++ style_text R ++ codes "];\n"
+abbrev pub flow_line : Shown → ℕ → ℕ → Rule → List ℕ
+flow_line s a b R =
+    codes "  " ++ node a ++ codes " -> " ++ node b ++ codes " [label=\"" ++ looks s a b R ++ codes "];\n"
 
 -- The flows, each by a rule from one number to another.
 abbrev pub Flowing : Type 0
 Flowing = Rule → ℕ → ℕ → Bool
 
 -- The line of an edge, if there is such a flow.
-abbrev pub line_by : Flowing → ℕ → ℕ → Rule → List ℕ
-line_by has a b R = cond (has R a b) (flow_line a b R) []
+abbrev pub line_by : Shown → Flowing → ℕ → ℕ → Rule → List ℕ
+line_by s has a b R = cond (has R a b) (flow_line s a b R) []
 
 -- The lines of the edges from one number to another, one for each rule.
-abbrev pub lines_between : Flowing → ℕ → ℕ → List ℕ
-lines_between has a b =
-    line_by has a b Assign ++ line_by has a b If ++ line_by has a b While ++ line_by has a b Letvar
-    ++ line_by has a b Loop
+abbrev pub lines_between : Shown → Flowing → ℕ → ℕ → List ℕ
+lines_between s has a b =
+    line_by s has a b Assign ++ line_by s has a b If ++ line_by s has a b While ++ line_by s has a b Letvar
+    ++ line_by s has a b Loop
 
 -- The lines of the edges from each of the first n numbers to each of them.
-abbrev pub edge_lines : Flowing → ℕ → List ℕ
-edge_lines has n = flat_map (λ a. flat_map (lines_between has a) (count_from 0 n)) (count_from 0 n)
+abbrev pub edge_lines : Shown → Flowing → ℕ → List ℕ
+edge_lines s has n = flat_map (λ a. flat_map (lines_between s has a) (count_from 0 n)) (count_from 0 n)
 
 -- The flows of a program in one step; the ending of its loops has the last number.
 abbrev pub flows_by_step : Profile → Program → Flowing
@@ -88,19 +205,50 @@ flows_by_step P p R a b = has_step_by (steps_of P p) R a (variable_at (size_of p
 abbrev pub numbers_drawn : ℕ → ℕ
 numbers_drawn k = cond (nat_lt 200 k) 0 (k + 1)
 
--- The graph of a program: its variables with their classes, and an edge for each pair of them and each rule by which
+-- The lines of a program: its variables with their classes, and an edge for each pair of them and each rule by which
 -- the program has a step from one to the other.
-abbrev pub flows_graph : List (List ℕ) → Lattice → Profile → Resolved → List ℕ → List ℕ
-flows_graph ns L P r chosen =
-    head_lines (codes "flows")
-    ++ flat_map (variable_line ns L r chosen (size_of (program r)))
-    (count_from 0 (nodes_shown P (size_of (program r))))
-    ++ edge_lines (flows_by_step P (program r)) (numbers_drawn (size_of (program r))) ++ codes "}\n"
+abbrev pub flows_lines : Profile → Shown → List (ℕ × ℕ) → List ℕ
+flows_lines P s pairs =
+    flat_map (variable_line s) (count_from 0 (nodes_shown P (size s))) ++ frame_lines P s pairs
+    ++ edge_lines s (flows_by_step P (program s.resolved)) (numbers_drawn (size s))
 
--- The graph is that of the text's program.
-pub record IsFlowsGraph (l : Declared) (P : Profile) (text out : List ℕ) : Type 0 where
+-- The lines are those of the program.
+pub record AreProgramLines (l : Declared) (P : Profile) (resolved : Resolved) (lines : List ℕ) : Type 0 where
+  pub chosen : List ℕ
+  pub walk : List Step
+  pub judged : AreShown (order l) P (program resolved) chosen walk
+  pub pairs : List (ℕ × ℕ)
+  pub covering : HasJust (IsCoveringPair (order l)) pairs
+  pub are : lines ≡ flows_lines P
+      record { names = names l; lattice = order l; resolved = resolved; chosen = chosen; walk = walk } pairs
+
+-- The lines are those of the text's program.
+pub record AreFlowsLines (l : Declared) (P : Profile) (text lines : List ℕ) : Type 0 where
   pub resolved : Resolved
   pub stands : Stands (class_named l) text resolved
-  pub chosen : List ℕ
-  pub classes : AreShown (order l) P (program resolved) chosen
-  pub lines : out ≡ flows_graph (names l) (order l) P resolved chosen
+  pub lines : AreProgramLines l P resolved lines
+
+-- The graph is that of the text's flows.
+pub record IsFlowsGraph (l : Declared) (P : Profile) (text out : List ℕ) : Type 0 where
+  pub lines : List ℕ
+  pub of_flows : AreFlowsLines l P text lines
+  pub whole : out ≡ graph (codes "flows") lines
+
+-- The lines of a part of a graph, drawn in a box of its own under its name.
+abbrev pub cluster : List ℕ → List ℕ → List ℕ
+cluster name lines =
+    codes "subgraph cluster_" ++ name ++ codes " {\n  label=\"" ++ name
+    ++ codes "\";\n  labelloc=b;\n  color=\"#d3dae1\";\n" ++ lines ++ codes "}\n"
+
+-- The graph with the lines of a lattice in one box and those of flows in another.
+abbrev pub joined : List ℕ → List ℕ → List ℕ
+joined classes flows =
+    graph (codes "policy") (cluster (codes "lattice") classes ++ cluster (codes "flows") flows)
+
+-- The graph has the lattice in one box and the text's flows in another.
+pub record IsPolicyGraph (l : Declared) (P : Profile) (text out : List ℕ) : Type 0 where
+  pub classes : List ℕ
+  pub of_classes : AreLatticeLines l classes
+  pub flows : List ℕ
+  pub of_flows : AreFlowsLines l P text flows
+  pub whole : out ≡ joined classes flows

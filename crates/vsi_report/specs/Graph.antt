@@ -1,39 +1,67 @@
 -- A lattice in the language of Graphviz.
-use Rattle.std.specs.Prelude.{◌≡◌, ℕ, List, ◌++◌, [], map, codes, slice_get, unwrap_or}
+use Rattle.std.specs.Prelude.{◌≡◌, ◌==◌, ◌%◌, if◌then◌else◌, ℕ, List, ◌++◌, [], map, codes, length, slice_get, unwrap_or}
 use Rattle.std.specs.List.{flat_map}
 use Rattle.std.specs.Global.{Vec}
 use Rattle.vsi_lattice.specs.declared.lattice.Lattice.{Lattice}
 use Rattle.vsi_lattice.specs.LatticeView.{names, order}
+use Rattle.vsi_types.specs.Security.{count_from}
 use Rattle.vsi_report.specs.Covering.{HasJust, IsCoveringPair}
 
 -- The texts of the code.
 abbrev pub texts : List (Vec ℕ) → List (List ℕ)
 texts vs = map (λ v. v.items) vs
 
--- The first lines of a graph with this name.
+-- The first lines of a graph with this name: what is higher is drawn above.
 abbrev pub head_lines : List ℕ → List ℕ
-head_lines name = (codes "digraph " ++ (name ++ codes " {\n")) ++ codes "  rankdir=BT;\n  node [shape=box, style=rounded];\n"
+head_lines name =
+    codes "digraph " ++ name ++ codes " {\n"
+    ++ codes "  rankdir=BT;\n  ranksep=0.35;\n  node [shape=box, style=rounded, penwidth=2];\n"
+    ++ codes "  edge [color=\"#57606a\", fontcolor=\"#57606a\", fontsize=11];\n"
 
--- The line of a class.
-abbrev pub node_line : List ℕ → List ℕ
-node_line name = codes "  \"" ++ (name ++ codes "\";\n")
+-- The graph with this name and these lines.
+abbrev pub graph : List ℕ → List ℕ → List ℕ
+graph name lines = head_lines name ++ lines ++ codes "}\n"
+
+-- The colour of one of eight kinds of class.
+abbrev pub kind_colour : ℕ → List ℕ
+kind_colour n =
+    if n == 0 then codes "#2e23a9" else if n == 1 then codes "#a1529b" else if n == 2 then codes "#627039"
+    else if n == 3 then codes "#5760e7" else if n == 4 then codes "#490359" else if n == 5 then codes "#10370f"
+    else if n == 6 then codes "#764565" else codes "#1f1821"
+
+-- The colour of a class.
+abbrev pub colour : ℕ → List ℕ
+colour c = kind_colour (c % 8)
+
+-- The attributes that give a node the colour of a class.
+abbrev pub paint : ℕ → List ℕ
+paint c = codes "color=\"" ++ colour c ++ codes "\", fontcolor=\"" ++ colour c ++ codes "\""
 
 -- The name of a class.
 abbrev pub name_at : List (List ℕ) → ℕ → List ℕ
 name_at names n = unwrap_or (slice_get names n) []
 
+-- The line of a class.
+abbrev pub node_line : List (List ℕ) → ℕ → List ℕ
+node_line names c = codes "  \"" ++ name_at names c ++ codes "\" [" ++ paint c ++ codes "];\n"
+
 -- The line of a pair of classes, the lower one first.
 abbrev pub edge_line : List (List ℕ) → ℕ × ℕ → List ℕ
-edge_line names p =
-    (codes "  \"" ++ (name_at names p.0 ++ codes "\" -> \"")) ++ (codes "" ++ (name_at names p.1 ++ codes "\";\n"))
+edge_line names p = codes "  \"" ++ name_at names p.0 ++ codes "\" -> \"" ++ name_at names p.1 ++ codes "\";\n"
 
--- The graph of these classes and pairs.
-abbrev pub graph : List (List ℕ) → List (ℕ × ℕ) → List ℕ
-graph names pairs =
-    ((head_lines (codes "lattice") ++ flat_map node_line names) ++ flat_map (edge_line names) pairs) ++ codes "}\n"
+-- The lines of these classes and pairs.
+abbrev pub lattice_lines : List (List ℕ) → List (ℕ × ℕ) → List ℕ
+lattice_lines names pairs =
+    flat_map (node_line names) (count_from 0 (length names)) ++ flat_map (edge_line names) pairs
 
--- The text is the graph of the lattice: its classes in order, and an edge for each covering pair and for no other.
-pub record IsLatticeGraph (l : Lattice) (text : List ℕ) : Type 0 where
+-- The lines are those of the lattice: its classes in order, and an edge for each covering pair and for no other.
+pub record AreLatticeLines (l : Lattice) (lines : List ℕ) : Type 0 where
   pub pairs : List (ℕ × ℕ)
   pub covering : HasJust (IsCoveringPair (order l)) pairs
-  pub lines : text ≡ graph (names l) pairs
+  pub are : lines ≡ lattice_lines (names l) pairs
+
+-- The text is the graph of the lattice.
+pub record IsLatticeGraph (l : Lattice) (text : List ℕ) : Type 0 where
+  pub lines : List ℕ
+  pub of_classes : AreLatticeLines l lines
+  pub whole : text ≡ graph (codes "lattice") lines

@@ -9,3 +9,5 @@ pub mod FlowsGraph
 pub mod Size
 pub mod Banner
 pub mod Verdict
+pub mod Drawn
+pub mod Lead

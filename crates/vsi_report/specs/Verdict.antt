@@ -9,6 +9,7 @@ use Rattle.vsi_compiler.specs.Refusal.{HasShortestBadWalk, RefusesProgram}
 use Rattle.vsi_compiler.specs.declared.error.CompileError.{CompileError}
 use Rattle.vsi_compiler.specs.declared.error.CompileError.TheVariants.{Memory}
 use Rattle.vsi_report.specs.Banner.{HasBanner}
+use Rattle.vsi_report.specs.Lead.{TellsAllowed, TellsRefusal}
 use Rattle.vsi_report.specs.declared.verdict.Verdict.{Verdict}
 use Rattle.vsi_report.specs.declared.verdict.Verdict.TheVariants.{Accepted, Refused, NoProgram}
 
@@ -29,8 +30,15 @@ IsVerdict l P text Accepted = IsAccepted (class_named l) (order l) P text
 IsVerdict l P text Refused = HasRefusal l P text
 IsVerdict l P text NoProgram = HasFault l text
 
+-- The first sentences of the banner are true of the text; a text that is no program has none.
+abbrev pub Tells : Lattice → Profile → List ℕ → List ℕ → Verdict → Type 0
+Tells l P text page Accepted = TellsAllowed l P text page
+Tells l P text page Refused = TellsRefusal l P text page
+Tells l P text page NoProgram = Unit {0}
+
 -- The first thing that a page shows is the banner for the verdict of the compiler about the text.
 pub record HasVerdict (l : Lattice) (P : Profile) (text page : List ℕ) : Type 0 where
   pub verdict : Verdict
   pub is : IsVerdict l P text verdict
   pub banner : HasBanner verdict page
+  pub told : Tells l P text page verdict

@@ -3,12 +3,11 @@
 use crate::facts::{Facts, number_of};
 use crate::page::{Page, Part};
 use crate::sides::Subject;
-use crate::telling::{put_class_of, put_name};
+use crate::telling::put_name;
 use crate::warrant::put_warrant;
 use std::alloc::{AllocError, Global};
 use vsi_compiler::CompileError;
 use vsi_diagnostics::{Field, refusal_diagnostic};
-use vsi_flows::Pair;
 use vsi_image::Verified;
 use vsi_syntax::line_column;
 use vsi_types::{Profile, Step};
@@ -29,104 +28,6 @@ ending of loops.</p>\n</header>\n"
 /// Adds the sentence about the profile, and the end of the banner.
 fn put_judged(page: &mut Page, profile: Profile) -> Result<(), AllocError> {
     page.put(judged_by(profile))
-}
-
-/// The number of refused pairs.
-pub(crate) fn count_refused(pairs: &[Pair]) -> usize {
-    let mut count: usize = 0;
-    for pair in pairs {
-        if !pair.allowed {
-            count = count.saturating_add(1);
-        }
-    }
-    count
-}
-
-/// A word for one thing, or for several.
-pub(crate) fn number_word(
-    count: usize,
-    one: &'static [u8],
-    several: &'static [u8],
-) -> &'static [u8] {
-    if count == 1 { one } else { several }
-}
-
-/// Adds the sentence about the pairs of a refused text.
-fn put_refused_pairs(page: &mut Page, facts: &Facts) -> Result<(), AllocError> {
-    let refused = count_refused(&facts.pairs);
-    page.put_parts(&[
-        Part::Number(refused),
-        Part::Markup(b" of "),
-        Part::Number(facts.pairs.len()),
-        Part::Markup(number_word(facts.pairs.len(), b" pair", b" pairs")),
-        Part::Markup(b" of declared variables joined by flows "),
-        Part::Markup(number_word(refused, b"is", b"are")),
-        Part::Markup(b" refused.</p>\n"),
-    ])
-}
-
-/// The first and the last byte of a text that a walk reads or writes.
-fn reach_of(walk: &[Step]) -> (usize, usize) {
-    let mut first = usize::MAX;
-    let mut last: usize = 0;
-    for step in walk {
-        first = first.min(step.read.start).min(step.written.start);
-        last = last.max(step.read.start).max(step.written.start);
-    }
-    (first.min(last), last)
-}
-
-/// Adds the lines from the first to the last that a walk reads or writes.
-fn put_lines(page: &mut Page, source: &[u8], walk: &[Step]) -> Result<(), AllocError> {
-    let (start, stop) = reach_of(walk);
-    let (first, _) = line_column(source, start);
-    let (last, _) = line_column(source, stop);
-    if first == last {
-        return page.put_parts(&[
-            Part::Markup(b", line "),
-            Part::Number(first),
-            Part::Markup(b".\n"),
-        ]);
-    }
-    page.put_parts(&[
-        Part::Markup(b", lines "),
-        Part::Number(first),
-        Part::Markup(b" to "),
-        Part::Number(last),
-        Part::Markup(b".\n"),
-    ])
-}
-
-/// Adds a variable with its class.
-fn put_end(
-    page: &mut Page,
-    subject: &Subject<'_>,
-    facts: &Facts,
-    number: usize,
-) -> Result<(), AllocError> {
-    put_name(page, facts, number)?;
-    page.put(b" ")?;
-    put_class_of(page, subject.order, facts, number)
-}
-
-/// Adds the sentence about the ends of a walk and its length.
-fn put_ends(
-    page: &mut Page,
-    subject: &Subject<'_>,
-    facts: &Facts,
-    first: usize,
-    last: usize,
-    steps: usize,
-) -> Result<(), AllocError> {
-    page.put(b"<p class=\"lead\">")?;
-    put_end(page, subject, facts, first)?;
-    page.put(b" reaches ")?;
-    put_end(page, subject, facts, last)?;
-    page.put_parts(&[
-        Part::Markup(b" in "),
-        Part::Number(steps),
-        Part::Markup(number_word(steps, b" step", b" steps")),
-    ])
 }
 
 /// The most steps whose variables the strip shows at each end of a long walk.
@@ -173,53 +74,24 @@ fn put_strip(page: &mut Page, facts: &Facts, walk: &[Step]) -> Result<(), AllocE
     page.put(b"</ol></nav>\n")
 }
 
-/// Adds the banner of a text with a refused flow, below its heading.
+/// Adds the banner of a text with a refused flow, below its first sentences.
 pub(crate) fn put_refused(
     page: &mut Page,
     subject: &Subject<'_>,
     facts: &Facts,
     walk: &[Step],
 ) -> Result<(), AllocError> {
-    if let (Some(first), Some(last)) = (walk.first(), walk.last()) {
-        let source = number_of(facts, first.source);
-        let target = number_of(facts, last.target);
-        put_ends(page, subject, facts, source, target, walk.len())?;
-        put_lines(page, subject.source, walk)?;
-        put_refused_pairs(page, facts)?;
-    }
     put_strip(page, facts, walk)?;
     put_judged(page, subject.profile)
 }
 
-/// The sentence about the only pair of an accepted text.
-const ONE_PAIR: &[u8] =
-    b"<p class=\"lead\">The only pair of declared variables joined by flows is allowed.</p>\n";
-
-/// Adds the sentence about the pairs of an accepted text.
-fn put_allowed_pairs(page: &mut Page, facts: &Facts) -> Result<(), AllocError> {
-    if facts.pairs.is_empty() {
-        return page.put(b"<p class=\"lead\">No declared variable flows to another one.</p>\n");
-    }
-    let count = facts.pairs.len();
-    if count == 1 {
-        return page.put(ONE_PAIR);
-    }
-    page.put_parts(&[
-        Part::Markup(b"<p class=\"lead\">All "),
-        Part::Number(count),
-        Part::Markup(b" pairs of declared variables joined by flows are allowed.</p>\n"),
-    ])
-}
-
-/// Adds the banner of an accepted text, below its heading.
+/// Adds the banner of an accepted text, below its first sentence.
 pub(crate) fn put_accepted(
     alloc: Global,
     page: &mut Page,
     subject: &Subject<'_>,
-    facts: &Facts,
     verified: &Verified,
 ) -> Result<(), AllocError> {
-    put_allowed_pairs(page, facts)?;
     put_warrant(alloc, page, subject.lattice, verified)?;
     put_judged(page, subject.profile)
 }

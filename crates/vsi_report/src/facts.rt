@@ -8,7 +8,6 @@ ghost use Rattle.vsi_types.specs.Security.{program as program_of};
 ghost use Rattle.vsi_infer.specs.Inference.{AreClasses};
 ghost use Rattle.vsi_compiler.specs.Refusal.{RefusesProgram};
 ghost use Rattle.vsi_flows.specs.Table.{IsTable};
-ghost use Rattle.vsi_report.specs.FlowsGraph.{AreShown};
 ghost use Rattle.vsi_report.specs.Size.{AreFlows};
 
 use crate::by_rule::{Flows, flows_of, has_flow};
@@ -17,7 +16,6 @@ use crate::walking::{MOST_DRAWN, Use, uses_of};
 use std::alloc::{AllocError, Global};
 use vsi_compiler::{CompileError, resolved_program};
 use vsi_flows::{FlowsError, Pair, flows_in};
-use vsi_infer::{InferError, infer_in};
 use vsi_lattice::{Class, Classes, Lattice};
 use vsi_scope::{Resolved, Var};
 use vsi_types::{Profile, Rule};
@@ -119,25 +117,6 @@ fn variables_of(
     Ok(variables)
 }
 
-/// The classes of the letvars; none if the program is refused.
-pub(crate) fn inferred_classes(
-    alloc: Global,
-    profile: Profile,
-    lattice: &Lattice,
-    program: &Resolved<'_>,
-) -> Result<Vec<Class>, AllocError>
-    requires globals { All (IsClass (order lattice.now)) (program_of program.now).globals }
-    requires declared { AreClasses (order lattice.now) (program_of program.now).declared }
-    ensures { IfOk result (λ found.
-        AreShown (order lattice.now) profile (program_of program.now) found.items) }
-{
-    match infer_in(alloc, profile, lattice, program) {
-        Ok(classes) => Ok(classes),
-        Err(InferError::Refused(_walk)) => Ok(Vec::new(alloc)),
-        Err(InferError::Memory) => Err(AllocError),
-    }
-}
-
 /// The table of flows.
 fn pairs_of(
     alloc: Global,
@@ -199,7 +178,7 @@ fn gathered(
 }
 
 /// The facts of a program.
-fn facts_of_program(
+pub(crate) fn facts_of_program(
     alloc: Global,
     profile: Profile,
     lattice: &Lattice,

@@ -4,7 +4,7 @@ ghost use Rattle.std.specs.Prelude.{◌≡◌, ◌++◌, ℕ, List, [], IfOk, On
 ghost use Rattle.vsi_report.specs.Escape.{escaped};
 ghost use Rattle.vsi_report.specs.Page.{HasPanel};
 ghost use Rattle.vsi_report.specs.Reading.{Shows};
-ghost use Rattle.vsi_report.specs.Banner.{untagged, HasBanner};
+ghost use Rattle.vsi_report.specs.Banner.{untagged, HasLead};
 ghost use Rattle.vsi_report.specs.declared.verdict.Verdict.{Verdict};
 
 use crate::escape::{put_escaped, put_number, put_untagged, put_word};
@@ -56,6 +56,14 @@ impl Page {
         ensures { OnOk result (self.new.text.items ≡ self.old.text.items ++ escaped text.now) }
     {
         put_escaped(&mut self.text, text)
+    }
+
+    /// Adds a part of a page.
+    pub(crate) fn put_page(&mut self, part: &Page) -> Result<(), AllocError>
+        ensures { OnOk result
+            (self.new.text.items ≡ self.old.text.items ++ part.now.text.items) }
+    {
+        self.text.extend_from_slice(&part.text)
     }
 
     /// Adds a style sheet, without the bytes that could begin a tag.
@@ -118,8 +126,8 @@ impl Page {
     ) -> Result<Vec<u8>, AllocError>
         ensures panel { (source : List ℕ) → Shows panel.now.items source
             → IfOk result (λ page. HasPanel page.items source) }
-        ensures banner { (v : Verdict) → HasBanner v self.text.items
-            → IfOk result (λ page. HasBanner v page.items) }
+        ensures led { (v : Verdict) (lead : List ℕ) → HasLead v lead self.text.items
+            → IfOk result (λ page. HasLead v lead page.items) }
     {
         let Page { mut text } = self;
         text.extend_from_slice(&before.text)?;

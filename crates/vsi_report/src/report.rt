@@ -6,7 +6,8 @@ ghost use Rattle.vsi_image.specs.Listing.{listing as listing_of};
 ghost use Rattle.vsi_lattice.specs.LatticeView.{class_named, order};
 ghost use Rattle.vsi_compiler.specs.Acceptance.{IsAccepted};
 ghost use Rattle.vsi_compiler.specs.Refusal.{HasShortestBadWalk, Refuses, RefusesProgram};
-ghost use Rattle.vsi_report.specs.Banner.{HasBanner};
+ghost use Rattle.vsi_report.specs.Banner.{HasLead};
+ghost use Rattle.vsi_report.specs.Lead.{HasTrueLead, allowed_words, lead_words};
 ghost use Rattle.vsi_report.specs.Page.{HasPanel};
 ghost use Rattle.vsi_report.specs.Reading.{Shows};
 ghost use Rattle.vsi_report.specs.Size.{IsShort, IsBounded, most_bytes};
@@ -15,8 +16,9 @@ ghost use Rattle.vsi_report.specs.declared.verdict.Verdict.{Verdict as Shown};
 ghost use Rattle.vsi_report.specs.declared.verdict.Verdict.TheVariants as verdicts;
 
 use crate::error::ReportError;
-use crate::facts::{Facts, facts_of};
+use crate::facts::{Facts, facts_of, facts_of_program};
 use crate::filing::Filing;
+use crate::lead::{Lead, lead_of, put_allowed, put_lead};
 use crate::order::order_of;
 use crate::page::Page;
 use crate::sides::{Sides, Subject, accepted_sides, faulty_sides, refused_sides};
@@ -25,9 +27,10 @@ use crate::source_view::{plain_panel, source_panel};
 use crate::style::{fault_style, plain_style, walk_style};
 use crate::verdict::{Verdict, begun_page};
 use std::alloc::{AllocError, Global};
-use vsi_compiler::{CompileError, compile_in};
+use vsi_compiler::{CompileError, compile_in, resolved_program};
 use vsi_image::{Verified, listing};
 use vsi_lattice::Lattice;
+use vsi_scope::Resolved;
 use vsi_types::{Profile, Step};
 
 /// The page made of its beginning, the part before the panel of its source text, the panel, and the
@@ -42,8 +45,8 @@ fn joined(
 ) -> Result<Vec<u8>, ReportError>
     requires { Shows panel.now.items source.now }
     ensures panel { IfOk result (λ page. HasPanel page.items source.now) }
-    ensures banner { (v : Shown) → HasBanner v begun.text.items
-        → IfOk result (λ page. HasBanner v page.items) }
+    ensures led { (v : Shown) (lead : List ℕ) → HasLead v lead begun.text.items
+        → IfOk result (λ page. HasLead v lead page.items) }
     ensures short { IfOk result (λ page.
         length page.items ≤ most_bytes (length source.now) flows lines) }
 {
@@ -52,10 +55,12 @@ fn joined(
     Ok(whole)
 }
 
-/// The page of a program with a verdict, with its style sheet and the parts around its source.
+/// The page of a program with a verdict and the first sentences of its banner, with its style sheet
+/// and the parts around its source.
 fn program_page(
     alloc: Global,
     verdict: Verdict,
+    lead: &Page,
     subject: &Subject<'_>,
     sides: &Sides,
     style: &[u8],
@@ -65,13 +70,31 @@ fn program_page(
     lines: usize,
 ) -> Result<Vec<u8>, ReportError>
     ensures panel { IfOk result (λ page. HasPanel page.items source.now) }
-    ensures banner { IfOk result (λ page. HasBanner verdict page.items) }
+    ensures led { IfOk result (λ page. HasLead verdict lead.now.text.items page.items) }
     ensures short { IfOk result (λ page. length page.items
         ≤ most_bytes (length source.now) (length facts.now.pairs.items) lines) }
 {
     let panel = source_panel(alloc, subject.order, facts, walk, source)?;
-    let begun = begun_page(alloc, verdict, sides.title.as_slice(), style)?;
+    let begun = begun_page(alloc, verdict, sides.title.as_slice(), style, lead)?;
     joined(begun, sides, &panel, source, facts.pairs.len(), lines)
+}
+
+/// The first sentences about an accepted text.
+fn allowed_lead(alloc: Global, pairs: usize) -> Result<Page, AllocError>
+    ensures { IfOk result (λ page. page.text.items ≡ allowed_words pairs) }
+{
+    let mut page = Page::new(alloc);
+    put_allowed(&mut page, pairs)?;
+    Ok(page)
+}
+
+/// The first sentences about a refused text.
+fn refused_lead(alloc: Global, lead: &Lead<'_>) -> Result<Page, AllocError>
+    ensures { IfOk result (λ page. page.text.items ≡ lead_words lead.now) }
+{
+    let mut page = Page::new(alloc);
+    put_lead(&mut page, lead)?;
+    Ok(page)
 }
 
 /// The page of an accepted text, with the facts of its program and the listing of its image.
@@ -86,7 +109,8 @@ fn page_with_image(
     lines: &[u8],
 ) -> Result<Vec<u8>, ReportError>
     ensures panel { IfOk result (λ page. HasPanel page.items source.now) }
-    ensures banner { IfOk result (λ page. HasBanner verdicts.Accepted page.items) }
+    ensures led { IfOk result (λ page. HasLead verdicts.Accepted
+        (allowed_words (length facts.now.pairs.items)) page.items) }
     ensures short { IfOk result (λ page. length page.items
         ≤ most_bytes (length source.now) (length facts.now.pairs.items) (length lines.now)) }
 {
@@ -100,9 +124,11 @@ fn page_with_image(
     };
     let sides = accepted_sides(alloc, &subject, facts, verified, lines)?;
     let style = plain_style(alloc)?;
+    let lead = allowed_lead(alloc, facts.pairs.len())?;
     program_page(
         alloc,
         Verdict::Accepted,
+        &lead,
         &subject,
         &sides,
         &style,
@@ -145,12 +171,14 @@ fn page_with_walk(
     profile: Profile,
     filing: &Filing<'_>,
     lattice: &Lattice,
+    program: &Resolved<'_>,
     facts: &Facts,
     source: &[u8],
     walk: &[Step],
 ) -> Result<Vec<u8>, ReportError>
     ensures panel { IfOk result (λ page. HasPanel page.items source.now) }
-    ensures banner { IfOk result (λ page. HasBanner verdicts.Refused page.items) }
+    ensures led { IfOk result (λ page.
+        HasTrueLead lattice.now program.now walk.now facts.now.pairs.items page.items) }
     ensures short { IfOk result (λ page. length page.items
         ≤ most_bytes (length source.now) (length facts.now.pairs.items) 0) }
 {
@@ -164,9 +192,12 @@ fn page_with_walk(
     };
     let sides = refused_sides(alloc, &subject, facts, walk)?;
     let style = walk_style(alloc, walk.len())?;
+    let told = lead_of(lattice, &order, program, source, walk, &facts.pairs);
+    let lead = refused_lead(alloc, &told)?;
     program_page(
         alloc,
         Verdict::Refused,
+        &lead,
         &subject,
         &sides,
         &style,
@@ -193,8 +224,11 @@ fn refused_page(
     ensures bounded { IfOk result (λ page.
         IsShort lattice.now profile source.now [] page.items) }
 {
-    match facts_of(alloc, profile, lattice, source) {
-        Ok(facts) => page_with_walk(alloc, profile, filing, lattice, &facts, source, walk),
+    match resolved_program(alloc, lattice, source) {
+        Ok(program) => {
+            let facts = facts_of_program(alloc, profile, lattice, &program)?;
+            page_with_walk(alloc, profile, filing, lattice, &program, &facts, source, walk)
+        }
         Err(error) => faulty_page(alloc, profile, filing, lattice, source, &error),
     }
 }
@@ -209,7 +243,7 @@ fn page_with_refusal(
     error: &CompileError,
 ) -> Result<Vec<u8>, ReportError>
     ensures panel { IfOk result (λ page. HasPanel page.items source.now) }
-    ensures banner { IfOk result (λ page. HasBanner verdicts.NoProgram page.items) }
+    ensures led { IfOk result (λ page. HasLead verdicts.NoProgram [] page.items) }
     ensures short { IfOk result (λ page.
         length page.items ≤ most_bytes (length source.now) 0 0) }
 {
@@ -224,7 +258,14 @@ fn page_with_refusal(
     let sides = faulty_sides(alloc, &subject, error)?;
     let style = fault_style(alloc, source, error)?;
     let panel = plain_panel(alloc, source)?;
-    let begun = begun_page(alloc, Verdict::NoProgram, sides.title.as_slice(), &style)?;
+    let lead = Page::new(alloc);
+    let begun = begun_page(
+        alloc,
+        Verdict::NoProgram,
+        sides.title.as_slice(),
+        &style,
+        &lead,
+    )?;
     joined(begun, &sides, &panel, source, 0, 0)
 }
 

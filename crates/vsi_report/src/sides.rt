@@ -56,11 +56,10 @@ const FOOT: &[u8] = b"</div>\n</main>\n</body>\n</html>\n";
 fn before_accepted(
     alloc: Global,
     subject: &Subject<'_>,
-    facts: &Facts,
     verified: &Verified,
 ) -> Result<Page, AllocError> {
     let mut page = Page::new(alloc);
-    put_accepted(alloc, &mut page, subject, facts, verified)?;
+    put_accepted(alloc, &mut page, subject, verified)?;
     page.put(SOURCE)?;
     Ok(page)
 }
@@ -102,7 +101,7 @@ pub(crate) fn accepted_sides(
     verified: &Verified,
     lines: &[u8],
 ) -> Result<Sides, AllocError> {
-    let before = before_accepted(alloc, subject, facts, verified)?;
+    let before = before_accepted(alloc, subject, verified)?;
     let after = after_accepted(alloc, subject, facts, lines)?;
     let title = title_end(alloc, subject.filing)?;
     Ok(Sides {

@@ -1,6 +1,6 @@
 //! The table of flows of a page.
 
-use crate::banner::{count_refused, number_word};
+use crate::lead::{count_refused, number_word};
 use crate::facts::{Facts, number_of};
 use crate::order::Order;
 use crate::page::{Page, Part};

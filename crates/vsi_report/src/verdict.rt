@@ -46,15 +46,16 @@ const FIRST: &[u8] = b"<!DOCTYPE html>\n<html lang=\"en\">\n<head>\n<meta charse
 content=\"default-src 'none'; style-src 'unsafe-inline'\">\n\
 <meta name=\"color-scheme\" content=\"light dark\">\n";
 
-/// The beginning of a page, up to the heading of its banner, with the end of its title and its
-/// style sheet.
+/// The beginning of a page, up to the first sentences of its banner, with the end of its title and
+/// its style sheet.
 pub(crate) fn begun_page(
     alloc: Global,
     verdict: Verdict,
     name: &[u8],
     style: &[u8],
+    lead: &Page,
 ) -> Result<Page, AllocError>
-    ensures { IfOk result (λ page. spec.HasBanner verdict page.text.items) }
+    ensures { IfOk result (λ page. spec.HasLead verdict lead.now.text.items page.text.items) }
 {
     let mut page = Page::new(alloc);
     page.put(FIRST)?;
@@ -64,5 +65,6 @@ pub(crate) fn begun_page(
     page.put_style(style)?;
     page.put(b"</style>\n</head>\n<body>\n<main>\n")?;
     page.put(banner(verdict))?;
+    page.put_page(lead)?;
     Ok(page)
 }

@@ -1,6 +1,6 @@
-use Rattle.std.proofs.Common.{rules, subst}
+use Rattle.std.proofs.Common.{subst}
 use Rattle.std.specs.Prelude.{IsSomeAnd}
-use Rattle.vsi.specs.Performed.{ToldFlowsGraph}
+use Rattle.vsi.specs.Performed.{DrawsGraph}
 use Rattle.vsi.specs.Refusals.{NoOther, RefusesLattice, RefusesProgramAt}
 use Rattle.vsi.specs.Reasons.{WhyDraw}
 use Rattle.vsi.proofs.Reasons.{stopped_by}
@@ -9,17 +9,13 @@ use Rattle.vsi.proofs.drawing.draw.Goals as goal
 
 pub returns-clause-told : goal.returns-clause-told
 returns-clause-told g c =
+    let d = c.args.drawing in
     record {
       lattice = c.in_ok-classes.classes;
       declared = c.in_ok-classes.ensures.read;
-      classes = c.in_ok-graphs.graphs.items;
-      of_classes = c.in_ok-graphs.ensures.graph;
-      flows = c.in_ok-flows.flows.items;
-      of_flows = subst
-          (λ h. ToldFlowsGraph h c.args.drawing.source c.args.drawing.is_strict c.in_ok-classes.classes
-          c.in_ok-flows.flows.items)
-          c.in_ok-classes.ensures.kept c.in_ok-flows.ensures.told;
-      parts = search rules;
+      graph = subst
+          (λ h. DrawsGraph h d.source d.is_strict d.is_alone c.in_ok-classes.classes c.in_ok-graph.graph.items)
+          c.in_ok-classes.ensures.kept c.in_ok-graph.ensures.told;
     }
 
 pub returns-in_err-classes-clause-stopped : goal.returns-in_err-classes-clause-stopped
@@ -30,8 +26,8 @@ returns-in_err-classes-clause-stopped g c =
     (draw_lattice holds c.args.drawing.lattice.now c.args.drawing.source) c.from_residual.result
     c.in_err-classes.field-0.0 c.from_residual.ensures.1 c.in_err-classes.ensures.stopped
 
-pub returns-in_err-flows-clause-stopped : goal.returns-in_err-flows-clause-stopped
-returns-in_err-flows-clause-stopped g c =
+pub returns-in_err-graph-clause-stopped : goal.returns-in_err-graph-clause-stopped
+returns-in_err-graph-clause-stopped g c =
     let holds = g.F.Files.holds c.args.files.now in
     stopped_by
     (λ reason. IsSomeAnd c.args.drawing.source
@@ -42,5 +38,5 @@ returns-in_err-flows-clause-stopped g c =
     (subst
     (λ h. IsSomeAnd c.args.drawing.source (λ path. RefusesProgramAt h c.in_ok-classes.classes path.now reason))
     c.in_ok-classes.ensures.kept why))
-    c.from_residual-in_err-flows.result c.in_err-flows.field-0.0 c.from_residual-in_err-flows.ensures.1
-    c.in_err-flows.ensures.stopped
+    c.from_residual-in_err-graph.result c.in_err-graph.field-0.0 c.from_residual-in_err-graph.ensures.1
+    c.in_err-graph.ensures.stopped

@@ -2,6 +2,7 @@ use Rattle.std.proofs.Common.{◌≡◌, ◌++◌}
 use Rattle.std.specs.List.{flat_map}
 use Rattle.vsi_types.specs.Security.{count_from}
 use Rattle.vsi_report.specs.ByRule.{flows_in_rows}
+use Rattle.vsi_report.specs.Drawn.{shown}
 use Rattle.vsi_report.specs.FlowsGraph.{lines_between}
 use Rattle.vsi_report.proofs.flows_graph.put_all_edges.Given as goal
 
@@ -9,5 +10,5 @@ use Rattle.vsi_report.proofs.flows_graph.put_all_edges.Given as goal
 abbrev pub invariant-loop-source : goal.invariant-loop-source
 invariant-loop-source l =
     l.text.items ≡ l.initial.text.items
-    ++ flat_map (λ a. flat_map (lines_between (flows_in_rows l.flows) a) (count_from 0 l.count))
+    ++ flat_map (λ a. flat_map (lines_between (shown l.drawn) (flows_in_rows l.flows) a) (count_from 0 l.count))
     (count_from 0 l.source)

@@ -2,6 +2,7 @@ use Rattle.std.proofs.Common.{◌≡◌, ◌++◌}
 use Rattle.std.specs.List.{flat_map}
 use Rattle.vsi_types.specs.Security.{count_from}
 use Rattle.vsi_report.specs.ByRule.{flows_in_rows}
+use Rattle.vsi_report.specs.Drawn.{shown}
 use Rattle.vsi_report.specs.FlowsGraph.{lines_between}
 use Rattle.vsi_report.proofs.flows_graph.put_edges_from.Given as goal
 
@@ -9,4 +10,4 @@ use Rattle.vsi_report.proofs.flows_graph.put_edges_from.Given as goal
 abbrev pub invariant-loop-target : goal.invariant-loop-target
 invariant-loop-target l =
     l.text.items ≡ l.initial.text.items
-    ++ flat_map (lines_between (flows_in_rows l.flows) l.source) (count_from 0 l.target)
+    ++ flat_map (lines_between (shown l.drawn) (flows_in_rows l.flows) l.source) (count_from 0 l.target)

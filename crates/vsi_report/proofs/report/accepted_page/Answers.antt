@@ -3,8 +3,7 @@ use Rattle.std.specs.Prelude.{IfOk}
 use Rattle.vsi_image.specs.Fields.{fields}
 use Rattle.vsi_image.specs.Listing.{listing}
 use Rattle.vsi_report.specs.Size.{most_bytes}
-use Rattle.vsi_report.specs.declared.verdict.Verdict.TheVariants.{Accepted}
-use Rattle.vsi_report.proofs.BannerLemmas.{verdict_shown}
+use Rattle.vsi_report.proofs.BannerLemmas.{accepted_shown}
 use Rattle.vsi_report.proofs.SizeLemmas.{short_for_less, short_with}
 use Rattle.vsi_report.proofs.report.accepted_page.Goals as goal
 
@@ -26,8 +25,8 @@ returns-in-Err-clause-bounded c =
 
 pub returns-in_ok-lines-in-Ok-clause-verdict : goal.returns-in_ok-lines-in-Ok-clause-verdict
 returns-in_ok-lines-in-Ok-clause-verdict c = λ accepted.
-    verdict_shown c.args.lattice.now c.args.profile c.args.source.now Accepted c.page_with_image.result accepted
-    c.page_with_image.ensures.banner
+    accepted_shown c.args.lattice.now c.args.profile c.args.source.now c.in-Ok.facts.pairs.items
+    c.page_with_image.result accepted c.in-Ok.ensures.flows c.page_with_image.ensures.led
 
 pub returns-in-Err-clause-verdict : goal.returns-in-Err-clause-verdict
 returns-in-Err-clause-verdict c = λ accepted. c.faulty_page.ensures.verdict c.in-Err.ensures.refused

@@ -1,6 +1,5 @@
 use Rattle.vsi_report.proofs.SizeLemmas.{short_without}
-use Rattle.vsi_report.specs.declared.verdict.Verdict.TheVariants.{NoProgram}
-use Rattle.vsi_report.proofs.BannerLemmas.{verdict_shown}
+use Rattle.vsi_report.proofs.BannerLemmas.{fault_shown}
 use Rattle.vsi_report.proofs.report.faulty_page.Goals as goal
 
 pub returns-clause-bounded : goal.returns-clause-bounded
@@ -10,6 +9,6 @@ returns-clause-bounded c =
 
 pub returns-clause-verdict : goal.returns-clause-verdict
 returns-clause-verdict c = λ reason.
-    verdict_shown c.args.lattice.now c.args.profile c.args.source.now NoProgram c.page_with_refusal.result
+    fault_shown c.args.lattice.now c.args.profile c.args.source.now c.page_with_refusal.result
     (record { error = c.args.error.now; other = λ same. c.before.before.in_default.not-Memory same; reason = reason })
-    c.page_with_refusal.ensures.banner
+    c.page_with_refusal.ensures.led

@@ -3,8 +3,8 @@ use Rattle.std.specs.Prelude.{IfOk}
 use Rattle.vsi_report.specs.Size.{most_bytes}
 use Rattle.vsi_report.proofs.report.program_page.Goals as goal
 
-pub returns-clause-banner : goal.returns-clause-banner
-returns-clause-banner c = c.joined.ensures.banner c.args.verdict c.in_ok-begun.ensures
+pub returns-clause-led : goal.returns-clause-led
+returns-clause-led c = c.joined.ensures.led c.args.verdict c.args.lead.now.text.items c.in_ok-begun.ensures
 
 pub returns-clause-short : goal.returns-clause-short
 returns-clause-short c =

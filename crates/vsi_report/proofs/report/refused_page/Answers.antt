@@ -1,18 +1,29 @@
 use Rattle.std.proofs.Common.{[]}
+use Rattle.vsi_compiler.proofs.Compiled.{globals_of, declared_of}
+use Rattle.vsi_report.proofs.BannerLemmas.{refused_shown}
 use Rattle.vsi_report.proofs.SizeLemmas.{short_with}
-use Rattle.vsi_report.specs.declared.verdict.Verdict.TheVariants.{Refused}
-use Rattle.vsi_report.proofs.BannerLemmas.{verdict_shown}
 use Rattle.vsi_report.proofs.report.refused_page.Goals as goal
 
-pub returns-in-Ok-clause-bounded : goal.returns-in-Ok-clause-bounded
-returns-in-Ok-clause-bounded c =
-    short_with c.args.lattice.now c.args.profile c.args.source.now c.in-Ok.facts.pairs.items [] c.page_with_walk.result
-    c.in-Ok.ensures.flows c.page_with_walk.ensures.short
+pub facts_of_program-requires-clause-globals : goal.facts_of_program-requires-clause-globals
+facts_of_program-requires-clause-globals c =
+    globals_of c.args.lattice.now c.in-Ok.program c.in-Ok.ensures.classes
 
-pub returns-in-Ok-clause-verdict : goal.returns-in-Ok-clause-verdict
-returns-in-Ok-clause-verdict c = λ walk.
-    verdict_shown c.args.lattice.now c.args.profile c.args.source.now Refused c.page_with_walk.result
-    (record { steps = c.args.walk.now; walk = walk }) c.page_with_walk.ensures.banner
+pub facts_of_program-requires-clause-declared : goal.facts_of_program-requires-clause-declared
+facts_of_program-requires-clause-declared c =
+    declared_of c.args.lattice.now c.in-Ok.program c.in-Ok.ensures.classes
+
+pub returns-in_ok-facts-in-Ok-clause-bounded : goal.returns-in_ok-facts-in-Ok-clause-bounded
+returns-in_ok-facts-in-Ok-clause-bounded c =
+    short_with c.args.lattice.now c.args.profile c.args.source.now c.in_ok-facts-in-Ok.facts.pairs.items []
+    c.page_with_walk.result
+    (record { resolved = c.in-Ok.program; stands = c.in-Ok.ensures.stands; table = c.in_ok-facts-in-Ok.ensures })
+    c.page_with_walk.ensures.short
+
+pub returns-in_ok-facts-in-Ok-clause-verdict : goal.returns-in_ok-facts-in-Ok-clause-verdict
+returns-in_ok-facts-in-Ok-clause-verdict c = λ walk.
+    refused_shown c.args.lattice.now c.args.profile c.args.source.now c.in-Ok.program c.args.walk.now
+    c.in_ok-facts-in-Ok.facts.pairs.items c.page_with_walk.result c.in-Ok.ensures.stands
+    c.in_ok-facts-in-Ok.ensures walk c.page_with_walk.ensures.led
 
 pub returns-in-Err-clause-verdict : goal.returns-in-Err-clause-verdict
 returns-in-Err-clause-verdict c = λ walk. c.faulty_page.ensures.verdict c.in-Err.ensures.refused

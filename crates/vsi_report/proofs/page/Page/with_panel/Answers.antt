@@ -1,6 +1,6 @@
 use Rattle.std.proofs.Common.{◌++◌, ap, ◌∙◌, rules}
 use Rattle.vsi_report.specs.Page.{panel_begin, panel_end}
-use Rattle.vsi_report.proofs.BannerLemmas.{banner_more, five_so}
+use Rattle.vsi_report.proofs.BannerLemmas.{lead_more, five_so}
 use Rattle.vsi_report.proofs.EscapeLemmas.{parts_so}
 use Rattle.vsi_report.proofs.page.Page.with_panel.Goals as goal
 
@@ -20,15 +20,15 @@ returns-clause-panel c = λ source shows.
       shows = shows;
     }
 
-pub returns-clause-banner : goal.returns-clause-banner
-returns-clause-banner c = λ v banner.
+pub returns-clause-led : goal.returns-clause-led
+returns-clause-led c = λ v lead led.
     let panel = c.args.panel.now.items in
     let after = c.args.after.now.text.items in
     let before = c.args.before.now.text.items in
-    banner_more v c.args.self.text.items (before ++ (panel_begin ++ (panel ++ (panel_end ++ after))))
+    lead_more v lead c.args.self.text.items (before ++ (panel_begin ++ (panel ++ (panel_end ++ after))))
     c.extend_from_slice-5.new.self.items
     (five_so c.args.self.text.items before panel_begin panel panel_end after c.extend_from_slice.new.self.items
     c.extend_from_slice-2.new.self.items c.extend_from_slice-3.new.self.items c.extend_from_slice-4.new.self.items
     c.extend_from_slice-5.new.self.items (search rules) c.in_ok-extend_from_slice-2.ensures.items (search rules)
     c.in_ok-extend_from_slice-4.ensures.items (search rules))
-    banner
+    led

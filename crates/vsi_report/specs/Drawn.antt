@@ -1,0 +1,16 @@
+-- What the code of a graph of flows shows.
+use Rattle.vsi_lattice.specs.LatticeView.{order}
+use Rattle.vsi_report.specs.declared.drawn.Drawn.{Drawn}
+use Rattle.vsi_report.specs.Graph.{texts}
+use Rattle.vsi_report.specs.FlowsGraph.{Shown}
+
+-- What a graph of flows shows, from the values of the code.
+abbrev pub shown : Drawn → Shown
+shown d =
+    record {
+      names = texts d.order.now.names.items;
+      lattice = order d.lattice.now;
+      resolved = d.program.now;
+      chosen = d.chosen.now;
+      walk = d.walk.now;
+    }

@@ -1,0 +1,254 @@
+//! The first sentences of a banner.
+
+ghost use Rattle.std.specs.Prelude.{◌≡◌, ◌++◌, Some, OnOk, length};
+ghost use Rattle.vsi_lattice.specs.LatticeView.{names, order as order_of_lattice};
+ghost use Rattle.vsi_types.specs.Security.{program as program_of};
+ghost use Rattle.vsi_types.specs.Walks.{declared_class as declared_class_of};
+ghost use Rattle.vsi_types.specs.Walks as walks;
+ghost use Rattle.vsi_infer.specs.Explanation.{name_of as name_of_variable};
+ghost use Rattle.vsi_report.specs.Graph.{name_at, texts};
+ghost use Rattle.vsi_report.specs.Lead as spec;
+
+use crate::drawn::variable_name;
+use crate::order::{Order, name_of};
+use crate::page::Page;
+use std::alloc::AllocError;
+use vsi_flows::Pair;
+use vsi_infer::declared_class;
+use vsi_lattice::Lattice;
+use vsi_scope::{Resolved, Var};
+use vsi_syntax::line_column;
+use vsi_types::{LOOP, Step};
+
+/// A variable at an end of a walk: its name, and its class with the name of that.
+#[derive(Clone, Copy)]
+pub(crate) struct End<'a> {
+    pub(crate) name: &'a [u8],
+    pub(crate) class: usize,
+    pub(crate) class_name: &'a [u8],
+}
+
+/// What the first sentences about a refused text say: the ends of a refused walk, the number of its
+/// steps, its first and its last line, the number of refused pairs, and that of all pairs.
+#[derive(Clone, Copy)]
+pub(crate) struct Lead<'a> {
+    pub(crate) source: End<'a>,
+    pub(crate) target: End<'a>,
+    pub(crate) steps: usize,
+    pub(crate) first: usize,
+    pub(crate) last: usize,
+    pub(crate) refused: usize,
+    pub(crate) pairs: usize,
+}
+
+/// A word for one thing, or for several.
+pub(crate) fn number_word(
+    count: usize,
+    one: &'static [u8],
+    several: &'static [u8],
+) -> &'static [u8]
+    ensures { result.now ≡ spec.plural count one.now several.now }
+{
+    if count == 1 { one } else { several }
+}
+
+/// Adds a variable at an end of a walk, and its class.
+fn put_end(page: &mut Page, end: &End<'_>) -> Result<(), AllocError>
+    ensures { OnOk result (page.new.text.items ≡ page.old.text.items ++ spec.end_words end.now) }
+{
+    page.put(b"<b class=\"k")?;
+    page.number(end.class % 8)?;
+    page.put(b"\">")?;
+    page.tell(end.name)?;
+    page.put(b"</b> <span class=\"chip k")?;
+    page.number(end.class % 8)?;
+    page.put(b"\">")?;
+    page.tell(end.class_name)?;
+    page.put(b"</span>")
+}
+
+/// Adds the lines from the first to the last of a walk.
+fn put_lines(page: &mut Page, first: usize, last: usize) -> Result<(), AllocError>
+    ensures { OnOk result
+        (page.new.text.items ≡ page.old.text.items ++ spec.lines_words first last) }
+{
+    if first == last {
+        page.put(b", line ")?;
+        page.number(first)?;
+        return page.put(b".\n");
+    }
+    page.put(b", lines ")?;
+    page.number(first)?;
+    page.put(b" to ")?;
+    page.number(last)?;
+    page.put(b".\n")
+}
+
+/// Adds the number of steps.
+fn put_steps(page: &mut Page, steps: usize) -> Result<(), AllocError>
+    ensures { OnOk result
+        (page.new.text.items ≡ page.old.text.items ++ spec.steps_words steps) }
+{
+    page.put(b" in ")?;
+    page.number(steps)?;
+    page.put(number_word(steps, b" step", b" steps"))
+}
+
+/// Adds the counts of the pairs.
+fn put_counts(page: &mut Page, refused: usize, pairs: usize) -> Result<(), AllocError>
+    ensures { OnOk result
+        (page.new.text.items ≡ page.old.text.items ++ spec.counts_words refused pairs) }
+{
+    page.number(refused)?;
+    page.put(b" of ")?;
+    page.number(pairs)?;
+    page.put(number_word(pairs, b" pair", b" pairs"))?;
+    page.put(b" of declared variables joined by flows ")?;
+    page.put(number_word(refused, b"is", b"are"))?;
+    page.put(b" refused.</p>\n")
+}
+
+/// Adds the first sentences about a refused text.
+pub(crate) fn put_lead(page: &mut Page, lead: &Lead<'_>) -> Result<(), AllocError>
+    ensures { OnOk result (page.new.text.items ≡ page.old.text.items ++ spec.lead_words lead.now) }
+{
+    page.put(b"<p class=\"lead\">")?;
+    put_end(page, &lead.source)?;
+    page.put(b" reaches ")?;
+    put_end(page, &lead.target)?;
+    put_steps(page, lead.steps)?;
+    put_lines(page, lead.first, lead.last)?;
+    put_counts(page, lead.refused, lead.pairs)
+}
+
+/// Adds the sentence about the pairs of an accepted text.
+pub(crate) fn put_allowed(page: &mut Page, pairs: usize) -> Result<(), AllocError>
+    ensures { OnOk result
+        (page.new.text.items ≡ page.old.text.items ++ spec.allowed_words pairs) }
+{
+    if pairs == 0 {
+        return page.put(b"<p class=\"lead\">No declared variable flows to another one.</p>\n");
+    }
+    if pairs == 1 {
+        return page.put(
+            b"<p class=\"lead\">The only pair of declared variables joined by flows is allowed.</p>\n",
+        );
+    }
+    page.put(b"<p class=\"lead\">All ")?;
+    page.number(pairs)?;
+    page.put(b" pairs of declared variables joined by flows are allowed.</p>\n")
+}
+
+/// The number of refused pairs.
+pub(crate) fn count_refused(pairs: &[Pair]) -> usize
+    ensures { result ≡ spec.refused_of pairs.now }
+{
+    let mut rest = pairs;
+    let mut count: usize = 0;
+    while let [pair, behind @ ..] = rest {
+        if !pair.allowed {
+            count += 1;
+        }
+        rest = behind;
+    }
+    count
+}
+
+/// The last variable of a walk that begins with a step.
+fn last_target(first: &Step, later: &[Step]) -> Var
+    ensures { result ≡ walks.last_target first.now later.now }
+{
+    let mut step = *first;
+    let mut rest = later;
+    while let [next, behind @ ..] = rest {
+        step = *next;
+        rest = behind;
+    }
+    step.target
+}
+
+/// The first variable of a walk.
+fn first_of(walk: &[Step]) -> Var
+    ensures { result ≡ spec.first_of walk.now }
+{
+    match walk {
+        [step, ..] => step.source,
+        [] => LOOP,
+    }
+}
+
+/// The last variable of a walk.
+fn last_of(walk: &[Step]) -> Var
+    ensures { result ≡ spec.last_of walk.now }
+{
+    match walk {
+        [step, rest @ ..] => last_target(step, rest),
+        [] => LOOP,
+    }
+}
+
+/// The declared class of a variable, or 0 if it has none.
+fn class_of(lattice: &Lattice, program: &Resolved<'_>, variable: Var) -> usize
+    ensures { (c : ℕ) → declared_class_of (order_of_lattice lattice.now) (program_of program.now)
+        variable ≡ Some c → result ≡ c }
+{
+    match declared_class(lattice, program, variable) {
+        Some(class) => class.index(),
+        None => 0,
+    }
+}
+
+/// A variable at an end of a walk.
+fn end_of<'a>(
+    lattice: &Lattice,
+    order: &'a Order,
+    program: &Resolved<'a>,
+    variable: Var,
+) -> End<'a>
+    requires { texts order.now.names.items ≡ names lattice.now }
+    ensures { spec.IsEnd lattice.now program.now variable result }
+{
+    let class = class_of(lattice, program, variable);
+    End {
+        name: variable_name(program, variable),
+        class,
+        class_name: name_of(order, class),
+    }
+}
+
+/// The first and the last byte of a text that a walk reads or writes.
+fn reach_of(walk: &[Step]) -> (usize, usize) {
+    let mut first = usize::MAX;
+    let mut last: usize = 0;
+    for step in walk {
+        first = first.min(step.read.start).min(step.written.start);
+        last = last.max(step.read.start).max(step.written.start);
+    }
+    (first.min(last), last)
+}
+
+/// What the first sentences about a refused text say.
+pub(crate) fn lead_of<'a>(
+    lattice: &Lattice,
+    order: &'a Order,
+    program: &Resolved<'a>,
+    source: &[u8],
+    walk: &[Step],
+    pairs: &[Pair],
+) -> Lead<'a>
+    requires { texts order.now.names.items ≡ names lattice.now }
+    ensures { spec.IsLead lattice.now program.now walk.now pairs.now result }
+{
+    let (start, stop) = reach_of(walk);
+    let (first, _) = line_column(source, start);
+    let (last, _) = line_column(source, stop);
+    Lead {
+        source: end_of(lattice, order, program, first_of(walk)),
+        target: end_of(lattice, order, program, last_of(walk)),
+        steps: walk.len(),
+        first,
+        last,
+        refused: count_refused(pairs),
+        pairs: pairs.len(),
+    }
+}
