@@ -42,6 +42,7 @@ check_answer holds asked false line told refused = inr (refused refl)
 -- No request writes a part of an answer at a lower status than that of a file fault, but for a run and a server.
 pub cut_within : (asked : Request) → cut_from asked ≤ 4
 cut_within (request.Check asked) = omega arith
+cut_within (request.Document asked) = omega arith
 cut_within (request.Conform asked) = omega arith
 cut_within (request.Classes c) = omega arith
 cut_within (request.Flows c has_walks) = omega arith

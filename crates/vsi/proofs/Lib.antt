@@ -11,6 +11,7 @@ pub mod Driven
 pub mod Stopped
 pub mod Checked
 pub mod Mended
+pub mod Documented
 pub mod Obeyed
 pub mod Refused
 pub mod Unrun

@@ -50,6 +50,7 @@ memory_mend false holds asked old new = tt
 -- Lack of memory claims no reason for any request.
 memory_why : (holds : Holding) (asked : Request) (old new : Option (List ℕ)) → Why holds asked old new Memory
 memory_why holds (request.Check asked) old new = memory_check asked.is_json holds asked old new
+memory_why holds (request.Document asked) old new = tt
 memory_why holds (request.Conform asked) old new = tt
 memory_why holds (request.Classes c) old new = tt
 memory_why holds (request.Flows c has_walks) old new = tt

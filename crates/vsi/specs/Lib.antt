@@ -13,6 +13,7 @@ pub mod Laying
 pub mod Raises
 pub mod Admitted
 pub mod Boundaries
+pub mod Documents
 pub mod Files
 pub mod Performed
 pub mod Refusals

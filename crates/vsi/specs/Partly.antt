@@ -27,7 +27,7 @@ use Rattle.vsi.specs.Driven.{lines_of}
 use Rattle.vsi.specs.Holding.{Holding, IsImageAt}
 use Rattle.vsi.specs.Laying.{AnswersLayout, ToldCanonical}
 use Rattle.vsi.specs.Files.{BeginsAt, IsBudgetOf, IsStoredAt, LooksAt, OfFile, OfFiles, shown}
-use Rattle.vsi.specs.Performed.{AuditsFiles, BoundsFile, ComparesFiles, ConformsFiles, DrawsFiles, EmitsFile, RunsFiles, SearchesFiles, SourceOfFile, ToldAccepted, ToldClasses, ToldFlows, ToldJson, ToldListing, ToldPage, ToldRaises, ViewsFiles, control_of, judgement_of, profile_of}
+use Rattle.vsi.specs.Performed.{AuditsFiles, BoundsFile, ComparesFiles, ConformsFiles, DocumentOf, DrawsFiles, EmitsFile, RunsFiles, SearchesFiles, SourceOfFile, ToldAccepted, ToldClasses, ToldFlows, ToldJson, ToldListing, ToldPage, ToldRaises, ViewsFiles, control_of, judgement_of, profile_of}
 use Rattle.vsi.specs.Raises.{ToldUnserved}
 use Rattle.vsi.specs.Reasons.{ToldRefusal}
 use Rattle.vsi.specs.Seeing.{SeesFiles}
@@ -124,6 +124,7 @@ AnswersBound holds asked bytes = (told : BoundAnswer) × BoundsFile holds asked 
 abbrev pub Answers : Holding → Option (List ℕ) → Request → List ℕ → Type 0
 Answers holds given (request.Try attempt) = BytesOf (TriesFile holds attempt)
 Answers holds given (request.Check asked) = BytesOf (AnswersCheck asked.is_json holds asked)
+Answers holds given (request.Document asked) = BytesOf (λ text. (good : Bool) × DocumentOf holds asked good text)
 Answers holds given (request.Conform asked) =
     BytesOf (λ text. (conforms : Bool) × ConformsFiles holds asked conforms text)
 Answers holds given (request.Classes c) = BytesOf (OfFiles holds c (ToldClasses c.is_strict))

@@ -51,6 +51,8 @@ use Rattle.vsi_arguments.specs.declared.request.Bounding.{Bounding}
 use Rattle.vsi_arguments.specs.declared.request.Comparison.{Comparison}
 use Rattle.vsi_arguments.specs.declared.request.Compilation.{Compilation}
 use Rattle.vsi_arguments.specs.declared.request.Conformance.{Conformance}
+use Rattle.vsi_arguments.specs.declared.request.Document.{Document}
+use Rattle.vsi_arguments.specs.declared.request.Document.TheVariants as document
 use Rattle.vsi_arguments.specs.declared.request.Drawing.{Drawing}
 use Rattle.vsi_arguments.specs.declared.request.Driving.{Driving}
 use Rattle.vsi_arguments.specs.declared.request.Emission.{Emission}
@@ -64,6 +66,7 @@ use Rattle.vsi_arguments.specs.declared.request.Request.{Request}
 use Rattle.vsi_arguments.specs.declared.request.Request.TheVariants as request
 use Rattle.vsi.specs.Admitted.{IsAdmitted}
 use Rattle.vsi.specs.Boundaries.{requested}
+use Rattle.vsi.specs.Documents.{ToldSarif}
 use Rattle.vsi.specs.Driven.{DrivesInput}
 use Rattle.vsi.specs.Holding.{Delivers, Fills, Holding, IsImageAt, IsLatticeAt, IsReadAt}
 use Rattle.vsi.specs.Laying.{PerformsLayout, ToldCanonical}
@@ -328,6 +331,11 @@ pub record ConformsFiles (holds : Holding) (c : Conformance) (conforms : Bool) (
   pub files : AreAsked holds c asked lattice source
   pub tells : TellsConforming c.is_json conforms lattice source asked.interface text.items
 
+-- The document that answers a request, and that says of its files that all is well or that something is wrong.
+abbrev pub DocumentOf : Holding → Document → Bool → Vec ℕ → Type 0
+DocumentOf holds (document.Sarif asked) accepted =
+    OfFiles holds asked.compilation (ToldSarif (judgement_of asked) asked.compilation.source.now accepted)
+
 -- ---- what each subcommand has done.
 
 -- `check`, with `--json` or without.
@@ -430,6 +438,7 @@ Alone Does holds left old new = (left ≡ holds) × Does old new
 abbrev pub Performs : Holding → Option (List ℕ) → Request → Holding → Option (List ℕ) → Option (List ℕ) → Type 0
 Performs holds given (request.Try attempt) left = Alone (Writes (TriesFile holds attempt)) holds left
 Performs holds given (request.Check asked) left = Alone (PerformsCheck asked.is_json holds asked) holds left
+Performs holds given (request.Document asked) left = Alone (Writes (DocumentOf holds asked true)) holds left
 Performs holds given (request.Conform asked) left = Alone (Writes (ConformsFiles holds asked true)) holds left
 Performs holds given (request.Classes c) left = Alone (Writes (OfFiles holds c (ToldClasses c.is_strict))) holds left
 Performs holds given (request.Flows c has_walks) left =

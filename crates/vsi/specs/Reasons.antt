@@ -45,6 +45,8 @@ use Rattle.vsi_arguments.specs.declared.request.Audit.{Audit}
 use Rattle.vsi_arguments.specs.declared.request.Bounding.{Bounding}
 use Rattle.vsi_arguments.specs.declared.request.Comparison.{Comparison}
 use Rattle.vsi_arguments.specs.declared.request.Conformance.{Conformance}
+use Rattle.vsi_arguments.specs.declared.request.Document.{Document}
+use Rattle.vsi_arguments.specs.declared.request.Document.TheVariants as document
 use Rattle.vsi_arguments.specs.declared.request.Driving.{Driving}
 use Rattle.vsi_arguments.specs.declared.request.Emission.{Emission}
 use Rattle.vsi_arguments.specs.declared.request.Execution.{Execution}
@@ -65,7 +67,7 @@ use Rattle.vsi.specs.Input.{two_classes}
 use Rattle.vsi.specs.Served.{Serves, unended_line}
 use Rattle.vsi.specs.Tried.{AreTried, BeginsSet, IsMade, IsTriedUnder, RunsMade, policy_path}
 use Rattle.vsi.specs.Files.{BeginsAt, IsBudgetOf, LooksAt, OfFiles, Writes}
-use Rattle.vsi.specs.Performed.{BoundsFile, ComparesFiles, ConformsFiles, IsAskedAt, LooksFor, compilation_of, control_of, judgement_of, named_path, profile_of, wanted_of}
+use Rattle.vsi.specs.Performed.{BoundsFile, ComparesFiles, ConformsFiles, DocumentOf, IsAskedAt, LooksFor, compilation_of, control_of, judgement_of, named_path, profile_of, wanted_of}
 use Rattle.vsi.specs.Refusals.{AsksCanonical, AsksCheck, AsksClasses, AsksFlows, AsksImage, AsksMend, IsDifference, LacksBoundAt, LacksClass, LacksClassAt, LacksEither, NoOther, RefusesFile, RefusesFiles, RefusesImage, RefusesLattice, RefusesSource, RefusesStart, RefusesStore, StopsBy}
 
 -- ---- why each subcommand has stopped.
@@ -90,6 +92,10 @@ WhyMend true holds asked old new =
     (Writes (OfFiles holds asked.compilation (ToldUnserved (profile_of asked.compilation.is_strict))) old new))
 WhyMend false holds asked old new =
     StopsBy (RefusesFiles holds asked.compilation (AsksMend asked.is_applied asked.compilation.is_strict)) NoOther
+
+-- A request for a document has none: the lattice is refused.
+abbrev pub WhyDocument : Holding → Document → Unanswered → Type 0
+WhyDocument holds (document.Sarif asked) = RefusesLattice holds asked.compilation.lattice.now
 
 -- The lattice of an interface is refused: that of the file that it names, or its own tables.
 abbrev pub RefusesPolicy : Holding → List ℕ → Policy → Unanswered → Type 0
@@ -397,6 +403,8 @@ pub record LacksTried (holds : Holding) (a : Attempt) (stop : Stop) : Type 0 whe
 abbrev pub Why : Holding → Request → Option (List ℕ) → Option (List ℕ) → Stop → Type 0
 Why holds (request.Try attempt) old new = StopsBy (WhyTry holds attempt) (LacksTried holds attempt)
 Why holds (request.Check asked) old new = WhyCheck asked.is_json holds asked old new
+Why holds (request.Document asked) old new =
+    StopsBy (WhyDocument holds asked) (IsDifference (Writes (DocumentOf holds asked false) old new))
 Why holds (request.Conform asked) old new =
     StopsBy (RefusesAsked holds asked.interface.now) (DiffersConform holds asked old new)
 Why holds (request.Classes c) old new = StopsBy (RefusesFiles holds c (AsksClasses c.is_strict)) NoOther

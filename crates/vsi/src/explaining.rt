@@ -12,7 +12,7 @@ use crate::subcommands::profile;
 use std::alloc::{AllocError, Global};
 use vsi_advice::advice;
 use vsi_answers::Cause;
-use vsi_arguments::{Colour, Request};
+use vsi_arguments::{Colour, Document, Request};
 use vsi_audit::AuditError;
 use vsi_blame::refused_flows;
 use vsi_caret::{Manner, put_safe};
@@ -78,7 +78,9 @@ impl Explaining {
 /// Whether the strict profile judges the source text.
 fn is_strict(request: &Request<'_>) -> bool {
     match request {
-        Request::Check(asked) => asked.compilation.is_strict || asked.is_steady,
+        Request::Check(asked) | Request::Document(Document::Sarif(asked)) => {
+            asked.compilation.is_strict || asked.is_steady
+        }
         Request::Classes(compilation)
         | Request::Build(compilation, _)
         | Request::Report(compilation)

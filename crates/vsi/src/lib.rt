@@ -8,9 +8,9 @@
 //! such as `LexError` or a `Walk` of `Step`s, are exported here too.
 //!
 //! To be believed: of `specs/` `Words`, `Holding`, `Loading`, `Driven`, `Tried`, `Shaping`,
-//! `Seeing`, `Laying`, `Raises`, `Admitted`, `Served`, `Files`, `Performed`, `Refusals`, `Reasons`,
-//! `Partly`, `Done`, `Input` and `Laws`, and of `Stops` all but `StopsFor`; `Diagnosing` is a stepping
-//! stone of proofs.
+//! `Seeing`, `Laying`, `Raises`, `Documents`, `Admitted`, `Served`, `Files`, `Performed`, `Refusals`,
+//! `Reasons`, `Partly`, `Done`, `Input` and `Laws`, and of `Stops` all but `StopsFor`; `Diagnosing` is
+//! a stepping stone of proofs.
 #![tactic(auto)]
 
 mod admitting;
@@ -24,6 +24,7 @@ mod comparing;
 mod conformance;
 mod desk;
 mod diagnosing;
+mod documents;
 mod drawing;
 mod driving;
 mod emitting;

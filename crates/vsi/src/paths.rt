@@ -1,6 +1,6 @@
 //! The paths of the files that a request reads.
 
-use vsi_arguments::Request;
+use vsi_arguments::{Document, Request};
 
 /// The most files that a request names to read.
 pub(crate) const MOST_READ: usize = 4;
@@ -9,7 +9,9 @@ pub(crate) const MOST_READ: usize = 4;
 /// an interface or a text names isn't among them, nor is that of `lsp`, which reads it again and again.
 pub(crate) fn paths_of<'a>(request: &Request<'a>) -> [Option<&'a str>; MOST_READ] {
     match request {
-        Request::Check(judging) => { two(judging.compilation.lattice, judging.compilation.source) }
+        Request::Check(judging) | Request::Document(Document::Sarif(judging)) => {
+            two(judging.compilation.lattice, judging.compilation.source)
+        }
         Request::Classes(compilation)
         | Request::Report(compilation)
         | Request::Build(compilation, _)

@@ -13,6 +13,7 @@ use crate::bounding::bound;
 use crate::comparing::compare;
 use crate::conformance::conform;
 use crate::desk::Desk;
+use crate::documents::put_document;
 use crate::drawing::{draw, report};
 use crate::driving::drive;
 use crate::emitting::emit;
@@ -153,6 +154,7 @@ pub(crate) fn perform<'a, F: Files, R: Read, W: Write>(
 {
     match request {
         Request::Check(asked) => put_check(desk, asked, files, output),
+        Request::Document(asked) => put_document(desk, asked, files, output),
         Request::Conform(asked) => conform(desk, asked, files, output),
         Request::Classes(compilation) => put(classes(desk, compilation, files), output),
         Request::Flows {

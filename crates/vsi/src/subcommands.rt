@@ -91,7 +91,7 @@ pub(crate) fn check<'a, F: Files>(
 }
 
 /// The judgement that the source text must pass.
-fn judgement(asked: Judging<'_>) -> Judgement
+pub(crate) fn judgement(asked: Judging<'_>) -> Judgement
     ensures { result ≡ judgement_of asked.entry }
 {
     if asked.is_steady {

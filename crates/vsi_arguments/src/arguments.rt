@@ -192,6 +192,13 @@ pub(crate) const CHECK_JSON: Argument = Argument {
     whole: word_help::CHECK_JSON,
 };
 
+pub(crate) const SARIF: Argument = Argument {
+    name: "sarif",
+    form: Form::Flag,
+    line: "Writes the answer as SARIF",
+    whole: word_help::SARIF,
+};
+
 pub(crate) const MEND_JSON: Argument = Argument {
     name: "json",
     form: Form::Flag,

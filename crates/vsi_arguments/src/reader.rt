@@ -58,6 +58,8 @@ enum Mistake {
     ApplyAndJson,
     /// The flows of no text are to be drawn.
     FlowsOfNothing,
+    /// The answer is to be written both as JSON of its own and as SARIF.
+    JsonAndSarif,
     NoSubcommand,
 }
 
@@ -69,7 +71,9 @@ impl Mistake {
             | Mistake::NoSubject
             | Mistake::ImageIsRead
             | Mistake::NoName => ErrorKind::ValueValidation,
-            Mistake::CheckAndWrite | Mistake::ApplyAndJson => ErrorKind::ArgumentConflict,
+            Mistake::CheckAndWrite | Mistake::ApplyAndJson | Mistake::JsonAndSarif => {
+                ErrorKind::ArgumentConflict
+            }
             Mistake::FlowsOfNothing => ErrorKind::MissingRequiredArgument,
             Mistake::NoTwoStores => ErrorKind::WrongNumberOfValues,
             Mistake::NoSubcommand => ErrorKind::MissingSubcommand,
@@ -90,6 +94,7 @@ impl Mistake {
             Mistake::CheckAndWrite => "`--check` writes nothing, so it doesn't go with `--write`",
             Mistake::ApplyAndJson => "`--apply` prints a text, so it doesn't go with `--json`",
             Mistake::FlowsOfNothing => "`--flows` needs a SOURCE, whose flows it draws",
+            Mistake::JsonAndSarif => "`--json` and `--sarif` don't go together",
             Mistake::NoSubcommand => "a subcommand is needed",
         }
     }
@@ -166,6 +171,7 @@ fn named<'a>(
         "compare" => Ok(compare_request(inner)),
         "lattice" => Ok(Ok(Request::Lattice(texts(alloc, inner, "SHAPE")?))),
         "explain" => Ok(explain_request(inner)),
+        "check" => Ok(check_request(inner)),
         "mend" => Ok(mend_request(inner)),
         "build" => Ok(build_request(inner)),
         "emit-c" => Ok(emission_request(inner)),
@@ -178,7 +184,6 @@ fn named<'a>(
 /// The request of a subcommand that takes no list of arguments.
 fn requested<'a>(name: &str, inner: &ArgMatches<'a>) -> Request<'a> {
     match name {
-        "check" => check_request(inner),
         "conform" => Request::Conform(conformance_in(inner)),
         "classes" => Request::Classes(compilation_in(inner)),
         "flows" => flows_request(inner),
@@ -194,12 +199,17 @@ fn requested<'a>(name: &str, inner: &ArgMatches<'a>) -> Request<'a> {
     }
 }
 
-fn check_request<'a>(matches: &ArgMatches<'a>) -> Request<'a> {
-    Request::Check(Judging {
+fn check_request<'a>(matches: &ArgMatches<'a>) -> Result<Request<'a>, Mistake> {
+    let judging = Judging {
         compilation: compilation_in(matches),
         is_steady: matches.get_flag("steady"),
         is_json: matches.get_flag("json"),
-    })
+    };
+    match (matches.get_flag("sarif"), judging.is_json) {
+        (false, _) => Ok(Request::Check(judging)),
+        (true, false) => Ok(Request::Document(Document::Sarif(judging))),
+        (true, true) => Err(Mistake::JsonAndSarif),
+    }
 }
 
 fn build_request<'a>(matches: &ArgMatches<'a>) -> Result<Request<'a>, Mistake> {

@@ -188,6 +188,13 @@ pub struct Layout<'a> {
     pub is_written: bool,
 }
 
+/// A request whose answer is one document, which a program reads.
+#[derive(Clone, Copy)]
+pub enum Document<'a> {
+    /// The answer of `check` as SARIF.
+    Sarif(Judging<'a>),
+}
+
 /// Whether an explanation is coloured.
 #[derive(Clone, Copy, Debug, PartialEq, Eq)]
 pub enum Colour {
@@ -218,6 +225,7 @@ pub struct Asked<'a> {
 pub enum Request<'a> {
     Try(Attempt<'a>),
     Check(Judging<'a>),
+    Document(Document<'a>),
     Conform(Conformance<'a>),
     Classes(Compilation<'a>),
     Flows {

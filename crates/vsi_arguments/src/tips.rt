@@ -4,7 +4,7 @@ use std::alloc::{AllocError, Global};
 
 /// The options that only some subcommands have, as a mistake quotes them, and the subcommands that
 /// have each.
-const OWNERS: [(&str, &str); 32] = [
+const OWNERS: [(&str, &str); 33] = [
     ("'--apply'", "mend"),
     ("'--bounded'", "emit-c"),
     ("'--budget'", "try, run, view, drive, compare and leak"),
@@ -32,6 +32,7 @@ const OWNERS: [(&str, &str); 32] = [
     ("'--out'", "run and view"),
     ("'--outputs'", "drive"),
     ("'--release'", "drive"),
+    ("'--sarif'", "check"),
     ("'--save'", "drive"),
     ("'--seed'", "leak"),
     ("'--set'", "try, run and view"),

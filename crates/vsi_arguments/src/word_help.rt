@@ -285,6 +285,12 @@ Writes the answer as a line of JSON on standard output: an object with
 `accepted`, and for a refusal its number, its name, its place, its
 text and the steps of its flow.";
 
+/// The answer of `check` as SARIF.
+pub(crate) const SARIF: &str = "\
+Writes the answer as a document of SARIF 2.1.0 on standard output, which
+services that check changes show on the lines of the text: a refusal
+is its one result, and an accepted text has none.";
+
 /// The answer as JSON.
 pub(crate) const JSON: &str = "\
 Writes the answer as a line of JSON: an object with `conforms` and

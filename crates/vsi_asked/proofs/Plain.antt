@@ -7,8 +7,10 @@ use Rattle.std.proofs.lemmas.Bool.{cases_Bool}
 use Rattle.std.proofs.lemmas.Slice.Eq.{bytes_eq-Decides}
 use Rattle.vsi_arguments.specs.declared.request.Judging.{Judging}
 use Rattle.vsi_arguments.specs.declared.request.Request.{Request}
-use Rattle.vsi_arguments.specs.declared.request.Request.TheVariants.{Check, Explain, Layout, Mend}
-use Rattle.vsi_asked.specs.Asked.{AsksFor, Spells, name_of}
+use Rattle.vsi_arguments.specs.declared.request.Document.{Document}
+use Rattle.vsi_arguments.specs.declared.request.Document.TheVariants as document
+use Rattle.vsi_arguments.specs.declared.request.Request.TheVariants.{Check, Document as Documented, Explain, Layout, Mend}
+use Rattle.vsi_asked.specs.Asked.{AsksFor, Spells, name_of, own_flags}
 use Rattle.vsi_asked.specs.Help.{front_of, is_first, is_help, is_short}
 use Rattle.vsi_asked.specs.Laws.{ArePlainCheck, CheckIsAsked, IsPlainCheck}
 use Rattle.vsi_asked.specs.Words.{VALUED, has_flag, is_among, is_dashed, operands_in, texts}
@@ -103,12 +105,29 @@ plain_check judging words lattice source plain asks =
       plain = sym flags.1.1.0 ∙ none (codes "--json") refl;
     }
 
+-- The flags of the subcommand whose answer a document is.
+pub document_flags_are : (asked : Document) →
+    own_flags (Documented asked)
+    ≡ codes "--strict" ∷ codes "--steady" ∷ codes "--json" ∷ codes "--sarif" ∷ codes "--explain" ∷ []
+document_flags_are (document.Sarif judging) = refl
+
+-- `check` and two arguments that don't look like options request no document.
+no_document : (asked : Document) (words : List (String Global)) (lattice source : List ℕ) →
+    ArePlainCheck words lattice source → Spells words (Documented asked) → ⊥
+no_document (document.Sarif judging) words lattice source plain asks =
+    let rest_is : asks.rest ≡ lattice ∷ source ∷ [] = cc (plain.are, asks.named) in
+    let flags = rw rest_is at asks.has_flags in
+    let unset = no_flag (codes "--sarif") lattice source refl plain.plain_lattice plain.plain_source in
+    let turned : true ≡ false = sym flags.1.1.1.0 ∙ unset in absurd cc
+
 -- Every request that such arguments make is a judgement of the two files.
 pub one_request : (words : List (String Global)) (lattice source : List ℕ) → ArePlainCheck words lattice source →
     (request : Request) → AsksFor words request →
     (judging : Judging) × (request ≡ Check judging) × IsPlainCheck lattice source judging
 one_request words lattice source plain (Check judging) asks =
     (judging, refl, plain_check judging words lattice source plain asks.spelled)
+one_request words lattice source plain (Documented asked) asks =
+    absurd (no_document asked words lattice source plain asks.spelled)
 one_request words lattice source plain (Explain page) asks =
     absurd (unnamed (texts words) _ asks.spelled.asks.rest (codes "explain") plain.are asks.spelled.asks.named refl)
 one_request words lattice source plain (Layout layout) asks =

@@ -8,23 +8,31 @@ use Rattle.vsi_arguments.specs.declared.request.Attempt.{Attempt}
 use Rattle.vsi_arguments.specs.declared.request.Budget.{Budget}
 use Rattle.vsi_arguments.specs.declared.request.Budget.TheVariants.{Number, Auto}
 use Rattle.vsi_arguments.specs.declared.request.Compilation.{Compilation}
+use Rattle.vsi_arguments.specs.declared.request.Document.{Document}
+use Rattle.vsi_arguments.specs.declared.request.Document.TheVariants as document
 use Rattle.vsi_arguments.specs.declared.request.Execution.{Execution}
+use Rattle.vsi_arguments.specs.declared.request.Judging.{Judging}
 use Rattle.vsi_arguments.specs.declared.request.Layout.{Layout as Laid}
 use Rattle.vsi_arguments.specs.declared.request.Mending.{Mending}
 use Rattle.vsi_arguments.specs.declared.request.NameLists.{NameLists}
 use Rattle.vsi_arguments.specs.declared.request.Outset.{Outset}
 use Rattle.vsi_arguments.specs.declared.request.Request.{Request}
-use Rattle.vsi_arguments.specs.declared.request.Request.TheVariants.{Try, Lsp, Check, Conform, Classes, Flows, Mend, Build, List as Listing, Audit, Source, EmitC, Bound, Run, View, Drive, Compare, Leak, Report, Draw, Policy, Format, Layout, Lattice as Shaped, Explain}
+use Rattle.vsi_arguments.specs.declared.request.Request.TheVariants.{Try, Lsp, Check, Document as Documented, Conform, Classes, Flows, Mend, Build, List as Listing, Audit, Source, EmitC, Bound, Run, View, Drive, Compare, Leak, Report, Draw, Policy, Format, Layout, Lattice as Shaped, Explain}
 use Rattle.vsi_arguments.specs.declared.request.TheConstants.{SEARCH, TRY_BUDGET}
 use Rattle.vsi_explain.specs.Pages.{page_of}
 use Rattle.vsi_explain.specs.Subjects.{subject_page}
 use Rattle.vsi_asked.specs.Numbers.{GivesBudget, number_in}
 use Rattle.vsi_asked.specs.Words.{dashed_in, has_flag, is_own, operands_in, shown, texts, values_in}
 
+-- The name of the subcommand of a request for a document.
+abbrev pub document_name : Document → List ℕ
+document_name (document.Sarif judging) = codes "check"
+
 -- The name of the request's subcommand.
 abbrev pub name_of : Request → List ℕ
 name_of (Try attempt) = codes "try"
 name_of (Check judging) = codes "check"
+name_of (Documented asked) = document_name asked
 name_of (Conform conformance) = codes "conform"
 name_of (Classes compilation) = codes "classes"
 name_of (Flows compilation has_walks) = codes "flows"
@@ -57,11 +65,16 @@ given path = option_to_list (option_map (λ p. p.now) path)
 abbrev pub compiled : Compilation → List (List ℕ)
 compiled compilation = compilation.lattice.now ∷ compilation.source.now ∷ []
 
+-- The operands of a request for a document.
+abbrev pub document_operands : Document → List (List ℕ)
+document_operands (document.Sarif judging) = compiled judging.compilation
+
 -- The operands of a request, in their order: paths or, for `lattice`, a shape and names. `AsksPage` covers the operand
 -- of `explain`.
 abbrev pub operands_of : Request → List (List ℕ)
 operands_of (Try attempt) = attempt.source.now ∷ []
 operands_of (Check judging) = compiled judging.compilation
+operands_of (Documented asked) = document_operands asked
 operands_of (Conform conformance) = conformance.interface.now ∷ conformance.source.now ∷ []
 operands_of (Classes compilation) = compiled compilation
 operands_of (Flows compilation has_walks) = compiled compilation
@@ -86,12 +99,21 @@ operands_of (Shaped arguments) = shown arguments.items
 operands_of (Lsp serving) = []
 operands_of (Explain page) = []
 
+-- The flags of `check`, each with whether it is set.
+abbrev pub check_flags : Judging → Bool → List (List ℕ × Bool)
+check_flags judging is_sarif =
+    (codes "--strict", judging.compilation.is_strict) ∷ (codes "--steady", judging.is_steady)
+    ∷ (codes "--json", judging.is_json) ∷ (codes "--sarif", is_sarif) ∷ []
+
+-- The flags of a request for a document, each with whether it is set.
+abbrev pub document_flags : Document → List (List ℕ × Bool)
+document_flags (document.Sarif judging) = check_flags judging true
+
 -- The flags of a request, each with whether it is set.
 abbrev pub flags_of : Request → List (List ℕ × Bool)
 flags_of (Try attempt) = []
-flags_of (Check judging) =
-    (codes "--strict", judging.compilation.is_strict) ∷ (codes "--steady", judging.is_steady)
-    ∷ (codes "--json", judging.is_json) ∷ []
+flags_of (Check judging) = check_flags judging false
+flags_of (Documented asked) = document_flags asked
 flags_of (Conform conformance) = (codes "--json", conformance.is_json) ∷ []
 flags_of (Classes compilation) = (codes "--strict", compilation.is_strict) ∷ []
 flags_of (Flows compilation has_walks) =

@@ -9,9 +9,9 @@ use crate::numbers::{has_budget, has_budget_or_auto, has_number, number_in, only
 use crate::own::has_own_alone;
 use crate::reading::{has_flag, has_operands, has_values};
 use vsi_arguments::{
-    Attempt, Audit, Bounding, Comparison, Compilation, Conformance, Drawing, Driving, Emission,
-    Execution, Judging, Layout, Looking, Mending, NameLists, Outset, Request, SEARCH, Search,
-    Serving, TRY_BUDGET,
+    Attempt, Audit, Bounding, Comparison, Compilation, Conformance, Document, Drawing, Driving,
+    Emission, Execution, Judging, Layout, Looking, Mending, NameLists, Outset, Request, SEARCH,
+    Search, Serving, TRY_BUDGET,
 };
 use vsi_explain::{page, subject_page};
 
@@ -279,14 +279,16 @@ fn asks_policy(words: &[String], looking: &Looking<'_>) -> bool
     }
 }
 
-/// Whether the arguments request a judgement of a source text.
-fn asks_check(words: &[String], judging: &Judging<'_>) -> bool
-    ensures { result ≡ true → spec.Spells words.now (request.Check judging.now) }
+/// Whether the arguments request a judgement of a source text, as SARIF or not.
+fn asks_check(words: &[String], judging: &Judging<'_>, is_sarif: bool) -> bool
+    ensures { result ≡ true → spec.Asks words.now (codes "check")
+        (spec.compiled judging.now.compilation) (spec.check_flags judging.now is_sarif) [] [] }
 {
     let flags = [
         ("--strict", judging.compilation.is_strict),
         ("--steady", judging.is_steady),
         ("--json", judging.is_json),
+        ("--sarif", is_sarif),
     ];
     asks_compilation(words, "check", &judging.compilation, flags.as_slice())
 }
@@ -445,13 +447,23 @@ fn asks_page(words: &[String], text: &str) -> bool
     }
 }
 
+/// Whether the arguments request a document.
+fn asks_document(words: &[String], document: &Document<'_>) -> bool
+    ensures { result ≡ true → spec.Spells words.now (request.Document document.now) }
+{
+    match document {
+        Document::Sarif(judging) => asks_check(words, judging, true),
+    }
+}
+
 /// Whether the arguments spell a request.
 fn spells(words: &[String], request: &Request<'_>) -> bool
     ensures { result ≡ true → spec.Spells words.now request.now }
 {
     match request {
         Request::Try(attempt) => asks_try(words, attempt),
-        Request::Check(judging) => asks_check(words, judging),
+        Request::Check(judging) => asks_check(words, judging, false),
+        Request::Document(document) => asks_document(words, document),
         Request::Conform(conformance) => asks_conform(words, conformance),
         Request::Classes(compilation) => asks_judged(words, "classes", compilation),
         Request::Flows {

@@ -2,11 +2,12 @@
 
 ghost use Rattle.std.specs.Prelude.{◌≡◌, false};
 ghost use Rattle.std.specs.List.{list_all};
+ghost use Rattle.vsi_arguments.specs.declared.request.Request.TheVariants as request;
 ghost use Rattle.vsi_asked.specs.Asked as asked;
 ghost use Rattle.vsi_asked.specs.Words as spec;
 
 use crate::reading::{is_dashed, is_end, is_valued, joined};
-use vsi_arguments::Request;
+use vsi_arguments::{Document, Request};
 
 /// The options of a subcommand that has only the option for explaining a refusal.
 const NO_OPTIONS: [&[u8]; 1] = [b"--color"];
@@ -21,7 +22,13 @@ const TRY_OPTIONS: [&[u8]; 5] = [b"--lattice", b"--class", b"--set", b"--budget"
 const STRICT: [&[u8]; 2] = [b"--strict", b"--explain"];
 
 /// The flags of `check`.
-const CHECK: [&[u8]; 4] = [b"--strict", b"--steady", b"--json", b"--explain"];
+const CHECK: [&[u8]; 5] = [
+    b"--strict",
+    b"--steady",
+    b"--json",
+    b"--sarif",
+    b"--explain",
+];
 
 /// The flags of `conform`.
 const CONFORM: [&[u8]; 2] = [b"--json", b"--explain"];
@@ -147,6 +154,17 @@ fn are_own(words: &[String], flags: &[&[u8]], options: &[&[u8]]) -> bool
     true
 }
 
+/// The same for a request for a document.
+fn has_own_document(words: &[String], document: &Document<'_>) -> bool
+    ensures { result ≡ list_all (spec.is_own (asked.own_flags (request.Document document.now))
+        (asked.own_options (request.Document document.now)))
+        (spec.dashed_in false (spec.texts words.now)) }
+{
+    match document {
+        Document::Sarif(_) => are_own(words, CHECK.as_slice(), NO_OPTIONS.as_slice()),
+    }
+}
+
 /// Whether each flag and option among the arguments belongs to the request's subcommand.
 pub(crate) fn has_own_alone(words: &[String], request: &Request<'_>) -> bool
     ensures { result ≡ list_all
@@ -155,6 +173,7 @@ pub(crate) fn has_own_alone(words: &[String], request: &Request<'_>) -> bool
 {
     match request {
         Request::Check(_) => are_own(words, CHECK.as_slice(), NO_OPTIONS.as_slice()),
+        Request::Document(document) => has_own_document(words, document),
         Request::Conform(_) => are_own(words, CONFORM.as_slice(), NO_OPTIONS.as_slice()),
         Request::Classes(_) => are_own(words, STRICT.as_slice(), NO_OPTIONS.as_slice()),
         Request::Build(_, _) => are_own(words, STRICT.as_slice(), NO_OPTIONS.as_slice()),

@@ -82,6 +82,10 @@ pub returns-in-Check-clause-performed : goal.returns-in-Check-clause-performed
 returns-in-Check-clause-performed g c = rw c.in-Check.is
     (alone _ c.put_check.result _ _ c.put_check.ensures.kept c.put_check.ensures.performed)
 
+pub returns-in-Document-clause-performed : goal.returns-in-Document-clause-performed
+returns-in-Document-clause-performed g c = rw c.in-Document.is
+    (alone _ c.put_document.result _ _ c.put_document.ensures.kept c.put_document.ensures.performed)
+
 pub returns-in-Conform-clause-performed : goal.returns-in-Conform-clause-performed
 returns-in-Conform-clause-performed g c = rw c.in-Conform.is
     (alone _ c.conform.result _ _ c.conform.ensures.kept c.conform.ensures.performed)
@@ -200,6 +204,9 @@ returns-in-Explain-clause-left g c = rw c.in-Explain.is
 pub returns-in-Check-clause-left : goal.returns-in-Check-clause-left
 returns-in-Check-clause-left g c = rw c.in-Check.is c.put_check.ensures.left
 
+pub returns-in-Document-clause-left : goal.returns-in-Document-clause-left
+returns-in-Document-clause-left g c = rw c.in-Document.is c.put_document.ensures.left
+
 pub returns-in-Conform-clause-left : goal.returns-in-Conform-clause-left
 returns-in-Conform-clause-left g c = rw c.in-Conform.is c.conform.ensures.left
 
@@ -307,6 +314,9 @@ returns-in-Lattice-clause-stopped g c = rw c.in-Lattice.is
 
 pub returns-in-Check-clause-stopped : goal.returns-in-Check-clause-stopped
 returns-in-Check-clause-stopped g c = rw c.in-Check.is c.put_check.ensures.stopped
+
+pub returns-in-Document-clause-stopped : goal.returns-in-Document-clause-stopped
+returns-in-Document-clause-stopped g c = rw c.in-Document.is c.put_document.ensures.stopped
 
 pub returns-in-Conform-clause-stopped : goal.returns-in-Conform-clause-stopped
 returns-in-Conform-clause-stopped g c = rw c.in-Conform.is c.conform.ensures.stopped

@@ -1,0 +1,18 @@
+use Rattle.std.proofs.Common.{◌∙◌, [], ◌∷◌, ap, map, option_map}
+use Rattle.serde_json.specs.Data.{Members, object}
+use Rattle.serde_json.specs.View.{view}
+use Rattle.vsi_diagnostics.specs.View.{diagnostic_of}
+use Rattle.vsi_sarif.specs.Refusals.{result_members}
+use Rattle.vsi_sarif.proofs.Plain.{refusal_is}
+use Rattle.vsi_sarif.proofs.refusal.identified.Goals as goal
+
+pub returns : goal.returns
+returns c =
+    let steps = option_map (λ v. map view v.items) c.in_ok-steps.steps in
+    λ same. refusal_is c.args.lattice.now c.args.uri.now c.args.source.now (diagnostic_of c.args.diagnostic.now) steps
+    c.args.lines.now c.args.id.now (map view c.in_ok-rules.rules.items) (map view c.in_ok-results.results.items)
+    c.in_ok-text.text.items same c.in_ok-steps.ensures
+    (c.in_ok-rules.ensures ∙ ap (λ (ms : Members). object ms ∷ []) c.in_ok-ruled.ensures)
+    (c.in_ok-results.ensures ∙ ap (λ (ms : Members). object ms ∷ []) (c.in_ok-found.ensures
+    ∙ ap (λ (ms : Members). result_members c.args.id.now ms steps c.args.lines.now) c.in_ok-place.ensures))
+    c.in_ok-text.ensures

@@ -1,0 +1,6 @@
+pub mod Objects
+pub mod Location
+pub mod Steps
+pub mod Document
+pub mod Refusals
+pub mod Checking

@@ -1,0 +1,156 @@
+//! The document of a refusal.
+
+ghost use Rattle.std.specs.Prelude.{◌≡◌, decimal, map, option_map, IfOk, OnOk};
+ghost use Rattle.serde_json.specs.View.{members_view, view};
+ghost use Rattle.vsi_diagnostics.specs.View.{diagnostic_of, field_of};
+ghost use Rattle.vsi_diagnostics.specs.Json.{without_end as without_end_of};
+ghost use Rattle.vsi_sarif.specs.Refusals as spec;
+
+use crate::document::document;
+use crate::location::location;
+use crate::objects::{array_object, only, put_array, put_object, text_object};
+use crate::steps::flow_objects;
+use serde_json::{Map, Value};
+use std::alloc::{AllocError, Global};
+use vsi_diagnostics::members::{put_natural, put_text};
+use vsi_diagnostics::{Diagnostic, Field};
+use vsi_lattice::Lattice;
+use vsi_syntax::{line_column, put_number};
+use vsi_types::Step;
+
+/// The position at which the last step of a flow writes, if there is one.
+fn written_place(source: &[u8], steps: Option<&[Step]>) -> Option<(usize, usize)>
+    ensures { result ≡ spec.written_place source.now (option_map (λ s. s.now) steps.entry) }
+{
+    match steps?.last() {
+        Some(step) => Some(line_column(source, step.written.start)),
+        None => None,
+    }
+}
+
+/// The position of a refusal: its own, or for a flow that at which the last step writes.
+fn place_of(source: &[u8], diagnostic: &Diagnostic) -> Option<(usize, usize)>
+    ensures { result ≡ spec.place_of source.now (diagnostic_of diagnostic.now) }
+{
+    match diagnostic.field {
+        Field::Place(line, column) => Some((line, column)),
+        Field::Nothing | Field::Number(_) | Field::Pair(_, _) => {
+            written_place(source, diagnostic.steps)
+        }
+        Field::Word(_) | Field::Numbered(_, _) => written_place(source, diagnostic.steps),
+    }
+}
+
+/// The identifier of a rule: the number of the refusal.
+fn rule_id(alloc: Global, diagnostic: &Diagnostic) -> Result<Vec<u8>, AllocError>
+    ensures { IfOk result (λ id. id.items ≡ decimal (diagnostic_of diagnostic.now).code) }
+{
+    let mut id = Vec::new(alloc);
+    put_number(&mut id, diagnostic.code)?;
+    Ok(id)
+}
+
+/// The object of a rule: the number and the name of the refusal.
+fn rule(alloc: Global, id: &[u8], diagnostic: &Diagnostic) -> Result<Map<String, Value>, AllocError>
+    ensures { IfOk result (λ made. members_view made.entries
+        ≡ spec.rule_members id.now (diagnostic_of diagnostic.now)) }
+{
+    let mut made = text_object(alloc, "id", id)?;
+    put_text(alloc, &mut made, "name", diagnostic.name)?;
+    Ok(made)
+}
+
+/// Puts the flow of the steps, if there is one.
+fn put_flow(
+    alloc: Global,
+    members: &mut Map<String, Value>,
+    steps: Option<Vec<Value>>,
+) -> Result<(), AllocError>
+    ensures { OnOk result (members_view members.new.entries ≡ spec.with_flow
+        (option_map (λ v. map view v.items) steps) (members_view members.old.entries)) }
+{
+    match steps {
+        Some(objects) => {
+            let locations = array_object(alloc, "locations", objects)?;
+            let thread = only(alloc, locations)?;
+            let threads = array_object(alloc, "threadFlows", thread)?;
+            put_array(alloc, members, "codeFlows", only(alloc, threads)?)
+        }
+        None => Ok(()),
+    }
+}
+
+/// The lines without the last line feed.
+fn without_end(lines: &[u8]) -> &[u8]
+    ensures { result.now ≡ without_end_of lines.now }
+{
+    &lines[..lines.len().saturating_sub(1)]
+}
+
+/// The object of the result.
+fn result_object(
+    alloc: Global,
+    id: &[u8],
+    location: Map<String, Value>,
+    steps: Option<Vec<Value>>,
+    lines: &[u8],
+) -> Result<Map<String, Value>, AllocError>
+    ensures { IfOk result (λ made. members_view made.entries ≡ spec.result_members id.now
+        (members_view location.entries) (option_map (λ v. map view v.items) steps) lines.now) }
+{
+    let mut made = Map::new(alloc);
+    put_flow(alloc, &mut made, steps)?;
+    put_text(alloc, &mut made, "level", b"error")?;
+    put_array(alloc, &mut made, "locations", only(alloc, location)?)?;
+    put_object(
+        alloc,
+        &mut made,
+        "message",
+        text_object(alloc, "text", without_end(lines))?,
+    )?;
+    put_text(alloc, &mut made, "ruleId", id)?;
+    put_natural(alloc, &mut made, "ruleIndex", 0)?;
+    Ok(made)
+}
+
+/// The document of a refusal whose rule has this identifier.
+fn identified(
+    alloc: Global,
+    lattice: &Lattice,
+    uri: &[u8],
+    source: &[u8],
+    diagnostic: &Diagnostic,
+    lines: &[u8],
+    id: &[u8],
+) -> Result<Vec<u8>, AllocError>
+    ensures { IfOk result (λ out. id.now ≡ decimal (diagnostic_of diagnostic.now).code
+        → spec.IsRefusalDocument lattice.now uri.now source.now
+        (diagnostic_of diagnostic.now) lines.now out.items) }
+{
+    let steps = flow_objects(alloc, lattice, uri, source, diagnostic.steps)?;
+    let ruled = rule(alloc, id, diagnostic)?;
+    let rules = only(alloc, ruled)?;
+    let place = location(alloc, uri, place_of(source, diagnostic))?;
+    let found = result_object(alloc, id, place, steps, lines)?;
+    let results = only(alloc, found)?;
+    let text = document(alloc, rules, results)?;
+    Ok(text)
+}
+
+/// The document of a refusal of the text in the file with this URI, with the lines that are printed
+/// for it.
+pub(crate) fn refusal_document(
+    alloc: Global,
+    lattice: &Lattice,
+    uri: &[u8],
+    source: &[u8],
+    diagnostic: &Diagnostic,
+    lines: &[u8],
+) -> Result<Vec<u8>, AllocError>
+    ensures { IfOk result (λ out. spec.IsRefusalDocument lattice.now uri.now source.now
+        (diagnostic_of diagnostic.now) lines.now out.items) }
+{
+    let id = rule_id(alloc, diagnostic)?;
+    let text = identified(alloc, lattice, uri, source, diagnostic, lines, &id)?;
+    Ok(text)
+}
