@@ -8,6 +8,7 @@ pub mod Cut
 pub mod Leaving
 pub mod Filled
 pub mod Driven
+pub mod ScreenLemmas
 pub mod Stopped
 pub mod Checked
 pub mod Mended

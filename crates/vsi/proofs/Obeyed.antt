@@ -117,5 +117,6 @@ tells_without_words holds given words old new status contents before after none 
   note = tells.note;
   so = subst (λ w. StopsAt holds given w old new tells.stop) (sym none) tt;
   stopped = tells.stopped;
+  tame = tells.tame;
   told = tells.told;
 }

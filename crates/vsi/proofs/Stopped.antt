@@ -10,7 +10,9 @@ use Rattle.vsi_devices.specs.declared.counted.Counted.{Counted}
 use Rattle.vsi.specs.declared.stop.Stop.{Stop}
 use Rattle.vsi.specs.declared.stop.Stop.TheVariants.{Refused, Interface, Audit, Unsteady, Differs, Usage, NoClass, OutOfBudget, FileFault, LostFile, Memory}
 use Rattle.vsi.specs.Stops.{Gets, IsStreamFault, StopsFor, line_of, note_behind, status_of, stop_of, text_of_stop}
+use Rattle.vsi.specs.Screen.{tamed}
 use Rattle.vsi.specs.Input.{RefusesRun, SpendsRun, StopsRun, TellsStop}
+use Rattle.vsi.proofs.ScreenLemmas.{tamed_tame}
 
 -- The stop for the reason why there is no answer means that reason.
 pub stop_of_why : (W : Unanswered → Type 0) (reason : Unanswered) → W reason →
@@ -159,16 +161,17 @@ heard_fault contents old new note W F (Err stop) status none done is why told fo
 
 -- If a stop is reported, it is reported at a status that isn't 0.
 pub tells_stop : {T E : Type 0} (So : Stop → Type 0) (contents : E → Option (List ℕ)) (old new : Counted E)
-    (note : List ℕ) (answer : Result T Stop) (status : ℕ) → IfErr answer So → IfOk answer (λ _. status ≡ 0) →
+    (lines : List ℕ) (answer : Result T Stop) (status : ℕ) → IfErr answer So → IfOk answer (λ _. status ≡ 0) →
     IfErr answer (λ stop. status ≡ status_of stop) →
-    IfErr answer (λ stop. Gets contents old new (text_of_stop stop ++ note_behind stop note)) →
+    IfErr answer (λ stop. Gets contents old new (text_of_stop stop ++ note_behind stop (tamed lines))) →
     status ≢ 0 → TellsStop So status contents old new
-tells_stop So contents old new note (Ok x) status so done is told other = absurd (other done)
-tells_stop So contents old new note (Err stop) status so done is told other = record {
+tells_stop So contents old new lines (Ok x) status so done is told other = absurd (other done)
+tells_stop So contents old new lines (Err stop) status so done is told other = record {
   stop = stop;
-  note = note;
+  note = tamed lines;
   so = so;
   stopped = is;
+  tame = tamed_tame lines;
   told = told;
 }
 

@@ -1,5 +1,5 @@
 -- The output of the run without arguments, and its message if it has no output.
-use Rattle.std.specs.Prelude.{◌≡◌, ◌++◌, ℕ, List, Option, Ok, Err, codes}
+use Rattle.std.specs.Prelude.{◌≡◌, ◌++◌, ℕ, true, List, Option, Ok, Err, codes}
 use Rattle.std.specs.Global.{Vec}
 use Rattle.std.specs.Io.KnownBytes.{Appends}
 use Rattle.vsi_lattice.specs.declared.lattice.Lattice.{Lattice}
@@ -11,6 +11,7 @@ use Rattle.vsi_answers.specs.declared.unanswered.Unanswered.{Unanswered}
 use Rattle.vsi_answers.specs.declared.unanswered.Unanswered.TheVariants.{Refused, OutOfBudget}
 use Rattle.vsi_devices.specs.declared.counted.Counted.{Counted}
 use Rattle.vsi.specs.declared.stop.Stop.{Stop}
+use Rattle.vsi.specs.Screen.{is_tame}
 use Rattle.vsi.specs.Stops.{Gets, note_behind, status_of, text_of_stop}
 
 -- The lattice file of one class below another, under which the input is compiled.
@@ -59,12 +60,13 @@ RefusesRun remaining told =
 abbrev pub SpendsRun : Option (List ℕ) → (List ℕ → Type 0) → Type 0
 SpendsRun remaining told = StopsRun remaining OutOfBudget × told (codes "out of budget\n")
 
--- A writer has got the text of a stop with this property and this status, followed by a note, unless a call of it
--- failed.
+-- A writer has got the text of a stop with this property and this status, followed by a note of which no byte controls
+-- a terminal except for its colours, unless a call of it failed.
 pub record TellsStop {E : Type 0} (So : Stop → Type 0) (status : ℕ) (contents : E → Option (List ℕ))
     (old new : Counted E) : Type 0 where
   pub stop : Stop
   pub note : List ℕ
   pub so : So stop
   pub stopped : status ≡ status_of stop
+  pub tame : is_tame note ≡ true
   pub told : Gets contents old new (text_of_stop stop ++ note_behind stop note)

@@ -1,4 +1,5 @@
 pub mod Stops
+pub mod Screen
 pub mod Input
 pub mod Words
 pub mod Holding

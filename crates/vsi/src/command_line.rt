@@ -5,6 +5,7 @@ ghost use Rattle.std.specs.Io.KnownBytes.{Keeps};
 ghost use Rattle.vsi.specs.Done.{Done, Stopped, StopsAt};
 ghost use Rattle.vsi.specs.Input.{AnswersInput, RefusesRun, SpendsRun, StopsRun, TellsStop, WritesRun, WritesRunOf};
 ghost use Rattle.vsi.specs.Partly.{BytesOf, Partly};
+ghost use Rattle.vsi.specs.Screen.{tamed};
 ghost use Rattle.vsi.specs.Stops.{note_behind, status_of, text_of_stop, Gets, IsStreamFault, StopsFor, TellsFault};
 ghost use Rattle.vsi.specs.Words as spec;
 ghost use Rattle.vsi_answers.specs.Requests.{RunsSourceTo};
@@ -160,9 +161,9 @@ fn ended<E: Write>(answer: Result<(), Stop<'_>>, told: &Told, error: &mut Counte
     ensures stopped { IfErr answer.entry (λ stop. result ≡ status_of stop) }
     ensures count { faults_of error.old ≤ faults_of error.new }
     ensures noted { IfOk answer.entry
-        (λ _. Gets E.contents error.old error.new told.now.note.items) }
+        (λ _. Gets E.contents error.old error.new (tamed told.now.note.items)) }
     ensures told { IfErr answer.entry (λ stop. Gets E.contents error.old error.new
-        (text_of_stop stop ++ note_behind stop told.now.note.items)) }
+        (text_of_stop stop ++ note_behind stop (tamed told.now.note.items))) }
     ensures memory { result ≡ 5
         → Gets E.contents error.old error.new (codes "out of memory\n") }
 {

@@ -9,8 +9,8 @@
 //!
 //! To be believed: of `specs/` `Words`, `Holding`, `Loading`, `Driven`, `Tried`, `Shaping`,
 //! `Seeing`, `Laying`, `Raises`, `Documents`, `Admitted`, `Served`, `Files`, `Performed`, `Refusals`,
-//! `Reasons`, `Partly`, `Done`, `Input` and `Laws`, and of `Stops` all but `StopsFor`; `Diagnosing` is
-//! a stepping stone of proofs.
+//! `Reasons`, `Partly`, `Done`, `Screen`, `Input` and `Laws`, and of `Stops` all but `StopsFor`;
+//! `Diagnosing` is a stepping stone of proofs.
 #![tactic(auto)]
 
 mod admitting;
@@ -43,6 +43,7 @@ mod policies;
 mod raising;
 mod reading;
 mod running;
+mod screen;
 mod serving;
 mod shaping;
 mod stop;

@@ -1,9 +1,11 @@
 //! The note on standard error besides the text of a stop.
 
 ghost use Rattle.std.specs.Prelude.{◌≡◌, ◌≤◌, []};
+ghost use Rattle.vsi.specs.Screen.{tamed as tamed_text};
 ghost use Rattle.vsi.specs.Stops.{Gets, text_of_stop};
 ghost use Rattle.vsi_devices.specs.Counted.{faults_of};
 
+use crate::screen::tamed;
 use crate::stop::Stop;
 use std::alloc::{AllocError, Global};
 use std::io::Write;
@@ -31,13 +33,14 @@ impl Told {
         self.note.extend_from_slice(&lines?)
     }
 
-    /// Writes the note.
+    /// Writes the note, if no byte of it controls a terminal except for its colours.
     pub(crate) fn tell<E: Write>(&self, error: &mut Counted<E>)
         ensures count { faults_of error.old ≤ faults_of error.new }
-        ensures told { Gets E.contents error.old error.new self.now.note.items }
+        ensures told { Gets E.contents error.old error.new (tamed_text self.now.note.items) }
     {
-        if !self.note.is_empty() {
-            say(&self.note, error);
+        let text = tamed(&self.note);
+        if !text.is_empty() {
+            say(text, error);
         }
     }
 }

@@ -1,5 +1,6 @@
-use Rattle.std.proofs.Common.{◌<◌, ◌⊎◌}
+use Rattle.std.proofs.Common.{◌<◌, ◌⊎◌, ap}
 use Rattle.vsi.specs.Input.{StopsRun}
+use Rattle.vsi.specs.Screen.{tamed}
 use Rattle.vsi.specs.Stops.{Gets}
 use Rattle.vsi_devices.specs.Counted.{device_of, faults_of}
 use Rattle.vsi.proofs.Leaving.{partly_at}
@@ -16,29 +17,29 @@ returns-clause-refused g c =
     refused_at_one (g.R.Read.remaining (device_of c.args.input.now)) _
     (Gets g.E.Write.contents c.args.error.now c.ended.new.error) c.run_input-answer.result c.ended.result
     c.ended.ensures.done c.ended.ensures.stopped c.run_input-answer.ensures.stopped
-    (heard_stop g.E.Write.contents c.args.error.now c.ended.new.error c.new.result.note.items
-    c.run_input-answer.result c.new.ensures c.ended.ensures.told)
+    (heard_stop g.E.Write.contents c.args.error.now c.ended.new.error (tamed c.new.result.note.items)
+    c.run_input-answer.result (ap tamed c.new.ensures) c.ended.ensures.told)
 
 pub returns-clause-spent : goal.returns-clause-spent
 returns-clause-spent g c =
     spent_at_three (g.R.Read.remaining (device_of c.args.input.now)) _
     (Gets g.E.Write.contents c.args.error.now c.ended.new.error) c.run_input-answer.result c.ended.result
     c.ended.ensures.done c.ended.ensures.stopped c.run_input-answer.ensures.stopped
-    (heard_stop g.E.Write.contents c.args.error.now c.ended.new.error c.new.result.note.items
-    c.run_input-answer.result c.new.ensures c.ended.ensures.told)
+    (heard_stop g.E.Write.contents c.args.error.now c.ended.new.error (tamed c.new.result.note.items)
+    c.run_input-answer.result (ap tamed c.new.ensures) c.ended.ensures.told)
 
 pub returns-clause-quiet : goal.returns-clause-quiet
 returns-clause-quiet g c =
-    heard_nothing g.E.Write.contents c.args.error.now c.ended.new.error c.new.result.note.items
-    c.run_input-answer.result c.ended.result c.new.ensures c.ended.ensures.noted c.ended.ensures.stopped
+    heard_nothing g.E.Write.contents c.args.error.now c.ended.new.error (tamed c.new.result.note.items)
+    c.run_input-answer.result c.ended.result (ap tamed c.new.ensures) c.ended.ensures.noted c.ended.ensures.stopped
 
 pub returns-clause-fault_told : goal.returns-clause-fault_told
 returns-clause-fault_told g c =
-    heard_fault g.E.Write.contents c.args.error.now c.ended.new.error c.new.result.note.items
+    heard_fault g.E.Write.contents c.args.error.now c.ended.new.error (tamed c.new.result.note.items)
     (StopsRun (g.R.Read.remaining (device_of c.args.input.now)))
     ((faults_of c.args.input.now < faults_of c.run_input-answer.new.input)
     ⊎ (faults_of c.args.output.now < faults_of c.run_input-answer.new.output))
-    c.run_input-answer.result c.ended.result c.new.ensures c.ended.ensures.done c.ended.ensures.stopped
+    c.run_input-answer.result c.ended.result (ap tamed c.new.ensures) c.ended.ensures.done c.ended.ensures.stopped
     c.run_input-answer.ensures.stopped c.ended.ensures.told
 
 pub returns-clause-told : goal.returns-clause-told
