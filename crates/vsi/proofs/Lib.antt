@@ -10,6 +10,7 @@ pub mod Filled
 pub mod Driven
 pub mod ScreenLemmas
 pub mod Stopped
+pub mod NoteLemmas
 pub mod Checked
 pub mod Mended
 pub mod Documented

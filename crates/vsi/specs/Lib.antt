@@ -21,5 +21,6 @@ pub mod Refusals
 pub mod Reasons
 pub mod Partly
 pub mod Done
+pub mod Noted
 pub mod Laws
 pub mod Diagnosing

@@ -4,6 +4,7 @@ ghost use Rattle.std.specs.Prelude.{◌≡◌, ◌≢◌, ◌<◌, ◌≤◌, �
 ghost use Rattle.std.specs.Io.KnownBytes.{Keeps};
 ghost use Rattle.vsi.specs.Done.{Done, Stopped, StopsAt};
 ghost use Rattle.vsi.specs.Input.{AnswersInput, RefusesRun, SpendsRun, StopsRun, TellsStop, WritesRun, WritesRunOf};
+ghost use Rattle.vsi.specs.Noted.{NotesOf, TellsNote};
 ghost use Rattle.vsi.specs.Partly.{BytesOf, Partly};
 ghost use Rattle.vsi.specs.Screen.{tamed};
 ghost use Rattle.vsi.specs.Stops.{note_behind, status_of, text_of_stop, Gets, IsStreamFault, StopsFor, TellsFault};
@@ -75,6 +76,8 @@ pub fn command<F: Files, R: Read, W: Write, E: Write>(
         (spec.given_to words.now (R.remaining (device_of input.old))) words.now
         (W.contents (device_of output.old)) (W.contents (device_of output.new)))
         result E.contents error.old error.new }
+    ensures noted { words.now ≢ [] → result ≡ 0
+        → TellsNote (F.holds files.old) words.now E.contents error.old error.new }
     ensures done { words.now ≢ [] → result ≡ 0
         → Done (F.holds files.old) (spec.given_to words.now (R.remaining (device_of input.old)))
         words.now (F.holds files.new)
@@ -135,6 +138,8 @@ fn obeyed<'a, F: Files, R: Read, W: Write>(
 ) -> Result<(), Stop<'a>>
     requires input { faults_of input.old < u64.MAX }
     requires output { faults_of output.old < u64.MAX }
+    requires unnoted { told.old.note.items ≡ [] }
+    ensures noted { OnOk result (NotesOf (F.holds files.old) words.now told.new.note.items) }
     ensures input_fault { TellsFault (faults_of input.old) (faults_of input.new) result }
     ensures output_fault { TellsFault (faults_of output.old) (faults_of output.new) result }
     ensures unread { spec.reads_input words.now ≡ false → input.new ≡ input.old }

@@ -9,8 +9,8 @@
 //!
 //! To be believed: of `specs/` `Words`, `Holding`, `Loading`, `Driven`, `Tried`, `Shaping`,
 //! `Seeing`, `Laying`, `Raises`, `Documents`, `Admitted`, `Served`, `Files`, `Performed`, `Refusals`,
-//! `Reasons`, `Partly`, `Done`, `Screen`, `Input` and `Laws`, and of `Stops` all but `StopsFor`;
-//! `Diagnosing` is a stepping stone of proofs.
+//! `Reasons`, `Partly`, `Done`, `Screen`, `Input` and `Laws`, of `Stops` all but `StopsFor`, and
+//! of `Noted` all but `Notes`; `Diagnosing` is a stepping stone of proofs.
 #![tactic(auto)]
 
 mod admitting;

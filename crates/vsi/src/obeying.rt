@@ -1,8 +1,9 @@
 //! Obeys arguments.
 
-ghost use Rattle.std.specs.Prelude.{◌≡◌, ◌<◌, ◌⊎◌, IfErr, OnOk};
+ghost use Rattle.std.specs.Prelude.{◌≡◌, ◌<◌, ◌⊎◌, [], IfErr, OnOk};
 ghost use Rattle.std.specs.Io.KnownBytes.{Keeps};
 ghost use Rattle.vsi.specs.Done.{Done, IsMistake, IsStopOf, Stopped, Unread};
+ghost use Rattle.vsi.specs.Noted.{IsNote, NotesOf, noting};
 ghost use Rattle.vsi.specs.Performed.{Performs};
 ghost use Rattle.vsi.specs.Stops.{TellsFault, status_of};
 ghost use Rattle.vsi.specs.declared.stop.Stop.TheVariants.{Memory};
@@ -35,10 +36,12 @@ pub(crate) fn obey<'a, F: Files, R: Read, W: Write>(
 ) -> Result<(), Stop<'a>>
     requires input { faults_of input.old < u64.MAX }
     requires output { faults_of output.old < u64.MAX }
+    requires unnoted { told.old.note.items ≡ [] }
     ensures input_fault { TellsFault (faults_of input.old) (faults_of input.new) result }
     ensures output_fault { TellsFault (faults_of output.old) (faults_of output.new) result }
     ensures unfilled { IfErr result (λ stop. status_of stop < 4
         → F.holds files.new ≡ F.holds files.old) }
+    ensures noted { OnOk result (NotesOf (F.holds files.old) words.now told.new.note.items) }
     ensures done { OnOk result (Done (F.holds files.old)
         (R.remaining (device_of input.old)) words.now (F.holds files.new)
         (W.contents (device_of output.old)) (W.contents (device_of output.new))) }
@@ -68,10 +71,13 @@ fn obey_asked<'a, F: Files, R: Read, W: Write>(
 ) -> Result<(), Stop<'a>>
     requires input { faults_of input.old < u64.MAX }
     requires output { faults_of output.old < u64.MAX }
+    requires unnoted { told.old.note.items ≡ [] }
     ensures input_fault { TellsFault (faults_of input.old) (faults_of input.new) result }
     ensures output_fault { TellsFault (faults_of output.old) (faults_of output.new) result }
     ensures unfilled { IfErr result (λ stop. status_of stop < 4
         → F.holds files.new ≡ F.holds files.old) }
+    ensures noted { OnOk result
+        (IsNote (F.holds files.old) (noting asked.entry.request) told.new.note.items) }
     ensures performed { OnOk result (Performs (F.holds files.old)
         (R.remaining (device_of input.old)) asked.entry.request (F.holds files.new)
         (W.contents (device_of output.old)) (W.contents (device_of output.new))) }

@@ -1,7 +1,8 @@
 //! Does one subcommand.
 
-ghost use Rattle.std.specs.Prelude.{◌≡◌, ◌<◌, ◌⊎◌, Err, IfErr, IsOkAnd, OnOk, codes};
+ghost use Rattle.std.specs.Prelude.{◌≡◌, ◌<◌, ◌⊎◌, [], Err, IfErr, IsOkAnd, OnOk, codes};
 ghost use Rattle.std.specs.Io.KnownBytes.{Appends, Keeps};
+ghost use Rattle.vsi.specs.Noted.{Notes, noting};
 ghost use Rattle.vsi.specs.Performed.{Performs, PerformsCheck, PerformsMend};
 ghost use Rattle.vsi.specs.Partly.{Answers, AnswersCheck, AnswersMend, BytesOf, Leaves, WritesPart, cut_from};
 ghost use Rattle.vsi.specs.Stops.{TellsFault, status_of};
@@ -138,6 +139,9 @@ pub(crate) fn perform<'a, F: Files, R: Read, W: Write>(
 ) -> Result<(), Stop<'a>>
     requires input { faults_of input.old < u64.MAX }
     requires output { faults_of output.old < u64.MAX }
+    requires unnoted { told.old.note.items ≡ [] }
+    ensures noted { Notes (F.holds files.old) (noting request.entry) result
+        told.new.note.items }
     ensures unfilled { IfErr result (λ stop. status_of stop < 4
         → F.holds files.new ≡ F.holds files.old) }
     ensures input_fault { TellsFault (faults_of input.old) (faults_of input.new) result }

@@ -1,7 +1,8 @@
 //! Runs of images.
 
-ghost use Rattle.std.specs.Prelude.{◌≡◌, ◌<◌, ◌⊎◌, length, IfOk, IfErr, OnOk, Ok, Err};
+ghost use Rattle.std.specs.Prelude.{◌≡◌, ◌<◌, ◌⊎◌, [], true, length, IfOk, IfErr, OnOk, Ok, Err};
 ghost use Rattle.vsi.specs.Files.{BeginsAt};
+ghost use Rattle.vsi.specs.Noted.{Counts, CountsRun};
 ghost use Rattle.vsi.specs.Performed.{PerformsRun, PerformsView, ViewsFiles};
 ghost use Rattle.vsi.specs.Partly.{AnswersRun, AnswersView, Leaves};
 ghost use Rattle.vsi.specs.Stops.{TellsFault, status_of};
@@ -9,6 +10,8 @@ ghost use Rattle.vsi.specs.declared.stop.Stop.TheVariants.{Memory};
 ghost use Rattle.vsi_answers.specs.Requests.{BeginsWith};
 ghost use Rattle.vsi_devices.specs.Counted.{device_of, faults_of};
 ghost use Rattle.vsi_lattice.specs.NamePlaces.{texts};
+ghost use Rattle.vsi_machine.specs.Counting.{Halts};
+ghost use Rattle.vsi_machine.specs.Runs.{run_of};
 ghost use Rattle.vsi.specs.Refusals.{LacksBoundAt, LacksEither, NoOther, RefusesImage, RefusesStart, StopsBy};
 ghost use Rattle.vsi.specs.Reasons.{WhyRun, WhyView};
 
@@ -97,7 +100,9 @@ fn count_lines<'a>(
     words: &[i64],
     budget: u64,
 ) -> Result<Vec<u8>, Stop<'a>>
-    ensures { IfErr result (λ stop. stop ≡ Memory) }
+    ensures memory { IfErr result (λ stop. stop ≡ Memory) }
+    ensures counted { Halts (run_of verified.now words.now budget)
+        → IfOk result (λ text. Counts true verified.now words.now text.items) }
 {
     let Ok(count) = counted(alloc, verified, words, budget) else {
         return Err(Stop::Memory);
@@ -117,7 +122,9 @@ fn put_count<'a>(
     budget: u64,
     note: &mut Vec<u8>,
 ) -> Result<(), Stop<'a>>
-    ensures { IfErr result (λ stop. stop ≡ Memory) }
+    ensures memory { IfErr result (λ stop. stop ≡ Memory) }
+    ensures counted { note.old.items ≡ [] → Halts (run_of verified.now words.now budget)
+        → OnOk result (Counts is_asked verified.now words.now note.new.items) }
 {
     if is_asked {
         let lines = count_lines(alloc, verified, words, budget)?;
@@ -149,6 +156,8 @@ pub(crate) fn run<'a, F: Files, W: Write>(
         (W.contents (device_of output.old)) (W.contents (device_of output.new)))
         (LacksBoundAt (F.holds files.old) asked.now.execution.image.now
         asked.now.execution.budget)) }
+    ensures counted { note.old.items ≡ [] → OnOk result (CountsRun (F.holds files.old)
+        asked.now.execution asked.now.outset asked.now.has_count note.new.items) }
 {
     let (verified, words) = image_and_words(desk, asked.execution, &asked.outset, files)?;
     let budget = budget_of(desk.alloc, asked.execution.budget, &verified)?;

@@ -1,8 +1,10 @@
 use Rattle.std.proofs.Common.{◌∙◌, subst}
 use Rattle.vsi_devices.specs.Counted.{device_of}
+use Rattle.vsi.specs.Noted.{IsNote, noting}
 use Rattle.vsi.specs.Partly.{Answers, Leaves, cut_from}
 use Rattle.vsi.specs.Performed.{Performs}
 use Rattle.vsi.specs.Reasons.{Why}
+use Rattle.vsi.proofs.NoteLemmas.{noted_ok}
 use Rattle.vsi.proofs.Obeyed.{early_told, explained_stops}
 use Rattle.vsi.proofs.obeying.obey_asked.Goals as goal
 
@@ -13,6 +15,13 @@ returns-in-Ok-clause-performed g c =
     (g.F.Files.holds c.perform.new.files) (g.W.Write.contents (device_of c.args.output.now))
     (g.W.Write.contents (device_of c.perform.new.output)))
     c.explaining_of-explaining.ensures c.in-Ok.ensures.performed
+
+pub returns-in-Ok-clause-noted : goal.returns-in-Ok-clause-noted
+returns-in-Ok-clause-noted g c =
+    subst (λ holds. IsNote holds (noting c.args.asked.request) c.perform.new.told.note.items)
+    c.explaining_of-explaining.ensures
+    (noted_ok (g.F.Files.holds c.explaining_of-explaining.new.files) (noting c.args.asked.request) _
+    c.perform.new.told.note.items c.in-Ok.ensures.noted)
 
 pub returns-clause-unfilled : goal.returns-clause-unfilled
 returns-clause-unfilled g c =

@@ -348,3 +348,8 @@ returns-in-Explain-clause-stopped g c = rw c.in-Explain.is
 
 pub returns-in-Lsp-clause-stopped : goal.returns-in-Lsp-clause-stopped
 returns-in-Lsp-clause-stopped g c = rw c.in-Lsp.is c.serve.ensures.stopped
+
+-- ---- what is noted.
+
+pub returns-in-Run-clause-noted : goal.returns-in-Run-clause-noted
+returns-in-Run-clause-noted g c = rw c.in-Run.is (c.run.ensures.counted c.requires.unnoted)

@@ -86,7 +86,7 @@ returns-in_err-put_count-in-Ok-Some-clause-stopped g c =
     memory_stopped why
     (LacksBoundAt holds c.args.asked.now.execution.image.now c.args.asked.now.execution.budget)
     c.from_residual-in_err-put_count-in-Ok-Some.result c.in_err-put_count-in-Ok-Some.field-0.0
-    c.from_residual-in_err-put_count-in-Ok-Some.ensures.1 c.in_err-put_count-in-Ok-Some.ensures
+    c.from_residual-in_err-put_count-in-Ok-Some.ensures.1 c.in_err-put_count-in-Ok-Some.ensures.memory
 
 pub returns-in_err-put_count-in-Ok-None-clause-stopped : goal.returns-in_err-put_count-in-Ok-None-clause-stopped
 returns-in_err-put_count-in-Ok-None-clause-stopped g c =
@@ -96,7 +96,7 @@ returns-in_err-put_count-in-Ok-None-clause-stopped g c =
     memory_stopped why
     (LacksBoundAt holds c.args.asked.now.execution.image.now c.args.asked.now.execution.budget)
     c.from_residual-in_err-put_count-in-Ok-None.result c.in_err-put_count-in-Ok-None.field-0.0
-    c.from_residual-in_err-put_count-in-Ok-None.ensures.1 c.in_err-put_count-in-Ok-None.ensures
+    c.from_residual-in_err-put_count-in-Ok-None.ensures.1 c.in_err-put_count-in-Ok-None.ensures.memory
 
 pub returns-in-Ok-None-clause-stopped : goal.returns-in-Ok-None-clause-stopped
 returns-in-Ok-None-clause-stopped g c =
@@ -158,7 +158,7 @@ returns-in_err-put_count-in-Ok-Some-clause-left g c =
     let ran = rw c.in-Ok-Some.field-0-is at c.in-Ok-Some.ensures.ran in
     memory_handed (AnswersRun holds asked.execution asked.outset asked.has_trace) old mid
     c.from_residual-in_err-put_count-in-Ok-Some.result c.in_err-put_count-in-Ok-Some.field-0.0
-    c.from_residual-in_err-put_count-in-Ok-Some.ensures.1 c.in_err-put_count-in-Ok-Some.ensures
+    c.from_residual-in_err-put_count-in-Ok-Some.ensures.1 c.in_err-put_count-in-Ok-Some.ensures.memory
     (traced_part holds asked.execution asked.outset asked.has_trace c.in_ok-verified.verified c.deref.result.now _
     c.in_ok-budget.budget _ ran.0 old mid c.in_ok-budget.ensures.budget
     c.in_ok-verified.ensures.begins c.deref.ensures.value ran.1 ran.2)
@@ -172,7 +172,7 @@ returns-in_err-put_count-in-Ok-None-clause-left g c =
     let ran = rw c.in-Ok-None.field-0-is at c.in-Ok-None.ensures.ran in
     memory_handed (AnswersRun holds asked.execution asked.outset asked.has_trace) old mid
     c.from_residual-in_err-put_count-in-Ok-None.result c.in_err-put_count-in-Ok-None.field-0.0
-    c.from_residual-in_err-put_count-in-Ok-None.ensures.1 c.in_err-put_count-in-Ok-None.ensures
+    c.from_residual-in_err-put_count-in-Ok-None.ensures.1 c.in_err-put_count-in-Ok-None.ensures.memory
     (traced_part holds asked.execution asked.outset asked.has_trace c.in_ok-verified.verified c.deref.result.now _
     c.in_ok-budget.budget _ ran.0 old mid c.in_ok-budget.ensures.budget
     c.in_ok-verified.ensures.begins c.deref.ensures.value ran.1 ran.2)

@@ -1,0 +1,135 @@
+-- The lines on standard error after a request that has been performed.
+use Rattle.std.proofs.Common.{◌≡◌, ◌++◌, ◌∙◌, ℕ, ℤ, ◌+◌, ◌-◌, ◌%◌, ◌^◌, ◌≤◌, ◌<◌, ◌==◌, ◌&&◌, Bool, true, false, List, [], ◌∷◌, Option, Some, None, Result, Ok, Err, inl, inr, refl, sym, ap, subst, codes, arith}
+use Rattle.std.specs.Prelude.{IfErr, IfOk, IsTrue, OnOk, String, decimal, if◌then◌else◌}
+use Rattle.std.specs.List.{list_all}
+use Rattle.std.specs.declared.alloc.Global.{Global}
+use Rattle.std.proofs.lemmas.Bool.{and_from, and_parts}
+use Rattle.std.proofs.lemmas.Fmt.{decimal_by_steps}
+use Rattle.std.proofs.lemmas.List.Folds.{list_all-append}
+use Rattle.vsi_caret.specs.Safe.{all_plain, is_plain}
+use Rattle.vsi_image.specs.declared.instr.Image.{Image}
+use Rattle.vsi_image.specs.Meaning.{State}
+use Rattle.vsi_machine.specs.Counting.{Halts, HaltsIn}
+use Rattle.vsi_machine.specs.CountTexts.{count_line}
+use Rattle.vsi_machine.specs.Runs.{outcome_of, run_of}
+use Rattle.vsi_machine.specs.declared.interpreter.Outcome.{Outcome}
+use Rattle.vsi_machine.specs.declared.interpreter.Outcome.TheVariants.{Halted, OutOfBudget}
+use Rattle.vsi_devices.specs.Running.{RunsApart, text_at}
+use Rattle.vsi_devices.specs.declared.counted.Counted.{Counted}
+use Rattle.vsi.specs.Holding.{Holding}
+use Rattle.vsi.specs.Noted.{Count, Counts, IsNote, Nothing, Notes, NotesOf, Noting, Sentences, TellsNote, noting}
+use Rattle.vsi.specs.Screen.{colour_length, is_tame, is_tame_after, tamed}
+use Rattle.vsi.specs.Stops.{Gets, status_of}
+use Rattle.vsi.specs.declared.stop.Stop.{Stop}
+use Rattle.vsi.proofs.ScreenLemmas.{tamed_tame}
+use Rattle.vsi.proofs.Stopped.{done_at_zero}
+
+-- A text that begins with a plain byte begins with no sequence for colours.
+plain_begins : (b : ℕ) (rest : List ℕ) → is_plain b ≡ true → colour_length (b ∷ rest) ≡ 0
+plain_begins b rest plain = grind arith
+
+-- A plain text is tame.
+plain_tame : (bytes : List ℕ) → all_plain bytes ≡ true → is_tame bytes ≡ true
+plain_tame [] all = refl
+plain_tame (b ∷ rest) all =
+    let p = and_parts (is_plain b) (all_plain rest) all in
+    ap (λ k. if k == 0 then is_plain b && is_tame_after 0 rest else is_tame_after (k - 1) rest) (plain_begins b rest p.0)
+    ∙ and_from _ _ p.0 (plain_tame rest p.1)
+
+-- A decimal digit is plain.
+digit_plain : (d : ℕ) → d < 10 → is_plain (48 + d) ≡ true
+digit_plain d small = grind arith
+
+-- The text of a number is plain.
+decimal_plain : (n : ℕ) → n < 2 ^ 64 → all_plain (decimal n) ≡ true
+decimal_plain =
+    decimal_by_steps (λ n ds. all_plain ds ≡ true)
+    (λ n small. and_from _ _ (digit_plain n small) refl)
+    (λ n ds large plain.
+    list_all-append is_plain ds ((48 + n % 10) ∷ [])
+    ∙ and_from _ _ plain (and_from _ _ (digit_plain (n % 10) (omega arith)) refl))
+
+-- The line of a count is tame.
+count_tame : (n : ℕ) → n < 2 ^ 64 → is_tame (count_line n) ≡ true
+count_tame n fits =
+    plain_tame (count_line n)
+    (list_all-append is_plain (codes "instructions: ") (decimal n ++ codes "\n")
+    ∙ list_all-append is_plain (decimal n) (codes "\n") ∙ ap (λ b. b && true) (decimal_plain n fits))
+
+-- The line of a count stays as it is.
+count_kept : (n : ℕ) → n < 2 ^ 64 → tamed (count_line n) ≡ count_line n
+count_kept n fits = ap (λ b. if b then count_line n else []) (count_tame n fits)
+
+-- A run that has left the text of a store has halted.
+pub left_halts : (traced : Bool) (image : Image) (words : List ℤ) (budget : ℕ) (text output : List ℕ) →
+    RunsApart traced image words budget (Some text) output → Halts (run_of image words budget)
+left_halts traced image words budget text output ran = subst Halts (sym ran.reached) (by ran.last.halted _ ran.told)
+  where
+    by : (b : Bool) (whole : Option (List ℕ)) → Some text ≡ (if b then whole else None) → IsTrue b
+    by true whole e = refl
+    by false whole e = absurd (cc)
+
+-- A run whose outcome is a spent budget hasn't halted.
+pub spent_goes_on : (image : Image) (words : List ℤ) (budget : ℕ) (s : State) (outcome : Outcome) →
+    run_of image words budget ≡ Some s → outcome ≡ outcome_of s → outcome ≡ OutOfBudget →
+    Halts (run_of image words budget) → ⊥
+spent_goes_on image words budget s outcome reached is spent halts =
+    by s.halted (sym spent ∙ is) (subst Halts reached halts)
+  where
+    by : (b : Bool) → OutOfBudget ≡ (if b then Halted else OutOfBudget) → IsTrue b → ⊥
+    by true e h = absurd (cc)
+    by false e h = absurd (cc)
+
+-- The line of the count of a run that halts within a budget of 64 bits.
+pub count_told : (image : Image) (words : List ℤ) (budget n : ℕ) (text : List ℕ) → HaltsIn image words n →
+    budget < 2 ^ 64 → Halts (run_of image words budget) → text ≡ count_line n → Counts true image words text
+count_told image words budget n text halts fits within is =
+    let small = halts.least budget within in
+    (n, halts, omega (arith, small, fits), is)
+
+-- The lines about a count stay as they are.
+counts_kept : (has_count : Bool) (image : Image) (words : List ℤ) (note : List ℕ) → Counts has_count image words note →
+    Counts has_count image words (tamed note)
+counts_kept false image words note is = ap tamed is
+counts_kept true image words note is = (is.0, is.1, is.2, ap tamed is.3 ∙ count_kept is.0 is.2)
+
+-- The lines of a kind are still so when untamed ones are left out.
+note_kept : (holds : Holding) (n : Noting) (note : List ℕ) → IsNote holds n note → IsNote holds n (tamed note)
+note_kept holds (Count e o has_count) note is = record {
+  image = is.image;
+  words = is.words;
+  begins = is.begins;
+  counts = counts_kept has_count is.image is.words note is.counts;
+}
+note_kept holds Sentences note is = tt
+note_kept holds Nothing note is = ap tamed is
+
+-- So are those of arguments.
+notes_kept : (holds : Holding) (words : List (String Global)) (note : List ℕ) → NotesOf holds words note →
+    NotesOf holds words (tamed note)
+notes_kept holds words note (inl help) = inl (help.0, ap tamed help.1)
+notes_kept holds words note (inr is) = inr (is.0, is.1, note_kept holds (noting is.0) note is.2)
+
+-- A fact is a fact after every answer.
+pub each_done : {T : Type 0} (A : Type 0) (answer : Result T Stop) → A → OnOk answer A
+each_done A (Ok x) fact = fact
+each_done A (Err stop) fact = tt
+
+-- The lines after an answer without a stop are those of their kind.
+pub noted_ok : {T : Type 0} (holds : Holding) (n : Noting) (x : T) (note : List ℕ) → Notes holds n (Ok x) note →
+    IsNote holds n note
+noted_ok holds (Count e o has_count) x note is = is
+noted_ok holds Sentences x note is = is
+noted_ok holds Nothing x note is = is
+
+-- The lines after a request are written at status 0.
+pub tells_note : {T E : Type 0} (holds : Holding) (words : List (String Global)) (contents : E → Option (List ℕ))
+    (old new : Counted E) (lines : List ℕ) (answer : Result T Stop) (status : ℕ) →
+    OnOk answer (NotesOf holds words lines) → OnOk answer (Gets contents old new (tamed lines)) →
+    IfErr answer (λ stop. status ≡ status_of stop) → status ≡ 0 → TellsNote holds words contents old new
+tells_note holds words contents old new lines answer status noted gets is zero = record {
+  note = tamed lines;
+  tame = tamed_tame lines;
+  is = notes_kept holds words lines (done_at_zero answer status noted is zero);
+  told = done_at_zero answer status gets is zero;
+}
