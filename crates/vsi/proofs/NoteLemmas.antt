@@ -33,7 +33,8 @@ plain_tame : (bytes : List ℕ) → all_plain bytes ≡ true → is_tame bytes �
 plain_tame [] all = refl
 plain_tame (b ∷ rest) all =
     let p = and_parts (is_plain b) (all_plain rest) all in
-    ap (λ k. if k == 0 then is_plain b && is_tame_after 0 rest else is_tame_after (k - 1) rest) (plain_begins b rest p.0)
+    ap (λ k. if k == 0 then is_plain b && is_tame_after 0 rest else is_tame_after (k - 1) rest)
+    (plain_begins b rest p.0)
     ∙ and_from _ _ p.0 (plain_tame rest p.1)
 
 -- A decimal digit is plain.

@@ -25,7 +25,8 @@ passed xs at left next within some is =
     ap (λ k. is_tame_after k (drop at xs)) e ∙ ap (is_tame_after (suc next)) (cut xs at 0 within)
 
 -- A sequence begins at a byte.
-pub begun : (xs : List ℕ) (at whole next : ℕ) → at < length xs → whole ≡ colour_length (take (length xs - at) (drop at xs)) → (whole ≡ 0 → ⊥)
+pub begun : (xs : List ℕ) (at whole next : ℕ) → at < length xs
+    → whole ≡ colour_length (take (length xs - at) (drop at xs)) → (whole ≡ 0 → ⊥)
     → next ≡ whole - 1 → is_tame_after 0 (drop at xs) ≡ is_tame_after next (drop (at + 1) xs)
 begun xs at whole next within is some less =
     let b = get_or xs at 0 in
@@ -37,13 +38,15 @@ begun xs at whole next within is some less =
     ∙ ap (λ k. is_tame_after k r) (sym less)
 
 -- A plain byte is passed.
-pub plain_passed : (xs : List ℕ) (at d whole next : ℕ) → at < length xs → whole ≡ colour_length (take (length xs - at) (drop at xs)) → whole ≡ 0
+pub plain_passed : (xs : List ℕ) (at d whole next : ℕ) → at < length xs
+    → whole ≡ colour_length (take (length xs - at) (drop at xs)) → whole ≡ 0
     → (answer : Bool) → answer ≡ is_plain (get_or xs at d) → answer ≡ true → next ≡ whole - 1
     → is_tame_after 0 (drop at xs) ≡ is_tame_after next (drop (at + 1) xs)
 plain_passed xs at d whole next within is none answer plain sure less =
     let b = get_or xs at d in
     let r = drop (at + 1) xs in
-    let c : colour_length (b ∷ r) ≡ 0 = sym (sym none ∙ is ∙ ap colour_length (rest_whole xs at ∙ cut xs at d within)) in
+    let c : colour_length (b ∷ r) ≡ 0 =
+    sym (sym none ∙ is ∙ ap colour_length (rest_whole xs at ∙ cut xs at d within)) in
     ap (is_tame_after 0) (cut xs at d within)
     ∙ ap (λ k. cond (k == 0) (is_plain b && is_tame_after 0 r) (is_tame_after (k - 1) r)) c
     ∙ ap (λ t. t && is_tame_after 0 r) (sym plain ∙ sure)

@@ -62,7 +62,8 @@ NotesOf holds words note =
     (AsksHelp words × (note ≡ []))
     ⊎ ((asked : Request) × AsksFor words asked × IsNote holds (noting asked) note)
 
--- A writer has got these lines, of which no byte controls a terminal except for its colours, unless a call of it failed.
+-- A writer has got these lines, of which no byte controls a terminal except for its colours, unless a call of it
+-- failed.
 pub record TellsNote {E : Type 0} (holds : Holding) (words : List (String Global)) (contents : E → Option (List ℕ))
     (old new : Counted E) : Type 0 where
   pub note : List ℕ
