@@ -44,7 +44,7 @@ flat_same f g m (suc n) h =
     ∙ ap (λ l. g m ++ l) (flat_same f g (suc m) n (λ i lt. h i (omega (arith, lt))))
 
 -- Equal flows have equal lines between two numbers.
-between_same : (s : Shown) (f g : Flowing) (a b : ℕ) → ((R : Rule) → f R a b ≡ g R a b) → 
+between_same : (s : Shown) (f g : Flowing) (a b : ℕ) → ((R : Rule) → f R a b ≡ g R a b) →
     lines_between s f a b ≡ lines_between s g a b
 between_same s f g a b h =
     ap (λ l. l ++ line_by s f a b If ++ line_by s f a b While ++ line_by s f a b Letvar ++ line_by s f a b Loop)

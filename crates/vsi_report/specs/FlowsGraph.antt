@@ -36,6 +36,11 @@ pub record Shown : Type 0 where
   pub chosen : List ℕ
   pub walk : List Step
 
+-- What the graph of a program over a declared lattice shows.
+abbrev pub shown_in : Declared → Resolved → List ℕ → List Step → Shown
+shown_in l r chosen walk =
+    record { names = names l; lattice = order l; resolved = r; chosen = chosen; walk = walk }
+
 -- The number of declarations.
 abbrev pub size : Shown → ℕ
 size s = size_of (program s.resolved)
@@ -72,13 +77,19 @@ box_words (Some c) = []
 abbrev pub node : ℕ → List ℕ
 node b = codes "\"v." ++ decimal b ++ codes "\""
 
--- The line of a numbered node: the name of its variable and, if it has one, its class.
+-- The label of a variable: its name and, if it has one, its class.
+abbrev pub label : Shown → ℕ → List ℕ
+label s v = name_of s.resolved v ++ class_words s.names (class_shown s v)
+
+-- The attributes of the node of a variable after its label.
+abbrev pub attributes : Shown → ℕ → List ℕ
+attributes s v = paint_words (class_shown s v) ++ box_words (class_declared s v)
+
+-- The line of a numbered node.
 abbrev pub variable_line : Shown → ℕ → List ℕ
 variable_line s b =
-    codes "  " ++ node b ++ codes " [label=\"" ++ name_of s.resolved (variable_at (size s) b)
-    ++ class_words s.names (class_shown s (variable_at (size s) b)) ++ codes "\""
-    ++ paint_words (class_shown s (variable_at (size s) b))
-    ++ box_words (class_declared s (variable_at (size s) b)) ++ codes "];\n"
+    codes "  " ++ node b ++ codes " [label=\"" ++ label s (variable_at (size s) b) ++ codes "\""
+    ++ attributes s (variable_at (size s) b) ++ codes "];\n"
 
 -- The number of nodes; the ending of loops has one under the strict profile only.
 abbrev pub nodes_shown : Profile → ℕ → ℕ
@@ -219,14 +230,13 @@ pub record AreProgramLines (l : Declared) (P : Profile) (resolved : Resolved) (l
   pub judged : AreShown (order l) P (program resolved) chosen walk
   pub pairs : List (ℕ × ℕ)
   pub covering : HasJust (IsCoveringPair (order l)) pairs
-  pub are : lines ≡ flows_lines P
-      record { names = names l; lattice = order l; resolved = resolved; chosen = chosen; walk = walk } pairs
+  pub are : lines ≡ flows_lines P (shown_in l resolved chosen walk) pairs
 
 -- The lines are those of the text's program.
 pub record AreFlowsLines (l : Declared) (P : Profile) (text lines : List ℕ) : Type 0 where
   pub resolved : Resolved
   pub stands : Stands (class_named l) text resolved
-  pub lines : AreProgramLines l P resolved lines
+  pub told : AreProgramLines l P resolved lines
 
 -- The graph is that of the text's flows.
 pub record IsFlowsGraph (l : Declared) (P : Profile) (text out : List ℕ) : Type 0 where

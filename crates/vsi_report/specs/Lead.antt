@@ -63,9 +63,9 @@ abbrev pub allowed_words : ℕ → List ℕ
 allowed_words n =
     if n == 0 then codes "<p class=\"lead\">No declared variable flows to another one.</p>\n"
     else if n == 1 then
-      codes "<p class=\"lead\">The only pair of declared variables joined by flows is allowed.</p>\n"
+    codes "<p class=\"lead\">The only pair of declared variables joined by flows is allowed.</p>\n"
     else codes "<p class=\"lead\">All " ++ number n
-      ++ codes " pairs of declared variables joined by flows are allowed.</p>\n"
+    ++ codes " pairs of declared variables joined by flows are allowed.</p>\n"
 
 -- The first variable of a walk.
 abbrev pub first_of : List Step → ℕ

@@ -1,6 +1,6 @@
 //! What a graph of flows shows, and how its nodes and edges look.
 
-ghost use Rattle.std.specs.Prelude.{◌≡◌};
+ghost use Rattle.std.specs.Prelude.{◌≡◌, ◌≤◌};
 ghost use Rattle.vsi_lattice.specs.LatticeView.{order as order_of_lattice};
 ghost use Rattle.vsi_types.specs.Security.{program as program_of};
 ghost use Rattle.vsi_infer.specs.Explanation.{name_of as name_of_variable};
@@ -170,12 +170,7 @@ fn number_in(walk: &[Step], rule: Rule, source: Var, target: Var) -> Option<usiz
 }
 
 /// The number of the step of the refused walk from a number to another by a rule.
-pub(crate) fn step_number(
-    drawn: &Drawn<'_>,
-    rule: Rule,
-    source: u16,
-    target: u16,
-) -> Option<usize>
+pub(crate) fn step_number(drawn: &Drawn<'_>, rule: Rule, source: u16, target: u16) -> Option<usize>
     ensures { result ≡ spec.step_number (shown drawn.now) rule source target }
 {
     let source = variable_at(drawn, source);
@@ -192,9 +187,7 @@ pub(crate) fn edge_words(number: Option<usize>, course: Course) -> &'static [u8]
             b", color=\"#b01e1e\", fontcolor=\"#b01e1e\", constraint=false"
         }
         (None, Course::Unclear) => b", constraint=false",
-        (Some(_), Course::Upward) => {
-            b", color=\"#b01e1e\", fontcolor=\"#b01e1e\", penwidth=4"
-        }
+        (Some(_), Course::Upward) => { b", color=\"#b01e1e\", fontcolor=\"#b01e1e\", penwidth=4" }
         (Some(_), _) => {
             b", color=\"#b01e1e\", fontcolor=\"#b01e1e\", penwidth=4, constraint=false"
         }

@@ -19,8 +19,8 @@ ghost use Rattle.vsi_report.specs.FlowsGraph as spec;
 use crate::by_rule::{Flows, flows_of, has_flow};
 use crate::dot::{graph_text, lattice_lines, put_between, put_paint};
 use crate::drawn::{
-    Drawn, class_declared, class_shown, declarations, edge_words, flow_course, step_number, variable_at,
-    variable_name,
+    Drawn, class_declared, class_shown, declarations, edge_words, flow_course, step_number,
+    variable_at, variable_name,
 };
 use crate::judged::judged_classes;
 use crate::order::{name_of, order_of};
@@ -29,15 +29,11 @@ use crate::walking::{MOST_DRAWN, rule_name};
 use std::alloc::{AllocError, Global};
 use vsi_compiler::{CompileError, resolved_program};
 use vsi_lattice::{Class, Lattice};
-use vsi_scope::Resolved;
+use vsi_scope::{Resolved, Var};
 use vsi_types::{Profile, Rule};
 
 /// Adds a class after a name.
-fn put_class(
-    text: &mut Vec<u8>,
-    drawn: &Drawn<'_>,
-    class: Option<Class>,
-) -> Result<(), AllocError>
+fn put_class(text: &mut Vec<u8>, drawn: &Drawn<'_>, class: Option<Class>) -> Result<(), AllocError>
     ensures { OnOk result (text.new.items ≡ text.old.items
         ++ spec.class_words (shown drawn.now).names class) }
 {
@@ -70,21 +66,36 @@ fn box_words(declared: Option<Class>) -> &'static [u8]
     }
 }
 
+/// Adds the label of a variable: its name and, if it has one, its class.
+fn put_label(text: &mut Vec<u8>, drawn: &Drawn<'_>, variable: Var) -> Result<(), AllocError>
+    ensures { OnOk result
+        (text.new.items ≡ text.old.items ++ spec.label (shown drawn.now) variable) }
+{
+    text.extend_from_slice(variable_name(drawn.program, variable))?;
+    put_class(text, drawn, class_shown(drawn, variable))
+}
+
+/// Adds the attributes of the node of a variable after its label.
+fn put_attributes(text: &mut Vec<u8>, drawn: &Drawn<'_>, variable: Var) -> Result<(), AllocError>
+    ensures { OnOk result
+        (text.new.items ≡ text.old.items ++ spec.attributes (shown drawn.now) variable) }
+{
+    put_colour(text, class_shown(drawn, variable))?;
+    text.extend_from_slice(box_words(class_declared(drawn, variable)))
+}
+
 /// Adds the line of a numbered node.
 fn put_variable(text: &mut Vec<u8>, drawn: &Drawn<'_>, number: u16) -> Result<(), AllocError>
     ensures { OnOk result
         (text.new.items ≡ text.old.items ++ spec.variable_line (shown drawn.now) number) }
 {
     let variable = variable_at(drawn, number);
-    let class = class_shown(drawn, variable);
     text.extend_from_slice(b"  ")?;
     put_node(text, number)?;
     text.extend_from_slice(b" [label=\"")?;
-    text.extend_from_slice(variable_name(drawn.program, variable))?;
-    put_class(text, drawn, class)?;
+    put_label(text, drawn, variable)?;
     text.extend_from_slice(b"\"")?;
-    put_colour(text, class)?;
-    text.extend_from_slice(box_words(class_declared(drawn, variable)))?;
+    put_attributes(text, drawn, variable)?;
     text.extend_from_slice(b"];\n")
 }
 
@@ -274,8 +285,10 @@ fn program_lines(
     lattice: &Lattice,
     program: &Resolved<'_>,
 ) -> Result<Vec<u8>, AllocError>
-    requires globals { All (IsClass (order_of_lattice lattice.now)) (program_of program.now).globals }
-    requires declared { AreClasses (order_of_lattice lattice.now) (program_of program.now).declared }
+    requires globals { All (IsClass (order_of_lattice lattice.now))
+        (program_of program.now).globals }
+    requires declared { AreClasses (order_of_lattice lattice.now)
+        (program_of program.now).declared }
     ensures { IfOk result (λ lines.
         spec.AreProgramLines lattice.now profile program.now lines.items) }
 {
@@ -339,7 +352,12 @@ fn put_cluster(text: &mut Vec<u8>, name: &[u8], lines: &[u8]) -> Result<(), Allo
 {
     put_between(text, b"subgraph cluster_", name, b" {\n  label=\"")?;
     text.extend_from_slice(name)?;
-    put_between(text, b"\";\n  labelloc=b;\n  color=\"#d3dae1\";\n", lines, b"}\n")
+    put_between(
+        text,
+        b"\";\n  labelloc=b;\n  color=\"#d3dae1\";\n",
+        lines,
+        b"}\n",
+    )
 }
 
 /// The graph of a lattice's lines and those of a text's flows.

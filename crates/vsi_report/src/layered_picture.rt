@@ -154,8 +154,8 @@ fn place_at(places: &[Place], index: usize) -> Place {
     }
 }
 
-/// Adds the box of a class with its name, if it has variables.
-fn put_class(page: &mut Page, order: &Order, class: usize, place: Place) -> Result<(), AllocError> {
+/// Adds the box of a class, if it has variables.
+fn put_class(page: &mut Page, class: usize, place: Place) -> Result<(), AllocError> {
     if place.wide == 0 {
         return Ok(());
     }
@@ -166,7 +166,27 @@ fn put_class(page: &mut Page, order: &Order, class: usize, place: Place) -> Resu
         Part::Value(b" y=\"", place.top),
         Part::Value(b" width=\"", place.wide),
         Part::Value(b" height=\"", place.high),
-        Part::Value(b"/><text x=\"", place.left.saturating_add(12)),
+        Part::Markup(b"/></g>"),
+    ])
+}
+
+/// Adds the boxes of the classes.
+fn put_classes(page: &mut Page, picture: &Layered) -> Result<(), AllocError> {
+    for (class, place) in picture.drawing.groups.iter().enumerate() {
+        put_class(page, class, *place)?;
+    }
+    Ok(())
+}
+
+/// Adds the name of a class in its box, if it has variables.
+fn put_title(page: &mut Page, order: &Order, class: usize, place: Place) -> Result<(), AllocError> {
+    if place.wide == 0 {
+        return Ok(());
+    }
+    page.put_parts(&[
+        Part::Markup(b"<g class=\"band "),
+        Part::Markup(colour(Some(class))),
+        Part::Value(b"\"><text x=\"", place.left.saturating_add(12)),
         Part::Value(b" y=\"", place.top.saturating_add(18)),
         Part::Markup(b">"),
     ])?;
@@ -174,10 +194,10 @@ fn put_class(page: &mut Page, order: &Order, class: usize, place: Place) -> Resu
     page.put(b"</text></g>")
 }
 
-/// Adds the boxes of the classes.
-fn put_classes(page: &mut Page, order: &Order, picture: &Layered) -> Result<(), AllocError> {
+/// Adds the names of the classes, over the arrows.
+fn put_titles(page: &mut Page, order: &Order, picture: &Layered) -> Result<(), AllocError> {
     for (class, place) in picture.drawing.groups.iter().enumerate() {
-        put_class(page, order, class, *place)?;
+        put_title(page, order, class, *place)?;
     }
     Ok(())
 }
@@ -358,10 +378,11 @@ pub(crate) fn put_layered(
     put_picture(page, picture.drawing.wide, picture.drawing.high)?;
     put_told(page, facts, true)?;
     page.put(TIPS)?;
-    put_classes(page, order, picture)?;
+    put_classes(page, picture)?;
     put_arrows(page, order, facts, picture, &arrows, false)?;
     put_arrows(page, order, facts, picture, &arrows, true)?;
     put_walk(page, picture, &arrows)?;
+    put_titles(page, order, picture)?;
     put_boxes(page, facts, picture)?;
     put_badges(page, &badges_of(alloc, &picture.drawing, &arrows)?)?;
     page.put(b"</svg>")

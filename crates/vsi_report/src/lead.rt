@@ -1,12 +1,11 @@
 //! The first sentences of a banner.
 
-ghost use Rattle.std.specs.Prelude.{◌≡◌, ◌++◌, Some, OnOk, length};
+ghost use Rattle.std.specs.Prelude.{◌≡◌, ◌++◌, ℕ, Some, OnOk};
 ghost use Rattle.vsi_lattice.specs.LatticeView.{names, order as order_of_lattice};
 ghost use Rattle.vsi_types.specs.Security.{program as program_of};
 ghost use Rattle.vsi_types.specs.Walks.{declared_class as declared_class_of};
 ghost use Rattle.vsi_types.specs.Walks as walks;
-ghost use Rattle.vsi_infer.specs.Explanation.{name_of as name_of_variable};
-ghost use Rattle.vsi_report.specs.Graph.{name_at, texts};
+ghost use Rattle.vsi_report.specs.Graph.{texts};
 ghost use Rattle.vsi_report.specs.Lead as spec;
 
 use crate::drawn::variable_name;
@@ -42,11 +41,7 @@ pub(crate) struct Lead<'a> {
 }
 
 /// A word for one thing, or for several.
-pub(crate) fn number_word(
-    count: usize,
-    one: &'static [u8],
-    several: &'static [u8],
-) -> &'static [u8]
+pub(crate) fn number_word(count: usize, one: &'static [u8], several: &'static [u8]) -> &'static [u8]
     ensures { result.now ≡ spec.plural count one.now several.now }
 {
     if count == 1 { one } else { several }
@@ -110,7 +105,8 @@ fn put_counts(page: &mut Page, refused: usize, pairs: usize) -> Result<(), Alloc
 
 /// Adds the first sentences about a refused text.
 pub(crate) fn put_lead(page: &mut Page, lead: &Lead<'_>) -> Result<(), AllocError>
-    ensures { OnOk result (page.new.text.items ≡ page.old.text.items ++ spec.lead_words lead.now) }
+    ensures { OnOk result
+        (page.new.text.items ≡ page.old.text.items ++ spec.lead_words lead.now) }
 {
     page.put(b"<p class=\"lead\">")?;
     put_end(page, &lead.source)?;
@@ -121,6 +117,10 @@ pub(crate) fn put_lead(page: &mut Page, lead: &Lead<'_>) -> Result<(), AllocErro
     put_counts(page, lead.refused, lead.pairs)
 }
 
+/// The sentence about the only pair of an accepted text.
+const ONE_PAIR: &[u8] =
+    b"<p class=\"lead\">The only pair of declared variables joined by flows is allowed.</p>\n";
+
 /// Adds the sentence about the pairs of an accepted text.
 pub(crate) fn put_allowed(page: &mut Page, pairs: usize) -> Result<(), AllocError>
     ensures { OnOk result
@@ -130,9 +130,7 @@ pub(crate) fn put_allowed(page: &mut Page, pairs: usize) -> Result<(), AllocErro
         return page.put(b"<p class=\"lead\">No declared variable flows to another one.</p>\n");
     }
     if pairs == 1 {
-        return page.put(
-            b"<p class=\"lead\">The only pair of declared variables joined by flows is allowed.</p>\n",
-        );
+        return page.put(ONE_PAIR);
     }
     page.put(b"<p class=\"lead\">All ")?;
     page.number(pairs)?;
@@ -189,8 +187,9 @@ fn last_of(walk: &[Step]) -> Var
 
 /// The declared class of a variable, or 0 if it has none.
 fn class_of(lattice: &Lattice, program: &Resolved<'_>, variable: Var) -> usize
-    ensures { (c : ℕ) → declared_class_of (order_of_lattice lattice.now) (program_of program.now)
-        variable ≡ Some c → result ≡ c }
+    ensures { (c : ℕ)
+        → declared_class_of (order_of_lattice lattice.now) (program_of program.now) variable
+        ≡ Some c → result ≡ c }
 {
     match declared_class(lattice, program, variable) {
         Some(class) => class.index(),
@@ -199,12 +198,7 @@ fn class_of(lattice: &Lattice, program: &Resolved<'_>, variable: Var) -> usize
 }
 
 /// A variable at an end of a walk.
-fn end_of<'a>(
-    lattice: &Lattice,
-    order: &'a Order,
-    program: &Resolved<'a>,
-    variable: Var,
-) -> End<'a>
+fn end_of<'a>(lattice: &Lattice, order: &'a Order, program: &Resolved<'a>, variable: Var) -> End<'a>
     requires { texts order.now.names.items ≡ names lattice.now }
     ensures { spec.IsEnd lattice.now program.now variable result }
 {

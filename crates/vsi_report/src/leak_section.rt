@@ -166,10 +166,30 @@ fn put_word_row(page: &mut Page, name: &[u8], first: i64, second: i64) -> Result
     ])
 }
 
-/// Adds the table of two stores.
-fn put_stores(
+/// The variables that a table of two stores shows.
+#[derive(Clone, Copy)]
+enum Rows {
+    All,
+    /// Those whose values differ.
+    Apart,
+    /// Those whose values are equal.
+    Alike,
+}
+
+/// Whether a table shows a variable with these values.
+fn is_shown(rows: Rows, first: i64, second: i64) -> bool {
+    match rows {
+        Rows::All => true,
+        Rows::Apart => first != second,
+        Rows::Alike => first == second,
+    }
+}
+
+/// Adds a table of two stores.
+fn put_table(
     page: &mut Page,
     caption: &'static [u8],
+    rows: Rows,
     image: &Image,
     first: &[i64],
     second: &[i64],
@@ -180,14 +200,49 @@ fn put_stores(
         Part::Markup(HEAD),
     ])?;
     for (index, global) in image.globals.iter().enumerate() {
-        put_word_row(
-            page,
-            &global.0,
-            word_at(first, index),
-            word_at(second, index),
-        )?;
+        let (one, other) = (word_at(first, index), word_at(second, index));
+        if is_shown(rows, one, other) {
+            put_word_row(page, &global.0, one, other)?;
+        }
     }
     page.put(b"</tbody></table></div>\n")
+}
+
+/// The most variables of a table that shows all of them.
+const MOST_ROWS: usize = 12;
+
+/// The number of variables whose values are equal.
+fn count_alike(image: &Image, first: &[i64], second: &[i64]) -> usize {
+    let mut count: usize = 0;
+    for index in 0..image.globals.len() {
+        if word_at(first, index) == word_at(second, index) {
+            count = count.saturating_add(1);
+        }
+    }
+    count
+}
+
+/// Adds the table of two stores. If there are many variables, those with equal values are in a
+/// table of their own, which opens on request.
+fn put_stores(
+    page: &mut Page,
+    caption: &'static [u8],
+    image: &Image,
+    first: &[i64],
+    second: &[i64],
+) -> Result<(), AllocError> {
+    let alike = count_alike(image, first, second);
+    if image.globals.len() <= MOST_ROWS || alike == 0 {
+        return put_table(page, caption, Rows::All, image, first, second);
+    }
+    put_table(page, caption, Rows::Apart, image, first, second)?;
+    page.put_parts(&[
+        Part::Markup(b"<details><summary>"),
+        Part::Number(alike),
+        Part::Markup(b" with equal values</summary>\n"),
+    ])?;
+    put_table(page, caption, Rows::Alike, image, first, second)?;
+    page.put(b"</details>\n")
 }
 
 /// Adds the tables of the final stores and the numbers of instructions, if both runs halt.

@@ -1,6 +1,6 @@
 //! The page of a text.
 
-ghost use Rattle.std.specs.Prelude.{◌≡◌, ◌≤◌, ℕ, [], length, IfOk};
+ghost use Rattle.std.specs.Prelude.{◌≡◌, ◌≤◌, ℕ, List, [], length, IfOk};
 ghost use Rattle.vsi_image.specs.Fields.{fields};
 ghost use Rattle.vsi_image.specs.Listing.{listing as listing_of};
 ghost use Rattle.vsi_lattice.specs.LatticeView.{class_named, order};
@@ -227,7 +227,9 @@ fn refused_page(
     match resolved_program(alloc, lattice, source) {
         Ok(program) => {
             let facts = facts_of_program(alloc, profile, lattice, &program)?;
-            page_with_walk(alloc, profile, filing, lattice, &program, &facts, source, walk)
+            page_with_walk(
+                alloc, profile, filing, lattice, &program, &facts, source, walk,
+            )
         }
         Err(error) => faulty_page(alloc, profile, filing, lattice, source, &error),
     }

@@ -63,7 +63,8 @@ margin-left:.12em;\
 .name:not([data-step=\"\"]){scroll-margin:40vh 0;background:var(--badp);\
 outline:2px solid var(--bad);\
 border-radius:.2rem;padding:.05em .15em;white-space:nowrap}
-.name:not([data-step=\"\"])::before{content:attr(data-step);background:var(--bad);\
+.name:not([data-step=\"\"])::before{content:attr(data-step);display:inline-block;\
+white-space:nowrap;background:var(--bad);\
 color:var(--paper);\
 font:700 .72em/1 system-ui,sans-serif;border-radius:.2rem;padding:.15em .35em;\
 margin-right:.3em;vertical-align:.12em}
@@ -90,7 +91,8 @@ Consolas,\"DejaVu Sans Mono\",monospace}
 .box text{fill:currentColor;text-anchor:middle}
 .inferred .box rect{stroke-dasharray:5 4}
 .band rect{fill:currentColor;fill-opacity:.07;stroke:currentColor;stroke-opacity:.35}
-.band text{fill:currentColor;font-size:13px}
+.band text{fill:currentColor;font-size:13px;stroke:var(--paper);stroke-width:4px;\
+paint-order:stroke}
 .flow{fill:none;stroke:var(--soft);stroke-width:1.6}
 .r2{stroke-dasharray:7 4}.r4{stroke-dasharray:2 4;stroke-width:2.4}.r8{stroke-width:3}.r16{\
 stroke-dasharray:10 3 2 3}

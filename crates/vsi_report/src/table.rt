@@ -1,7 +1,7 @@
 //! The table of flows of a page.
 
-use crate::lead::{count_refused, number_word};
 use crate::facts::{Facts, number_of};
+use crate::lead::{count_refused, number_word};
 use crate::order::Order;
 use crate::page::{Page, Part};
 use crate::telling::{put_class_of, put_name};
