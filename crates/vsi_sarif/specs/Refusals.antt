@@ -13,11 +13,15 @@ use Rattle.vsi_sarif.specs.Steps.{LocatesFlow, position_in}
 
 -- ---- the position.
 
+-- The position at which the last of these steps writes, if there is one.
+abbrev pub last_place : List ℕ → List Step → Option (ℕ × ℕ)
+last_place source steps =
+    option_map (λ s. position_in source s.written.start) (slice_get steps (length steps - 1))
+
 -- The position at which the last step of a flow writes, if there is one.
 abbrev pub written_place : List ℕ → Option (List Step) → Option (ℕ × ℕ)
 written_place source None = None
-written_place source (Some steps) =
-    option_map (λ s. position_in source s.written.start) (slice_get steps (length steps - 1))
+written_place source (Some steps) = last_place source steps
 
 -- The position in a field, or another one.
 abbrev pub place_or : Field → Option (ℕ × ℕ) → Option (ℕ × ℕ)

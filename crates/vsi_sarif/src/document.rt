@@ -1,8 +1,9 @@
 //! A document, from its rules and results.
 
-ghost use Rattle.std.specs.Prelude.{◌≡◌, false, map, IfOk};
+ghost use Rattle.std.specs.Prelude.{◌≡◌, ◌++◌, codes, false, map, IfOk};
+ghost use Rattle.serde_json.specs.Data.{object};
 ghost use Rattle.serde_json.specs.View.{members_view, view};
-ghost use Rattle.serde_json.specs.Written.{members_have_float};
+ghost use Rattle.serde_json.specs.Written.{compact_text, members_have_float};
 ghost use Rattle.vsi_sarif.specs.Document as spec;
 
 use crate::objects::{array_object, only, put_array, put_object};
@@ -65,6 +66,16 @@ fn schema() -> &'static [u8]
     b"https://json.schemastore.org/sarif-2.1.0.json"
 }
 
+/// The line of an object.
+fn object_line(alloc: Global, map: Map<String, Value>) -> Result<Vec<u8>, AllocError>
+    ensures { IfOk result (λ line. members_have_float (members_view map.entries) ≡ false
+        → line.items ≡ compact_text (object (members_view map.entries)) ++ codes "\n") }
+{
+    let mut line = Value::Object(map).to_vec(alloc)?;
+    line.extend_from_slice(b"\n")?;
+    Ok(line)
+}
+
 /// The text of the document of these rules and results, a line.
 pub(crate) fn document(
     alloc: Global,
@@ -76,7 +87,6 @@ pub(crate) fn document(
         → line.items ≡ spec.document_text (map view rules.items) (map view results.items)) }
 {
     let made = whole(alloc, rules, results)?;
-    let mut line = Value::Object(made).to_vec(alloc)?;
-    line.extend_from_slice(b"\n")?;
+    let line = object_line(alloc, made)?;
     Ok(line)
 }

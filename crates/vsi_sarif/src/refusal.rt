@@ -18,12 +18,25 @@ use vsi_lattice::Lattice;
 use vsi_syntax::{line_column, put_number};
 use vsi_types::Step;
 
+/// The position at which the last of these steps writes, if there is one.
+fn last_place(source: &[u8], steps: &[Step]) -> Option<(usize, usize)>
+    ensures { result ≡ spec.last_place source.now steps.now }
+{
+    match steps.last() {
+        Some(step) => {
+            let (line, column) = line_column(source, step.written.start);
+            Some((line, column))
+        }
+        None => None,
+    }
+}
+
 /// The position at which the last step of a flow writes, if there is one.
 fn written_place(source: &[u8], steps: Option<&[Step]>) -> Option<(usize, usize)>
     ensures { result ≡ spec.written_place source.now (option_map (λ s. s.now) steps.entry) }
 {
-    match steps?.last() {
-        Some(step) => Some(line_column(source, step.written.start)),
+    match steps {
+        Some(steps) => last_place(source, steps),
         None => None,
     }
 }

@@ -72,7 +72,8 @@ fn step_object(
 {
     let text = step_text(alloc, program, step)?;
     let message = text_object(alloc, "text", &text)?;
-    let mut inner = location(alloc, uri, Some(line_column(source, step.read.start)))?;
+    let (line, column) = line_column(source, step.read.start);
+    let mut inner = location(alloc, uri, Some((line, column)))?;
     put_object(alloc, &mut inner, "message", message)?;
     let mut made = Map::new(alloc);
     put_object(alloc, &mut made, "location", inner)?;
