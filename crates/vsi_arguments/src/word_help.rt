@@ -287,9 +287,9 @@ text and the steps of its flow.";
 
 /// The answer of `check` as SARIF.
 pub(crate) const SARIF: &str = "\
-Writes the answer as a document of SARIF 2.1.0 on standard output, which
-services that check changes show on the lines of the text: a refusal
-is its one result, and an accepted text has none.";
+Writes the answer as a document of SARIF 2.1.0 on standard output,
+which services that check changes show on the lines of the text: a
+refusal is its one result, and an accepted text has none.";
 
 /// The answer as JSON.
 pub(crate) const JSON: &str = "\
