@@ -169,7 +169,7 @@ drives_alike c Fit each (l ∷ ls) (l' ∷ ls') m m' alike same h h' released =
 not_released : (out rel seen : Bool) → rel ≡ false → ((out && (seen || rel)) && not seen) ≡ false
 not_released false rel seen h = refl
 not_released true rel true h = refl
-not_released true rel false h = h
+not_released true rel false h = ap (λ r. (true && (false || r)) && not false) h
 
 -- Where no global is named as released, no store has released words.
 no_words : (c : Control) → ReleasesNothing c → (gs : List Global) (m : List ℤ) → released_words c gs m ≡ []

@@ -26,7 +26,7 @@ pub behind_other : (part rest : List ℕ) (b : ℕ) → spec.is_blank b ≡ fals
 behind_other part rest b blank equal = rw (blank, equal) refl
 
 -- A range extended by the next byte.
-range_more : (line : List ℕ) (start at : ℕ) → start ≤ at → at < length line →
+pub range_more : (line : List ℕ) (start at : ℕ) → start ≤ at → at < length line →
     slice_range line start at ++ get_or line at 0 ∷ [] ≡ slice_range line start (at + 1)
 range_more line start at before within =
     let there : start + (at - start) ≡ at = omega (arith, before) in

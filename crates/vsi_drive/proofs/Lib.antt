@@ -1,4 +1,5 @@
 pub mod FieldsOf
+pub mod NamesOf
 pub mod Written
 pub mod Each
 pub mod Alike

@@ -197,7 +197,8 @@ impl<'a> Controller<'a> {
         ensures { option_map (λ class. class.now) result
             ≡ class_of (globals (control self.now).image.globals.items) name.now }
     {
-        for variable in self.globals() {
+        let variables = self.globals();
+        for variable in variables {
             if variable.0.as_slice() == name {
                 return Some(variable.1.as_slice());
             }
