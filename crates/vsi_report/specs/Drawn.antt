@@ -1,10 +1,10 @@
--- What the code of a graph of flows shows.
+-- The contents of a graph of flows, in the code.
 use Rattle.vsi_lattice.specs.LatticeView.{order}
 use Rattle.vsi_report.specs.declared.drawn.Drawn.{Drawn}
 use Rattle.vsi_report.specs.Graph.{texts}
 use Rattle.vsi_report.specs.FlowsGraph.{Shown}
 
--- What a graph of flows shows, from the values of the code.
+-- The contents of a graph of flows, from the values of the code.
 abbrev pub shown : Drawn → Shown
 shown d =
     record {

@@ -27,7 +27,7 @@ use Rattle.vsi_report.specs.Graph.{AreLatticeLines, graph, name_at, paint}
 abbrev pub AreShown : Lattice → Profile → Program → List ℕ → List Step → Type 0
 AreShown L P p chosen walk = (IsLeast L P p chosen × (walk ≡ [])) ⊎ ((chosen ≡ []) × IsShortest L P p walk)
 
--- What a graph of flows shows: a program over a lattice whose classes have these names, the chosen classes of its
+-- The contents of a graph of flows: a program over a lattice whose classes have these names, the chosen classes of its
 -- letvars, and the steps of a refused walk.
 pub record Shown : Type 0 where
   pub names : List (List ℕ)
@@ -36,7 +36,7 @@ pub record Shown : Type 0 where
   pub chosen : List ℕ
   pub walk : List Step
 
--- What the graph of a program over a declared lattice shows.
+-- The contents of the graph of a program over a declared lattice.
 abbrev pub shown_in : Declared → Resolved → List ℕ → List Step → Shown
 shown_in l r chosen walk =
     record { names = names l; lattice = order l; resolved = r; chosen = chosen; walk = walk }

@@ -1,4 +1,4 @@
-//! What a graph of flows shows, and how its nodes and edges look.
+//! The contents of a graph of flows, and the looks of its nodes and edges.
 
 ghost use Rattle.std.specs.Prelude.{◌≡◌, ◌≤◌};
 ghost use Rattle.vsi_lattice.specs.LatticeView.{order as order_of_lattice};
@@ -15,7 +15,7 @@ use vsi_lattice::{Class, Classes, Lattice};
 use vsi_scope::{Resolved, Var};
 use vsi_types::{LOOP, Rule, Step};
 
-/// What a graph of flows shows: a program over a lattice, the chosen classes of its letvars, and
+/// The contents of a graph of flows: a program over a lattice, the chosen classes of its letvars, and
 /// the steps of a refused walk.
 #[derive(Clone, Copy)]
 pub(crate) struct Drawn<'a> {

@@ -263,7 +263,7 @@ fn put_flows(
     Ok(())
 }
 
-/// The lines of what a graph of flows shows.
+/// The lines of a graph of flows.
 fn drawn_lines(alloc: Global, profile: Profile, drawn: &Drawn<'_>) -> Result<Vec<u8>, AllocError>
     ensures { IfOk result (λ lines. lines.items
         ≡ spec.flows_lines profile (shown drawn.now) drawn.now.order.now.covers.items) }

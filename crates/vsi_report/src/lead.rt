@@ -27,7 +27,7 @@ pub(crate) struct End<'a> {
     pub(crate) class_name: &'a [u8],
 }
 
-/// What the first sentences about a refused text say: the ends of a refused walk, the number of its
+/// The facts in the first sentences about a refused text: the ends of a refused walk, the number of its
 /// steps, its first and its last line, the number of refused pairs, and that of all pairs.
 #[derive(Clone, Copy)]
 pub(crate) struct Lead<'a> {
@@ -221,7 +221,7 @@ fn reach_of(walk: &[Step]) -> (usize, usize) {
     (first.min(last), last)
 }
 
-/// What the first sentences about a refused text say.
+/// The facts in the first sentences about a refused text.
 pub(crate) fn lead_of<'a>(
     lattice: &Lattice,
     order: &'a Order,
