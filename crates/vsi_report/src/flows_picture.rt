@@ -203,19 +203,36 @@ fn band_name<'a>(order: &'a Order, band: Band) -> &'a [u8] {
     }
 }
 
-/// Adds a band with the name of its class.
-fn put_band(page: &mut Page, order: &Order, wide: usize, band: Band) -> Result<(), AllocError> {
+/// Adds a band.
+fn put_band(page: &mut Page, wide: usize, band: Band) -> Result<(), AllocError> {
     page.put_parts(&[
         Part::Markup(b"<g class=\"band "),
         Part::Markup(colour(band.class)),
         Part::Value(b"\"><rect x=\"4\" rx=\"10\" y=\"", band.top),
         Part::Value(b" width=\"", wide.saturating_sub(8)),
         Part::Value(b" height=\"", band.foot.saturating_sub(band.top)),
-        Part::Value(b"/><text x=\"14\" y=\"", band.top.saturating_add(17)),
+        Part::Markup(b"/></g>"),
+    ])
+}
+
+/// Adds the name of a band's class.
+fn put_title(page: &mut Page, order: &Order, band: Band) -> Result<(), AllocError> {
+    page.put_parts(&[
+        Part::Markup(b"<g class=\"band "),
+        Part::Markup(colour(band.class)),
+        Part::Value(b"\"><text x=\"14\" y=\"", band.top.saturating_add(17)),
         Part::Markup(b">"),
         Part::Text(band_name(order, band)),
         Part::Markup(b"</text></g>"),
     ])
+}
+
+/// Adds the names of the bands' classes, over the arrows.
+fn put_titles(page: &mut Page, order: &Order, picture: &Banded) -> Result<(), AllocError> {
+    for band in &picture.bands {
+        put_title(page, order, *band)?;
+    }
+    Ok(())
 }
 
 /// The arrow of a step of the walk.
@@ -367,9 +384,9 @@ fn put_walk(
 }
 
 /// Adds the bands.
-fn put_bands(page: &mut Page, order: &Order, picture: &Banded) -> Result<(), AllocError> {
+fn put_bands(page: &mut Page, picture: &Banded) -> Result<(), AllocError> {
     for band in &picture.bands {
-        put_band(page, order, picture.layout.wide, *band)?;
+        put_band(page, picture.layout.wide, *band)?;
     }
     Ok(())
 }
@@ -389,10 +406,11 @@ pub(crate) fn put_flows(
     put_picture(page, picture.layout.wide, picture.layout.high)?;
     put_told(page, facts, has_arrows)?;
     page.put(TIPS)?;
-    put_bands(page, order, picture)?;
+    put_bands(page, picture)?;
     if has_arrows {
         put_all_arrows(page, order, facts, picture)?;
     }
+    put_titles(page, order, picture)?;
     put_boxes(page, facts, picture, shown)?;
     put_walk(page, facts, picture, walk)?;
     page.put(b"</svg>")
