@@ -87,10 +87,13 @@ impl<'a> Names<'a> {
     fn boundary<'c>(&'c self) -> Boundary<'c>
         ensures { boundary_of result ≡ boundary_in self.now }
     {
+        let inputs = names_listed(&self.inputs);
+        let outputs = names_listed(&self.outputs);
+        let released = self.released();
         Boundary {
-            inputs: names_listed(&self.inputs),
-            outputs: names_listed(&self.outputs),
-            released: self.released(),
+            inputs,
+            outputs,
+            released,
         }
     }
 }

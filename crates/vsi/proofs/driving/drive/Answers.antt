@@ -1,10 +1,11 @@
-use Rattle.std.proofs.Common.{◌≡◌, ◌∙◌, None, arith, inl, inr, sym, subst}
+use Rattle.std.proofs.Common.{◌≡◌, ◌∙◌, None, arith, inl, inr, refl, sym, subst}
 use Rattle.std.proofs.lemmas.Result.{on_ok_weaker}
 use Rattle.vsi_devices.specs.Counted.{device_of}
 use Rattle.vsi_drive.specs.BoundaryFaults.{boundary_fault}
 use Rattle.vsi_drive.specs.Control.{control}
 use Rattle.vsi_image.specs.Fields.{globals}
 use Rattle.vsi_store.specs.Text.{store_text_of}
+use Rattle.vsi.specs.declared.stop.Stop.TheVariants.{Memory}
 use Rattle.vsi.specs.Driven.{DrivesInput}
 use Rattle.vsi.specs.Holding.{Delivers}
 use Rattle.vsi.specs.Partly.{AnswersDrive, DrivenText, Partly}
@@ -17,7 +18,7 @@ use Rattle.vsi.proofs.Leaving.{driven_answers}
 use Rattle.vsi.proofs.Partly.{kept_leaves, late_handed, late_leaves}
 use Rattle.vsi.proofs.Reasons.{late_stopped}
 use Rattle.vsi.proofs.Undriven.{control_stopped, short_stopped}
-use Rattle.vsi.proofs.Unrun.{handed_late, more_stopped, store_stopped, unbounded_stopped, unseen_stopped}
+use Rattle.vsi.proofs.Unrun.{handed_late, memory_stopped, more_stopped, store_stopped, unbounded_stopped, unseen_stopped}
 use Rattle.vsi.proofs.driving.drive.Goals as goal
 
 pub returns-clause-performed : goal.returns-clause-performed
@@ -105,6 +106,12 @@ returns-in_err-drive_input-clause-stopped g c =
     late_stopped (WhyDrive holds c.args.driving) (LacksDrive holds c.args.driving)
     c.from_residual-in_err-drive_input.result c.in_err-drive_input.field-0.0
     c.from_residual-in_err-drive_input.ensures.1 c.in_err-drive_input.ensures.stop
+
+pub returns-in_err-names-clause-stopped : goal.returns-in_err-names-clause-stopped
+returns-in_err-names-clause-stopped g c =
+    let holds = g.F.Files.holds c.args.files.now in
+    memory_stopped (WhyDrive holds c.args.driving) (LacksDrive holds c.args.driving)
+    c.from_residual-in_err-names.result Memory c.from_residual-in_err-names.ensures.1 refl
 
 pub returns-in_err-controller-clause-stopped : goal.returns-in_err-controller-clause-stopped
 returns-in_err-controller-clause-stopped g c =
