@@ -30,5 +30,5 @@ boundary_in names =
     record {
       inputs = read_names names.inputs;
       outputs = read_names names.outputs;
-      released = unwrap_or (read_names names.released) [];
+      released = texts names.released.items;
     }

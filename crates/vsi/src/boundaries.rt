@@ -31,7 +31,7 @@ use vsi_lattice::{Class, Lattice};
 pub(crate) struct Names<'a> {
     inputs: Option<Vec<&'a [u8]>>,
     outputs: Option<Vec<&'a [u8]>>,
-    released: Option<Vec<&'a [u8]>>,
+    released: Vec<&'a [u8]>,
 }
 
 /// The names in a list, if it is given.
@@ -48,13 +48,23 @@ fn given_names<'a>(
     }
 }
 
+/// The names in the list of released outputs, which has none if it isn't given.
+fn released_names<'a>(alloc: Global, list: Option<&'a str>) -> Result<Vec<&'a [u8]>, AllocError>
+    ensures { IfOk result (λ names. texts names.items ≡ unwrap_or (given_names list.entry) []) }
+{
+    match list {
+        Some(text) => names_of(alloc, text.as_bytes()),
+        None => Ok(Vec::new(alloc)),
+    }
+}
+
 /// The names in all lists.
 pub(crate) fn names_in<'a>(alloc: Global, lists: NameLists<'a>) -> Result<Names<'a>, AllocError>
     ensures { IfOk result (λ names. boundary_in names ≡ requested lists.entry) }
 {
     let inputs = given_names(alloc, lists.inputs)?;
     let outputs = given_names(alloc, lists.outputs)?;
-    let released = given_names(alloc, lists.released)?;
+    let released = released_names(alloc, lists.released)?;
     Ok(Names {
         inputs,
         outputs,
@@ -73,23 +83,13 @@ fn names_listed<'c, 'a>(list: &'c Option<Vec<&'a [u8]>>) -> Option<&'c [&'a [u8]
 }
 
 impl<'a> Names<'a> {
-    /// The names under `--release`.
-    fn released<'c>(&'c self) -> &'c [&'c [u8]]
-        ensures { texts result.now ≡ unwrap_or (read_names self.now.released) [] }
-    {
-        match &self.released {
-            Some(names) => names.as_slice(),
-            None => &[],
-        }
-    }
-
     /// The boundary with these names.
     fn boundary<'c>(&'c self) -> Boundary<'c>
         ensures { boundary_of result ≡ boundary_in self.now }
     {
         let inputs = names_listed(&self.inputs);
         let outputs = names_listed(&self.outputs);
-        let released = self.released();
+        let released = self.released.as_slice();
         Boundary {
             inputs,
             outputs,
