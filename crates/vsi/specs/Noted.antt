@@ -26,6 +26,7 @@ pub data Noting : Type 0 where
 -- The kind of the lines after a request.
 abbrev pub noting : Request → Noting
 noting (request.Run e o has_trace has_count) = Count e o has_count
+noting (request.Check asked) = Sentences
 noting (request.Drive driving) = Sentences
 noting (request.Policy looking) = Sentences
 noting (request.Lsp serving) = Sentences
