@@ -1,14 +1,17 @@
-use Rattle.std.proofs.Common.{Err, ap, arith, inl, inr, refl, sym, subst}
+use Rattle.std.proofs.Common.{◌∙◌, Err, ap, arith, inl, inr, refl, sym, subst}
 use Rattle.std.proofs.KnownBytes.{Appends-trans}
 use Rattle.std.proofs.lemmas.Result.{on_ok_weaker}
 use Rattle.std.specs.Io.KnownBytes.{Appends}
 use Rattle.vsi_devices.specs.Counted.{device_of}
+use Rattle.vsi_machine.specs.Counting.{Halts}
+use Rattle.vsi_machine.specs.Runs.{run_of}
 use Rattle.vsi.specs.Partly.{AnswersRun}
 use Rattle.vsi.specs.Files.{BeginsAt, shown}
 use Rattle.vsi.specs.Refusals.{LacksBoundAt}
 use Rattle.vsi.specs.Reasons.{WhyRun}
 use Rattle.vsi.proofs.Filled.{both_done, delivered_of}
 use Rattle.vsi.proofs.Leaving.{cut_part, device_leaf, shown_part, traced_part}
+use Rattle.vsi.proofs.NoteLemmas.{each_done, left_halts}
 use Rattle.vsi.proofs.Partly.{kept_leaves, memory_handed, spent_leaf, spent_leaves}
 use Rattle.vsi.proofs.Reasons.{stopped_by}
 use Rattle.vsi.proofs.Unrun.{Unstarted, ended_stops, handed_late, memory_stopped, unbounded_stopped}
@@ -44,6 +47,25 @@ returns-in-Ok-Some-clause-performed g c =
           (g.F.Files.holds c.deliver.new.files) c.deref-in-Ok-Some-2.ensures.value c.in_ok-verified.ensures.kept done.1;
     })
     (both_done _ _ c.deliver.result c.deliver.ensures.whole c.deliver.ensures.delivered)
+
+pub returns-in-Ok-Some-clause-counted : goal.returns-in-Ok-Some-clause-counted
+returns-in-Ok-Some-clause-counted g c = λ unnoted.
+    let ran = rw c.in-Ok-Some.field-0-is at c.in-Ok-Some.ensures.ran in
+    let words = c.deref-in-Ok-Some.result.now in
+    each_done _ c.deliver.result
+    (record {
+      image = c.in_ok-verified.verified;
+      words = words;
+      begins = subst
+          (BeginsAt (g.F.Files.holds c.args.files.now) c.args.asked.now.execution c.args.asked.now.outset
+          c.in_ok-verified.verified)
+          (sym c.deref-in-Ok-Some.ensures.value) c.in_ok-verified.ensures.begins;
+      counts = c.in_ok-put_count-in-Ok-Some.ensures.counted unnoted
+          (subst (λ w. Halts (run_of c.in_ok-verified.verified w c.in_ok-budget.budget))
+          (c.deref.ensures.value ∙ sym c.deref-in-Ok-Some.ensures.value)
+          (left_halts _ c.in_ok-verified.verified c.deref.result.now c.in_ok-budget.budget c.in-Ok-Some.text.items _
+          ran.1));
+    })
 
 pub returns-in_err-verified-clause-stopped : goal.returns-in_err-verified-clause-stopped
 returns-in_err-verified-clause-stopped g c =
