@@ -24,7 +24,7 @@ more_lines f start before after i b a =
     ∙ ap (λ l. start ++ flat_map f l) (sym (count_more 0 i))
 
 -- One more text is appended.
-added : (t x b u v : List ℕ) → u ≡ t ++ x → v ≡ u ++ b → v ≡ t ++ (x ++ b)
+pub added : (t x b u v : List ℕ) → u ≡ t ++ x → v ≡ u ++ b → v ≡ t ++ (x ++ b)
 added t x b u v p q = q ∙ ap (λ l. l ++ b) p ∙ append_assoc t x b
 
 -- Five texts are appended one after another.

@@ -122,13 +122,16 @@ between_line (Some c) b =
 abbrev pub kept_line : Shown → ℕ → List ℕ
 kept_line s b = between_line (class_shown s (variable_at (size s) b)) b
 
+-- The lines that keep all nodes above the lower classes and below the higher ones.
+abbrev pub held_lines : Profile → Shown → List ℕ
+held_lines P s = flat_map (kept_line s) (count_from 0 (nodes_shown P (size s)))
+
 -- The invisible lines that keep the variables of higher classes above those of lower ones.
 abbrev pub frame_lines : Profile → Shown → List (ℕ × ℕ) → List ℕ
 frame_lines P s pairs =
     codes "  {\n  node [shape=point, style=invis];\n  edge [style=invis];\n"
     ++ flat_map points_line (count_from 0 (length s.names)) ++ flat_map above_line pairs
-    ++ flat_map (kept_line s) (count_from 0 (nodes_shown P (size s)))
-    ++ codes "  }\n"
+    ++ held_lines P s ++ codes "  }\n"
 
 -- The style of an edge.
 abbrev pub style_text : Rule → List ℕ
@@ -247,8 +250,9 @@ pub record IsFlowsGraph (l : Declared) (P : Profile) (text out : List ℕ) : Typ
 -- The lines of a part of a graph, drawn in a box of its own under its name.
 abbrev pub cluster : List ℕ → List ℕ → List ℕ
 cluster name lines =
-    codes "subgraph cluster_" ++ name ++ codes " {\n  label=\"" ++ name
-    ++ codes "\";\n  labelloc=b;\n  color=\"#d3dae1\";\n" ++ lines ++ codes "}\n"
+    (codes "subgraph cluster_" ++ name ++ codes " {\n")
+    ++ (codes "  label=\"" ++ name ++ codes "\";\n  labelloc=b;\n  color=\"#d3dae1\";\n")
+    ++ lines ++ codes "}\n"
 
 -- The graph with the lines of a lattice in one box and those of flows in another.
 abbrev pub joined : List ℕ → List ℕ → List ℕ

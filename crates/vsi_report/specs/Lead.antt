@@ -28,12 +28,20 @@ number n = escaped (decimal n)
 abbrev pub plural : ℕ → List ℕ → List ℕ → List ℕ
 plural n one more = if n == 1 then one else more
 
+-- The name of a variable at an end of a walk.
+abbrev pub name_words : End → List ℕ
+name_words e =
+    codes "<b class=\"k" ++ number (e.class % 8) ++ codes "\">" ++ escaped e.name.now ++ codes "</b> "
+
+-- The class of a variable at an end of a walk.
+abbrev pub chip_words : End → List ℕ
+chip_words e =
+    codes "<span class=\"chip k" ++ number (e.class % 8) ++ codes "\">" ++ escaped e.class_name.now
+    ++ codes "</span>"
+
 -- A variable at an end of a walk, and its class.
 abbrev pub end_words : End → List ℕ
-end_words e =
-    codes "<b class=\"k" ++ number (e.class % 8) ++ codes "\">" ++ escaped e.name.now
-    ++ codes "</b> <span class=\"chip k" ++ number (e.class % 8) ++ codes "\">" ++ escaped e.class_name.now
-    ++ codes "</span>"
+end_words e = name_words e ++ chip_words e
 
 -- The lines from the first to the last of a walk.
 abbrev pub lines_words : ℕ → ℕ → List ℕ
@@ -45,18 +53,26 @@ lines_words first last =
 abbrev pub steps_words : ℕ → List ℕ
 steps_words n = codes " in " ++ number n ++ plural n (codes " step") (codes " steps")
 
+-- The number of refused pairs, of all pairs.
+abbrev pub share_words : ℕ → ℕ → List ℕ
+share_words refused pairs =
+    number refused ++ codes " of " ++ number pairs ++ plural pairs (codes " pair") (codes " pairs")
+
 -- The counts of the pairs.
 abbrev pub counts_words : ℕ → ℕ → List ℕ
 counts_words refused pairs =
-    number refused ++ codes " of " ++ number pairs ++ plural pairs (codes " pair") (codes " pairs")
-    ++ codes " of declared variables joined by flows " ++ plural refused (codes "is") (codes "are")
-    ++ codes " refused.</p>\n"
+    share_words refused pairs ++ codes " of declared variables joined by flows "
+    ++ plural refused (codes "is") (codes "are") ++ codes " refused.</p>\n"
+
+-- The ends of a walk.
+abbrev pub ends_words : Lead → List ℕ
+ends_words l =
+    codes "<p class=\"lead\">" ++ end_words l.source ++ codes " reaches " ++ end_words l.target
 
 -- The first sentences about a refused text.
 abbrev pub lead_words : Lead → List ℕ
 lead_words l =
-    codes "<p class=\"lead\">" ++ end_words l.source ++ codes " reaches " ++ end_words l.target
-    ++ steps_words l.steps ++ lines_words l.first l.last ++ counts_words l.refused l.pairs
+    ends_words l ++ steps_words l.steps ++ lines_words l.first l.last ++ counts_words l.refused l.pairs
 
 -- The sentence about the pairs of an accepted text.
 abbrev pub allowed_words : ℕ → List ℕ

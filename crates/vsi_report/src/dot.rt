@@ -25,16 +25,15 @@ pub(crate) fn put_between(
     text.extend_from_slice(after)
 }
 
-/// The lines after the first one of each graph.
-const HEAD: &[u8] = b"  rankdir=BT;\n  ranksep=0.35;\n  node [shape=box, style=rounded, \
-penwidth=2];\n  edge [color=\"#57606a\", fontcolor=\"#57606a\", fontsize=11];\n";
-
 /// Adds the first lines of a graph.
 fn put_head(text: &mut Vec<u8>, name: &[u8]) -> Result<(), AllocError>
     ensures { OnOk result (text.new.items ≡ text.old.items ++ spec.head_lines name.now) }
 {
     put_between(text, b"digraph ", name, b" {\n")?;
-    text.extend_from_slice(HEAD)
+    text.extend_from_slice(b"  rankdir=BT;\n  ranksep=0.35;\n")?;
+    text.extend_from_slice(b"  node [shape=box, style=rounded, penwidth=2];\n")?;
+    text.extend_from_slice(b"  edge [color=\"#57606a\", fontcolor=\"#57606a\", fontsize=11];\n")?;
+    Ok(())
 }
 
 /// The graph with a name and the lines of its body.

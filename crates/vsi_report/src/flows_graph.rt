@@ -272,7 +272,7 @@ fn drawn_lines(alloc: Global, profile: Profile, drawn: &Drawn<'_>) -> Result<Vec
     let count = nodes_shown(profile, last);
     let mut lines = Vec::new(alloc);
     put_variables(&mut lines, drawn, count)?;
-    put_frame(&mut lines, profile, drawn, count)?;
+    put_frame(&mut lines, profile, drawn)?;
     put_flows(alloc, &mut lines, profile, drawn, last)?;
     Ok(lines)
 }
@@ -350,14 +350,15 @@ pub fn flows_dot(
 fn put_cluster(text: &mut Vec<u8>, name: &[u8], lines: &[u8]) -> Result<(), AllocError>
     ensures { OnOk result (text.new.items ≡ text.old.items ++ spec.cluster name.now lines.now) }
 {
-    put_between(text, b"subgraph cluster_", name, b" {\n  label=\"")?;
-    text.extend_from_slice(name)?;
+    put_between(text, b"subgraph cluster_", name, b" {\n")?;
     put_between(
         text,
+        b"  label=\"",
+        name,
         b"\";\n  labelloc=b;\n  color=\"#d3dae1\";\n",
-        lines,
-        b"}\n",
-    )
+    )?;
+    put_between(text, b"", lines, b"}\n")?;
+    Ok(())
 }
 
 /// The graph of a lattice's lines and those of a text's flows.

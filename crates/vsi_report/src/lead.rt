@@ -47,19 +47,34 @@ pub(crate) fn number_word(count: usize, one: &'static [u8], several: &'static [u
     if count == 1 { one } else { several }
 }
 
-/// Adds a variable at an end of a walk, and its class.
-fn put_end(page: &mut Page, end: &End<'_>) -> Result<(), AllocError>
-    ensures { OnOk result (page.new.text.items ≡ page.old.text.items ++ spec.end_words end.now) }
+/// Adds the name of a variable at an end of a walk.
+fn put_name(page: &mut Page, end: &End<'_>) -> Result<(), AllocError>
+    ensures { OnOk result (page.new.text.items ≡ page.old.text.items ++ spec.name_words end.now) }
 {
     page.put(b"<b class=\"k")?;
     page.number(end.class % 8)?;
     page.put(b"\">")?;
     page.tell(end.name)?;
-    page.put(b"</b> <span class=\"chip k")?;
+    page.put(b"</b> ")
+}
+
+/// Adds the class of a variable at an end of a walk.
+fn put_chip(page: &mut Page, end: &End<'_>) -> Result<(), AllocError>
+    ensures { OnOk result (page.new.text.items ≡ page.old.text.items ++ spec.chip_words end.now) }
+{
+    page.put(b"<span class=\"chip k")?;
     page.number(end.class % 8)?;
     page.put(b"\">")?;
     page.tell(end.class_name)?;
     page.put(b"</span>")
+}
+
+/// Adds a variable at an end of a walk, and its class.
+fn put_end(page: &mut Page, end: &End<'_>) -> Result<(), AllocError>
+    ensures { OnOk result (page.new.text.items ≡ page.old.text.items ++ spec.end_words end.now) }
+{
+    put_name(page, end)?;
+    put_chip(page, end)
 }
 
 /// Adds the lines from the first to the last of a walk.
@@ -89,18 +104,36 @@ fn put_steps(page: &mut Page, steps: usize) -> Result<(), AllocError>
     page.put(number_word(steps, b" step", b" steps"))
 }
 
+/// Adds the number of refused pairs, of all pairs.
+fn put_share(page: &mut Page, refused: usize, pairs: usize) -> Result<(), AllocError>
+    ensures { OnOk result
+        (page.new.text.items ≡ page.old.text.items ++ spec.share_words refused pairs) }
+{
+    page.number(refused)?;
+    page.put(b" of ")?;
+    page.number(pairs)?;
+    page.put(number_word(pairs, b" pair", b" pairs"))
+}
+
 /// Adds the counts of the pairs.
 fn put_counts(page: &mut Page, refused: usize, pairs: usize) -> Result<(), AllocError>
     ensures { OnOk result
         (page.new.text.items ≡ page.old.text.items ++ spec.counts_words refused pairs) }
 {
-    page.number(refused)?;
-    page.put(b" of ")?;
-    page.number(pairs)?;
-    page.put(number_word(pairs, b" pair", b" pairs"))?;
+    put_share(page, refused, pairs)?;
     page.put(b" of declared variables joined by flows ")?;
     page.put(number_word(refused, b"is", b"are"))?;
     page.put(b" refused.</p>\n")
+}
+
+/// Adds the ends of a walk.
+fn put_ends(page: &mut Page, lead: &Lead<'_>) -> Result<(), AllocError>
+    ensures { OnOk result (page.new.text.items ≡ page.old.text.items ++ spec.ends_words lead.now) }
+{
+    page.put(b"<p class=\"lead\">")?;
+    put_end(page, &lead.source)?;
+    page.put(b" reaches ")?;
+    put_end(page, &lead.target)
 }
 
 /// Adds the first sentences about a refused text.
@@ -108,10 +141,7 @@ pub(crate) fn put_lead(page: &mut Page, lead: &Lead<'_>) -> Result<(), AllocErro
     ensures { OnOk result
         (page.new.text.items ≡ page.old.text.items ++ spec.lead_words lead.now) }
 {
-    page.put(b"<p class=\"lead\">")?;
-    put_end(page, &lead.source)?;
-    page.put(b" reaches ")?;
-    put_end(page, &lead.target)?;
+    put_ends(page, lead)?;
     put_steps(page, lead.steps)?;
     put_lines(page, lead.first, lead.last)?;
     put_counts(page, lead.refused, lead.pairs)

@@ -7,7 +7,7 @@ ghost use Rattle.vsi_report.specs.Drawn.{shown};
 ghost use Rattle.vsi_report.specs.Graph.{texts};
 ghost use Rattle.vsi_report.specs.FlowsGraph as spec;
 
-use crate::drawn::{Drawn, class_shown, variable_at};
+use crate::drawn::{Drawn, class_shown, declarations, variable_at};
 use crate::order::Order;
 use std::alloc::AllocError;
 use vsi_lattice::Class;
@@ -144,20 +144,28 @@ fn put_all_kept(text: &mut Vec<u8>, drawn: &Drawn<'_>, count: u16) -> Result<(),
     Ok(())
 }
 
+/// Adds the lines that keep all nodes between the points of their classes.
+fn put_held(text: &mut Vec<u8>, profile: Profile, drawn: &Drawn<'_>) -> Result<(), AllocError>
+    ensures { OnOk result (text.new.items ≡ text.old.items
+        ++ spec.held_lines profile (shown drawn.now)) }
+{
+    let count = nodes_shown(profile, declarations(drawn.program));
+    put_all_kept(text, drawn, count)
+}
+
 /// Adds the invisible lines that keep the variables of higher classes above those of lower ones.
 pub(crate) fn put_frame(
     text: &mut Vec<u8>,
     profile: Profile,
     drawn: &Drawn<'_>,
-    count: u16,
 ) -> Result<(), AllocError>
-    requires { count ≡ spec.nodes_shown profile (spec.size (shown drawn.now)) }
     ensures { OnOk result (text.new.items ≡ text.old.items
         ++ spec.frame_lines profile (shown drawn.now) drawn.now.order.now.covers.items) }
 {
     text.extend_from_slice(b"  {\n  node [shape=point, style=invis];\n  edge [style=invis];\n")?;
     put_all_points(text, drawn.order)?;
     put_all_above(text, drawn.order)?;
-    put_all_kept(text, drawn, count)?;
-    text.extend_from_slice(b"  }\n")
+    put_held(text, profile, drawn)?;
+    text.extend_from_slice(b"  }\n")?;
+    Ok(())
 }
