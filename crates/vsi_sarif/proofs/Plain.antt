@@ -34,17 +34,22 @@ one_plain ms e = both (members_have_float ms) false e refl
 lone_plain : (key text : List ℕ) → members_have_float (text_members key text) ≡ false
 lone_plain key text = text_plain key text no_members refl
 
+-- A file.
+file_plain : (uri : List ℕ) →
+    members_have_float (with_object (codes "artifactLocation") (text_members (codes "uri") uri) no_members) ≡ false
+file_plain uri =
+    object_plain (codes "artifactLocation") (text_members (codes "uri") uri) no_members (lone_plain (codes "uri") uri) refl
+
 -- A place in a file.
 physical_plain : (uri : List ℕ) (place : Option (ℕ × ℕ)) →
     members_have_float (location.physical_members uri place) ≡ false
-physical_plain uri None = object_plain (codes "artifactLocation") (text_members (codes "uri") uri) no_members
-    (lone_plain (codes "uri") uri) refl
+physical_plain uri None = file_plain uri
 physical_plain uri (Some place) =
     let start = with_natural (codes "startColumn") place.1 no_members in
     object_plain (codes "region") (location.region_members place.0 place.1)
     (with_object (codes "artifactLocation") (text_members (codes "uri") uri) no_members)
     (natural_plain (codes "startLine") place.0 start (natural_plain (codes "startColumn") place.1 no_members refl))
-    (physical_plain uri None)
+    (file_plain uri)
 
 -- A location.
 location_plain : (uri : List ℕ) (place : Option (ℕ × ℕ)) →

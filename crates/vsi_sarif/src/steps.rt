@@ -93,7 +93,8 @@ fn step_objects(
 {
     let mut found = Vec::new(alloc);
     for step in steps {
-        found.push(Value::Object(step_object(alloc, uri, source, program, step)?))?;
+        let made = step_object(alloc, uri, source, program, step)?;
+        found.push(Value::Object(made))?;
     }
     Ok(found)
 }
@@ -117,15 +118,17 @@ fn walk_objects(
     ensures { IfOk result (λ found.
         spec.LocatesWalk lattice.now uri.now source.now steps.now (map view found.items)) }
 {
-    match resolved_program(alloc, lattice, source) {
-        Ok(program) => step_objects(alloc, uri, source, &program, steps),
+    let program = match resolved_program(alloc, lattice, source) {
+        Ok(program) => program,
         Err(error) => {
             if wants_memory(&error) {
                 return Err(AllocError);
             }
-            Ok(Vec::new(alloc))
+            return Ok(Vec::new(alloc));
         }
-    }
+    };
+    let found = step_objects(alloc, uri, source, &program, steps)?;
+    Ok(found)
 }
 
 /// The objects of the steps of a flow, or none for any other refusal.

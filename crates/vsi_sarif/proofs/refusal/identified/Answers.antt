@@ -2,6 +2,7 @@ use Rattle.std.proofs.Common.{◌∙◌, [], ◌∷◌, ap, map, option_map}
 use Rattle.serde_json.specs.Data.{Members, object}
 use Rattle.serde_json.specs.View.{view}
 use Rattle.vsi_diagnostics.specs.View.{diagnostic_of}
+use Rattle.vsi_sarif.specs.Location.{location_members}
 use Rattle.vsi_sarif.specs.Refusals.{result_members}
 use Rattle.vsi_sarif.proofs.Plain.{refusal_is}
 use Rattle.vsi_sarif.proofs.refusal.identified.Goals as goal
@@ -14,5 +15,6 @@ returns c =
     c.in_ok-text.text.items same c.in_ok-steps.ensures
     (c.in_ok-rules.ensures ∙ ap (λ (ms : Members). object ms ∷ []) c.in_ok-ruled.ensures)
     (c.in_ok-results.ensures ∙ ap (λ (ms : Members). object ms ∷ []) (c.in_ok-found.ensures
-    ∙ ap (λ (ms : Members). result_members c.args.id.now ms steps c.args.lines.now) c.in_ok-place.ensures))
+    ∙ ap (λ (ms : Members). result_members c.args.id.now ms steps c.args.lines.now) (c.in_ok-place.ensures
+    ∙ ap (location_members c.args.uri.now) c.place_of.ensures)))
     c.in_ok-text.ensures
