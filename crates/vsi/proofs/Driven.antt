@@ -19,7 +19,7 @@ use Rattle.vsi.specs.Performed.{control_of}
 use Rattle.vsi.specs.Driven.{Drives, DrivesInput, begun, grown, last_line, whole_lines}
 
 -- The store after two lists of lines is the one after the second list, beginning with the store after the first.
-store_behind-append : (c : Control) (m : List ℤ) (xs ys : List (List ℕ)) →
+pub store_behind-append : (c : Control) (m : List ℤ) (xs ys : List (List ℕ)) →
     store_behind c m (xs ++ ys) ≡ store_behind c (store_behind c m xs) ys
 store_behind-append c m [] ys = refl
 store_behind-append c m (x ∷ xs) ys = store_behind-append c (cycle c m x).store xs ys
@@ -118,21 +118,6 @@ grown_short line byte short = ap (λ b. if b then line else line ++ byte ∷ [])
 -- One that is too long doesn't.
 pub grown_long : (line : List ℕ) (byte : ℕ) → 65536 < length line → grown line byte ≡ line
 grown_long line byte long = ap (λ b. if b then line else line ++ byte ∷ []) (lt-ltb 65536 (length line) long)
-
--- A controller that is driven by one more piece of an input has been driven by all that was read.
-pub driven_on : (c : Control) (m mid words : List ℤ) (bytes piece cur next : List ℕ)
-    (first rest last old between new : Option (List ℕ)) → Consumes first rest bytes → Consumes rest last piece →
-    cur ≡ begun [] bytes → Drives c m mid (whole_lines [] bytes) old between → next ≡ begun cur piece →
-    Drives c mid words (whole_lines cur piece) between new →
-    (read : List ℕ) × Consumes first last read × (next ≡ begun [] read) × Drives c m words (whole_lines [] read) old new
-driven_on c m mid words bytes piece cur next first rest last old between new before more is driven goes_on drives = (
-  bytes ++ piece,
-  Consumes-trans first rest last bytes piece before more,
-  goes_on ∙ ap (λ l. begun l piece) is ∙ sym (begun-append [] bytes piece),
-  subst (λ ls. Drives c m words ls old new)
-      (ap (λ l. whole_lines [] bytes ++ whole_lines l piece) is ∙ sym (whole_lines-append [] bytes piece))
-      (Drives-trans c m mid words (whole_lines [] bytes) (whole_lines cur piece) old between new driven drives),
-)
 
 -- Where the input is at its end, the controller has been driven by all of it.
 pub driven_whole : {T : Type 0} (c : Control) (m mid words : List ℤ) (bytes cur line : List ℕ)

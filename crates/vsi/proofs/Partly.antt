@@ -35,6 +35,11 @@ pub any_stop : {T : Type 0} (A : Type 0) (result : Result T Stop) → A → IfEr
 any_stop A (Ok x) a = tt
 any_stop A (Err stop) a = a
 
+-- A fact that always holds also holds if an answer is given.
+pub on_ok_of : {T A : Type 0} (result : Result T Stop) → A → OnOk result A
+on_ok_of (Ok x) a = a
+on_ok_of (Err stop) a = tt
+
 -- A stop that comes before anything is written leaves the output.
 pub kept_leaf : (Kind : List ℕ → Type 0) (from : ℕ) (old : Option (List ℕ)) (stop : Stop) →
     Leaves Kind from old old stop

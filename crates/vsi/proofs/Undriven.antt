@@ -1,10 +1,12 @@
--- The reason why a controller doesn't begin, as a stop claims it.
-use Rattle.std.proofs.Common.{◌≡◌, ℕ, Result, Some, false, inl, inr, refl, sym, subst}
-use Rattle.std.specs.Prelude.{IfErr, IsErrAnd}
+-- The words that a controller begins with, and the reason why it doesn't, as a stop claims it.
+use Rattle.std.proofs.Common.{◌≡◌, ◌∙◌, ℕ, ℤ, List, [], Result, Ok, Err, Some, false, inl, inr, refl, sym, ap, subst}
+use Rattle.std.specs.Prelude.{Bool, Option, IfErr, IfOk, IsErrAnd}
+use Rattle.std.specs.Borrow.{Bor}
 use Rattle.vsi_lattice.specs.LatticeView.{class_named}
 use Rattle.vsi_lattice.specs.declared.lattice.Lattice.{Lattice}
 use Rattle.vsi_image.specs.declared.instr.Image.{Image}
 use Rattle.vsi_image.specs.Fields.{globals}
+use Rattle.vsi_store.specs.File.{Tells}
 use Rattle.vsi_store.specs.View.{first_unknown}
 use Rattle.vsi_store.specs.declared.views.ViewError.{ViewError}
 use Rattle.vsi_store.specs.declared.views.ViewError.TheVariants as views
@@ -13,6 +15,8 @@ use Rattle.vsi_drive.specs.BoundaryFaults.{boundary_fault}
 use Rattle.vsi_drive.specs.declared.boundary.BoundaryFault.{BoundaryFault}
 use Rattle.vsi_drive.specs.declared.starts.StartFault.{StartFault}
 use Rattle.vsi_drive.specs.declared.starts.StartFault.TheVariants as start
+use Rattle.vsi_drive.specs.Starts.{Begins, unnamed_in}
+use Rattle.vsi_answers.specs.Requests.{BeginsWith}
 use Rattle.vsi_answers.specs.Answers.{Because}
 use Rattle.vsi_answers.specs.Judged.{IsViewFault, TellsFault, TellsStartFault}
 use Rattle.vsi_answers.specs.declared.unanswered.Cause.TheVariants as cause
@@ -21,13 +25,61 @@ use Rattle.vsi_answers.specs.declared.unanswered.Unanswered.TheVariants as unans
 use Rattle.vsi_arguments.specs.declared.request.Driving.{Driving}
 use Rattle.vsi_arguments.specs.declared.request.NameLists.{NameLists}
 use Rattle.vsi.specs.declared.stop.Stop.{Stop}
-use Rattle.vsi.specs.Holding.{Holding, IsImageAt}
-use Rattle.vsi.specs.Files.{IsBudgetOf, LooksAt}
-use Rattle.vsi.specs.Refusals.{IsNoMemory, NoOther, StopsBy}
+use Rattle.vsi.specs.Holding.{Holding, IsImageAt, IsStoreAt}
+use Rattle.vsi.specs.Files.{IsBudgetOf, IsFullAt, IsStoredAt, LooksAt}
+use Rattle.vsi.specs.Refusals.{IsNoMemory, NoOther, RefusesFirst, StopsBy}
 use Rattle.vsi.specs.Performed.{control_of}
 use Rattle.vsi.specs.Reasons.{IsBoundaryStart, LacksDrive, RefusesControl, SaysShort, WhyDrive}
 use Rattle.vsi.proofs.Reasons.{StopsBy-weaker, handed, stopped_by, stops_by}
-use Rattle.vsi.proofs.Unrun.{kind_told}
+use Rattle.vsi.proofs.Unrun.{held_stopped, kind_told}
+
+-- A run that begins with a store file alone begins with its words.
+pub begins_stored : (holds : Holding) (store : Option (Bor (List ℕ))) (im : Image) (file : List ℕ) (is_full : Bool)
+    (words : List ℤ) → IsStoreAt holds store file → Begins im file [] is_full words → IsStoredAt holds store im words
+begins_stored holds store im file is_full words read begins =
+    let same : begins.behind.words ≡ begins.first.words =
+    subst (λ r. IfOk r (λ b. b.words ≡ begins.first.words)) begins.set refl in
+    record {
+      file = file;
+      read = read;
+      told = subst (Tells file (globals im.globals.items)) (sym (begins.is ∙ same)) begins.told.tells;
+    }
+
+-- And with each global that must be in it.
+pub begins_full : (holds : Holding) (store : Option (Bor (List ℕ))) (im : Image) (file : List ℕ) (is_full : Bool)
+    (words : List ℤ) → IsStoreAt holds store file → Begins im file [] is_full words → IsFullAt holds store im is_full
+begins_full holds store im file is_full words read begins =
+    let same : begins.behind.named ≡ begins.first.named =
+    subst (λ r. IfOk r (λ b. b.named ≡ begins.first.named)) begins.set refl in
+    record {
+      file = file;
+      read = read;
+      named = begins.first.named;
+      names = begins.told.names;
+      full = ap (unnamed_in is_full) (sym same) ∙ begins.full;
+    }
+
+-- A store file, or no bytes without one, doesn't do for an image to begin with.
+abbrev pub RefusesBeginning : Holding → Option (Bor (List ℕ)) → Image → Bool → Unanswered → Type 0
+RefusesBeginning holds store image is_full reason =
+    (file : List ℕ) × IsStoreAt holds store file × BeginsWith image file [] is_full (Err reason)
+
+-- It doesn't do for the image of a file.
+pub first_stopped : {T : Type 0} (holds new : Holding) (path : List ℕ) (store : Option (Bor (List ℕ)))
+    (is_full : Bool) (so : Unanswered → Type 0) (other : Stop → Type 0) (image : Image) (result : Result T Stop)
+    (stop : Stop) → IsImageAt holds path image → new ≡ holds →
+    ((reason : Unanswered) → RefusesFirst holds path store is_full reason → so reason) →
+    IsErrAnd result (λ s. s ≡ stop) → StopsBy (RefusesBeginning new store image is_full) NoOther stop →
+    IfErr result (StopsBy so other)
+first_stopped holds new path store is_full so other image result stop held same f =
+    held_stopped (λ h. RefusesBeginning h store image is_full) holds new so other result stop same
+    (λ reason refused. f reason (record {
+      image = image;
+      held = held;
+      file = refused.0;
+      read = refused.1;
+      is = refused.2;
+    }))
 
 -- Why there is no controller: a global, the first such one, has a class that the lattice lacks.
 abbrev pub LacksController : Lattice → Image → ViewError → Type 0

@@ -111,8 +111,3 @@ pub told_raises : (is_applied is_strict : Bool) (l : Lattice) (source : List ℕ
     AsksMend is_applied is_strict l source (Ok text) → ToldRaises false is_applied is_strict l source text
 told_raises true is_strict l source text told = told
 told_raises false is_strict l source text told = told
-
--- A fact that always holds also holds if an answer is given.
-pub on_ok_of : {T A : Type 0} (result : Result T Stop) → A → OnOk result A
-on_ok_of (Ok x) a = a
-on_ok_of (Err stop) a = tt

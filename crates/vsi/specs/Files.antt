@@ -1,5 +1,5 @@
 -- The files that a request names, and the text that is written of them.
-use Rattle.std.specs.Prelude.{◌≡◌, ℕ, ℤ, List, [], Option, Some, None}
+use Rattle.std.specs.Prelude.{◌≡◌, ℕ, ℤ, Bool, List, [], Option, Some, None}
 use Rattle.std.specs.Borrow.{Bor}
 use Rattle.std.specs.Global.{Vec}
 use Rattle.std.specs.Io.KnownBytes.{Appends}
@@ -9,9 +9,9 @@ use Rattle.vsi_lattice.specs.Order.{IsClass}
 use Rattle.vsi_lattice.specs.declared.lattice.Lattice.{Lattice}
 use Rattle.vsi_image.specs.declared.instr.Image.{Image}
 use Rattle.vsi_image.specs.Fields.{globals}
-use Rattle.vsi_store.specs.File.{Tells}
+use Rattle.vsi_store.specs.File.{Names, Tells}
 use Rattle.vsi_compiler.specs.Observation.{IsStoreOf}
-use Rattle.vsi_drive.specs.Starts.{Begins}
+use Rattle.vsi_drive.specs.Starts.{Begins, unnamed_in}
 use Rattle.vsi_answers.specs.Bounds.{IsBound}
 use Rattle.vsi_arguments.specs.declared.request.Budget.{Budget}
 use Rattle.vsi_arguments.specs.declared.request.Budget.TheVariants.{Number, Auto}
@@ -67,6 +67,14 @@ pub record IsStoredAt (holds : Holding) (path : Option (Bor (List ℕ))) (im : I
   pub file : List ℕ
   pub read : IsStoreAt holds path file
   pub told : Tells file (globals im.globals.items) words
+
+-- Each global of an image has a key in the store file, if that is required.
+pub record IsFullAt (holds : Holding) (path : Option (Bor (List ℕ))) (im : Image) (is_full : Bool) : Type 0 where
+  pub file : List ℕ
+  pub read : IsStoreAt holds path file
+  pub named : List Bool
+  pub names : Names file (globals im.globals.items) named
+  pub full : unnamed_in is_full named ≡ None
 
 -- The class of the viewer, under the lattice that a file declares.
 pub record LooksAt (holds : Holding) (path name : List ℕ) (l : Lattice) (class : ℕ) : Type 0 where

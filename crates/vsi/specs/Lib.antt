@@ -16,10 +16,12 @@ pub mod Admitted
 pub mod Boundaries
 pub mod Documents
 pub mod Files
+pub mod State
 pub mod Performed
 pub mod Refusals
 pub mod Reasons
 pub mod Partly
+pub mod Saved
 pub mod Done
 pub mod Noted
 pub mod Laws

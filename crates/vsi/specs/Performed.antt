@@ -14,7 +14,6 @@ use Rattle.vsi_emit.specs.Bounded.{IsEmittedBounded}
 use Rattle.vsi_emit.specs.BoundedWriting.{bounded_header_text}
 use Rattle.vsi_emit.specs.Emitted.{IsEmitted}
 use Rattle.vsi_emit.specs.Writing.{header_text}
-use Rattle.vsi_store.specs.Text.{store_text_of}
 use Rattle.vsi_store.specs.declared.comparison.Comparison as found
 use Rattle.vsi_compiler.specs.Observation.{EndsAlike, IsNoninterfering}
 use Rattle.vsi_compiler.specs.Readable.{HasProgram}
@@ -76,7 +75,8 @@ use Rattle.vsi.specs.Seeing.{SeesFiles}
 use Rattle.vsi.specs.Served.{Serves}
 use Rattle.vsi.specs.Shaping.{ShapedText}
 use Rattle.vsi.specs.Tried.{TriesFile}
-use Rattle.vsi.specs.Files.{BeginsAt, IsBudgetOf, IsStoredAt, LooksAt, OfFile, OfFiles, Writes, shown}
+use Rattle.vsi.specs.Files.{BeginsAt, IsBudgetOf, IsFullAt, IsStoredAt, LooksAt, OfFile, OfFiles, Writes, shown}
+use Rattle.vsi.specs.State.{state_text}
 
 -- ---- the output.
 
@@ -420,7 +420,8 @@ pub record PerformsDrive (holds : Holding) (d : Driving) (given : Option (List �
   pub admitted : IsAdmitted d.is_unbounded lattice image budget
   pub sound : boundary_fault (control_of d.lists lattice driver image budget) ≡ None
   pub drives : DrivesInput (control_of d.lists lattice driver image budget) first words given old new
-  pub saved : Delivers d.save (store_text_of (globals image.globals.items) words) holds left
+  pub full : IsFullAt holds d.execution.store image d.is_full
+  pub saved : Delivers d.save (state_text image words) holds left
 
 -- `compare`: the class sees no difference, and what it sees has been written.
 pub record PerformsCompare (holds : Holding) (c : Comparison) (old new : Option (List ℕ)) : Type 0 where

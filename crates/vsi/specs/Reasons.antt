@@ -68,7 +68,7 @@ use Rattle.vsi.specs.Served.{Serves, unended_line}
 use Rattle.vsi.specs.Tried.{AreTried, BeginsSet, IsMade, IsTriedUnder, RunsMade, policy_path}
 use Rattle.vsi.specs.Files.{BeginsAt, IsBudgetOf, LooksAt, OfFiles, Writes}
 use Rattle.vsi.specs.Performed.{BoundsFile, ComparesFiles, ConformsFiles, DocumentOf, IsAskedAt, LooksFor, compilation_of, control_of, judgement_of, named_path, profile_of, wanted_of}
-use Rattle.vsi.specs.Refusals.{AsksCanonical, AsksCheck, AsksClasses, AsksFlows, AsksImage, AsksMend, IsDifference, LacksBoundAt, LacksClass, LacksClassAt, LacksEither, NoOther, RefusesFile, RefusesFiles, RefusesImage, RefusesLattice, RefusesSource, RefusesStart, RefusesStore, StopsBy}
+use Rattle.vsi.specs.Refusals.{AsksCanonical, AsksCheck, AsksClasses, AsksFlows, AsksImage, AsksMend, IsDifference, LacksBoundAt, LacksClass, LacksClassAt, LacksEither, NoOther, RefusesFile, RefusesFiles, RefusesFirst, RefusesImage, RefusesLattice, RefusesSource, RefusesStart, RefusesStore, StopsBy}
 
 -- ---- why each subcommand has stopped.
 
@@ -318,12 +318,12 @@ pub record RefusesBoundary (holds : Holding) (d : Driving) (reason : Unanswered)
   pub within : IsBudgetOf d.execution.budget image budget
   pub is : Because (TellsStartFault (IsBoundaryStart (control_of d.lists lattice driver image budget))) ⊥ reason
 
--- `drive`: the lattice is refused, or the image, or the store file, or no controller begins; a wrong line of the input
--- isn't a reason, because its cycle writes the fault.
+-- `drive`: the lattice is refused, or the image, or the store file, or it leaves out a global that it must have, or no
+-- controller begins; a wrong line of the input isn't a reason, because its cycle writes the fault.
 abbrev pub WhyDrive : Holding → Driving → Unanswered → Type 0
 WhyDrive holds d reason =
     RefusesLattice holds d.lattice.now reason ⊎ RefusesImage holds d.execution.image.now reason
-    ⊎ RefusesStore holds d.execution.image.now d.execution.store reason ⊎ RefusesController holds d reason
+    ⊎ RefusesFirst holds d.execution.image.now d.execution.store d.is_full reason ⊎ RefusesController holds d reason
     ⊎ RefusesBoundary holds d reason
 
 -- The text of the stop says why a budget isn't enough.

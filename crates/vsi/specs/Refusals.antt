@@ -1,5 +1,5 @@
 -- Why a request has no answer: the refused file, or the request about it.
-use Rattle.std.specs.Prelude.{◌≡◌, ◌≢◌, ◌⊎◌, ℕ, Bool, true, false, List, Option, Some, None, Result, Err}
+use Rattle.std.specs.Prelude.{◌≡◌, ◌≢◌, ◌⊎◌, ℕ, Bool, true, false, List, [], Option, Some, None, Result, Err}
 use Rattle.std.specs.Borrow.{Bor}
 use Rattle.vsi_lattice.specs.LatticeView.{class_named}
 use Rattle.vsi_lattice.specs.NamePlaces.{texts}
@@ -137,6 +137,16 @@ pub record RefusesStore (holds : Holding) (path : List ℕ) (store : Option (Bor
   pub file : List ℕ
   pub read : IsStoreAt holds store file
   pub is : Because (TellsFault (IsStoreFault image file)) ⊥ reason
+
+-- The words that a drive of the image in a file begins with are refused: the store file, or that it leaves out a global,
+-- if that is required.
+pub record RefusesFirst (holds : Holding) (path : List ℕ) (store : Option (Bor (List ℕ))) (is_full : Bool)
+    (reason : Unanswered) : Type 0 where
+  pub image : Image
+  pub held : IsImageAt holds path image
+  pub file : List ℕ
+  pub read : IsStoreAt holds store file
+  pub is : BeginsWith image file [] is_full (Err reason)
 
 -- The source text of a file has no program under a lattice, and is refused.
 pub record RefusesProgramAt (holds : Holding) (l : Lattice) (path : List ℕ) (reason : Unanswered) : Type 0 where

@@ -6,6 +6,7 @@ ghost use Rattle.vsi.specs.Done.{Done, Stopped, StopsAt};
 ghost use Rattle.vsi.specs.Input.{AnswersInput, RefusesRun, SpendsRun, StopsRun, TellsStop, WritesRun, WritesRunOf};
 ghost use Rattle.vsi.specs.Noted.{NotesOf, TellsNote};
 ghost use Rattle.vsi.specs.Partly.{BytesOf, Partly};
+ghost use Rattle.vsi.specs.Saved.{KeepsStateOf};
 ghost use Rattle.vsi.specs.Screen.{tamed};
 ghost use Rattle.vsi.specs.Stops.{note_behind, status_of, text_of_stop, Gets, IsStreamFault, StopsFor, TellsFault};
 ghost use Rattle.vsi.specs.Words as spec;
@@ -78,6 +79,10 @@ pub fn command<F: Files, R: Read, W: Write, E: Write>(
         result E.contents error.old error.new }
     ensures noted { words.now ≢ [] → result ≡ 0
         → TellsNote (F.holds files.old) words.now E.contents error.old error.new }
+    ensures state { words.now ≢ [] → result ≢ 0
+        → KeepsStateOf (F.holds files.old)
+        (spec.given_to words.now (R.remaining (device_of input.old))) words.now (F.holds files.new)
+        (W.contents (device_of output.old)) (W.contents (device_of output.new)) }
     ensures done { words.now ≢ [] → result ≡ 0
         → Done (F.holds files.old) (spec.given_to words.now (R.remaining (device_of input.old)))
         words.now (F.holds files.new)
@@ -146,6 +151,9 @@ fn obeyed<'a, F: Files, R: Read, W: Write>(
     ensures unfilled { IfErr result (λ stop. status_of stop < 4
         → F.holds files.new ≡ F.holds files.old) }
     ensures done { OnOk result (Done (F.holds files.old)
+        (spec.given_to words.now (R.remaining (device_of input.old))) words.now (F.holds files.new)
+        (W.contents (device_of output.old)) (W.contents (device_of output.new))) }
+    ensures state { IfErr result (λ _. KeepsStateOf (F.holds files.old)
         (spec.given_to words.now (R.remaining (device_of input.old))) words.now (F.holds files.new)
         (W.contents (device_of output.old)) (W.contents (device_of output.new))) }
     ensures stopped { IfErr result (Stopped (F.holds files.old)

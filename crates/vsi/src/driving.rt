@@ -1,18 +1,18 @@
 //! Drives an image, a cycle for each line of the input.
 
-ghost use Rattle.std.specs.Prelude.{◌≡◌, ◌<◌, ◌≤◌, ◌∷◌, ◌++◌, [], ℕ, List, length, IfOk, IfErr, OnOk};
+ghost use Rattle.std.specs.Prelude.{◌≡◌, ◌<◌, ◌≤◌, ◌∷◌, [], ℕ, List, length, IfOk, IfErr, OnOk};
 ghost use Rattle.std.specs.Io.KnownBytes.{Appends};
 ghost use Rattle.vsi.specs.Driven.{Drives, DrivesInput, begun, last_line, whole_lines};
 ghost use Rattle.vsi.specs.Files.{IsStoredAt};
 ghost use Rattle.vsi.specs.Performed.{PerformsDrive};
-ghost use Rattle.vsi.specs.Partly.{AnswersDrive, DrivenText, Leaves, Partly, WritesPart};
+ghost use Rattle.vsi.specs.Partly.{AnswersDrive, Leaves};
+ghost use Rattle.vsi.specs.Saved.{Advances, CutsInput, CutsLines, LeavesState};
+ghost use Rattle.vsi.specs.State.{Touches};
 ghost use Rattle.vsi.specs.Stops.{TellsFault, status_of};
 ghost use Rattle.vsi_devices.specs.Counted.{device_of, faults_of};
 ghost use Rattle.vsi_drive.specs.Control.{control};
-ghost use Rattle.vsi_drive.specs.Cycles.{cycle, text_of};
-ghost use Rattle.vsi_image.specs.Fields.{globals};
-ghost use Rattle.vsi_store.specs.Text.{store_text_of};
-ghost use Rattle.vsi.specs.Holding.{Delivers, IsStoreAt};
+ghost use Rattle.vsi_drive.specs.Cycles.{cycle};
+ghost use Rattle.vsi.specs.Holding.{IsStoreAt};
 ghost use Rattle.vsi.specs.Refusals.{NoOther, StopsBy};
 ghost use Rattle.vsi.specs.Reasons.{LacksDrive, WhyDrive};
 ghost use Rattle.vsi_answers.specs.Answers.{Because};
@@ -24,25 +24,25 @@ use crate::boundaries::{controller_of, names_in};
 use crate::budgets::budget_of;
 use crate::desk::Desk;
 use crate::files::Files;
-use crate::filling::replace;
 use crate::ordering::policy_before_image;
 use crate::reading::{faulty, store_in};
+use crate::saving::{Drive, first_store, save, save_line};
 use crate::stop::{STREAM, Stop, write};
-use std::alloc::Global;
 use std::io::{Read, Write};
 use vsi_arguments::Driving;
 use vsi_devices::Counted;
 use vsi_diagnostics::Fault;
-use vsi_drive::{Controller, LINE_LIMIT};
+use vsi_drive::LINE_LIMIT;
 use vsi_image::Verified;
-use vsi_store::{read_store, store_text};
+use vsi_store::read_store;
 
 /// The size of the buffer of a read, in bytes.
 const CHUNK: usize = 4096;
 
 /// Drives an image file: each line of the input sets globals, and the part of the store that a
-/// class sees after its run is written. The last store goes to the requested file. The note gets a
-/// line if the budget isn't enough and is taken all the same.
+/// class sees after its run is written. The store goes to the requested file before the first line,
+/// after lines before their answers are written, and at the end. The note gets a line if the budget
+/// isn't enough and is taken all the same.
 pub(crate) fn drive<'a, F: Files, R: Read, W: Write>(
     desk: &mut Desk,
     driving: Driving<'a>,
@@ -63,6 +63,9 @@ pub(crate) fn drive<'a, F: Files, R: Read, W: Write>(
     ensures performed { OnOk result (PerformsDrive (F.holds files.old) driving.entry
         (R.remaining (device_of input.old)) (F.holds files.new)
         (W.contents (device_of output.old)) (W.contents (device_of output.new))) }
+    ensures state { IfErr result (λ _. LeavesState (F.holds files.old) driving.entry
+        (R.remaining (device_of input.old)) (F.holds files.new)
+        (W.contents (device_of output.old)) (W.contents (device_of output.new))) }
     ensures stopped { IfErr result (StopsBy (WhyDrive (F.holds files.old) driving.entry)
         (LacksDrive (F.holds files.old) driving.entry)) }
 {
@@ -73,7 +76,13 @@ pub(crate) fn drive<'a, F: Files, R: Read, W: Write>(
         driving.execution.image,
         files,
     )?;
-    let mut words = stored_words(desk, &verified, driving.execution.store, files)?;
+    let mut words = first_store(
+        desk,
+        &verified,
+        driving.execution.store,
+        driving.is_full,
+        files,
+    )?;
     let budget = budget_of(desk.alloc, driving.execution.budget, &verified)?;
     let names = names_in(desk.alloc, driving.lists)?;
     let controller = controller_of(
@@ -93,31 +102,16 @@ pub(crate) fn drive<'a, F: Files, R: Read, W: Write>(
         budget,
         note,
     )?;
-    drive_input(desk.alloc, &controller, &mut words, input, output)?;
+    save(desk.alloc, &verified, words.as_slice(), driving.save, files)?;
+    let drive = Drive {
+        alloc: desk.alloc,
+        controller: &controller,
+        verified: &verified,
+        save: driving.save,
+        most: driving.every.saturating_sub(1),
+    };
+    drive_input(&drive, &mut words, files, input, output)?;
     save(desk.alloc, &verified, &words, driving.save, files)
-}
-
-/// Writes a store to the requested file, if there is one.
-fn save<'a, F: Files>(
-    alloc: Global,
-    verified: &Verified,
-    words: &[i64],
-    path: Option<&'a str>,
-    files: &mut F,
-) -> Result<(), Stop<'a>>
-    requires { length words.now ≡ length verified.now.globals.items }
-    ensures stop { IfErr result (λ stop. 3 < status_of stop) }
-    ensures saved { OnOk result (Delivers path.entry
-        (store_text_of (globals verified.now.globals.items) words.now)
-        (F.holds files.old) (F.holds files.new)) }
-{
-    match path {
-        Some(path) => {
-            let text = store_text(alloc, verified.image(), words)?;
-            replace(alloc, &text, path, files)
-        }
-        None => Ok(()),
-    }
 }
 
 /// The words that a store file gives to the globals of an image, or zeros without one.
@@ -143,89 +137,107 @@ pub(crate) fn stored_words<'a, F: Files>(
 }
 
 /// Does a cycle for each line of the input, to its end.
-fn drive_input<'a, R: Read, W: Write>(
-    alloc: Global,
-    controller: &Controller,
+fn drive_input<'a, F: Files, R: Read, W: Write>(
+    drive: &Drive<'a, '_>,
     store: &mut [i64],
+    files: &mut F,
     input: &mut Counted<R>,
     output: &mut Counted<W>,
 ) -> Result<(), Stop<'a>>
-    requires words { length store.old ≡ length (control controller.now).image.globals.items }
+    requires words { length store.old ≡ length (control drive.now.controller.now).image.globals.items }
     requires input { faults_of input.old < u64.MAX }
     requires output { faults_of output.old < u64.MAX }
+    requires same { drive.now.verified.now ≡ (control drive.now.controller.now).image }
     ensures input_fault { TellsFault (faults_of input.old) (faults_of input.new) result }
     ensures output_fault { TellsFault (faults_of output.old) (faults_of output.new) result }
     ensures stop { IfErr result (λ stop. 3 < status_of stop) }
-    ensures driven { OnOk result (DrivesInput (control controller.now) store.old store.new
+    ensures driven { OnOk result (DrivesInput (control drive.now.controller.now) store.old store.new
         (R.remaining (device_of input.old)) (W.contents (device_of output.old))
         (W.contents (device_of output.new))) }
-    ensures cut { IfErr result (λ _. Partly (DrivenText (control controller.now) store.old
-        (R.remaining (device_of input.old)))
-        (W.contents (device_of output.old)) (W.contents (device_of output.new))) }
+    ensures touched { Touches drive.now.save (F.holds files.old) (F.holds files.new) }
+    ensures cut { CutsInput drive.now.save drive.now.verified.now (control drive.now.controller.now) store.old
+        drive.now.most (R.remaining (device_of input.old)) (W.contents (device_of output.old))
+        (W.contents (device_of output.new)) (F.holds files.old) (F.holds files.new) }
 {
-    let mut line = Vec::new(alloc);
+    let mut line = Vec::new(drive.alloc);
     let mut chunk = [0; CHUNK];
+    let mut unsaved = 0;
     for _call in 0..u64::MAX {
         let Ok(count) = input.read(&mut chunk) else {
             return Err(Stop::FileFault(STREAM));
         };
         if count == 0 {
-            return drive_rest(alloc, controller, &line, store, output);
+            return drive_rest(drive, &line, store, &mut unsaved, files, output);
         }
-        drive_bytes(alloc, controller, &chunk[..count], &mut line, store, output)?;
+        let bytes = &chunk[..count];
+        drive_bytes(drive, bytes, &mut line, store, &mut unsaved, files, output)?;
     }
     Err(Stop::FileFault(STREAM))
 }
 
 /// Does a cycle for the bytes after the last line feed, if there are any.
-fn drive_rest<'a, W: Write>(
-    alloc: Global,
-    controller: &Controller,
+fn drive_rest<'a, F: Files, W: Write>(
+    drive: &Drive<'a, '_>,
     line: &[u8],
     store: &mut [i64],
+    unsaved: &mut u64,
+    files: &mut F,
     output: &mut Counted<W>,
 ) -> Result<(), Stop<'a>>
-    requires words { length store.old ≡ length (control controller.now).image.globals.items }
+    requires words { length store.old ≡ length (control drive.now.controller.now).image.globals.items }
     requires output { faults_of output.old < u64.MAX }
+    requires same { drive.now.verified.now ≡ (control drive.now.controller.now).image }
+    requires few { unsaved.old ≤ drive.now.most }
     ensures fault { TellsFault (faults_of output.old) (faults_of output.new) result }
     ensures stop { IfErr result (λ stop. 3 < status_of stop) }
-    ensures driven { OnOk result (Drives (control controller.now) store.old store.new
+    ensures driven { OnOk result (Drives (control drive.now.controller.now) store.old store.new
         (last_line line.now) (W.contents (device_of output.old))
         (W.contents (device_of output.new))) }
-    ensures part { WritesPart (text_of (control controller.now) store.old (last_line line.now))
-        (W.contents (device_of output.old)) (W.contents (device_of output.new)) }
+    ensures touched { Touches drive.now.save (F.holds files.old) (F.holds files.new) }
+    ensures cut { CutsLines drive.now.save drive.now.verified.now (control drive.now.controller.now) store.old
+        drive.now.most (last_line line.now) unsaved.old (W.contents (device_of output.old))
+        (W.contents (device_of output.new)) (F.holds files.old) (F.holds files.new) }
 {
     if line.is_empty() {
         return Ok(());
     }
-    drive_line(alloc, controller, line, store, output)
+    drive_line(drive, line, store, unsaved, files, output)
 }
 
 /// Does a cycle for each line that ends in these bytes. `line` holds the part of a line that has
 /// been read, and one byte more than the limit for a line that is too long.
-fn drive_bytes<'a, W: Write>(
-    alloc: Global,
-    controller: &Controller,
+fn drive_bytes<'a, F: Files, W: Write>(
+    drive: &Drive<'a, '_>,
     bytes: &[u8],
     line: &mut Vec<u8>,
     store: &mut [i64],
+    unsaved: &mut u64,
+    files: &mut F,
     output: &mut Counted<W>,
 ) -> Result<(), Stop<'a>>
-    requires words { length store.old ≡ length (control controller.now).image.globals.items }
+    requires words { length store.old ≡ length (control drive.now.controller.now).image.globals.items }
     requires output { faults_of output.old < u64.MAX }
+    requires same { drive.now.verified.now ≡ (control drive.now.controller.now).image }
+    requires few { unsaved.old ≤ drive.now.most }
     ensures fault { TellsFault (faults_of output.old) (faults_of output.new) result }
     ensures stop { IfErr result (λ stop. 3 < status_of stop) }
     ensures line { OnOk result (line.new.items ≡ begun line.old.items bytes.now) }
-    ensures driven { OnOk result (Drives (control controller.now) store.old store.new
+    ensures driven { OnOk result (Drives (control drive.now.controller.now) store.old store.new
         (whole_lines line.old.items bytes.now) (W.contents (device_of output.old))
         (W.contents (device_of output.new))) }
-    ensures cut { IfErr result (λ _. WritesPart (text_of (control controller.now) store.old
-        (whole_lines line.old.items bytes.now))
-        (W.contents (device_of output.old)) (W.contents (device_of output.new))) }
+    ensures few { unsaved.new ≤ drive.now.most }
+    ensures touched { Touches drive.now.save (F.holds files.old) (F.holds files.new) }
+    ensures saved { OnOk result (Advances drive.now.save drive.now.verified.now
+        (control drive.now.controller.now) store.old (whole_lines line.old.items bytes.now)
+        unsaved.old unsaved.new (F.holds files.old) (F.holds files.new)) }
+    ensures cut { IfErr result (λ _. CutsLines drive.now.save drive.now.verified.now
+        (control drive.now.controller.now) store.old drive.now.most (whole_lines line.old.items bytes.now)
+        unsaved.old (W.contents (device_of output.old))
+        (W.contents (device_of output.new)) (F.holds files.old) (F.holds files.new)) }
 {
     for byte in bytes {
         if *byte == b'\n' {
-            drive_line(alloc, controller, line, store, output)?;
+            drive_line(drive, line, store, unsaved, files, output)?;
             line.clear();
         } else if line.len() <= LINE_LIMIT {
             line.push(*byte)?;
@@ -234,28 +246,40 @@ fn drive_bytes<'a, W: Write>(
     Ok(())
 }
 
-/// Does a cycle and writes its line.
-fn drive_line<'a, W: Write>(
-    alloc: Global,
-    controller: &Controller,
+/// Does a cycle, saves its store and then writes its line.
+fn drive_line<'a, F: Files, W: Write>(
+    drive: &Drive<'a, '_>,
     line: &[u8],
     store: &mut [i64],
+    unsaved: &mut u64,
+    files: &mut F,
     output: &mut Counted<W>,
 ) -> Result<(), Stop<'a>>
-    requires words { length store.old ≡ length (control controller.now).image.globals.items }
+    requires words { length store.old ≡ length (control drive.now.controller.now).image.globals.items }
     requires output { faults_of output.old < u64.MAX }
+    requires same { drive.now.verified.now ≡ (control drive.now.controller.now).image }
+    requires few { unsaved.old ≤ drive.now.most }
     ensures fault { TellsFault (faults_of output.old) (faults_of output.new) result }
     ensures stop { IfErr result (λ stop. 3 < status_of stop) }
-    ensures part { WritesPart (cycle (control controller.now) store.old line.now).line
-        (W.contents (device_of output.old)) (W.contents (device_of output.new)) }
+    ensures few { unsaved.new ≤ drive.now.most }
+    ensures touched { Touches drive.now.save (F.holds files.old) (F.holds files.new) }
+    ensures saved { OnOk result (Advances drive.now.save drive.now.verified.now
+        (control drive.now.controller.now) store.old (line.now ∷ []) unsaved.old unsaved.new
+        (F.holds files.old) (F.holds files.new)) }
+    ensures cut { CutsLines drive.now.save drive.now.verified.now (control drive.now.controller.now) store.old
+        drive.now.most (line.now ∷ []) unsaved.old (W.contents (device_of output.old))
+        (W.contents (device_of output.new)) (F.holds files.old) (F.holds files.new) }
     ensures written { OnOk result (Appends (W.contents (device_of output.old))
         (W.contents (device_of output.new))
-        (cycle (control controller.now) store.old line.now).line) }
+        (cycle (control drive.now.controller.now) store.old line.now).line) }
     ensures store { OnOk result
-        (store.new ≡ (cycle (control controller.now) store.old line.now).store) }
+        (store.new ≡ (cycle (control drive.now.controller.now) store.old line.now).store) }
 {
-    match controller.cycle(alloc, line, store) {
-        Ok((_ending, text)) => write(text.as_slice(), output),
+    match drive.controller.cycle(drive.alloc, line, store) {
+        Ok((_ending, text)) => {
+            save_line(drive, store, unsaved, files)?;
+            write(text.as_slice(), output)
+        }
         Err(_) => Err(Stop::Memory),
     }
 }

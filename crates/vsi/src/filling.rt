@@ -1,6 +1,6 @@
 //! Puts texts into files.
 
-ghost use Rattle.std.specs.Prelude.{◌<◌, IfErr, OnOk};
+ghost use Rattle.std.specs.Prelude.{◌≡◌, ◌≢◌, ◌<◌, ◌++◌, ℕ, List, IfErr, OnOk, codes};
 ghost use Rattle.std.specs.Io.KnownBytes.{Appends};
 ghost use Rattle.vsi.specs.Holding.{Delivers, Fills, Replaces};
 ghost use Rattle.vsi.specs.Partly.{WritesPart};
@@ -36,6 +36,9 @@ pub(crate) fn replace<'a, F: Files>(
     ensures stop { IfErr result (λ stop. 3 < status_of stop) }
     ensures replaced { OnOk result
         (Replaces path.now text.now (F.holds files.old) (F.holds files.new)) }
+    ensures stays { IfErr result (λ _. F.holds files.new path.now ≡ F.holds files.old path.now) }
+    ensures others { (other : List ℕ) → other ≢ path.now → other ≢ path.now ++ codes ".new"
+        → F.holds files.new other ≡ F.holds files.old other }
 {
     let fresh = format!(in alloc; "{path}.new")?;
     match files.replace_file(path, fresh.as_str(), text) {

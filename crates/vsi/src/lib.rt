@@ -7,10 +7,11 @@
 //! a file is refused. `command` obeys the arguments of a command line. The types inside errors,
 //! such as `LexError` or a `Walk` of `Step`s, are exported here too.
 //!
-//! To be believed: of `specs/` `Words`, `Holding`, `Loading`, `Driven`, `Tried`, `Shaping`,
+//! To be believed: of `specs/` `Words`, `Holding`, `Loading`, `Driven`, `State`, `Tried`, `Shaping`,
 //! `Seeing`, `Laying`, `Raises`, `Documents`, `Admitted`, `Served`, `Files`, `Performed`, `Refusals`,
-//! `Reasons`, `Partly`, `Done`, `Screen`, `Input` and `Laws`, of `Stops` all but `StopsFor`, and
-//! of `Noted` all but `Notes`; `Diagnosing` is a stepping stone of proofs.
+//! `Reasons`, `Partly`, `Done`, `Screen`, `Input` and `Laws`, of `Stops` all but `StopsFor`, of `Noted`
+//! all but `Notes`, and of `Saved` its second part; its first part and `Diagnosing` are stepping stones
+//! of proofs.
 #![tactic(auto)]
 
 mod admitting;
@@ -43,6 +44,7 @@ mod policies;
 mod raising;
 mod reading;
 mod running;
+mod saving;
 mod screen;
 mod serving;
 mod shaping;

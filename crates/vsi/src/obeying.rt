@@ -5,6 +5,7 @@ ghost use Rattle.std.specs.Io.KnownBytes.{Keeps};
 ghost use Rattle.vsi.specs.Done.{Done, IsMistake, IsStopOf, Stopped, Unread};
 ghost use Rattle.vsi.specs.Noted.{IsNote, NotesOf, noting};
 ghost use Rattle.vsi.specs.Performed.{Performs};
+ghost use Rattle.vsi.specs.Saved.{KeepsState, KeepsStateOf};
 ghost use Rattle.vsi.specs.Stops.{TellsFault, status_of};
 ghost use Rattle.vsi.specs.declared.stop.Stop.TheVariants.{Memory};
 ghost use Rattle.vsi_asked.specs.Help.{AsksHelp};
@@ -45,6 +46,9 @@ pub(crate) fn obey<'a, F: Files, R: Read, W: Write>(
     ensures done { OnOk result (Done (F.holds files.old)
         (R.remaining (device_of input.old)) words.now (F.holds files.new)
         (W.contents (device_of output.old)) (W.contents (device_of output.new))) }
+    ensures state { IfErr result (λ _. KeepsStateOf (F.holds files.old)
+        (R.remaining (device_of input.old)) words.now (F.holds files.new)
+        (W.contents (device_of output.old)) (W.contents (device_of output.new))) }
     ensures stopped { IfErr result (Stopped (F.holds files.old)
         (R.remaining (device_of input.old)) words.now
         (W.contents (device_of output.old)) (W.contents (device_of output.new))) }
@@ -79,6 +83,9 @@ fn obey_asked<'a, F: Files, R: Read, W: Write>(
     ensures noted { OnOk result
         (IsNote (F.holds files.old) (noting asked.entry.request) told.new.note.items) }
     ensures performed { OnOk result (Performs (F.holds files.old)
+        (R.remaining (device_of input.old)) asked.entry.request (F.holds files.new)
+        (W.contents (device_of output.old)) (W.contents (device_of output.new))) }
+    ensures state { IfErr result (λ _. KeepsState (F.holds files.old)
         (R.remaining (device_of input.old)) asked.entry.request (F.holds files.new)
         (W.contents (device_of output.old)) (W.contents (device_of output.new))) }
     ensures stopped { IfErr result (IsStopOf (F.holds files.old)

@@ -5,6 +5,7 @@ ghost use Rattle.std.specs.Io.KnownBytes.{Appends, Keeps};
 ghost use Rattle.vsi.specs.Noted.{Notes, noting};
 ghost use Rattle.vsi.specs.Performed.{Performs, PerformsCheck, PerformsMend};
 ghost use Rattle.vsi.specs.Partly.{Answers, AnswersCheck, AnswersMend, BytesOf, Leaves, WritesPart, cut_from};
+ghost use Rattle.vsi.specs.Saved.{KeepsState};
 ghost use Rattle.vsi.specs.Stops.{TellsFault, status_of};
 ghost use Rattle.vsi_devices.specs.Counted.{device_of, faults_of};
 ghost use Rattle.vsi.specs.Reasons.{Why, WhyCheck, WhyMend};
@@ -151,6 +152,9 @@ pub(crate) fn perform<'a, F: Files, R: Read, W: Write>(
         (cut_from request.entry)
         (W.contents (device_of output.old)) (W.contents (device_of output.new))) }
     ensures performed { OnOk result (Performs (F.holds files.old)
+        (R.remaining (device_of input.old)) request.entry (F.holds files.new)
+        (W.contents (device_of output.old)) (W.contents (device_of output.new))) }
+    ensures state { IfErr result (λ _. KeepsState (F.holds files.old)
         (R.remaining (device_of input.old)) request.entry (F.holds files.new)
         (W.contents (device_of output.old)) (W.contents (device_of output.new))) }
     ensures stopped { IfErr result (Why (F.holds files.old) request.entry

@@ -384,7 +384,7 @@ pub(crate) const OUT: Argument = Argument {
 pub(crate) const SAVE: Argument = Argument {
     name: "save",
     form: Form::Value("FILE"),
-    line: "The file to write the last store to",
+    line: "The file to write the store to, after each line",
     whole: word_help::SAVE,
 };
 
@@ -407,4 +407,18 @@ pub(crate) const RELEASE: Argument = Argument {
     form: Form::Value("NAMES"),
     line: "Outputs that are written although C doesn't see them",
     whole: word_help::RELEASE,
+};
+
+pub(crate) const SAVE_EVERY: Argument = Argument {
+    name: "save-every",
+    form: Form::Number("N"),
+    line: "After how many lines the store is saved; default: 1",
+    whole: word_help::SAVE_EVERY,
+};
+
+pub(crate) const DRIVE_FULL_STORE: Argument = Argument {
+    name: "full-store",
+    form: Form::Flag,
+    line: "Requires each global to be in the store file",
+    whole: word_help::DRIVE_FULL_STORE,
 };

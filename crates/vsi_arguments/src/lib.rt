@@ -18,6 +18,6 @@ pub use error::ArgumentsError;
 pub use reader::request_of;
 pub use request::{
     Asked, Attempt, Audit, Bounding, Budget, Colour, Comparison, Compilation, Conformance,
-    Document, Drawing, Driving, Emission, Execution, Judging, Layout, Looking, Manner, Mending,
-    NameLists, Outset, Request, SEARCH, Search, Serving, TRY_BUDGET,
+    Document, Drawing, Driving, EVERY, Emission, Execution, Judging, Layout, Looking, Manner,
+    Mending, NameLists, Outset, Request, SEARCH, Search, Serving, TRY_BUDGET,
 };

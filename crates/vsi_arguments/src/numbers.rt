@@ -10,6 +10,7 @@ pub(crate) enum Limit {
     RunBudget,
     Tries,
     Seed,
+    Every,
 }
 
 impl Limit {
@@ -25,6 +26,9 @@ impl Limit {
             Limit::Tries =>
                 "--tries takes a number from 0 to 18446744073709551615, in digits alone",
             Limit::Seed => "--seed takes a number from 0 to 18446744073709551615, in digits alone",
+            Limit::Every => {
+                "--save-every takes a number from 1 to 18446744073709551615, in digits alone"
+            }
         }
     }
 }
@@ -76,7 +80,14 @@ fn runs_image(name: &str) -> bool {
 /// The first option of a subcommand whose value should be a number and isn't one.
 pub(crate) fn wrong_number(name: &str, matches: &ArgMatches<'_>) -> Option<Limit> {
     if runs_image(name) {
-        return wrong_budget(matches);
+        if let Some(limit) = wrong_budget(matches) {
+            return Some(limit);
+        }
+        return if name == "drive" {
+            wrong_every(matches)
+        } else {
+            None
+        };
     }
     for (id, limit) in &NUMBERS {
         if matches.get_str(id).is_some() && number_of(matches, id).is_none() {
@@ -92,4 +103,14 @@ fn wrong_budget(matches: &ArgMatches<'_>) -> Option<Limit> {
         return None;
     }
     Some(Limit::RunBudget)
+}
+
+/// The requirement on the number of lines after which a drive saves its store, if it is given and
+/// isn't such a number.
+fn wrong_every(matches: &ArgMatches<'_>) -> Option<Limit> {
+    matches.get_str("save-every")?;
+    match number_of(matches, "save-every") {
+        Some(every) if every > 0 => None,
+        _ => Some(Limit::Every),
+    }
 }

@@ -60,6 +60,8 @@ enum Mistake {
     FlowsOfNothing,
     /// The answer is to be written both as JSON of its own and as SARIF.
     JsonAndSarif,
+    /// It is said how often the store is saved, but not where.
+    EveryAlone,
     NoSubcommand,
 }
 
@@ -76,6 +78,7 @@ impl Mistake {
             }
             Mistake::FlowsOfNothing => ErrorKind::MissingRequiredArgument,
             Mistake::NoTwoStores => ErrorKind::WrongNumberOfValues,
+            Mistake::EveryAlone => ErrorKind::MissingRequiredArgument,
             Mistake::NoSubcommand => ErrorKind::MissingSubcommand,
         }
     }
@@ -95,6 +98,7 @@ impl Mistake {
             Mistake::ApplyAndJson => "`--apply` prints a text, so it doesn't go with `--json`",
             Mistake::FlowsOfNothing => "`--flows` needs a SOURCE, whose flows it draws",
             Mistake::JsonAndSarif => "`--json` and `--sarif` don't go together",
+            Mistake::EveryAlone => "`--save-every` needs `--save`, which says where",
             Mistake::NoSubcommand => "a subcommand is needed",
         }
     }
@@ -168,6 +172,7 @@ fn named<'a>(
         "try" => Ok(Ok(try_request(alloc, inner)?)),
         "run" => Ok(Ok(run_request(alloc, inner)?)),
         "view" => Ok(Ok(view_request(alloc, inner)?)),
+        "drive" => Ok(drive_request(inner)),
         "compare" => Ok(compare_request(inner)),
         "lattice" => Ok(Ok(Request::Lattice(texts(alloc, inner, "SHAPE")?))),
         "explain" => Ok(explain_request(inner)),
@@ -191,7 +196,6 @@ fn requested<'a>(name: &str, inner: &ArgMatches<'a>) -> Request<'a> {
         "audit" => Request::Audit(audit_in(inner)),
         "source" => Request::Source(text(inner, "IMAGE")),
         "bound" => Request::Bound(bounding_in(inner)),
-        "drive" => Request::Drive(driving_in(inner)),
         "leak" => Request::Leak(search_in(inner)),
         "lsp" => Request::Lsp(serving_in(inner)),
         "report" => Request::Report(compilation_in(inner)),
@@ -339,12 +343,22 @@ fn outset_in<'a>(alloc: Global, matches: &ArgMatches<'a>) -> Result<Outset<'a>, 
     })
 }
 
+fn drive_request<'a>(matches: &ArgMatches<'a>) -> Result<Request<'a>, Mistake> {
+    let driving = driving_in(matches);
+    if driving.save.is_none() && matches.get_str("save-every").is_some() {
+        return Err(Mistake::EveryAlone);
+    }
+    Ok(Request::Drive(driving))
+}
+
 fn driving_in<'a>(matches: &ArgMatches<'a>) -> Driving<'a> {
     Driving {
         lattice: text(matches, "LATTICE"),
         class: text(matches, "class"),
         execution: execution_in(matches),
         save: matches.get_str("save"),
+        every: number_of(matches, "save-every").unwrap_or(EVERY),
+        is_full: matches.get_flag("full-store"),
         is_unbounded: matches.get_flag("unbounded"),
         lists: name_lists_in(matches),
     }

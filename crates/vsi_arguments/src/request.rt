@@ -46,15 +46,17 @@ pub struct NameLists<'a> {
 }
 
 /// The driving of a controller: the path of a lattice file, the class that sets inputs and sees
-/// outputs, the run of each cycle, the path of a file that receives the last store, whether a
-/// budget is taken that runs may exceed for a reason that the class doesn't see, and the lists that
-/// bound the controller.
+/// outputs, the run of each cycle, the path of a file that receives the store, after how many lines
+/// it does, whether each global must be in the store file, whether a budget is taken that runs may
+/// exceed for a reason that the class doesn't see, and the lists that bound the controller.
 #[derive(Clone, Copy)]
 pub struct Driving<'a> {
     pub lattice: &'a str,
     pub class: &'a str,
     pub execution: Execution<'a>,
     pub save: Option<&'a str>,
+    pub every: u64,
+    pub is_full: bool,
     pub is_unbounded: bool,
     pub lists: NameLists<'a>,
 }
@@ -268,6 +270,9 @@ pub enum Request<'a> {
 
 /// The default budget and the default number of pairs of a search.
 pub const SEARCH: u64 = 10_000;
+
+/// The default number of lines after which a drive saves its store.
+pub const EVERY: u64 = 1;
 
 /// The default budget of an attempt.
 pub const TRY_BUDGET: u64 = 1_000_000;

@@ -81,8 +81,8 @@ globals at or below the class, the image runs, and the globals that the class
 sees are written as one line of the same form, or those that --inputs, --outputs
 and --release name instead. The final store of a run is the
 initial store of the next. A faulty line, or a run that is out of budget, is
-answered by a line that says so, and leaves the store as it was. After the last
-line the store is written to the file that --save gives, if any. Without
+answered by a line that says so, and leaves the store as it was. Before each
+answer the store is written to the file that --save gives, if any. Without
 --budget each run has the bound of the image as its budget, and so it halts.
 
 Statuses: 0 standard input has ended, 1 refused, 2 usage or no such class,

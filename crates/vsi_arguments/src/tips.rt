@@ -4,7 +4,7 @@ use std::alloc::{AllocError, Global};
 
 /// The options that only some subcommands have, as a mistake quotes them, and the subcommands that
 /// have each.
-const OWNERS: [(&str, &str); 33] = [
+const OWNERS: [(&str, &str); 34] = [
     ("'--apply'", "mend"),
     ("'--bounded'", "emit-c"),
     ("'--budget'", "try, run, view, drive, compare and leak"),
@@ -22,7 +22,7 @@ const OWNERS: [(&str, &str); 33] = [
         `vsi try a.vsi --explain`",
     ),
     ("'--flows'", "draw"),
-    ("'--full-store'", "run and view"),
+    ("'--full-store'", "run, view and drive"),
     ("'--header'", "emit-c"),
     ("'--inputs'", "drive"),
     ("'--json'", "check, conform and mend"),
@@ -34,6 +34,7 @@ const OWNERS: [(&str, &str); 33] = [
     ("'--release'", "drive"),
     ("'--sarif'", "check"),
     ("'--save'", "drive"),
+    ("'--save-every'", "drive"),
     ("'--seed'", "leak"),
     ("'--set'", "try, run and view"),
     ("'--steady'", "check and audit"),

@@ -212,9 +212,24 @@ as it is otherwise, so it may be the store file that is read.";
 
 /// The file that receives the last store.
 pub(crate) const SAVE: &str = "\
-The path of a file that the last store is written to once standard
-input has ended, if no read or write has failed. The file is replaced
-as a whole, so it may be the store file that is read.";
+The path of a file that the store is written to: before the first
+cycle, after each line, before its answer is written, and at the end.
+So the file is never older than the last answer, even after a cut of
+power; --save-every makes it older and the lines quicker. The file is
+replaced as a whole each time, so it may be the store file that is
+read.";
+
+/// How often the store is saved.
+pub(crate) const SAVE_EVERY: &str = "\
+After how many lines the store is written to the file that --save
+gives, in digits alone: 1 after each line, 100 after each hundredth.
+After a cut of power the file may then be older than the last answer,
+by at most N - 1 lines.";
+
+/// A full store of a drive.
+pub(crate) const DRIVE_FULL_STORE: &str = "\
+Refuses to begin if a global has no key in the store file, so that
+none begins as 0 because the file is empty or has been cut short.";
 
 /// The store files of a comparison.
 pub(crate) const STORES: &str = "\

@@ -35,6 +35,7 @@ unvalued word plain =
       apart word (codes "--name") plain refl,
       apart word (codes "--out") plain refl,
       apart word (codes "--save") plain refl,
+      apart word (codes "--save-every") plain refl,
       apart word (codes "--seed") plain refl,
       apart word (codes "--set") plain refl,
       apart word (codes "--store") plain refl,

@@ -18,7 +18,7 @@ use Rattle.vsi_arguments.specs.declared.request.NameLists.{NameLists}
 use Rattle.vsi_arguments.specs.declared.request.Outset.{Outset}
 use Rattle.vsi_arguments.specs.declared.request.Request.{Request}
 use Rattle.vsi_arguments.specs.declared.request.Request.TheVariants.{Try, Lsp, Check, Document as Documented, Conform, Classes, Flows, Mend, Build, List as Listing, Audit, Source, EmitC, Bound, Run, View, Drive, Compare, Leak, Report, Draw, Policy, Format, Layout, Lattice as Shaped, Explain}
-use Rattle.vsi_arguments.specs.declared.request.TheConstants.{SEARCH, TRY_BUDGET}
+use Rattle.vsi_arguments.specs.declared.request.TheConstants.{EVERY, SEARCH, TRY_BUDGET}
 use Rattle.vsi_explain.specs.Pages.{page_of}
 use Rattle.vsi_explain.specs.Subjects.{subject_page}
 use Rattle.vsi_asked.specs.Numbers.{GivesBudget, number_in}
@@ -131,7 +131,8 @@ flags_of (Bound bounding) = []
 flags_of (Run execution outset has_trace has_count) =
     (codes "--full-store", outset.is_full) ∷ (codes "--trace", has_trace) ∷ (codes "--count", has_count) ∷ []
 flags_of (View lattice class execution outset) = (codes "--full-store", outset.is_full) ∷ []
-flags_of (Drive driving) = (codes "--unbounded", driving.is_unbounded) ∷ []
+flags_of (Drive driving) =
+    (codes "--full-store", driving.is_full) ∷ (codes "--unbounded", driving.is_unbounded) ∷ []
 flags_of (Compare comparison) = []
 flags_of (Leak search) = (codes "--endings", search.has_endings) ∷ (codes "--steps", search.has_steps) ∷ []
 flags_of (Report compilation) = (codes "--strict", compilation.is_strict) ∷ []
@@ -186,7 +187,9 @@ abbrev pub numbers_of : Request → List (List ℕ × Option Budget × Budget)
 numbers_of (Try attempt) = (codes "--budget", Some (Number TRY_BUDGET), Number attempt.budget) ∷ []
 numbers_of (Run execution outset has_trace has_count) = budgeted execution.budget
 numbers_of (View lattice class execution outset) = budgeted execution.budget
-numbers_of (Drive driving) = (codes "--budget", Some Auto, driving.execution.budget) ∷ []
+numbers_of (Drive driving) =
+    (codes "--budget", Some Auto, driving.execution.budget)
+    ∷ (codes "--save-every", Some (Number EVERY), Number driving.every) ∷ []
 numbers_of (Compare comparison) = budgeted comparison.budget
 numbers_of (Leak search) =
     (codes "--budget", Some (Number SEARCH), Number search.budget)

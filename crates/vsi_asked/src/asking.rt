@@ -10,8 +10,8 @@ use crate::own::has_own_alone;
 use crate::reading::{has_flag, has_operands, has_values};
 use vsi_arguments::{
     Attempt, Audit, Bounding, Comparison, Compilation, Conformance, Document, Drawing, Driving,
-    Emission, Execution, Judging, Layout, Looking, Mending, NameLists, Outset, Request, SEARCH,
-    Search, Serving, TRY_BUDGET,
+    EVERY, Emission, Execution, Judging, Layout, Looking, Mending, NameLists, Outset, Request,
+    SEARCH, Search, Serving, TRY_BUDGET,
 };
 use vsi_explain::{page, subject_page};
 
@@ -184,7 +184,10 @@ fn asks_drive(words: &[String], driving: &Driving<'_>) -> bool
         driving.lattice.as_bytes(),
         driving.execution.image.as_bytes(),
     ];
-    let flags = [("--unbounded", driving.is_unbounded)];
+    let flags = [
+        ("--full-store", driving.is_full),
+        ("--unbounded", driving.is_unbounded),
+    ];
     let Some(rest) = behind(words, "drive", operands.as_slice(), flags.as_slice()) else {
         return false;
     };
@@ -193,6 +196,7 @@ fn asks_drive(words: &[String], driving: &Driving<'_>) -> bool
         && has_value(rest, "--save", driving.save)
         && has_lists(rest, &driving.lists)
         && has_budget_or_auto(rest, driving.execution.budget)
+        && has_number(rest, "--save-every", Some(EVERY), driving.every)
 }
 
 /// Whether the arguments request a comparison.

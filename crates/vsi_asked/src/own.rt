@@ -74,10 +74,10 @@ const VIEW_OPTIONS: [&[u8]; 6] = [
 ];
 
 /// The flags of `drive`.
-const DRIVE: [&[u8]; 2] = [b"--unbounded", b"--explain"];
+const DRIVE: [&[u8]; 3] = [b"--full-store", b"--unbounded", b"--explain"];
 
 /// The options of `drive`.
-const DRIVE_OPTIONS: [&[u8]; 8] = [
+const DRIVE_OPTIONS: [&[u8]; 9] = [
     b"--class",
     b"--store",
     b"--save",
@@ -85,6 +85,7 @@ const DRIVE_OPTIONS: [&[u8]; 8] = [
     b"--outputs",
     b"--release",
     b"--budget",
+    b"--save-every",
     b"--color",
 ];
 

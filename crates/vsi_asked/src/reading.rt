@@ -5,7 +5,7 @@ ghost use Rattle.std.specs.Prelude.{option_map};
 ghost use Rattle.vsi_asked.specs.Words as spec;
 
 /// The options that take a value.
-const VALUED: [&[u8]; 14] = [
+const VALUED: [&[u8]; 15] = [
     b"--budget",
     b"--class",
     b"--color",
@@ -16,6 +16,7 @@ const VALUED: [&[u8]; 14] = [
     b"--outputs",
     b"--release",
     b"--save",
+    b"--save-every",
     b"--seed",
     b"--set",
     b"--store",

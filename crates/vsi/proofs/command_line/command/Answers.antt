@@ -3,6 +3,7 @@ use Rattle.vsi_devices.specs.Counted.{device_of}
 use Rattle.vsi.specs.Done.{StopsAt}
 use Rattle.vsi.specs.Words.{given_to}
 use Rattle.vsi.proofs.Filled.{unfilled_at}
+use Rattle.vsi.proofs.Leaving.{partly_at}
 use Rattle.vsi.proofs.NoteLemmas.{tells_note}
 use Rattle.vsi.proofs.Obeyed.{stops_at}
 use Rattle.vsi.proofs.Stopped.{done_at_zero, tells_stop}
@@ -33,3 +34,7 @@ pub returns-clause-unfilled : goal.returns-clause-unfilled
 returns-clause-unfilled g c =
     unfilled_at _ c.obeyed-answer.result c.ended.result c.obeyed-answer.ensures.unfilled c.ended.ensures.done
     c.ended.ensures.stopped
+
+pub returns-clause-state : goal.returns-clause-state
+returns-clause-state g c = λ some other.
+    partly_at _ c.obeyed-answer.result c.ended.result c.obeyed-answer.ensures.state c.ended.ensures.done other

@@ -1,35 +1,36 @@
-use Rattle.std.proofs.Common.{◌≡◌, ◌∙◌, None, arith, inl, inr, refl, sym, subst}
-use Rattle.std.proofs.lemmas.Result.{on_ok_weaker}
+use Rattle.std.proofs.Common.{◌≡◌, ◌∙◌, None, arith, inl, inr, refl, sym, ap, subst}
+use Rattle.std.proofs.lemmas.Result.{IfErr-weaker, on_ok_weaker}
 use Rattle.vsi_devices.specs.Counted.{device_of}
 use Rattle.vsi_drive.specs.BoundaryFaults.{boundary_fault}
 use Rattle.vsi_drive.specs.Control.{control}
-use Rattle.vsi_image.specs.Fields.{globals}
-use Rattle.vsi_store.specs.Text.{store_text_of}
 use Rattle.vsi.specs.declared.stop.Stop.TheVariants.{Memory}
 use Rattle.vsi.specs.Driven.{DrivesInput}
 use Rattle.vsi.specs.Holding.{Delivers}
+use Rattle.vsi.specs.State.{Touches, state_text}
 use Rattle.vsi.specs.Partly.{AnswersDrive, DrivenText, Partly}
-use Rattle.vsi.specs.Files.{IsStoredAt}
+use Rattle.vsi.specs.Files.{IsFullAt, IsStoredAt}
+use Rattle.vsi.specs.Saved.{CutsInput}
 use Rattle.vsi.specs.Refusals.{LacksClassAt}
 use Rattle.vsi.specs.Reasons.{LacksDrive, WhyDrive}
 use Rattle.vsi.proofs.Driven.{written_back}
-use Rattle.vsi.proofs.Cut.{input_driven}
+use Rattle.vsi.proofs.Cut.{Touches-trans, cut_on, cut_partly}
+use Rattle.vsi.proofs.Kept.{delivered_after, driven_state, early_state, first_state}
 use Rattle.vsi.proofs.Leaving.{driven_answers}
-use Rattle.vsi.proofs.Partly.{kept_leaves, late_handed, late_leaves}
+use Rattle.vsi.proofs.Partly.{any_stop, kept_leaves, late_handed, late_leaves}
 use Rattle.vsi.proofs.Reasons.{late_stopped}
-use Rattle.vsi.proofs.Undriven.{control_stopped, short_stopped}
-use Rattle.vsi.proofs.Unrun.{handed_late, memory_stopped, more_stopped, store_stopped, unbounded_stopped, unseen_stopped}
+use Rattle.vsi.proofs.Undriven.{control_stopped, first_stopped, short_stopped}
+use Rattle.vsi.proofs.Unrun.{handed_late, memory_stopped, more_stopped, unbounded_stopped, unseen_stopped}
 use Rattle.vsi.proofs.driving.drive.Goals as goal
 
 pub returns-clause-performed : goal.returns-clause-performed
 returns-clause-performed g c =
-    let left = g.F.Files.holds c.save.new.files in
+    let left = g.F.Files.holds c.save-2.new.files in
     let image = c.in_ok-classes.verified in
     let given = g.R.Read.remaining (device_of c.args.input.now) in
     let old = g.W.Write.contents (device_of c.args.output.now) in
     let new = g.W.Write.contents (device_of c.drive_input.new.output) in
     let asked = c.args.driving.execution in
-    on_ok_weaker c.save.result
+    on_ok_weaker c.save-2.result
     (λ saved. record {
       lattice = c.in_ok-classes.classes;
       driver = c.in_ok-classes.driver;
@@ -54,11 +55,17 @@ returns-clause-performed g c =
             c.drive_input.auto.store,
             c.deref_mut.ensures.len,
           )))) c.in_ok-drive_input.ensures.driven));
-      saved = subst (λ h. Delivers c.args.driving.save (store_text_of (globals image.globals.items)
-          c.deref.result.now) h left)
-          (c.in_ok-words.ensures.kept ∙ c.in_ok-classes.ensures.kept) saved;
+      full = subst (λ h. IsFullAt h asked.store image c.args.driving.is_full)
+          c.in_ok-classes.ensures.kept c.in_ok-words.ensures.full;
+      saved = delivered_after c.args.driving.save (state_text image c.deref.result.now)
+          (g.F.Files.holds c.args.files.now) (g.F.Files.holds c.drive_input.new.files) left
+          (Touches-trans c.args.driving.save (g.F.Files.holds c.args.files.now) (g.F.Files.holds c.save.new.files)
+          (g.F.Files.holds c.drive_input.new.files)
+          (subst (λ h. Touches c.args.driving.save h (g.F.Files.holds c.save.new.files))
+          (c.in_ok-words.ensures.kept ∙ c.in_ok-classes.ensures.kept) c.in_ok-save.ensures.touched)
+          c.in_ok-drive_input.ensures.touched) saved;
     })
-    c.save.ensures.saved
+    c.save-2.ensures.saved
 
 pub returns-in_err-classes-clause-stopped : goal.returns-in_err-classes-clause-stopped
 returns-in_err-classes-clause-stopped g c =
@@ -74,7 +81,7 @@ returns-in_err-classes-clause-stopped g c =
 pub returns-in_err-words-clause-stopped : goal.returns-in_err-words-clause-stopped
 returns-in_err-words-clause-stopped g c =
     let holds = g.F.Files.holds c.args.files.now in
-    store_stopped holds _ c.args.driving.execution.image.now c.args.driving.execution.store
+    first_stopped holds _ c.args.driving.execution.image.now c.args.driving.execution.store c.args.driving.is_full
     (WhyDrive holds c.args.driving) (LacksDrive holds c.args.driving)
     c.in_ok-classes.verified c.from_residual-in_err-words.result
     c.in_err-words.field-0.0 c.in_ok-classes.ensures.held c.in_ok-classes.ensures.kept
@@ -124,7 +131,7 @@ pub returns-clause-stopped : goal.returns-clause-stopped
 returns-clause-stopped g c =
     let holds = g.F.Files.holds c.args.files.now in
     handed_late (WhyDrive holds c.args.driving) (LacksDrive holds c.args.driving)
-    c.save.result c.save.ensures.stop
+    c.save-2.result c.save-2.ensures.stop
 
 pub returns-in_err-classes-clause-left : goal.returns-in_err-classes-clause-left
 returns-in_err-classes-clause-left g c = kept_leaves _ 4 _ c.from_residual.result
@@ -160,7 +167,7 @@ returns-in_err-drive_input-clause-left g c =
     c.in_ok-controller.ensures.control
     c.in_ok-admit.ensures.admitted
     (subst (λ m. Partly (DrivenText drives m given) old new) c.deref_mut.ensures.value
-    c.in_err-drive_input.ensures.cut))
+    (cut_partly _ _ drives _ _ given old new _ _ c.in_err-drive_input.ensures.cut)))
 
 pub returns-clause-left : goal.returns-clause-left
 returns-clause-left g c =
@@ -172,11 +179,110 @@ returns-clause-left g c =
     let asked = c.args.driving.execution in
     let words = c.in_ok-words.words.items in
     let image = c.in_ok-classes.verified in
-    late_leaves (AnswersDrive holds c.args.driving given) old new c.save.result c.save.ensures.stop
+    late_leaves (AnswersDrive holds c.args.driving given) old new c.save-2.result c.save-2.ensures.stop
     (driven_answers holds c.args.driving given old new c.in_ok-classes.classes c.in_ok-classes.driver image words
     c.in_ok-budget.budget drives c.in_ok-budget.ensures.budget c.in_ok-classes.ensures.looks c.in_ok-classes.ensures.held
     (subst (λ h. IsStoredAt h asked.store image words) c.in_ok-classes.ensures.kept c.in_ok-words.ensures.stored)
     c.in_ok-controller.ensures.control
     c.in_ok-admit.ensures.admitted
     (subst (λ m. Partly (DrivenText drives m given) old new) c.deref_mut.ensures.value
-    (input_driven drives c.deref_mut.result.now _ given old new c.in_ok-drive_input.ensures.driven)))
+    (cut_partly _ _ drives _ _ given old new _ _ c.in_ok-drive_input.ensures.cut)))
+
+pub returns-in_err-save-clause-stopped : goal.returns-in_err-save-clause-stopped
+returns-in_err-save-clause-stopped g c =
+    let holds = g.F.Files.holds c.args.files.now in
+    late_stopped (WhyDrive holds c.args.driving) (LacksDrive holds c.args.driving)
+    c.from_residual-in_err-save.result c.in_err-save.field-0.0
+    c.from_residual-in_err-save.ensures.1 c.in_err-save.ensures.stop
+
+pub returns-in_err-save-clause-left : goal.returns-in_err-save-clause-left
+returns-in_err-save-clause-left g c = kept_leaves _ 4 _ c.from_residual-in_err-save.result
+
+pub returns-in_err-classes-clause-state : goal.returns-in_err-classes-clause-state
+returns-in_err-classes-clause-state g c = any_stop _ c.from_residual.result
+    (early_state _ c.args.driving _ _ _ c.in_err-classes.ensures.kept)
+
+pub returns-in_err-words-clause-state : goal.returns-in_err-words-clause-state
+returns-in_err-words-clause-state g c = any_stop _ c.from_residual-in_err-words.result
+    (early_state _ c.args.driving _ _ _ (c.in_err-words.ensures.kept ∙ c.in_ok-classes.ensures.kept))
+
+pub returns-in_err-budget-clause-state : goal.returns-in_err-budget-clause-state
+returns-in_err-budget-clause-state g c = any_stop _ c.from_residual-in_err-budget.result
+    (early_state _ c.args.driving _ _ _ (c.in_ok-words.ensures.kept ∙ c.in_ok-classes.ensures.kept))
+
+pub returns-in_err-admit-clause-state : goal.returns-in_err-admit-clause-state
+returns-in_err-admit-clause-state g c = any_stop _ c.from_residual-in_err-admit.result
+    (early_state _ c.args.driving _ _ _ (c.in_ok-words.ensures.kept ∙ c.in_ok-classes.ensures.kept))
+
+pub returns-in_err-names-clause-state : goal.returns-in_err-names-clause-state
+returns-in_err-names-clause-state g c = any_stop _ c.from_residual-in_err-names.result
+    (early_state _ c.args.driving _ _ _ (c.in_ok-words.ensures.kept ∙ c.in_ok-classes.ensures.kept))
+
+pub returns-in_err-controller-clause-state : goal.returns-in_err-controller-clause-state
+returns-in_err-controller-clause-state g c = any_stop _ c.from_residual-in_err-controller.result
+    (early_state _ c.args.driving _ _ _ (c.in_ok-words.ensures.kept ∙ c.in_ok-classes.ensures.kept))
+
+pub returns-in_err-save-clause-state : goal.returns-in_err-save-clause-state
+returns-in_err-save-clause-state g c = any_stop _ c.from_residual-in_err-save.result
+    (first_state _ (g.F.Files.holds c.first_store.new.files) c.args.driving _ _ _
+    (c.in_ok-words.ensures.kept ∙ c.in_ok-classes.ensures.kept)
+    c.in_err-save.ensures.touched c.in_err-save.ensures.stays)
+
+pub returns-in_err-drive_input-clause-state : goal.returns-in_err-drive_input-clause-state
+returns-in_err-drive_input-clause-state g c =
+    let holds = g.F.Files.holds in
+    let given = g.R.Read.remaining (device_of c.args.input.now) in
+    let old = g.W.Write.contents (device_of c.args.output.now) in
+    let new = g.W.Write.contents (device_of c.drive_input.new.output) in
+    let drives = control c.in_ok-controller.controller in
+    let words = c.in_ok-words.words.items in
+    let image = c.in_ok-classes.verified in
+    any_stop _ c.from_residual-in_err-drive_input.result
+    (driven_state (holds c.args.files.now) (holds c.first_store.new.files) (holds c.save.new.files)
+    (holds c.drive_input.new.files) c.args.driving given old new
+    c.in_ok-classes.classes c.in_ok-classes.driver image words c.in_ok-budget.budget _ drives
+    c.in_ok-budget.ensures.budget c.in_ok-classes.ensures.looks c.in_ok-classes.ensures.held
+    (subst (λ h. IsStoredAt h c.args.driving.execution.store image words) c.in_ok-classes.ensures.kept
+    c.in_ok-words.ensures.stored)
+    c.in_ok-controller.ensures.control
+    c.in_ok-admit.ensures.admitted (c.in_ok-words.ensures.kept ∙ c.in_ok-classes.ensures.kept)
+    c.in_ok-save.ensures.touched
+    (subst (λ m. Delivers c.args.driving.save (state_text image m) (holds c.first_store.new.files)
+    (holds c.save.new.files)) c.as_slice.ensures.value c.in_ok-save.ensures.saved)
+    c.in_err-drive_input.ensures.touched c.saturating_sub.ensures
+    (subst (λ m. CutsInput c.args.driving.save image drives m _ given old new (holds c.save.new.files)
+    (holds c.drive_input.new.files)) c.deref_mut.ensures.value c.in_err-drive_input.ensures.cut))
+
+pub returns-clause-state : goal.returns-clause-state
+returns-clause-state g c =
+    let holds = g.F.Files.holds in
+    let given = g.R.Read.remaining (device_of c.args.input.now) in
+    let old = g.W.Write.contents (device_of c.args.output.now) in
+    let new = g.W.Write.contents (device_of c.drive_input.new.output) in
+    let drives = control c.in_ok-controller.controller in
+    let words = c.in_ok-words.words.items in
+    let image = c.in_ok-classes.verified in
+    IfErr-weaker c.save-2.result _ _
+    (λ stop stays.
+    driven_state (holds c.args.files.now) (holds c.first_store.new.files) (holds c.save.new.files)
+    (holds c.save-2.new.files) c.args.driving given old new
+    c.in_ok-classes.classes c.in_ok-classes.driver image words c.in_ok-budget.budget _ drives
+    c.in_ok-budget.ensures.budget c.in_ok-classes.ensures.looks c.in_ok-classes.ensures.held
+    (subst (λ h. IsStoredAt h c.args.driving.execution.store image words) c.in_ok-classes.ensures.kept
+    c.in_ok-words.ensures.stored)
+    c.in_ok-controller.ensures.control
+    c.in_ok-admit.ensures.admitted (c.in_ok-words.ensures.kept ∙ c.in_ok-classes.ensures.kept)
+    c.in_ok-save.ensures.touched
+    (subst (λ m. Delivers c.args.driving.save (state_text image m) (holds c.first_store.new.files)
+    (holds c.save.new.files)) c.as_slice.ensures.value c.in_ok-save.ensures.saved)
+    (Touches-trans c.args.driving.save (holds c.save.new.files) (holds c.drive_input.new.files)
+    (holds c.save-2.new.files) c.in_ok-drive_input.ensures.touched c.save-2.ensures.touched)
+    c.saturating_sub.ensures
+    (cut_on c.args.driving.save image drives words _ given old new (holds c.save.new.files)
+    (holds c.drive_input.new.files) (holds c.save-2.new.files)
+    (subst (λ m. CutsInput c.args.driving.save image drives m _ given old new (holds c.save.new.files)
+    (holds c.drive_input.new.files)) c.deref_mut.ensures.value c.in_ok-drive_input.ensures.cut) stays))
+    c.save-2.ensures.stays
+
+pub drive_input-requires-clause-same : goal.drive_input-requires-clause-same
+drive_input-requires-clause-same g c = sym (ap (λ k. k.image) c.in_ok-controller.ensures.control)

@@ -1,9 +1,10 @@
-use Rattle.std.proofs.Common.{◌∙◌, subst}
+use Rattle.std.proofs.Common.{◌∙◌, subst, sym}
 use Rattle.vsi_devices.specs.Counted.{device_of}
 use Rattle.vsi.specs.Noted.{IsNote, noting}
 use Rattle.vsi.specs.Partly.{Answers, Leaves, cut_from}
 use Rattle.vsi.specs.Performed.{Performs}
 use Rattle.vsi.specs.Reasons.{Why}
+use Rattle.vsi.specs.Saved.{KeepsState}
 use Rattle.vsi.proofs.NoteLemmas.{noted_ok}
 use Rattle.vsi.proofs.Obeyed.{early_told, explained_stops}
 use Rattle.vsi.proofs.obeying.obey_asked.Goals as goal
@@ -42,3 +43,14 @@ returns-clause-stopped g c =
           c.explaining_of-explaining.ensures c.in-Err.ensures.left;
     })
     c.explain_stop.ensures.same
+
+pub returns-clause-state : goal.returns-clause-state
+returns-clause-state g c =
+    let given = g.R.Read.remaining (device_of c.args.input.now) in
+    let asked = c.args.asked.request in
+    let old = g.W.Write.contents (device_of c.args.output.now) in
+    let new = g.W.Write.contents (device_of c.perform.new.output) in
+    let holds = g.F.Files.holds in
+    subst (λ left. KeepsState (holds c.args.files.now) given asked left old new) (sym c.explain_stop.ensures.kept)
+    (subst (λ h. KeepsState h given asked (holds c.perform.new.files) old new) c.explaining_of-explaining.ensures
+    c.in-Err.ensures.state)

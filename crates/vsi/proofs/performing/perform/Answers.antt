@@ -9,7 +9,7 @@ use Rattle.vsi.specs.Reasons.{HasNoText, LacksEmitBound, LacksTried, OtherLeak, 
 use Rattle.vsi.proofs.Filled.{alone}
 use Rattle.vsi.proofs.Obeyed.{put_stops}
 use Rattle.vsi.proofs.Unrun.{Unseen, fault_stopped}
-use Rattle.vsi.proofs.Partly.{accept_leaves, cut_leaves, fault_leaves, kept_leaves, put_leaves}
+use Rattle.vsi.proofs.Partly.{accept_leaves, any_stop, cut_leaves, fault_leaves, kept_leaves, put_leaves}
 use Rattle.vsi.proofs.Written.{accept_performs, build_performs, put_alone}
 use Rattle.vsi.proofs.performing.perform.Goals as goal
 
@@ -231,6 +231,86 @@ returns-in-Lsp-clause-left g c = rw c.in-Lsp.is
 
 pub returns-in-Layout-clause-left : goal.returns-in-Layout-clause-left
 returns-in-Layout-clause-left g c = rw c.in-Layout.is c.lay_out.ensures.left
+
+-- ---- what is left of the file that receives the store of a drive.
+
+pub returns-in-Classes-clause-state : goal.returns-in-Classes-clause-state
+returns-in-Classes-clause-state g c = rw c.in-Classes.is (any_stop _ _ tt)
+
+pub returns-in-Flows-clause-state : goal.returns-in-Flows-clause-state
+returns-in-Flows-clause-state g c = rw c.in-Flows.is (any_stop _ _ tt)
+
+pub returns-in-Mend-clause-state : goal.returns-in-Mend-clause-state
+returns-in-Mend-clause-state g c = rw c.in-Mend.is (any_stop _ _ tt)
+
+pub returns-in-List-clause-state : goal.returns-in-List-clause-state
+returns-in-List-clause-state g c = rw c.in-List.is (any_stop _ _ tt)
+
+pub returns-in-Source-clause-state : goal.returns-in-Source-clause-state
+returns-in-Source-clause-state g c = rw c.in-Source.is (any_stop _ _ tt)
+
+pub returns-in-EmitC-clause-state : goal.returns-in-EmitC-clause-state
+returns-in-EmitC-clause-state g c = rw c.in-EmitC.is (any_stop _ _ tt)
+
+pub returns-in-Leak-clause-state : goal.returns-in-Leak-clause-state
+returns-in-Leak-clause-state g c = rw c.in-Leak.is (any_stop _ _ tt)
+
+pub returns-in-Report-clause-state : goal.returns-in-Report-clause-state
+returns-in-Report-clause-state g c = rw c.in-Report.is (any_stop _ _ tt)
+
+pub returns-in-Draw-clause-state : goal.returns-in-Draw-clause-state
+returns-in-Draw-clause-state g c = rw c.in-Draw.is (any_stop _ _ tt)
+
+pub returns-in-Policy-clause-state : goal.returns-in-Policy-clause-state
+returns-in-Policy-clause-state g c = rw c.in-Policy.is (any_stop _ _ tt)
+
+pub returns-in-Format-clause-state : goal.returns-in-Format-clause-state
+returns-in-Format-clause-state g c = rw c.in-Format.is (any_stop _ _ tt)
+
+pub returns-in-Try-clause-state : goal.returns-in-Try-clause-state
+returns-in-Try-clause-state g c = rw c.in-Try.is (any_stop _ _ tt)
+
+pub returns-in-Lattice-clause-state : goal.returns-in-Lattice-clause-state
+returns-in-Lattice-clause-state g c = rw c.in-Lattice.is (any_stop _ _ tt)
+
+pub returns-in-Audit-clause-state : goal.returns-in-Audit-clause-state
+returns-in-Audit-clause-state g c = rw c.in-Audit.is (any_stop _ _ tt)
+
+pub returns-in-Build-clause-state : goal.returns-in-Build-clause-state
+returns-in-Build-clause-state g c = rw c.in-Build.is (any_stop _ _ tt)
+
+pub returns-in-Explain-clause-state : goal.returns-in-Explain-clause-state
+returns-in-Explain-clause-state g c = rw c.in-Explain.is (any_stop _ _ tt)
+
+pub returns-in-Check-clause-state : goal.returns-in-Check-clause-state
+returns-in-Check-clause-state g c = rw c.in-Check.is (any_stop _ _ tt)
+
+pub returns-in-Conform-clause-state : goal.returns-in-Conform-clause-state
+returns-in-Conform-clause-state g c = rw c.in-Conform.is (any_stop _ _ tt)
+
+pub returns-in-Bound-clause-state : goal.returns-in-Bound-clause-state
+returns-in-Bound-clause-state g c = rw c.in-Bound.is (any_stop _ _ tt)
+
+pub returns-in-Compare-clause-state : goal.returns-in-Compare-clause-state
+returns-in-Compare-clause-state g c = rw c.in-Compare.is (any_stop _ _ tt)
+
+pub returns-in-Run-clause-state : goal.returns-in-Run-clause-state
+returns-in-Run-clause-state g c = rw c.in-Run.is (any_stop _ _ tt)
+
+pub returns-in-View-clause-state : goal.returns-in-View-clause-state
+returns-in-View-clause-state g c = rw c.in-View.is (any_stop _ _ tt)
+
+pub returns-in-Drive-clause-state : goal.returns-in-Drive-clause-state
+returns-in-Drive-clause-state g c = rw c.in-Drive.is c.drive.ensures.state
+
+pub returns-in-Lsp-clause-state : goal.returns-in-Lsp-clause-state
+returns-in-Lsp-clause-state g c = rw c.in-Lsp.is (any_stop _ _ tt)
+
+pub returns-in-Layout-clause-state : goal.returns-in-Layout-clause-state
+returns-in-Layout-clause-state g c = rw c.in-Layout.is (any_stop _ _ tt)
+
+pub returns-in-Document-clause-state : goal.returns-in-Document-clause-state
+returns-in-Document-clause-state g c = rw c.in-Document.is (any_stop _ _ tt)
 
 -- ---- why it has stopped.
 

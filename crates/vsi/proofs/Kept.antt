@@ -1,0 +1,77 @@
+-- What a drive that stops leaves of the file that receives its store.
+use Rattle.std.proofs.Common.{◌≡◌, ◌≢◌, ◌-◌, ◌∙◌, ℕ, ℤ, List, Some, None, inl, inr, refl, sym, subst}
+use Rattle.std.specs.Prelude.{Option}
+use Rattle.std.specs.Borrow.{Bor}
+use Rattle.std.proofs.KnownBytes.{Keeps-refl}
+use Rattle.vsi_lattice.specs.declared.lattice.Lattice.{Lattice}
+use Rattle.vsi_image.specs.declared.instr.Image.{Image}
+use Rattle.vsi_drive.specs.Control.{Control}
+use Rattle.vsi_arguments.specs.declared.request.Driving.{Driving}
+use Rattle.vsi.specs.Admitted.{IsAdmitted}
+use Rattle.vsi.specs.Files.{IsBudgetOf, IsStoredAt, LooksAt}
+use Rattle.vsi.specs.Holding.{Delivers, Holding, IsImageAt}
+use Rattle.vsi.specs.Performed.{control_of}
+use Rattle.vsi.specs.Saved.{CutsInput, LeavesState, SavesInput}
+use Rattle.vsi.specs.State.{HoldsState, StaysAt, Touches, state_text}
+use Rattle.vsi.proofs.Cut.{StaysAt-same, Touches-same, Touches-trans, cut_saves}
+
+-- A text that was put into the requested file is there.
+delivered_state : (save : Option (Bor (List ℕ))) (text : List ℕ) (old new : Holding) → Delivers save text old new →
+    HoldsState save text new
+delivered_state None text old new done = tt
+delivered_state (Some path) text old new done = done.filled
+
+-- A text that is put into the requested file, after others were, is put into it.
+pub delivered_after : (save : Option (Bor (List ℕ))) (text : List ℕ) (h g k : Holding) → Touches save h g →
+    Delivers save text g k → Delivers save text h k
+delivered_after None text h g k touched done = done ∙ touched
+delivered_after (Some path) text h g k touched done = record {
+  filled = done.filled;
+  others = λ other away beside. done.others other away beside ∙ touched other away beside;
+}
+
+-- A drive that hasn't begun leaves every file.
+pub early_state : (holds : Holding) (d : Driving) (given : Option (List ℕ)) (left : Holding) (old : Option (List ℕ)) →
+    left ≡ holds → LeavesState holds d given left old old
+early_state holds d given left old same = record {
+  touches = Touches-same d.save holds left same;
+  state = inl (StaysAt-same d.save holds left same, Keeps-refl old);
+}
+
+-- A drive whose first store can't be saved leaves the file as it was.
+pub first_state : (holds mid : Holding) (d : Driving) (given : Option (List ℕ)) (left : Holding)
+    (old : Option (List ℕ)) → mid ≡ holds → Touches d.save mid left → StaysAt d.save mid left →
+    LeavesState holds d given left old old
+first_state holds mid d given left old same touched stays = record {
+  touches = subst (λ h. Touches d.save h left) same touched;
+  state = inl (subst (λ h. StaysAt d.save h left) same stays, Keeps-refl old);
+}
+
+-- A drive that is cut short leaves the store after some of the lines.
+pub driven_state : (holds mid h left : Holding) (d : Driving) (given old new : Option (List ℕ)) (l : Lattice)
+    (driver : ℕ) (image : Image) (first : List ℤ) (budget most : ℕ) (k : Control) →
+    IsBudgetOf d.execution.budget image budget → LooksAt holds d.lattice.now d.class.now l driver →
+    IsImageAt holds d.execution.image.now image → IsStoredAt holds d.execution.store image first →
+    k ≡ control_of d.lists l driver image budget → IsAdmitted d.is_unbounded l image budget → mid ≡ holds →
+    Touches d.save mid h → Delivers d.save (state_text image first) mid h → Touches d.save h left →
+    most ≡ d.every - 1 → CutsInput d.save image k first most given old new h left →
+    LeavesState holds d given left old new
+driven_state holds mid h left d given old new l driver image first budget most k within looks held stored same admitted
+    kept begun saved touched is cut = record {
+      touches = Touches-trans d.save holds h left (subst (λ f. Touches d.save f h) kept begun) touched;
+      state = inr (record {
+        lattice = l;
+        driver = driver;
+        looks = looks;
+        image = image;
+        held = held;
+        first = first;
+        stored = stored;
+        budget = budget;
+        within = within;
+        admitted = admitted;
+        saves = subst (λ c. SavesInput d.save image c first d.every given old new left) same
+            (cut_saves d.save image k first most d.every given old new h left is
+            (delivered_state d.save (state_text image first) mid h saved) cut);
+      });
+    }

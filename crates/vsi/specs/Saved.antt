@@ -1,0 +1,112 @@
+-- How old the store of a drive on the disk may be.
+use Rattle.std.specs.Prelude.{◌≡◌, ◌⊎◌, ◌≤◌, ◌+◌, ◌-◌, ◌++◌, ℕ, ℤ, List, Option, Some, None, IfSome, length}
+use Rattle.std.specs.Borrow.{Bor}
+use Rattle.std.specs.Io.KnownBytes.{Keeps}
+use Rattle.std.specs.Prelude.{String}
+use Rattle.std.specs.declared.alloc.Global.{Global}
+use Rattle.vsi_lattice.specs.declared.lattice.Lattice.{Lattice}
+use Rattle.vsi_image.specs.declared.instr.Image.{Image}
+use Rattle.vsi_drive.specs.Control.{Control}
+use Rattle.vsi_drive.specs.Cycles.{store_behind, text_of}
+use Rattle.vsi_arguments.specs.declared.request.Driving.{Driving}
+use Rattle.vsi_arguments.specs.declared.request.Request.{Request}
+use Rattle.vsi_arguments.specs.declared.request.Request.TheVariants.{Drive}
+use Rattle.vsi_asked.specs.Asked.{AsksFor}
+use Rattle.vsi.specs.Admitted.{IsAdmitted}
+use Rattle.vsi.specs.Driven.{lines_of}
+use Rattle.vsi.specs.Files.{IsBudgetOf, IsStoredAt, LooksAt}
+use Rattle.vsi.specs.Holding.{Holding, HoldsAt, IsImageAt}
+use Rattle.vsi.specs.Partly.{WritesPart}
+use Rattle.vsi.specs.Performed.{control_of}
+use Rattle.vsi.specs.State.{HoldsState, StaysAt, Touches, state_text}
+
+-- ---- while lines are driven.
+
+-- A line is counted and nothing is saved, or this text is saved and no line is counted.
+abbrev pub SavesLine : Option (Bor (List ℕ)) → List ℕ → ℕ → ℕ → Holding → Holding → Type 0
+SavesLine save text unsaved more old new =
+    ((more ≡ unsaved + 1) × (new ≡ old)) ⊎ ((more ≡ 0) × HoldsState save text new)
+
+-- The file at the path holds the store after all of these lines but the last ones, which are so many.
+pub record SavesLines (path : List ℕ) (im : Image) (c : Control) (m : List ℤ) (lines : List (List ℕ)) (unsaved : ℕ)
+    (left : Holding) : Type 0 where
+  pub before : List (List ℕ)
+  pub since : List (List ℕ)
+  pub are : lines ≡ before ++ since
+  pub many : length since ≡ unsaved
+  pub held : HoldsAt left path (state_text im (store_behind c m before))
+
+-- While these lines are driven, none is saved, and each is counted; or some are, and those after them are counted.
+abbrev pub Advances : Option (Bor (List ℕ)) → Image → Control → List ℤ → List (List ℕ) → ℕ → ℕ → Holding → Holding →
+    Type 0
+Advances None im c m lines unsaved more old new = Unit {0}
+Advances (Some path) im c m lines unsaved more old new =
+    ((more ≡ unsaved + length lines) × (new path.now ≡ old path.now))
+    ⊎ SavesLines path.now im c m lines more new
+
+-- The driving of lines is cut short: the first of them are driven, and a part of their answers is written.
+pub record CutsLines (save : Option (Bor (List ℕ))) (im : Image) (c : Control) (m : List ℤ) (most : ℕ)
+    (lines : List (List ℕ)) (unsaved : ℕ) (before after : Option (List ℕ)) (old new : Holding) : Type 0 where
+  pub done : List (List ℕ)
+  pub rest : List (List ℕ)
+  pub more : ℕ
+  pub are : lines ≡ done ++ rest
+  pub few : more ≤ most
+  pub advances : Advances save im c m done unsaved more old new
+  pub part : WritesPart (text_of c m done) before after
+
+-- The same for the lines of an input, whose bytes these are if they are known.
+pub record CutsInput (save : Option (Bor (List ℕ))) (im : Image) (c : Control) (m : List ℤ) (most : ℕ)
+    (remaining before after : Option (List ℕ)) (old new : Holding) : Type 0 where
+  pub bytes : List ℕ
+  pub whole : IfSome remaining (λ all. bytes ≡ all)
+  pub cuts : CutsLines save im c m most (lines_of bytes) 0 before after old new
+
+-- ---- at the end.
+
+-- The requested file holds the store after the first lines of an input, and the answers that have been written are
+-- those of these lines and of fewer others than `every`, the last answer perhaps in part.
+pub record SavesInput (save : Option (Bor (List ℕ))) (im : Image) (c : Control) (m : List ℤ) (every : ℕ)
+    (remaining before after : Option (List ℕ)) (left : Holding) : Type 0 where
+  pub bytes : List ℕ
+  pub whole : IfSome remaining (λ all. bytes ≡ all)
+  pub saved : List (List ℕ)
+  pub since : List (List ℕ)
+  pub rest : List (List ℕ)
+  pub are : lines_of bytes ≡ (saved ++ since) ++ rest
+  pub few : length since ≤ every - 1
+  pub held : HoldsState save (state_text im (store_behind c m saved)) left
+  pub part : WritesPart (text_of c m (saved ++ since)) before after
+
+-- The drive of the image in a file has begun, and has saved its store so.
+pub record SavesDrive (holds : Holding) (d : Driving) (given : Option (List ℕ)) (left : Holding)
+    (old new : Option (List ℕ)) : Type 0 where
+  pub lattice : Lattice
+  pub driver : ℕ
+  pub looks : LooksAt holds d.lattice.now d.class.now lattice driver
+  pub image : Image
+  pub held : IsImageAt holds d.execution.image.now image
+  pub first : List ℤ
+  pub stored : IsStoredAt holds d.execution.store image first
+  pub budget : ℕ
+  pub within : IsBudgetOf d.execution.budget image budget
+  pub admitted : IsAdmitted d.is_unbounded lattice image budget
+  pub saves : SavesInput d.save image (control_of d.lists lattice driver image budget) first d.every given old new left
+
+-- A drive that stops leaves its file as it was, and no answer, or with the store after some of the lines. No other file
+-- has changed.
+pub record LeavesState (holds : Holding) (d : Driving) (given : Option (List ℕ)) (left : Holding)
+    (old new : Option (List ℕ)) : Type 0 where
+  pub touches : Touches d.save holds left
+  pub state : (StaysAt d.save holds left × Keeps old new) ⊎ SavesDrive holds d given left old new
+
+-- What a request that stops leaves of the file that receives its store, if it is a drive.
+abbrev pub KeepsState : Holding → Option (List ℕ) → Request → Holding → Option (List ℕ) → Option (List ℕ) → Type 0
+KeepsState holds given (Drive d) left old new = LeavesState holds d given left old new
+KeepsState holds given asked left old new = Unit {0}
+
+-- Arguments that stop, without changing a file or with what their request leaves.
+abbrev pub KeepsStateOf : Holding → Option (List ℕ) → List (String Global) → Holding → Option (List ℕ) →
+    Option (List ℕ) → Type 0
+KeepsStateOf holds given words left old new =
+    (left ≡ holds) ⊎ ((request : Request) × AsksFor words request × KeepsState holds given request left old new)
