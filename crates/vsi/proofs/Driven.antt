@@ -7,15 +7,8 @@ use Rattle.std.proofs.lemmas.Bool.{eq-eqb, le-ltb, lt-ltb, ne_eqb}
 use Rattle.std.proofs.KnownBytes.{Appends-trans, Consumes-all, Consumes-trans}
 use Rattle.std.proofs.lemmas.Result.{on_ok_weaker}
 use Rattle.vsi.specs.declared.stop.Stop.{Stop}
-use Rattle.vsi_lattice.specs.LatticeView.{class_named, order}
-use Rattle.vsi_lattice.specs.declared.lattice.Lattice.{Lattice}
-use Rattle.vsi_image.specs.declared.instr.Image.{Image}
-use Rattle.vsi_drive.specs.Boundary.{Boundary}
-use Rattle.vsi_drive.specs.Control.{Control, within}
+use Rattle.vsi_drive.specs.Control.{Control}
 use Rattle.vsi_drive.specs.Cycles.{cycle, store_behind, text_of}
-use Rattle.vsi_arguments.specs.declared.request.NameLists.{NameLists}
-use Rattle.vsi.specs.Boundaries.{requested}
-use Rattle.vsi.specs.Performed.{control_of}
 use Rattle.vsi.specs.Driven.{Drives, DrivesInput, begun, grown, last_line, whole_lines}
 
 -- The store after two lists of lines is the one after the second list, beginning with the store after the first.
@@ -136,20 +129,6 @@ driven_whole c m mid words bytes cur line first rest last old between new result
           (subst (λ l. Drives c mid words (last_line l) between new) (same ∙ is) drives);
     })
     done
-
--- The control of a controller within a boundary, part by part.
-pub control_is : (k c : Control) (b : Boundary) (lists : NameLists) (l : Lattice) (class : ℕ) (im : Image)
-    (budget : ℕ) → k ≡ within c b → b ≡ requested lists → c.known ≡ class_named l → c.order ≡ order l →
-    c.class ≡ class → c.image ≡ im → c.budget ≡ budget → k ≡ control_of lists l class im budget
-control_is k c b lists l class im budget is bounds known ordered seen shown spent =
-    is ∙ (λ i. record {
-      known = known i;
-      order = ordered i;
-      class = seen i;
-      image = shown i;
-      budget = spent i;
-      boundary = bounds i;
-    })
 
 -- The first part of a concatenation, taken by its length, is that part.
 pub written_back : (n : ℕ) (xs ys : List ℤ) → length xs ≡ n → take n (xs ++ ys) ≡ xs

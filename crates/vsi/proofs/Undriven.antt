@@ -92,14 +92,17 @@ lacking_fault : (l : Lattice) (image : Image) (error : ViewError) → LacksContr
     IsViewFault l image (fault.View error)
 lacking_fault l image error (i, first, is) = subst (λ e. IsViewFault l image (fault.View e)) (sym is) first
 
--- The stop for that fault claims it.
-pub controller_stops : (l : Lattice) (image : Image) (error : ViewError) (stop : Stop) → LacksController l image error →
+-- The stop for that fault claims that the controller is refused.
+pub controller_stops : (lists : NameLists) (l : Lattice) (driver : ℕ) (image : Image) (budget : ℕ) (error : ViewError)
+    (stop : Stop) → LacksController l image error →
     StopsBy (Because (TellsFault (λ f. (f ≡ fault.View error) × IsNoMemory f)) ⊥) NoOther stop →
-    StopsBy (Because (TellsFault (IsViewFault l image)) ⊥) NoOther stop
-controller_stops l image error stop lacks told =
+    StopsBy (RefusesControl lists l driver image budget) NoOther stop
+controller_stops lists l driver image budget error stop lacks told =
     stops_by (Because (TellsFault (λ f. (f ≡ fault.View error) × IsNoMemory f)) ⊥)
-    (Because (TellsFault (IsViewFault l image)) ⊥) NoOther
-    (kind_told (IsViewFault l image) (fault.View error) (λ other. lacking_fault l image error lacks)) stop told
+    (RefusesControl lists l driver image budget) NoOther
+    (λ reason is. inl (kind_told (IsViewFault l image) (fault.View error) (λ other. lacking_fault l image error lacks)
+    reason is))
+    stop told
 
 -- A report of one fault of a start is a report of a fault of its kind.
 start_told : (Kind : StartFault → Type 0) (f : StartFault) → Kind f → (reason : Unanswered) →

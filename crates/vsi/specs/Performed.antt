@@ -19,7 +19,7 @@ use Rattle.vsi_compiler.specs.Observation.{EndsAlike, IsNoninterfering}
 use Rattle.vsi_compiler.specs.Readable.{HasProgram}
 use Rattle.vsi_steady.specs.Steady.{IsSteady}
 use Rattle.vsi_drive.specs.BoundaryFaults.{boundary_fault}
-use Rattle.vsi_drive.specs.Control.{Control}
+use Rattle.vsi_drive.specs.Control.{Control, controlled}
 use Rattle.vsi_devices.specs.Running.{RunsApart}
 use Rattle.vsi_leak.specs.declared.whole.Wanted.{Wanted}
 use Rattle.vsi_audit.specs.Standing.{HasKnownClasses}
@@ -392,15 +392,7 @@ pub record PerformsView (holds : Holding) (path class : List ℕ) (e : Execution
 
 -- An image, the class that drives it by a lattice, the budget of each cycle, and the boundary with the names in lists.
 abbrev pub control_of : NameLists → Lattice → ℕ → Image → ℕ → Control
-control_of lists l class im budget =
-    record {
-      known = class_named l;
-      order = order l;
-      class = class;
-      image = im;
-      budget = budget;
-      boundary = requested lists;
-    }
+control_of lists l class im budget = controlled l class im budget (requested lists)
 
 -- `drive`: its boundary has no fault, its budget is enough or `--unbounded` is given, a cycle has run for each line of
 -- the input, beginning with the words of the store file, its text has been written, and the last store goes to a file if

@@ -6,8 +6,8 @@ ghost use Rattle.vsi_drive.specs.BoundaryFaults.{boundary_fault};
 ghost use Rattle.vsi_drive.specs.Control.{control};
 ghost use Rattle.vsi_drive.specs.declared.starts.StartFault.TheVariants as start;
 ghost use Rattle.vsi_answers.specs.Answers.{Because};
-ghost use Rattle.vsi_answers.specs.Judged.{IsViewFault, TellsFault, TellsStartFault};
-ghost use Rattle.vsi_lattice.specs.LatticeView.{class_named, order};
+ghost use Rattle.vsi_answers.specs.Judged.{TellsStartFault};
+ghost use Rattle.vsi_lattice.specs.LatticeView.{order};
 ghost use Rattle.vsi_lattice.specs.NamePlaces.{texts};
 ghost use Rattle.vsi_lattice.specs.Order.{IsClass};
 ghost use Rattle.vsi.specs.Boundaries.{boundary_in, given_names, read_names, requested};
@@ -122,29 +122,6 @@ fn boundary_stop<'a>(desk: &mut Desk, lists: NameLists<'a>, fault: BoundaryFault
     Stop::from(refused_start(desk.alloc, StartFault::Boundary(fault)))
 }
 
-/// A controller of an image without lists.
-fn plain_controller<'a, 'c>(
-    alloc: Global,
-    classes: &'c Lattice,
-    driver: Class,
-    verified: &'c Verified,
-    budget: u64,
-) -> Result<Controller<'c>, Stop<'a>>
-    requires { IsClass (order classes.now) driver }
-    ensures known { IfOk result (λ c. (control c).known ≡ class_named classes.now) }
-    ensures order { IfOk result (λ c. (control c).order ≡ order classes.now) }
-    ensures class { IfOk result (λ c. (control c).class ≡ driver) }
-    ensures image { IfOk result (λ c. (control c).image ≡ verified.now) }
-    ensures budget { IfOk result (λ c. (control c).budget ≡ budget) }
-    ensures stopped { IfErr result
-        (StopsBy (Because (TellsFault (IsViewFault classes.now verified.now)) ⊥) NoOther) }
-{
-    match Controller::new(classes, verified, driver, budget) {
-        Ok(controller) => Ok(controller),
-        Err(error) => Err(faulty(alloc, Fault::View(error))),
-    }
-}
-
 /// A controller of an image with the requested boundary.
 pub(crate) fn controller_of<'a, 'c>(
     desk: &mut Desk,
@@ -156,16 +133,16 @@ pub(crate) fn controller_of<'a, 'c>(
     budget: u64,
 ) -> Result<Controller<'c>, Stop<'a>>
     requires class { IsClass (order classes.now) driver }
-    requires names { boundary_in names.now ≡ requested lists.entry }
+    requires names { boundary_in names.now ≡ requested lists }
     ensures control { IfOk result (λ c. control c
         ≡ control_of lists.entry classes.now driver verified.now budget) }
     ensures sound { IfOk result (λ c. boundary_fault (control c) ≡ None) }
     ensures stopped { IfErr result (StopsBy
         (RefusesControl lists.entry classes.now driver verified.now budget) NoOther) }
 {
-    let plain = plain_controller(desk.alloc, classes, driver, verified, budget)?;
-    match plain.within(names.boundary()) {
-        Ok(controller) => Ok(controller),
-        Err(fault) => Err(boundary_stop(desk, lists, fault)),
+    match Controller::within(classes, verified, driver, budget, names.boundary()) {
+        Ok(Ok(controller)) => Ok(controller),
+        Ok(Err(fault)) => Err(boundary_stop(desk, lists, fault)),
+        Err(error) => Err(faulty(desk.alloc, Fault::View(error))),
     }
 }

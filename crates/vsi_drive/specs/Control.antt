@@ -3,6 +3,7 @@ use Rattle.std.specs.Prelude.{ℕ, Bool, ◌&&◌, ◌||◌, not, List}
 use Rattle.vsi_image.specs.declared.instr.Image.{Image}
 use Rattle.vsi_image.specs.Fields.{Global}
 use Rattle.vsi_lattice.specs.Order.{Lattice}
+use Rattle.vsi_lattice.specs.declared.lattice.Lattice as declared
 use Rattle.vsi_lattice.specs.LatticeView.{class_named, order}
 use Rattle.vsi_lattice.specs.Known.{Known}
 use Rattle.vsi_store.specs.View.{is_seen}
@@ -30,15 +31,15 @@ control c =
       boundary = boundary_of c.boundary;
     }
 
--- The same control with another boundary.
-abbrev pub within : Control → Boundary → Control
-within c b =
+-- An image, the class that drives it by a lattice, the budget of a cycle, and a boundary.
+abbrev pub controlled : declared.Lattice → ℕ → Image → ℕ → Boundary → Control
+controlled l class im budget b =
     record {
-      known = c.known;
-      order = c.order;
-      class = c.class;
-      image = c.image;
-      budget = c.budget;
+      known = class_named l;
+      order = order l;
+      class = class;
+      image = im;
+      budget = budget;
       boundary = b;
     }
 

@@ -45,7 +45,7 @@ impl<'a> Controller<'a> {
     ghost use Rattle.vsi_drive.specs.Boundary.{boundary_of, listed, no_boundary};
     ghost use Rattle.vsi_drive.specs.BoundaryFaults.{boundary_fault, class_of, name_fault, names_fault};
     ghost use Rattle.vsi_drive.specs.declared.boundary.Role.TheVariants.{Input, Output, Released};
-    ghost use Rattle.vsi_drive.specs.Control.{control, is_input, is_written, within};
+    ghost use Rattle.vsi_drive.specs.Control.{control, controlled, is_input, is_written};
     ghost use Rattle.vsi_drive.specs.Cycles as spec;
 
     /// A controller of this image.
@@ -88,29 +88,47 @@ impl<'a> Controller<'a> {
         })
     }
 
-    /// The same controller with this boundary.
+    /// A controller of this image with a boundary, or the first fault of the boundary: of its
+    /// inputs, then of its outputs, then of its released names.
     ///
     /// # Errors
     ///
-    /// The first fault of the boundary: of its inputs, then of its outputs, then of its released
-    /// names.
-    pub fn within(self, boundary: Boundary<'a>) -> Result<Controller<'a>, BoundaryFault>
-        ensures control { IfOk result
-            (λ c. control c ≡ within (control self.entry) (boundary_of boundary.entry)) }
-        ensures sound { IfOk result (λ c. boundary_fault (control c) ≡ None) }
-        ensures fault { IfErr result (λ f.
-            boundary_fault (within (control self.entry) (boundary_of boundary.entry)) ≡ Some f) }
+    /// `ClassNotInLattice`, as for `new`.
+    pub fn within(
+        lattice: &'a Lattice,
+        verified: &'a Verified,
+        class: Class,
+        budget: u64,
+        boundary: Boundary<'a>,
+    ) -> Result<Result<Controller<'a>, BoundaryFault>, ViewError>
+        requires { IsClass (order lattice.now) class }
+        ensures control { IfOk result (λ answer. IfOk answer (λ c. control c
+            ≡ controlled lattice.now class verified.now budget (boundary_of boundary.entry))) }
+        ensures sound { IfOk result (λ answer. IfOk answer (λ c. boundary_fault (control c) ≡ None)) }
+        ensures fault { IfOk result (λ answer. IfErr answer (λ f.
+            boundary_fault (controlled lattice.now class verified.now budget (boundary_of boundary.entry))
+            ≡ Some f)) }
+        ensures all { OnOk result
+            (first_unknown (class_named lattice.now) 0 (globals verified.now.globals.items)
+            ≡ None) }
+        ensures unknown { IfErr result (λ e. (i : ℕ)
+            × (first_unknown (class_named lattice.now) 0 (globals verified.now.globals.items)
+            ≡ Some i)
+            × (e ≡ ViewError.ClassNotInLattice i)) }
     {
+        if let Err(error) = Controller::new(lattice, verified, class, budget) {
+            return Err(error);
+        }
         let controller = Controller {
-            lattice: self.lattice,
-            verified: self.verified,
-            class: self.class,
-            budget: self.budget,
+            lattice,
+            verified,
+            class,
+            budget,
             boundary,
         };
         match controller.boundary_fault() {
-            Some(fault) => Err(fault),
-            None => Ok(controller),
+            Some(fault) => Ok(Err(fault)),
+            None => Ok(Ok(controller)),
         }
     }
 
