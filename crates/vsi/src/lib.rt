@@ -52,6 +52,7 @@ mod stop;
 mod subcommands;
 mod telling;
 mod trying;
+mod warning;
 
 pub use command_line::command;
 pub use files::Files;

@@ -83,6 +83,7 @@ fn put_check<'a, F: Files, W: Write>(
     asked: Judging<'a>,
     files: &mut F,
     output: &mut Counted<W>,
+    note: &mut Vec<u8>,
 ) -> Result<(), Stop<'a>>
     requires { faults_of output.old < u64.MAX }
     ensures kept { F.holds files.new ≡ F.holds files.old }
@@ -97,9 +98,9 @@ fn put_check<'a, F: Files, W: Write>(
         (W.contents (device_of output.old)) (W.contents (device_of output.new))) }
 {
     if asked.is_json {
-        check_as_json(desk, asked, files, output)
+        check_as_json(desk, asked, files, output, note)
     } else {
-        put(check(desk, asked, files), output)
+        put(check(desk, asked, files, note), output)
     }
 }
 
@@ -161,7 +162,7 @@ pub(crate) fn perform<'a, F: Files, R: Read, W: Write>(
         (W.contents (device_of output.old)) (W.contents (device_of output.new))) }
 {
     match request {
-        Request::Check(asked) => put_check(desk, asked, files, output),
+        Request::Check(asked) => put_check(desk, asked, files, output, &mut told.note),
         Request::Document(asked) => put_document(desk, asked, files, output),
         Request::Conform(asked) => conform(desk, asked, files, output),
         Request::Classes(compilation) => put(classes(desk, compilation, files), output),

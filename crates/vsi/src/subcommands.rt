@@ -18,6 +18,7 @@ use crate::files::Files;
 use crate::filling::fill;
 use crate::reading::{answered, bytes_in, lattice_in, two_classes};
 use crate::stop::{Stop, write_answer};
+use crate::warning::put_warnings;
 use std::alloc::Global;
 use std::io::Write;
 use vsi_answers::Unanswered;
@@ -73,11 +74,13 @@ fn checked(
     vsi_answers::check(alloc, profile, classes, text)
 }
 
-/// `accepted`, if the source text is accepted as requested.
+/// `accepted`, if the source text is accepted as requested. The note gets the warnings about the
+/// text.
 pub(crate) fn check<'a, F: Files>(
     desk: &mut Desk,
     asked: Judging<'a>,
     files: &mut F,
+    note: &mut Vec<u8>,
 ) -> Result<Vec<u8>, Stop<'a>>
     ensures kept { F.holds files.new ≡ F.holds files.old }
     ensures told { IfOk result (OfFiles (F.holds files.old) asked.entry.compilation
@@ -87,6 +90,7 @@ pub(crate) fn check<'a, F: Files>(
         (AsksCheck asked.entry.is_steady asked.entry.compilation.is_strict)) NoOther) }
 {
     let (classes, text) = policy_and_text(desk, asked.compilation, files)?;
+    put_warnings(desk.alloc, asked, &classes, &text, note)?;
     answered(checked(desk.alloc, asked, &classes, text.as_slice()))
 }
 
@@ -103,11 +107,13 @@ pub(crate) fn judgement(asked: Judging<'_>) -> Judgement
     }
 }
 
-/// The same answer as a line of JSON, and whether the text is accepted.
+/// The same answer as a line of JSON, and whether the text is accepted. The note gets the warnings
+/// about the text.
 fn checked_line<'a, F: Files>(
     desk: &mut Desk,
     asked: Judging<'a>,
     files: &mut F,
+    note: &mut Vec<u8>,
 ) -> Result<Checked, Stop<'a>>
     ensures kept { F.holds files.new ≡ F.holds files.old }
     ensures told { IfOk result (λ checked. checked.is_accepted ≡ true → OfFiles (F.holds files.old)
@@ -119,6 +125,7 @@ fn checked_line<'a, F: Files>(
         (RefusesLattice (F.holds files.old) asked.entry.compilation.lattice.now) NoOther) }
 {
     let (classes, text) = policy_and_text(desk, asked.compilation, files)?;
+    put_warnings(desk.alloc, asked, &classes, &text, note)?;
     let checked = check_json(desk.alloc, judgement(asked), &classes, text.as_slice())?;
     Ok(checked)
 }
@@ -129,6 +136,7 @@ pub(crate) fn check_as_json<'a, F: Files, W: Write>(
     asked: Judging<'a>,
     files: &mut F,
     output: &mut Counted<W>,
+    note: &mut Vec<u8>,
 ) -> Result<(), Stop<'a>>
     requires { faults_of output.old < u64.MAX }
     ensures kept { F.holds files.new ≡ F.holds files.old }
@@ -141,7 +149,7 @@ pub(crate) fn check_as_json<'a, F: Files, W: Write>(
     ensures stopped { IfErr result (WhyCheck true (F.holds files.old) asked.entry
         (W.contents (device_of output.old)) (W.contents (device_of output.new))) }
 {
-    let checked = checked_line(desk, asked, files)?;
+    let checked = checked_line(desk, asked, files, note)?;
     write_answer(&checked.line, checked.is_accepted, output)
 }
 

@@ -199,6 +199,13 @@ pub(crate) const SARIF: Argument = Argument {
     whole: word_help::SARIF,
 };
 
+pub(crate) const WARNINGS: Argument = Argument {
+    name: "warnings",
+    form: Form::Flag,
+    line: "Adds warnings about an accepted text",
+    whole: word_help::WARNINGS,
+};
+
 pub(crate) const MEND_JSON: Argument = Argument {
     name: "json",
     form: Form::Flag,

@@ -208,6 +208,7 @@ fn check_request<'a>(matches: &ArgMatches<'a>) -> Result<Request<'a>, Mistake> {
         compilation: compilation_in(matches),
         is_steady: matches.get_flag("steady"),
         is_json: matches.get_flag("json"),
+        has_warnings: matches.get_flag("warnings"),
     };
     match (matches.get_flag("sarif"), judging.is_json) {
         (false, _) => Ok(Request::Check(judging)),

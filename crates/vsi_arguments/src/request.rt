@@ -143,13 +143,14 @@ pub struct Bounding<'a> {
     pub file: &'a str,
 }
 
-/// A judgement of a source text: its compilation, whether its image must also be steady, and
-/// whether the answer is written as JSON.
+/// A judgement of a source text: its compilation, whether its image must also be steady, whether
+/// the answer is written as JSON, and whether warnings follow it.
 #[derive(Clone, Copy)]
 pub struct Judging<'a> {
     pub compilation: Compilation<'a>,
     pub is_steady: bool,
     pub is_json: bool,
+    pub has_warnings: bool,
 }
 
 /// An attempt: the path of a source text; the path of a lattice file and the class of the observer,

@@ -48,6 +48,7 @@ const OWNERS: [(&str, &str); 34] = [
     ("'--tries'", "leak"),
     ("'--unbounded'", "drive"),
     ("'--walks'", "flows"),
+    ("'--warnings'", "check"),
     ("'--write'", "fmt"),
 ];
 

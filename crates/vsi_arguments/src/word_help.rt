@@ -306,6 +306,14 @@ Writes the answer as a document of SARIF 2.1.0 on standard output,
 which services that check changes show on the lines of the text: a
 refusal is its one result, and an accepted text has none.";
 
+/// `--warnings`.
+pub(crate) const WARNINGS: &str = "\
+Writes warnings about an accepted text to standard error, a line each:
+loops whose guard nothing changes, variables that nothing reads,
+assignments without effect, hidden names, chained comparisons, and
+commands that are indented as if a loop or an `if` had them. The
+status and the answer stay.";
+
 /// The answer as JSON.
 pub(crate) const JSON: &str = "\
 Writes the answer as a line of JSON: an object with `conforms` and

@@ -103,7 +103,8 @@ operands_of (Explain page) = []
 abbrev pub check_flags : Judging → Bool → List (List ℕ × Bool)
 check_flags judging is_sarif =
     (codes "--strict", judging.compilation.is_strict) ∷ (codes "--steady", judging.is_steady)
-    ∷ (codes "--json", judging.is_json) ∷ (codes "--sarif", is_sarif) ∷ []
+    ∷ (codes "--json", judging.is_json) ∷ (codes "--sarif", is_sarif)
+    ∷ (codes "--warnings", judging.has_warnings) ∷ []
 
 -- The flags of a request for a document, each with whether it is set.
 abbrev pub document_flags : Document → List (List ℕ × Bool)

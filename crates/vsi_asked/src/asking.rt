@@ -293,6 +293,7 @@ fn asks_check(words: &[String], judging: &Judging<'_>, is_sarif: bool) -> bool
         ("--steady", judging.is_steady),
         ("--json", judging.is_json),
         ("--sarif", is_sarif),
+        ("--warnings", judging.has_warnings),
     ];
     asks_compilation(words, "check", &judging.compilation, flags.as_slice())
 }

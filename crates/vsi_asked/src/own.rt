@@ -22,11 +22,12 @@ const TRY_OPTIONS: [&[u8]; 5] = [b"--lattice", b"--class", b"--set", b"--budget"
 const STRICT: [&[u8]; 2] = [b"--strict", b"--explain"];
 
 /// The flags of `check`.
-const CHECK: [&[u8]; 5] = [
+const CHECK: [&[u8]; 6] = [
     b"--strict",
     b"--steady",
     b"--json",
     b"--sarif",
+    b"--warnings",
     b"--explain",
 ];
 

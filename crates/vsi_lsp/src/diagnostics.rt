@@ -120,6 +120,18 @@ pub(crate) fn error_object(
     })
 }
 
+/// The object of a warning: its part and its message.
+pub(crate) fn warning_object(
+    alloc: Global,
+    page: Page<'_>,
+    span: Span,
+    message: &[u8],
+) -> Result<Value, AllocError> {
+    let range = range_object(alloc, page.range(span))?;
+    let message = text_value(alloc, message)?;
+    json!(in alloc; {"range": range, "severity": 2, "source": "vsi", "message": message})
+}
+
 /// The object of a refusal with a message.
 fn refusal(
     alloc: Global,

@@ -2,6 +2,7 @@
 
 use crate::diagnostics::{Page, error_object, errors_in, only};
 use crate::replies::notification;
+use crate::warned::put_warnings;
 use serde_json::{Value, json};
 use std::alloc::{AllocError, Global};
 use vsi_choices::text_value;
@@ -154,7 +155,7 @@ fn lattice_errors(alloc: Global, page: Page<'_>) -> Result<Vec<Value>, AllocErro
     only(alloc, refused_object(alloc, page, span, error)?)
 }
 
-/// The errors of a source text under a lattice file.
+/// The errors and warnings of a source text under a lattice file.
 fn source_errors(
     alloc: Global,
     profile: Profile,
@@ -162,7 +163,18 @@ fn source_errors(
     bytes: &[u8],
 ) -> Result<Vec<Value>, AllocError> {
     match read_lattice(alloc, bytes) {
-        Ok(lattice) => errors_in(alloc, page.encoding, profile, &lattice, page.uri, page.text),
+        Ok(lattice) => {
+            let mut objects = errors_in(
+                alloc,
+                page.encoding,
+                profile,
+                &lattice,
+                page.uri,
+                page.text,
+            )?;
+            put_warnings(alloc, page, &lattice, &mut objects)?;
+            Ok(objects)
+        }
         Err(error) => {
             let span = naming_span(page.text);
             only(alloc, refused_object(alloc, page, span, error)?)
@@ -170,7 +182,7 @@ fn source_errors(
     }
 }
 
-/// The errors of a document.
+/// The errors and warnings of a document.
 fn document_errors(
     alloc: Global,
     encoding: Encoding,

@@ -18,6 +18,7 @@ mod reading;
 mod replies;
 mod server;
 mod starting;
+mod warned;
 
 pub use diagnostics::errors_in;
 pub use frames::framed;
