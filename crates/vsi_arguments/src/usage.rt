@@ -32,7 +32,15 @@ const SUBCOMMANDS: [Subcommand; 21] = [
         line: "Says whether a source text is accepted",
         whole: help::CHECK,
         example: help::CHECK_EXAMPLE,
-        arguments: &[LATTICE, SOURCE, STRICT, STEADY_SOURCE, CHECK_JSON, SARIF, WARNINGS],
+        arguments: &[
+            LATTICE,
+            SOURCE,
+            STRICT,
+            STEADY_SOURCE,
+            CHECK_JSON,
+            SARIF,
+            WARNINGS,
+        ],
     },
     Subcommand {
         name: "conform",

@@ -46,9 +46,9 @@ passed_all f none cs i xs le =
 
 -- A walk over an `if`.
 pub passed_if : (f : Command → List Bool) → IsChoice f → (c : Cmd) (e : Ex) (y n : Vec Cmd Global) (ys ns : List Cmd)
-    (xs as bs : List Bool) → c ≡ view.If e y n → ys ≡ y.items → ns ≡ n.items → as ≡ xs ++ f (sequence ys) →
-    bs ≡ as ++ f (sequence ns) → bs ≡ xs ++ f (command c)
-passed_if f choice c e y n ys ns xs as bs is iy in' p q =
+    (xs us bs : List Bool) → c ≡ view.If e y n → ys ≡ y.items → ns ≡ n.items → us ≡ xs ++ f (sequence ys) →
+    bs ≡ us ++ f (sequence ns) → bs ≡ xs ++ f (command c)
+passed_if f choice c e y n ys ns xs us bs is iy in' p q =
     q ∙ ap (λ l. l ++ f (sequence ns)) p ∙ joined xs (f (sequence ys)) (f (sequence ns))
     ∙ ap (λ l. xs ++ (f (sequence l) ++ f (sequence ns))) iy
     ∙ ap (λ l. xs ++ (f (sequence y.items) ++ f (sequence l))) in'
@@ -56,7 +56,7 @@ passed_if f choice c e y n ys ns xs as bs is iy in' p q =
     ∙ ap f (sym (command_If e y n)) ∙ ap (λ x. f (command x)) (sym is))
 
 -- A walk over a loop or a letvar that adds an answer first.
-pub passed_first : (xs as bs zs : List Bool) (b : Bool) (us vs : List Bool) → as ≡ xs ++ b ∷ [] → bs ≡ as ++ us →
-    us ≡ vs → zs ≡ b ∷ vs → bs ≡ xs ++ zs
-passed_first xs as bs zs b us vs p q e z =
-    q ∙ ap (λ l. l ++ us) p ∙ joined xs (b ∷ []) us ∙ ap (λ l. xs ++ b ∷ l) e ∙ ap (λ l. xs ++ l) (sym z)
+pub passed_first : (xs us bs zs : List Bool) (b : Bool) (ws vs : List Bool) → us ≡ xs ++ b ∷ [] → bs ≡ us ++ ws →
+    ws ≡ vs → zs ≡ b ∷ vs → bs ≡ xs ++ zs
+passed_first xs us bs zs b ws vs p q e z =
+    q ∙ ap (λ l. l ++ ws) p ∙ joined xs (b ∷ []) ws ∙ ap (λ l. xs ++ b ∷ l) e ∙ ap (λ l. xs ++ l) (sym z)
