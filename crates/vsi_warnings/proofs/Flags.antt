@@ -55,7 +55,13 @@ passed_if f choice c e y n ys ns xs us bs is iy in' p q =
     ∙ ap (λ l. xs ++ l) (sym (choice (expression e) (sequence y.items) (sequence n.items))
     ∙ ap f (sym (command_If e y n)) ∙ ap (λ x. f (command x)) (sym is))
 
--- A walk over a loop or a letvar that adds an answer first.
+-- A walk over a body that is all of a command.
+pub passed_same : (f : Command → List Bool) (c : Cmd) (bs cs : List Cmd) (xs ys : List Bool) →
+    f (command c) ≡ f (sequence cs) → bs ≡ cs → ys ≡ xs ++ f (sequence bs) → ys ≡ xs ++ f (command c)
+passed_same f c bs cs xs ys e same p =
+    p ∙ ap (λ l. xs ++ f (sequence l)) same ∙ ap (λ l. xs ++ l) (sym e)
+
+-- A walk over a body after an answer for the whole.
 pub passed_first : (xs us bs zs : List Bool) (b : Bool) (ws vs : List Bool) → us ≡ xs ++ b ∷ [] → bs ≡ us ++ ws →
     ws ≡ vs → zs ≡ b ∷ vs → bs ≡ xs ++ zs
 passed_first xs us bs zs b ws vs p q e z =

@@ -56,8 +56,10 @@ fn put_letvars(
 
 /// Adds the warnings about globals.
 fn put_globals(source: &Source<'_>, found: &mut Vec<Warning>) -> Result<(), AllocError> {
-    for (global, declaration) in source.globals().iter().enumerate() {
-        if is_unused_global(source.resolved(), global as u16) {
+    for (number, declaration) in source.globals().iter().enumerate() {
+        if let Ok(global) = u16::try_from(number)
+            && is_unused_global(source.resolved(), global)
+        {
             put(found, Concern::UnusedGlobal, declaration.name.span)?;
         }
     }

@@ -99,17 +99,15 @@ fn pass_brace(open: &mut Vec<Opened>) {
 /// The innermost loop or `if` that ends before a token whose line is indented as if it were within.
 fn embracing(text: &[u8], token: usize, open: &[Opened]) -> Option<Frame> {
     let own = blanks_before(text, token)?;
-    let mut rest = open;
-    while let [before @ .., last] = rest {
-        if last.frame == Frame::Brace {
-            return None;
+    let mut found = None;
+    for opened in open {
+        if opened.frame == Frame::Brace {
+            found = None;
+        } else if are_deeper(own, text, opened.start) {
+            found = Some(opened.frame);
         }
-        if are_deeper(own, text, last.start) {
-            return Some(last.frame);
-        }
-        rest = before;
     }
-    None
+    found
 }
 
 /// The warning about a command at a token that comes after what ends there.
