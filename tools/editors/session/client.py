@@ -183,4 +183,4 @@ def at(uri, line, character, **more):
 def marks(diagnostics):
     """Number, line, first and last code unit of each error."""
     return [[found["code"], found["range"]["start"]["line"], found["range"]["start"]["character"],
-             found["range"]["end"]["character"]] for found in diagnostics]
+             found["range"]["end"]["character"]] for found in diagnostics if found["severity"] == 1]

@@ -112,7 +112,7 @@ local function session()
     table.insert(results, {
       lines = vim.api.nvim_buf_get_lines(0, 0, -1, false),
       diagnostics = latest.diagnostics,
-      shown = #vim.diagnostic.get(0),
+      shown = #vim.diagnostic.get(0, { severity = vim.diagnostic.severity.ERROR }),
       answer = answer,
     })
   end

@@ -36,7 +36,7 @@ const vscode = {
   CodeAction: made('title', 'kind'),
   CodeActionKind: { QuickFix: 'quickfix' },
   WorkspaceEdit: class { set(place, changes) { edits.push(...changes); } },
-  DiagnosticSeverity: { Error: 0 },
+  DiagnosticSeverity: { Error: 0, Warning: 1 },
   SymbolKind: { Variable: 12 },
   InlayHintKind: { Type: 1 },
   Uri: { parse: (name) => ({ toString: () => name }) },

@@ -113,7 +113,8 @@ function edit(change) {
 }
 
 function diagnostic(found) {
-  const made = new vscode.Diagnostic(range(found.range), found.message, vscode.DiagnosticSeverity.Error);
+  const severity = found.severity === 2 ? vscode.DiagnosticSeverity.Warning : vscode.DiagnosticSeverity.Error;
+  const made = new vscode.Diagnostic(range(found.range), found.message, severity);
   made.source = found.source;
   made.code = found.code;
   made.relatedInformation = (found.relatedInformation || []).map(
