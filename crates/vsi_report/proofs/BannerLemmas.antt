@@ -80,8 +80,8 @@ pub accepted_shown : {E : Type 0} (l : Lattice) (P : Profile) (text : List ℕ) 
     IfOk r (λ page. HasLead Accepted (allowed_words (length pairs)) page.items) →
     IfOk r (λ page. HasVerdict l P text page.items)
 accepted_shown l P text pairs r is flows h =
-    let T = λ page. HasLead Accepted (allowed_words (length pairs)) page in
-    verdict_shown l P text Accepted r T is (λ page t. lead_banner Accepted (allowed_words (length pairs)) page t)
+    verdict_shown l P text Accepted r (HasLead Accepted (allowed_words (length pairs))) is
+    (lead_banner Accepted (allowed_words (length pairs)))
     (λ page t. record {
       resolved = flows.resolved;
       stands = flows.stands;

@@ -5,12 +5,17 @@ use Rattle.std.proofs.lemmas.List.Concat.{flat_map-append}
 use Rattle.vsi_types.specs.declared.rules.Profile.{Profile}
 use Rattle.vsi_types.specs.declared.rules.Rule.{Rule}
 use Rattle.vsi_types.specs.declared.rules.Rule.TheVariants.{Assign, If, While, Letvar, Loop}
-use Rattle.vsi_types.specs.Security.{Program, count_from}
+use Rattle.vsi_types.specs.Security.{Program, program, count_from}
 use Rattle.vsi_types.proofs.Tables.{count_more}
 use Rattle.vsi_infer.specs.Flowing.{size_of}
 use Rattle.vsi_report.specs.declared.by_rule.Flows.{Flows}
 use Rattle.vsi_report.specs.ByRule.{flows_in_rows, HasFlows}
-use Rattle.vsi_report.specs.FlowsGraph.{Flowing, Shown, flow_line, line_by, lines_between, edge_lines, flows_by_step}
+use Rattle.vsi_lattice.specs.declared.lattice.Lattice.{Lattice as Declared}
+use Rattle.vsi_lattice.specs.LatticeView.{names, order}
+use Rattle.vsi_scope.specs.Program.{Resolved}
+use Rattle.vsi_types.specs.declared.rules.Step.{Step}
+use Rattle.vsi_report.specs.Covering.{HasJust, IsCoveringPair}
+use Rattle.vsi_report.specs.FlowsGraph.{AreProgramLines, AreShown, Flowing, Shown, flow_line, line_by, lines_between, edge_lines, flows_by_step, flows_lines, shown_in}
 
 -- The lines of one more number are added.
 pub more_lines : (f : ℕ → List ℕ) (start before after : List ℕ) (i : ℕ) → before ≡ start ++ flat_map f (count_from 0 i)
@@ -69,3 +74,27 @@ rows_lines s P p f n le h =
     (λ a. flat_map (lines_between s (flows_by_step P p) a) (count_from 0 n)) 0 n
     (λ a _. flat_same (lines_between s (flows_in_rows f) a) (lines_between s (flows_by_step P p) a) 0 n
     (λ b lt. between_same s (flows_in_rows f) (flows_by_step P p) a b (λ R. h R a b (omega (arith, lt, le)))))
+
+-- The lines of a program are those of what the code of a graph shows, with equal names, classes and steps.
+pub program_lines_so : (l : Declared) (P : Profile) (r : Resolved) (ns : List (List ℕ)) (chosen found : List ℕ)
+    (walk steps : List Step) (pairs : List (ℕ × ℕ)) (lines : List ℕ) → ns ≡ names l → found ≡ chosen → steps ≡ walk →
+    AreShown (order l) P (program r) chosen walk → HasJust (IsCoveringPair (order l)) pairs →
+    lines ≡ flows_lines P
+    (record { names = ns; lattice = order l; resolved = r; chosen = found; walk = steps })
+    pairs →
+    AreProgramLines l P r lines
+program_lines_so l P r ns chosen found walk steps pairs lines en ec ew judged covering e =
+    record {
+      chosen = chosen;
+      walk = walk;
+      judged = judged;
+      pairs = pairs;
+      covering = covering;
+      are =
+          e
+          ∙ ap (λ x. flows_lines P
+          (record { names = x; lattice = order l; resolved = r; chosen = found; walk = steps }) pairs)
+          en
+          ∙ ap (λ x. flows_lines P (shown_in l r x steps) pairs) ec
+          ∙ ap (λ x. flows_lines P (shown_in l r chosen x) pairs) ew;
+    }
