@@ -202,7 +202,7 @@ pub(crate) const SARIF: Argument = Argument {
 pub(crate) const WARNINGS: Argument = Argument {
     name: "warnings",
     form: Form::Flag,
-    line: "Adds warnings about an accepted text",
+    line: "Adds warnings about the text",
     whole: word_help::WARNINGS,
 };
 

@@ -308,11 +308,12 @@ refusal is its one result, and an accepted text has none.";
 
 /// `--warnings`.
 pub(crate) const WARNINGS: &str = "\
-Writes warnings about an accepted text to standard error, a line each:
-loops whose guard nothing changes, variables that nothing reads,
-assignments without effect, hidden names, chained comparisons, and
-commands that are indented as if a loop or an `if` had them. The
-status and the answer stay.";
+Writes warnings about the text to standard error, a line each: loops
+whose guard nothing changes, variables that nothing reads, assignments
+without effect, hidden names, chained comparisons, and commands that
+are indented as if a loop or an `if` had them. A text with a fault of
+its tokens, its tree or its names has none. The status and the answer
+stay.";
 
 /// The answer as JSON.
 pub(crate) const JSON: &str = "\

@@ -1,9 +1,9 @@
-//! Warnings about an accepted text that may mean something else than its author does.
+//! Warnings about a text that may mean something else than its author does.
 //!
 //! `warnings_of` lists them in the order of the text, each with its part of the text;
-//! `warning_lines` writes a line for each. A text with a warning is as good as any other. `unchanged_guards`,
-//! `unread_letvars` and `is_unused_global` decide which loops, letvars and globals are warned of
-//! (clauses `exact`). Their places, and the other warnings, are only tested.
+//! `warning_lines` writes a line for each. A text with a warning is as good as any other.
+//! `unchanged_guards`, `unread_letvars` and `is_unused_global` decide which loops, letvars and
+//! globals are warned of (clauses `exact`). Their places, and the other warnings, are only tested.
 //!
 //! To be believed: `specs/Warned`.
 #![tactic(auto)]

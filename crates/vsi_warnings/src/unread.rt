@@ -44,7 +44,8 @@ fn put_one(c: &Cmd, scope: u16, found: &mut Vec<bool>) -> Result<(), AllocError>
     }
 }
 
-/// For each letvar of a program, in the order of the text, whether no expression reads its variable.
+/// For each letvar of a program, in the order of the text, whether no expression of its body reads
+/// its variable.
 pub fn unread_letvars(alloc: Global, program: &Resolved<'_>) -> Result<Vec<bool>, AllocError>
     ensures exact { IfOk result (λ v. v.items
         ≡ unread (length program.now.globals) (sequence program.now.body)) }
