@@ -1,7 +1,7 @@
 use Rattle.std.proofs.Common.{◌≡◌, ◌∙◌, ◌+◌, ◌∷◌, ap, drop, sym}
 use Rattle.std.proofs.lemmas.List.{drop_more}
 use Rattle.serde_json.specs.Data.{object}
-use Rattle.vsi_sarif.proofs.Objects.{objects_kept}
+use Rattle.vsi_sarif.proofs.Kept.{objects_kept}
 use Rattle.vsi_sarif.proofs.steps.step_objects.Goals as goal
 
 pub loop-step-preserved : goal.loop-step-preserved
