@@ -250,9 +250,9 @@ pub record IsFlowsGraph (l : Declared) (P : Profile) (text out : List ℕ) : Typ
 -- The lines of a part of a graph, drawn in a box of its own under its name.
 abbrev pub cluster : List ℕ → List ℕ → List ℕ
 cluster name lines =
-    (codes "subgraph cluster_" ++ name ++ codes " {\n")
-    ++ (codes "  label=\"" ++ name ++ codes "\";\n  labelloc=b;\n  color=\"#d3dae1\";\n")
-    ++ lines ++ codes "}\n"
+    (codes "subgraph cluster_" ++ (name ++ codes " {\n"))
+    ++ (codes "  label=\"" ++ (name ++ codes "\";\n  labelloc=b;\n  color=\"#d3dae1\";\n"))
+    ++ (lines ++ codes "}\n")
 
 -- The graph with the lines of a lattice in one box and those of flows in another.
 abbrev pub joined : List ℕ → List ℕ → List ℕ

@@ -14,9 +14,9 @@ texts vs = map (λ v. v.items) vs
 -- The first lines of a graph with this name: what is higher is drawn above.
 abbrev pub head_lines : List ℕ → List ℕ
 head_lines name =
-    (codes "digraph " ++ name ++ codes " {\n") ++ codes "  rankdir=BT;\n  ranksep=0.35;\n"
-    ++ codes "  node [shape=box, style=rounded, penwidth=2];\n"
-    ++ codes "  edge [color=\"#57606a\", fontcolor=\"#57606a\", fontsize=11];\n"
+    (codes "digraph " ++ (name ++ codes " {\n"))
+    ++ (codes "  rankdir=BT;\n  ranksep=0.35;\n" ++ (codes "  node [shape=box, style=rounded, penwidth=2];\n"
+    ++ codes "  edge [color=\"#57606a\", fontcolor=\"#57606a\", fontsize=11];\n"))
 
 -- The graph with this name and these lines.
 abbrev pub graph : List ℕ → List ℕ → List ℕ

@@ -30,9 +30,12 @@ fn put_head(text: &mut Vec<u8>, name: &[u8]) -> Result<(), AllocError>
     ensures { OnOk result (text.new.items ≡ text.old.items ++ spec.head_lines name.now) }
 {
     put_between(text, b"digraph ", name, b" {\n")?;
-    text.extend_from_slice(b"  rankdir=BT;\n  ranksep=0.35;\n")?;
-    text.extend_from_slice(b"  node [shape=box, style=rounded, penwidth=2];\n")?;
-    text.extend_from_slice(b"  edge [color=\"#57606a\", fontcolor=\"#57606a\", fontsize=11];\n")?;
+    put_between(
+        text,
+        b"  rankdir=BT;\n  ranksep=0.35;\n",
+        b"  node [shape=box, style=rounded, penwidth=2];\n",
+        b"  edge [color=\"#57606a\", fontcolor=\"#57606a\", fontsize=11];\n",
+    )?;
     Ok(())
 }
 

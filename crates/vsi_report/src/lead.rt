@@ -55,7 +55,8 @@ fn put_name(page: &mut Page, end: &End<'_>) -> Result<(), AllocError>
     page.number(end.class % 8)?;
     page.put(b"\">")?;
     page.tell(end.name)?;
-    page.put(b"</b> ")
+    page.put(b"</b> ")?;
+    Ok(())
 }
 
 /// Adds the class of a variable at an end of a walk.
@@ -123,7 +124,8 @@ fn put_counts(page: &mut Page, refused: usize, pairs: usize) -> Result<(), Alloc
     put_share(page, refused, pairs)?;
     page.put(b" of declared variables joined by flows ")?;
     page.put(number_word(refused, b"is", b"are"))?;
-    page.put(b" refused.</p>\n")
+    page.put(b" refused.</p>\n")?;
+    Ok(())
 }
 
 /// Adds the ends of a walk.
