@@ -1,6 +1,7 @@
 use Rattle.std.proofs.Common.{◌≡◌, ◌∙◌, ◌+◌, ◌∷◌, ap, drop, sym}
 use Rattle.std.proofs.lemmas.List.{drop_more}
 use Rattle.serde_json.specs.Data.{object}
+use Rattle.serde_json.proofs.Views.{view-Object}
 use Rattle.vsi_sarif.proofs.Kept.{objects_kept}
 use Rattle.vsi_sarif.proofs.steps.step_objects.Goals as goal
 
@@ -13,4 +14,4 @@ loop-step-preserved c =
     drop_more steps i step c.loop-step-test.true ∙ ap (λ x. x ∷ drop (i + 1) steps) (sym c.step-item.is) in
     objects_kept c.args.uri.now c.args.source.now c.args.program.now step (drop i steps) (drop (i + 1) steps) steps
     c.loop-step.found.items c.push.new.self.items _ next c.in_ok-push.ensures.items
-    (ap object c.in_ok-made.ensures) c.loop-step.invariant
+    (view-Object c.in_ok-made.made ∙ ap object c.in_ok-made.ensures) c.loop-step.invariant
