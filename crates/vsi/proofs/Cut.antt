@@ -25,7 +25,7 @@ pub Touches-same : (save : Option (Bor (List ℕ))) (h g : Holding) → g ≡ h 
 Touches-same None h g same = same
 Touches-same (Some path) h g same = λ other away beside. ap (λ f. f other) same
 
--- What touches no other file twice touches none.
+-- Two changes after each other that touch no other file make one that touches none.
 pub Touches-trans : (save : Option (Bor (List ℕ))) (h g k : Holding) → Touches save h g → Touches save g k →
     Touches save h k
 Touches-trans None h g k first second = second ∙ first

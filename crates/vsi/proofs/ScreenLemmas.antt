@@ -52,7 +52,7 @@ plain_passed xs at d whole next within is none answer plain sure less =
     ∙ ap (λ t. t && is_tame_after 0 r) (sym plain ∙ sure)
     ∙ ap (λ k. is_tame_after k r) (sym (less ∙ ap (λ k. k - 1) none))
 
--- What is left of any bytes is tame.
+-- The tamed bytes are tame.
 pub tamed_tame : (bytes : List ℕ) → is_tame (tamed bytes) ≡ true
 tamed_tame bytes = by (is_tame bytes) refl
   where

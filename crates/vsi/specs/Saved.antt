@@ -100,7 +100,7 @@ pub record LeavesState (holds : Holding) (d : Driving) (given : Option (List ℕ
   pub touches : Touches d.save holds left
   pub state : (StaysAt d.save holds left × Keeps old new) ⊎ SavesDrive holds d given left old new
 
--- What a request that stops leaves of the file that receives its store, if it is a drive.
+-- A request that stops and is a drive leaves the store's file in one of these states.
 abbrev pub KeepsState : Holding → Option (List ℕ) → Request → Holding → Option (List ℕ) → Option (List ℕ) → Type 0
 KeepsState holds given (Drive d) left old new = LeavesState holds d given left old new
 KeepsState holds given asked left old new = Unit {0}

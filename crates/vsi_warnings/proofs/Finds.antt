@@ -8,7 +8,7 @@ use Rattle.vsi_scope.specs.declared.program.Cmd.{Cmd}
 use Rattle.vsi_scope.specs.Language.{Command, Skip, Sequence}
 use Rattle.vsi_scope.specs.View.{command, sequence}
 
--- Of two commands in a row one does it.
+-- A sequence of two commands does it if one of them does.
 abbrev pub IsEither : (Command → Bool) → Type 0
 IsEither f = (a b : Command) → f (Sequence a b) ≡ (f a || f b)
 

@@ -4,7 +4,7 @@ use crate::warning::{Concern, Warning};
 use std::alloc::{AllocError, Global};
 use vsi_syntax::{Kind, Span, Token};
 
-/// What isn't finished at a token.
+/// A construct that isn't finished at a token.
 #[derive(Clone, Copy, Debug, PartialEq, Eq)]
 enum Frame {
     Brace,

@@ -3,7 +3,7 @@
 use std::alloc::AllocError;
 use vsi_syntax::Span;
 
-/// What a warning is about.
+/// The subject of a warning.
 #[derive(Clone, Copy, Debug, PartialEq, Eq)]
 pub enum Concern {
     /// A command after a loop that is indented as if the loop had it.
