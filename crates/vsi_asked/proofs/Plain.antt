@@ -31,9 +31,12 @@ unvalued word plain =
       apart word (codes "--budget") plain refl,
       apart word (codes "--class") plain refl,
       apart word (codes "--color") plain refl,
+      apart word (codes "--inputs") plain refl,
       apart word (codes "--lattice") plain refl,
       apart word (codes "--name") plain refl,
       apart word (codes "--out") plain refl,
+      apart word (codes "--outputs") plain refl,
+      apart word (codes "--release") plain refl,
       apart word (codes "--save") plain refl,
       apart word (codes "--save-every") plain refl,
       apart word (codes "--seed") plain refl,
@@ -109,7 +112,7 @@ plain_check judging words lattice source plain asks =
 -- The flags of the subcommand whose answer a document is.
 pub document_flags_are : (asked : Document) →
     own_flags (Documented asked)
-    ≡ codes "--strict" ∷ codes "--steady" ∷ codes "--json" ∷ codes "--sarif" ∷ codes "--explain" ∷ []
+    ≡ codes "--strict" ∷ codes "--steady" ∷ codes "--json" ∷ codes "--sarif" ∷ codes "--warnings" ∷ codes "--explain" ∷ []
 document_flags_are (document.Sarif judging) = refl
 
 -- `check` and two arguments that don't look like options request no document.
