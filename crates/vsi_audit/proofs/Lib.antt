@@ -6,8 +6,3 @@ pub mod CodeParts
 pub mod TreeParts
 pub mod Declared
 pub mod Returned
-pub mod Readable
-pub mod Found
-pub mod Going
-pub mod Sound
-pub mod Structured
