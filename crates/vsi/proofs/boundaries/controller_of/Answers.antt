@@ -1,5 +1,4 @@
-use Rattle.std.proofs.Common.{◌≡◌, ◌∙◌, Some, None, ap, subst, sym}
-use Rattle.std.specs.Prelude.{IfOk, IfErr}
+use Rattle.std.proofs.Common.{◌≡◌, ◌∙◌, Some, ap, sym}
 use Rattle.vsi_drive.specs.Boundary.{boundary_of}
 use Rattle.vsi_drive.specs.BoundaryFaults.{boundary_fault}
 use Rattle.vsi_drive.specs.Control.{control, controlled}
@@ -10,20 +9,18 @@ pub returns-in-Ok-Ok-clause-control : goal.returns-in-Ok-Ok-clause-control
 returns-in-Ok-Ok-clause-control c =
     let made = controlled c.args.classes.now c.args.driver c.args.verified.now c.args.budget in
     let got : control c.in-Ok-Ok.controller ≡ made (boundary_of c.boundary.result) =
-    subst (λ r. IfOk r (λ k. control k ≡ made (boundary_of c.boundary.result))) c.in-Ok-Ok.field-0-is
-    c.in-Ok-Ok.ensures.control in
+    rw c.in-Ok-Ok.field-0-is at c.in-Ok-Ok.ensures.control in
     got ∙ ap made (c.boundary.ensures ∙ c.requires.names)
 
 pub returns-in-Ok-Ok-clause-sound : goal.returns-in-Ok-Ok-clause-sound
 returns-in-Ok-Ok-clause-sound c =
-    subst (λ r. IfOk r (λ k. boundary_fault (control k) ≡ None)) c.in-Ok-Ok.field-0-is c.in-Ok-Ok.ensures.sound
+    rw c.in-Ok-Ok.field-0-is at c.in-Ok-Ok.ensures.sound
 
 pub returns-in-Ok-Err-clause-stopped : goal.returns-in-Ok-Err-clause-stopped
 returns-in-Ok-Err-clause-stopped c =
     let made = controlled c.args.classes.now c.args.driver c.args.verified.now c.args.budget in
     let got : boundary_fault (made (boundary_of c.boundary.result)) ≡ Some c.in-Ok-Err.fault =
-    subst (λ r. IfErr r (λ f. boundary_fault (made (boundary_of c.boundary.result)) ≡ Some f)) c.in-Ok-Err.field-0-is
-    c.in-Ok-Err.ensures.fault in
+    rw c.in-Ok-Err.field-0-is at c.in-Ok-Err.ensures.fault in
     boundary_stops c.args.lists c.args.classes.now c.args.driver c.args.verified.now c.args.budget c.in-Ok-Err.fault
     c.boundary_stop.result
     (sym (ap (λ b. boundary_fault (made b)) (c.boundary.ensures ∙ c.requires.names)) ∙ got)
