@@ -9,8 +9,8 @@ returns-then-is_alone-clause-graph c = rw c.if-is_alone.true
     (λ P. IfOk c.flows_dot.result (λ graph. IsFlowsGraph c.args.classes.now P c.args.text.now graph.items))
     c.profile-judged.ensures c.flows_dot.ensures.graph)
 
-pub returns-clause-graph : goal.returns-clause-graph
-returns-clause-graph c = rw c.if-is_alone.false
+pub returns-else-is_alone-clause-graph : goal.returns-else-is_alone-clause-graph
+returns-else-is_alone-clause-graph c = rw c.if-is_alone.false
     (subst
     (λ P. IfOk c.policy_dot.result (λ graph. IsPolicyGraph c.args.classes.now P c.args.text.now graph.items))
     c.profile-judged.ensures c.policy_dot.ensures.graph)
