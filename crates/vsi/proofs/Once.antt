@@ -7,7 +7,8 @@ use Rattle.vsi_arguments.specs.declared.request.Compilation.{Compilation}
 use Rattle.vsi_arguments.specs.declared.request.Execution.{Execution}
 use Rattle.vsi_arguments.specs.declared.request.Outset.{Outset}
 use Rattle.vsi_arguments.specs.declared.request.Request.{Request}
-use Rattle.vsi_arguments.specs.declared.request.Request.TheVariants.{Build, Explain, Layout, Mend, View}
+use Rattle.vsi_arguments.specs.declared.request.Document.TheVariants as document
+use Rattle.vsi_arguments.specs.declared.request.Request.TheVariants.{Build, Document, Explain, Layout, Mend, View}
 use Rattle.vsi_asked.specs.Asked.{AsksFor, Spells, given, name_of}
 use Rattle.vsi_asked.specs.Words.{has_flag, operands_in, shown, texts, values_in}
 
@@ -63,6 +64,9 @@ pub one_build : (words : List (String Global)) (c : Compilation) (i : Bor (List 
     (request : Request) → AsksFor words request → OneBuild c i request
 one_build words c i asks (Build d j) asked =
     record { compilation = d; image = j; is = refl; same = same_build words c d i j asks.spelled asked.spelled }
+one_build words c i asks (Document (document.Sarif judging)) asked =
+    absurd (other_name (texts words) (codes "build") (codes "check") asks.spelled.rest asked.spelled.rest
+    asks.spelled.named asked.spelled.named refl refl)
 one_build words c i asks (Explain page) asked =
     absurd (other_name (texts words) (codes "build") (codes "explain") asks.spelled.rest asked.spelled.asks.rest
     asks.spelled.named asked.spelled.asks.named refl refl)
@@ -127,6 +131,9 @@ one_view words l x e o asks (View m y f p) asked =
       is = refl;
       same = same_view words l m x y e f o p asks.spelled asked.spelled;
     }
+one_view words l x e o asks (Document (document.Sarif judging)) asked =
+    absurd (other_name (texts words) (codes "view") (codes "check") asks.spelled.rest asked.spelled.rest
+    asks.spelled.named asked.spelled.named refl refl)
 one_view words l x e o asks (Explain page) asked =
     absurd (other_name (texts words) (codes "view") (codes "explain") asks.spelled.rest asked.spelled.asks.rest
     asks.spelled.named asked.spelled.asks.named refl refl)
