@@ -6,3 +6,8 @@ pub mod CodeParts
 pub mod TreeParts
 pub mod Declared
 pub mod Returned
+pub mod Readable
+pub mod Found
+pub mod Going
+pub mod Sound
+pub mod Structured

@@ -7,3 +7,7 @@ pub mod Telling
 pub mod Coding
 pub mod Writing
 pub mod Written
+pub mod Reading
+pub mod Steps
+pub mod Structure
+pub mod Unread

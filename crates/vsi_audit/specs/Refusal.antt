@@ -10,6 +10,7 @@ use Rattle.vsi_types.specs.Security.{program}
 use Rattle.vsi_infer.specs.Inference.{IsShortest}
 use Rattle.vsi_lattice.specs.Known.{Known}
 use Rattle.vsi_audit.specs.Standing.{HaveClasses, StandsFor}
+use Rattle.vsi_audit.specs.Structure.{HasCommands}
 use Rattle.vsi_audit.specs.declared.error.AuditError.{AuditError}
 use Rattle.vsi_audit.specs.declared.error.AuditError.TheVariants.{UnknownClass, Unstructured, WrongFields, NoText, Flow, Memory}
 use Rattle.vsi_audit.specs.declared.error.Unread.{Unread}
@@ -32,11 +33,11 @@ pub record IsBadWalkOfImage (known : Known) (L : Lattice) (P : Profile) (im : Im
   pub stands : StandsFor read im
   pub shortest : IsShortest L P (program read) steps
 
--- The refusal is for a class name that the lattice lacks, or for a bad walk of the image's program; it doesn't claim
--- that code has no program.
+-- The refusal is for a class name that the lattice lacks, for code that isn't that of commands within the limits of
+-- texts, or for a bad walk of the image's program.
 abbrev pub Refuses : Known → Lattice → Profile → Image → AuditError → Type 0
 Refuses known L P im (UnknownClass i) = IsUnknownAt known (globals im.globals.items) i
-Refuses known L P im (Unstructured place) = Unit {0}
+Refuses known L P im (Unstructured place) = HasCommands im → ⊥
 Refuses known L P im WrongFields = Unit {0}
 Refuses known L P im NoText = ⊥
 Refuses known L P im (Flow walk) = IsBadWalkOfImage known L P im walk.steps.items

@@ -14,11 +14,13 @@ ghost use Rattle.vsi_compiler.specs.Observation.{IsNoninterfering, EndsAlike};
 ghost use Rattle.vsi_audit.specs.Fitting.{Fits};
 ghost use Rattle.vsi_audit.specs.Refusal.{Refuses};
 ghost use Rattle.vsi_audit.specs.Standing.{HasKnownClasses, HaveClasses, StandsFor};
+ghost use Rattle.vsi_audit.specs.Unread.{IsUnread};
 
 use crate::builder::{Commands, MAX_DECLARATIONS, commands_of};
 use crate::error::{AuditError, Unread};
 use crate::fitting::fit_all;
 use crate::globals::{declarations, declared_program, unknown_class};
+use crate::lasting::lasting_commands;
 use crate::reading::span_at;
 use std::alloc::{AllocError, Global};
 use vsi_code::generate;
@@ -38,7 +40,8 @@ fn entries<'a>(
     name: &'a [u8],
     places: &[usize],
 ) -> Result<Vec<Entry<'a>>, AllocError>
-    ensures { IfOk result (λ es. All (λ e. e.class ≡ None) es.items) }
+    ensures classes { IfOk result (λ es. All (λ e. e.class ≡ None) es.items) }
+    ensures count { IfOk result (λ es. length es.items ≡ length places.now) }
 {
     let mut entries = Vec::new(alloc);
     for place in places {
@@ -147,25 +150,105 @@ fn compare(alloc: Global, program: &Resolved<'_>, image: &Image) -> Result<(), U
     }
 }
 
-/// The program of an image's code; the text declares its globals.
+/// The program with the commands that the search reads back from an image's code.
+fn searched_program<'a>(
+    alloc: Global,
+    base: &Resolved<'a>,
+    name: &'a [u8],
+    image: &Image,
+) -> Result<Resolved<'a>, Unread>
+    ensures kept { IfOk result IsResolved }
+    ensures globals { IfOk result (λ r. r.globals ≡ base.now.globals) }
+    ensures letvars { IfOk result (λ r. All (λ e. e.class ≡ None) r.letvars) }
+    ensures stands { IfOk result (λ r. StandsFor r image.now) }
+    ensures behaves { IfOk result (λ r. Behaves (length r.globals) (sequence r.body) image.now) }
+{
+    let commands = commands_of(alloc, image)?;
+    let program = with_commands(alloc, base, name, commands)?;
+    compare(alloc, &program, image)?;
+    Ok(program)
+}
+
+/// The program of an image's code; the text declares its globals. If the search reads no program
+/// back, each letvar is taken to last to the end of its branch or body.
 fn program_of<'a>(
     alloc: Global,
     lattice: &Lattice,
     text: &'a [u8],
     image: &Image,
 ) -> Result<Resolved<'a>, Unread>
+    requires { IsValid image.now }
     ensures kept { IfOk result IsResolved }
     ensures classes { (n : ℕ) → AreBelow n (class_named lattice.now) →
         IfOk result (HasClassesBelow n) }
     ensures named { IfOk result (λ r. HaveClasses (class_named lattice.now) r.globals) }
     ensures stands { IfOk result (λ r. StandsFor r image.now) }
     ensures behaves { IfOk result (λ r. Behaves (length r.globals) (sequence r.body) image.now) }
+    ensures unread { IfErr result (IsUnread image.now) }
 {
     let base = declared_program(alloc, lattice, text)?;
-    let commands = commands_of(alloc, image)?;
-    let program = with_commands(alloc, &base, text, commands)?;
-    compare(alloc, &program, image)?;
+    let program = read_program(alloc, &base, text, image)?;
     Ok(program)
+}
+
+/// The program with the commands of an image's code in which each letvar lasts to the end of its
+/// branch or body.
+fn lasting_program<'a>(
+    alloc: Global,
+    base: &Resolved<'a>,
+    name: &'a [u8],
+    image: &Image,
+) -> Result<Resolved<'a>, Unread>
+    requires { IsValid image.now }
+    ensures kept { IfOk result IsResolved }
+    ensures globals { IfOk result (λ r. r.globals ≡ base.now.globals) }
+    ensures letvars { IfOk result (λ r. All (λ e. e.class ≡ None) r.letvars) }
+    ensures stands { IfOk result (λ r. StandsFor r image.now) }
+    ensures behaves { IfOk result (λ r. Behaves (length r.globals) (sequence r.body) image.now) }
+    ensures unread { IfErr result (IsUnread image.now) }
+{
+    // The result isn't used; the contract of `body` bounds the globals of `base`.
+    let _body = base.body();
+    let Commands { letvars, body } = lasting_commands(alloc, image)?;
+    if base.globals().len() != image.globals.len() {
+        return Err(Unread::Fields);
+    }
+    let entries = entries(alloc, name, &letvars)?;
+    let Ok(program) = base.rebuilt(alloc, entries, body) else {
+        return Err(Unread::Memory);
+    };
+    match compare(alloc, &program, image) {
+        Ok(()) => Ok(program),
+        Err(Unread::Memory) => Err(Unread::Memory),
+        Err(_) => Err(Unread::Fields),
+    }
+}
+
+/// The program of an image's code, over the globals of a program.
+fn read_program<'a>(
+    alloc: Global,
+    base: &Resolved<'a>,
+    name: &'a [u8],
+    image: &Image,
+) -> Result<Resolved<'a>, Unread>
+    requires { IsValid image.now }
+    ensures kept { IfOk result IsResolved }
+    ensures globals { IfOk result (λ r. r.globals ≡ base.now.globals) }
+    ensures letvars { IfOk result (λ r. All (λ e. e.class ≡ None) r.letvars) }
+    ensures stands { IfOk result (λ r. StandsFor r image.now) }
+    ensures behaves { IfOk result (λ r. Behaves (length r.globals) (sequence r.body) image.now) }
+    ensures unread { IfErr result (IsUnread image.now) }
+{
+    let searched = match searched_program(alloc, base, name, image) {
+        Ok(program) => return Ok(program),
+        Err(Unread::Memory) => return Err(Unread::Memory),
+        Err(unread) => unread,
+    };
+    match lasting_program(alloc, base, name, image) {
+        Ok(program) => Ok(program),
+        Err(Unread::At(_)) => Err(searched),
+        Err(unread) => Err(unread),
+    }
 }
 
 /// Judges an image under a profile, by the policy that its class names give. An accepted image is

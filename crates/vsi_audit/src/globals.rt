@@ -1,6 +1,6 @@
 //! The globals of an image, as declarations of a program.
 
-ghost use Rattle.std.specs.Prelude.{◌≡◌, ℕ, true, map, IfOk, IfSome};
+ghost use Rattle.std.specs.Prelude.{◌≡◌, ℕ, true, map, IfOk, IfErr, IfSome};
 ghost use Rattle.vsi_image.specs.Fields as fields;
 ghost use Rattle.vsi_lattice.specs.LatticeView.{class_named};
 ghost use Rattle.vsi_scope.specs.Program.{IsResolved};
@@ -9,6 +9,8 @@ ghost use Rattle.vsi_syntax.specs.CommandView as syntax;
 ghost use Rattle.vsi_audit.specs.Text.{words};
 ghost use Rattle.vsi_audit.specs.Refusal.{IsUnknownAt};
 ghost use Rattle.vsi_audit.specs.Standing.{HaveClasses};
+ghost use Rattle.vsi_audit.specs.Unread.{IsUnread};
+ghost use Rattle.vsi_image.specs.declared.instr.Image.{Image as ImageValue};
 
 use crate::error::Unread;
 use std::alloc::{AllocError, Global};
@@ -90,6 +92,7 @@ pub(crate) fn declared_program<'a>(
     ensures classes { (n : ℕ) → AreBelow n (class_named lattice.now) →
         IfOk result (HasClassesBelow n) }
     ensures named { IfOk result (λ r. HaveClasses (class_named lattice.now) r.globals) }
+    ensures unread { (im : ImageValue) → IfErr result (IsUnread im) }
 {
     let tokens = match lex(alloc, text) {
         Ok(tokens) => tokens,

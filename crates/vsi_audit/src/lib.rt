@@ -2,12 +2,14 @@
 //!
 //! The input is a verified image, whoever made it. `audit_in` reads the commands back from its
 //! code, compiles them again, compares the result with the image's code, and judges their flows. An
-//! accepted image is noninterfering, however the commands were read back. `source_text` writes the
-//! commands as a text, reads the text again, and compares both with the code and the commands.
-//! `audit_text` writes why an image is refused.
+//! accepted image is noninterfering, however the commands were read back; code that is that of
+//! commands within the limits of texts is always read back. `source_text` writes the commands as a
+//! text, reads the text again, and compares both with the code and the commands. `audit_text`
+//! writes why an image is refused.
 //!
-//! To be believed: `specs/MadeNames`, `specs/Refusal`, `specs/Standing`, `specs/Telling`,
-//! `specs/Text` and `specs/Writing`; the other files of `specs/` are only steps of proofs.
+//! To be believed: `specs/MadeNames`, `specs/Refusal`, `specs/Standing`, `specs/Structure`,
+//! `specs/Telling`, `specs/Text` and `specs/Writing`; the other files of `specs/` are only steps of
+//! proofs.
 #![tactic(auto)]
 
 mod audit;
@@ -18,6 +20,7 @@ mod events;
 mod fitting;
 mod flow;
 mod globals;
+mod lasting;
 mod names;
 mod needs;
 mod reading;
