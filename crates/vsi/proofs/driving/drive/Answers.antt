@@ -240,7 +240,7 @@ returns-in_err-drive_input-clause-state g c =
     any_stop _ c.from_residual-in_err-drive_input.result
     (driven_state (holds c.args.files.now) (holds c.first_store.new.files) (holds c.save.new.files)
     (holds c.drive_input.new.files) c.args.driving given old new
-    c.in_ok-classes.classes c.in_ok-classes.driver image words c.in_ok-budget.budget _ drives
+    c.in_ok-classes.classes c.in_ok-classes.driver image words c.in_ok-budget.budget c.saturating_sub.result drives
     c.in_ok-budget.ensures.budget c.in_ok-classes.ensures.looks c.in_ok-classes.ensures.held
     (subst (λ h. IsStoredAt h c.args.driving.execution.store image words) c.in_ok-classes.ensures.kept
     c.in_ok-words.ensures.stored)
@@ -250,8 +250,8 @@ returns-in_err-drive_input-clause-state g c =
     (subst (λ m. Delivers c.args.driving.save (state_text image m) (holds c.first_store.new.files)
     (holds c.save.new.files)) c.as_slice.ensures.value c.in_ok-save.ensures.saved)
     c.in_err-drive_input.ensures.touched c.saturating_sub.ensures
-    (subst (λ m. CutsInput c.args.driving.save image drives m _ given old new (holds c.save.new.files)
-    (holds c.drive_input.new.files)) c.deref_mut.ensures.value c.in_err-drive_input.ensures.cut))
+    (subst (λ m. CutsInput c.args.driving.save image drives m c.saturating_sub.result given old new
+    (holds c.save.new.files) (holds c.drive_input.new.files)) c.deref_mut.ensures.value c.in_err-drive_input.ensures.cut))
 
 pub returns-clause-state : goal.returns-clause-state
 returns-clause-state g c =
@@ -266,7 +266,7 @@ returns-clause-state g c =
     (λ stop stays.
     driven_state (holds c.args.files.now) (holds c.first_store.new.files) (holds c.save.new.files)
     (holds c.save-2.new.files) c.args.driving given old new
-    c.in_ok-classes.classes c.in_ok-classes.driver image words c.in_ok-budget.budget _ drives
+    c.in_ok-classes.classes c.in_ok-classes.driver image words c.in_ok-budget.budget c.saturating_sub.result drives
     c.in_ok-budget.ensures.budget c.in_ok-classes.ensures.looks c.in_ok-classes.ensures.held
     (subst (λ h. IsStoredAt h c.args.driving.execution.store image words) c.in_ok-classes.ensures.kept
     c.in_ok-words.ensures.stored)
@@ -278,10 +278,10 @@ returns-clause-state g c =
     (Touches-trans c.args.driving.save (holds c.save.new.files) (holds c.drive_input.new.files)
     (holds c.save-2.new.files) c.in_ok-drive_input.ensures.touched c.save-2.ensures.touched)
     c.saturating_sub.ensures
-    (cut_on c.args.driving.save image drives words _ given old new (holds c.save.new.files)
+    (cut_on c.args.driving.save image drives words c.saturating_sub.result given old new (holds c.save.new.files)
     (holds c.drive_input.new.files) (holds c.save-2.new.files)
-    (subst (λ m. CutsInput c.args.driving.save image drives m _ given old new (holds c.save.new.files)
-    (holds c.drive_input.new.files)) c.deref_mut.ensures.value c.in_ok-drive_input.ensures.cut) stays))
+    (subst (λ m. CutsInput c.args.driving.save image drives m c.saturating_sub.result given old new
+    (holds c.save.new.files) (holds c.drive_input.new.files)) c.deref_mut.ensures.value c.in_ok-drive_input.ensures.cut) stays))
     c.save-2.ensures.stays
 
 pub drive_input-requires-clause-same : goal.drive_input-requires-clause-same
