@@ -13,6 +13,7 @@ pub mod Laying
 pub mod Raises
 pub mod Admitted
 pub mod Files
+pub mod Supplied
 pub mod Performed
 pub mod Refusals
 pub mod Reasons

@@ -69,6 +69,7 @@ use Rattle.vsi.specs.Raises.{ToldMended}
 use Rattle.vsi.specs.Seeing.{SeesFiles}
 use Rattle.vsi.specs.Served.{Serves}
 use Rattle.vsi.specs.Shaping.{ShapedText}
+use Rattle.vsi.specs.Supplied.{TellsSupplied, begins_image}
 use Rattle.vsi.specs.Tried.{TriesFile}
 use Rattle.vsi.specs.Files.{BeginsAt, IsBudgetOf, IsStoredAt, LooksAt, OfFile, OfFiles, Writes, shown}
 
@@ -288,7 +289,7 @@ pub record BoundsImage (Kind : Image → Type 0) (told : BoundAnswer) : Type 0 w
 abbrev pub BoundsFile : Holding → Bounding → BoundAnswer → Type 0
 BoundsFile holds asked = BoundsImage (IsEmittedFrom holds asked.lattice asked.file)
 
--- The request of an interface, its lattice and a source text, as the files hold them.
+-- The request of an interface, its lattice and a source text or an image, as the files hold them.
 pub record AreAsked (holds : Holding) (c : Conformance) (asked : Asked) (l : Lattice) (source : List ℕ) : Type 0 where
   pub interface : IsAskedAt holds c.interface.now asked
   pub lattice : IsPolicyAt holds c.interface.now asked.policy l
@@ -315,14 +316,19 @@ pub record TellsConforming (is_json conforms : Bool) (l : Lattice) (source : Lis
   pub is : IsVerdict conforms answer.unbounded l source i
   pub written : IsWrittenAs is_json l source i answer text
 
--- The text written for the files of a conformance, whose source text conforms to the interface under its lattice or
--- doesn't.
+-- What is said of the bytes of a file: of an image, if they begin as one, and otherwise of a source text.
+abbrev pub TellsBytes : Bool → Bool → Bool → Lattice → List ℕ → Interface → List ℕ → Type 0
+TellsBytes true = TellsSupplied
+TellsBytes false = TellsConforming
+
+-- The text written for the files of a conformance, whose source text or image conforms to the interface under its
+-- lattice or doesn't.
 pub record ConformsFiles (holds : Holding) (c : Conformance) (conforms : Bool) (text : Vec ℕ) : Type 0 where
   pub asked : Asked
   pub lattice : Lattice
   pub source : List ℕ
   pub files : AreAsked holds c asked lattice source
-  pub tells : TellsConforming c.is_json conforms lattice source asked.interface text.items
+  pub tells : TellsBytes (begins_image source) c.is_json conforms lattice source asked.interface text.items
 
 -- ---- what each subcommand has done.
 

@@ -174,3 +174,4 @@ pub use vsi_types::LOOP;
 pub use vsi_types::Profile;
 pub use vsi_types::Rule;
 pub use vsi_types::Step;
+pub use vsi_vendor::conform_image;

@@ -62,7 +62,8 @@ Example:
 
 /// The long help of `conform`.
 pub(crate) const CONFORM: &str = "\
-Says whether a source text conforms to an interface.
+Says whether a source text conforms to an interface. SOURCE may be an image,
+too, which is then judged as by `audit`.
 
 Reads and judges the interface file and its lattice, then reads the source text.
 Prints `conforms` if the text has the globals of the interface, is accepted
