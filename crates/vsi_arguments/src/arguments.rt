@@ -171,6 +171,13 @@ pub(crate) const STEADY: Argument = Argument {
     whole: word_help::STEADY,
 };
 
+pub(crate) const EVIDENCE: Argument = Argument {
+    name: "evidence",
+    form: Form::Flag,
+    line: "Writes the checksums of the files after the verdict",
+    whole: word_help::EVIDENCE,
+};
+
 pub(crate) const STEADY_SOURCE: Argument = Argument {
     name: "steady",
     form: Form::Flag,

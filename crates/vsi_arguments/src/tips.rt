@@ -21,6 +21,7 @@ const OWNERS: [(&str, &str); 28] = [
         "every subcommand except lattice, lsp and explain, and comes after the subcommand, as in \
         `vsi try a.vsi --explain`",
     ),
+    ("'--evidence'", "audit"),
     ("'--full-store'", "run and view"),
     ("'--header'", "emit-c"),
     ("'--json'", "check, conform and mend"),

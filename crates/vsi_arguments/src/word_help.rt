@@ -135,6 +135,12 @@ execute the same instructions within any budget, and write the same
 values there. Their times in seconds may differ. --strict adds nothing
 to it.";
 
+/// `--evidence`.
+pub(crate) const EVIDENCE: &str = "\
+Writes after `accepted` what can be filed: the version of vsi and the
+profile, in lines that begin with `#`, and a line with the SHA-256 of
+LATTICE and of IMAGE each, which `sha256sum -c` checks.";
+
 /// The short help of `--apply`.
 pub(crate) const APPLY: &str = "\
 Prints the source text with the new class in place of the old one in
