@@ -46,7 +46,7 @@ fn unusable<'a>(alloc: Global, error: InterfaceError) -> Stop<'a>
     }
 }
 
-/// The bytes of a lattice file that an interface or a source text names.
+/// The bytes of a lattice file that an interface or a source text names. It must be a regular file.
 pub(crate) fn named_bytes<'a, F: Files>(
     desk: &mut Desk,
     interface: &str,
@@ -59,6 +59,9 @@ pub(crate) fn named_bytes<'a, F: Files>(
     ensures stopped { IfErr result (λ stop. 3 < status_of stop) }
 {
     let beside = path_beside(desk.alloc, interface, path)?;
+    if files.may_wait(beside.as_str()) {
+        return Err(Stop::LostFile(beside));
+    }
     match bytes_in(desk, Kind::Lattice, beside.as_str(), files) {
         Ok(bytes) => return Ok(bytes),
         Err(Stop::FileFault(_)) => {}

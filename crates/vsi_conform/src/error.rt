@@ -20,7 +20,7 @@ pub enum InterfaceError {
     #[error("the interface has a key that is none")]
     UnknownKey(Vec<u8>),
     /// The interface has neither a text at `lattice` nor the keys of a lattice file, or it has
-    /// both.
+    /// both; or the path leads out of the folder of the interface.
     #[error("the interface has no lattice, or two")]
     BadLattice,
     /// The value at `profile` is none of `base`, `strict` and `steady`.
@@ -32,7 +32,7 @@ pub enum InterfaceError {
     /// The value at `bounded` is neither `true` nor `false`.
     #[error("whether a bound is required is neither true nor false")]
     BadBounded,
-    /// The value at `globals` isn't an array of pairs of texts.
+    /// The value at `globals` isn't an array of at most 256 pairs of texts.
     #[error("the interface has no array of globals")]
     BadGlobals,
     /// This name of a global isn't a name of the language.

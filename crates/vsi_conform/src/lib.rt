@@ -20,6 +20,7 @@ mod globals;
 mod interface;
 mod json;
 mod keys;
+mod outside;
 pub mod parts;
 mod point;
 mod reader;

@@ -20,6 +20,7 @@ ghost use Rattle.vsi_store.specs.View.{first_unknown};
 use crate::error::InterfaceError;
 use crate::globals::is_named;
 use crate::interface::{Interface, Judgement, Trial};
+use crate::outside::leads_out;
 use crate::keys::{entries_of, other_key, table_in, text_at, value_at};
 use std::alloc::{AllocError, Global};
 use toml::{Table, Value};
@@ -34,10 +35,14 @@ const KEYS: [&str; 8] = [
 /// The keys of a run.
 const RUN_KEYS: [&str; 4] = ["store", "budget", "expect", "halts"];
 
+/// The most globals of a program.
+const MOST_GLOBALS: usize = 256;
+
 /// The place of an interface's lattice.
 #[derive(Debug, Drop)]
 pub enum Policy {
-    /// The lattice file at this path, which is relative to the folder of the interface.
+    /// The lattice file at this path, which is relative to the folder of the interface and doesn't
+    /// lead out of it.
     File(Vec<u8>),
     /// The interface itself: the text of a lattice file with its tables.
     Tables(Vec<u8>),
@@ -130,6 +135,9 @@ fn file_in(alloc: Global, table: &Table) -> Result<Policy, InterfaceError>
     let Some(path) = text_at(table, "lattice") else {
         return Err(InterfaceError::BadLattice);
     };
+    if leads_out(path.as_bytes()) {
+        return Err(InterfaceError::BadLattice);
+    }
     let path = Vec::from_slice(alloc, path.as_bytes())?;
     Ok(Policy::File(path))
 }
@@ -278,6 +286,9 @@ fn globals_in(alloc: Global, table: &Table) -> Result<Vec<(Vec<u8>, Vec<u8>)>, I
     let Some(array) = value.as_array() else {
         return Err(InterfaceError::BadGlobals);
     };
+    if array.len() > MOST_GLOBALS {
+        return Err(InterfaceError::BadGlobals);
+    }
     globals_of(alloc, array.as_slice())
 }
 
