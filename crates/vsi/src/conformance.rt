@@ -199,11 +199,10 @@ fn image_text(
     ensures { IfOk result (λ out.
         IsSuppliedAs is_json lattice.now image.now interface.now answer.now out.items) }
 {
-    if is_json {
-        vsi_vendor::points_json(alloc, lattice, image, interface, answer)
-    } else {
-        vsi_vendor::points_text(alloc, lattice, image, interface, answer)
+    if !is_json {
+        return vsi_vendor::points_text(alloc, lattice, image, interface, answer);
     }
+    vsi_vendor::points_json(alloc, lattice, image, interface, answer)
 }
 
 /// The answer of an image as it is written, and whether it conforms.
@@ -222,7 +221,8 @@ fn image_answer<'a>(
     let verified = judged_image(alloc, bytes)?;
     let answer = conform_image(alloc, lattice, &verified, interface)?;
     let written = image_text(alloc, is_json, lattice, verified.image(), interface, &answer)?;
-    Ok((answer.conforms(), written))
+    let conforms = answer.conforms();
+    Ok((conforms, written))
 }
 
 /// The answer of the bytes of a file as it is written, and whether they conform: those of an image,
