@@ -3,8 +3,8 @@ use Rattle.serde_json.specs.View.{view}
 use Rattle.vsi_vendor.proofs.Told.{json_so}
 use Rattle.vsi_vendor.proofs.json.points_json.Goals as goal
 
-pub returns : goal.returns
-returns c =
+pub returns-clause-json : goal.returns-clause-json
+returns-clause-json c =
     json_so c.args.lattice.now c.args.image.now c.args.interface.now c.args.answer.now
     (map view c.in_ok-objects.objects.items) (map view c.push_objects.new.found.items)
     (map view c.push_bound.new.found.items) c.in_ok-line.line.items c.in_ok-objects.ensures
