@@ -220,7 +220,14 @@ fn image_answer<'a>(
 {
     let verified = judged_image(alloc, bytes)?;
     let answer = conform_image(alloc, lattice, &verified, interface)?;
-    let written = image_text(alloc, is_json, lattice, verified.image(), interface, &answer)?;
+    let written = image_text(
+        alloc,
+        is_json,
+        lattice,
+        verified.image(),
+        interface,
+        &answer,
+    )?;
     let conforms = answer.conforms();
     Ok((conforms, written))
 }
@@ -262,7 +269,13 @@ fn judged<'a, F: Files>(
     let lattice = lattice_of(desk, asked.interface, &found.policy, files)?;
     know_classes(desk.alloc, &lattice, &found.interface)?;
     let bytes = operand_in(desk, asked.source, files)?;
-    bytes_answer(desk.alloc, asked.is_json, &lattice, &bytes, &found.interface)
+    bytes_answer(
+        desk.alloc,
+        asked.is_json,
+        &lattice,
+        &bytes,
+        &found.interface,
+    )
 }
 
 /// Writes whether the source text or the image conforms to the interface, and where it differs.

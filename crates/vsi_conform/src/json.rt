@@ -247,7 +247,11 @@ pub fn push_bound(
 }
 
 /// The line of an answer with these objects.
-pub fn answer_line(alloc: Global, conforms: bool, objects: Vec<Value>) -> Result<Vec<u8>, AllocError>
+pub fn answer_line(
+    alloc: Global,
+    conforms: bool,
+    objects: Vec<Value>,
+) -> Result<Vec<u8>, AllocError>
     ensures { IfOk result (λ line. items_have_float (items_view objects.items) ≡ false
         → line.items ≡ spec.answer_line conforms (map view objects.items)) }
 {

@@ -253,7 +253,11 @@ fn push_budget(text: &mut Vec<u8>, trial: Option<&Trial>) -> Result<(), AllocErr
 }
 
 /// Adds the line of a run that doesn't halt.
-pub fn push_endless(text: &mut Vec<u8>, number: usize, trial: Option<&Trial>) -> Result<(), AllocError>
+pub fn push_endless(
+    text: &mut Vec<u8>,
+    number: usize,
+    trial: Option<&Trial>,
+) -> Result<(), AllocError>
     ensures { OnOk result (text.new.items
         ≡ text.old.items ++ spec.budget_line number (option_copied trial.entry)) }
 {

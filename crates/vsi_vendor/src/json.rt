@@ -60,10 +60,20 @@ fn point_object(
         Point::Missing(number) => missing(alloc, interface, number),
         Point::Unexpected(place) => global_object(alloc, "unexpected", held(image, place)),
         Point::WrongClass { place, wanted } => {
-            expected_object(alloc, "class", held(image, place), asked(interface, wanted).1)
+            expected_object(
+                alloc,
+                "class",
+                held(image, place),
+                asked(interface, wanted).1,
+            )
         }
         Point::WrongOrder(place) => {
-            expected_object(alloc, "order", held(image, place), asked(interface, place).0)
+            expected_object(
+                alloc,
+                "order",
+                held(image, place),
+                asked(interface, place).0,
+            )
         }
         Point::OutOfBudget(trial) => out_of_budget(alloc, interface, trial),
         Point::WrongWord {

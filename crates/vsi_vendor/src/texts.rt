@@ -30,18 +30,11 @@ fn push_unexpected(text: &mut Vec<u8>, global: (&[u8], &[u8])) -> Result<(), All
     ensures { OnOk result (text.new.items
         ≡ text.old.items ++ spec.unexpected_line (global.entry.0.now, global.entry.1.now)) }
 {
-    push_parts(
-        text,
-        &[b"unexpected ", global.0, b" : ", global.1, b"\n"],
-    )
+    push_parts(text, &[b"unexpected ", global.0, b" : ", global.1, b"\n"])
 }
 
 /// Adds the line of a global with a class other than this one.
-fn push_class(
-    text: &mut Vec<u8>,
-    global: (&[u8], &[u8]),
-    class: &[u8],
-) -> Result<(), AllocError>
+fn push_class(text: &mut Vec<u8>, global: (&[u8], &[u8]), class: &[u8]) -> Result<(), AllocError>
     ensures { OnOk result (text.new.items ≡ text.old.items
         ++ spec.class_line (global.entry.0.now, global.entry.1.now) class.now) }
 {
@@ -64,10 +57,7 @@ fn push_order(text: &mut Vec<u8>, global: (&[u8], &[u8]), name: &[u8]) -> Result
     ensures { OnOk result (text.new.items ≡ text.old.items
         ++ spec.order_line (global.entry.0.now, global.entry.1.now) name.now) }
 {
-    push_parts(
-        text,
-        &[b"order ", global.0, b", expected ", name, b"\n"],
-    )
+    push_parts(text, &[b"order ", global.0, b", expected ", name, b"\n"])
 }
 
 /// Adds the line of a point.
