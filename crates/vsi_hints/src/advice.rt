@@ -355,3 +355,23 @@ pub fn put_further(
     put_no_classes(alloc, words, &look, classes)?;
     put_undeclared(alloc, words, &look, &shapes, piece)
 }
+
+/// The bytes at which a text has constructs of other languages.
+pub fn hinted_places(alloc: Global, source: &[u8]) -> Result<Vec<usize>, AllocError> {
+    let pieces = pieces_of(alloc, source)?;
+    let look = Look { pieces: &pieces };
+    let mut places = Vec::new(alloc);
+    put_places(&look, &all_shapes(alloc, &look)?, &mut places)?;
+    put_places(&look, &all_structures(alloc, &look)?, &mut places)?;
+    Ok(places)
+}
+
+/// Adds the bytes at which constructs begin.
+fn put_places(look: &Look, shapes: &[Found], places: &mut Vec<usize>) -> Result<(), AllocError> {
+    for found in shapes {
+        if let Some(piece) = look.pieces.get(found.first) {
+            places.push(piece.at)?;
+        }
+    }
+    Ok(())
+}

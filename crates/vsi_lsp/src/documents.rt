@@ -1,6 +1,7 @@
 //! Open documents, and the errors that are published for them.
 
 use crate::diagnostics::{Page, error_object, errors_in, only};
+use crate::further::put_further;
 use crate::replies::notification;
 use crate::warned::put_warnings;
 use serde_json::{Value, json};
@@ -172,6 +173,9 @@ fn source_errors(
                 page.uri,
                 page.text,
             )?;
+            if !objects.is_empty() {
+                put_further(alloc, page, &lattice, &mut objects)?;
+            }
             put_warnings(alloc, page, &lattice, &mut objects)?;
             Ok(objects)
         }

@@ -10,6 +10,7 @@ ghost use Rattle.vsi_caret.specs.Safe.{all_plain};
 ghost use Rattle.vsi_telling.specs.Places.{BeginsAt, start_of};
 
 pub mod finding;
+mod further;
 mod hints;
 mod images;
 mod lattices;
@@ -209,6 +210,7 @@ fn of_source(
         let classes = class_names(alloc, lattice)?;
         put_further(alloc, &mut words, source, at, &classes)?;
     }
+    further::put_faults(alloc, &mut words, lattice, source, error)?;
     Ok(words)
 }
 
