@@ -1,5 +1,5 @@
 -- The output of each subcommand that ends well, given the contents of its files.
-use Rattle.std.specs.Prelude.{◌≡◌, ℕ, ◌++◌, ℤ, Bool, true, false, List, [], Option, Some, None, Ok, codes, decimal, if◌then◌else◌, IsSomeAnd}
+use Rattle.std.specs.Prelude.{◌≡◌, ◌≤◌, ℕ, ◌++◌, ℤ, Bool, true, false, List, [], Option, Some, None, Ok, codes, decimal, if◌then◌else◌, IsSomeAnd}
 use Rattle.std.specs.Borrow.{Bor}
 use Rattle.std.specs.Global.{Vec}
 use Rattle.std.specs.Io.KnownBytes.{Appends, Keeps}
@@ -27,12 +27,13 @@ use Rattle.vsi_audit.specs.Text.{IsSourceText}
 use Rattle.vsi_report.specs.FlowsGraph.{IsFlowsGraph, IsPolicyGraph}
 use Rattle.vsi_report.specs.Graph.{IsLatticeGraph}
 use Rattle.vsi_report.specs.Page.{HasPanel}
-use Rattle.vsi_conform.specs.Beside.{beside}
+use Rattle.vsi_conform.specs.Beside.{IsInside, beside}
 use Rattle.vsi_conform.specs.Conforms.{Conforms, IsUnbounded, Tells as TellsPoints}
 use Rattle.vsi_conform.specs.Json.{IsConformJson}
 use Rattle.vsi_conform.specs.Lines.{IsConformText}
 use Rattle.vsi_conform.specs.Points.{is_conforming}
 use Rattle.vsi_conform.specs.Reading.{IsReadAs}
+use Rattle.vsi_conform.specs.Totals.{total_of}
 use Rattle.vsi_conform.specs.declared.point.Answer.{Answer}
 use Rattle.vsi_conform.specs.declared.reader.Asked.{Asked}
 use Rattle.vsi_conform.specs.declared.reader.Policy.{Policy}
@@ -74,6 +75,7 @@ use Rattle.vsi.specs.Raises.{ToldMended}
 use Rattle.vsi.specs.Seeing.{SeesFiles}
 use Rattle.vsi.specs.Served.{Serves}
 use Rattle.vsi.specs.Shaping.{ShapedText}
+use Rattle.vsi.specs.Supplied.{TellsSupplied, begins_image}
 use Rattle.vsi.specs.Tried.{TriesFile}
 use Rattle.vsi.specs.Files.{BeginsAt, IsBudgetOf, IsFullAt, IsStoredAt, LooksAt, OfFile, OfFiles, Writes, shown}
 use Rattle.vsi.specs.State.{state_text}
@@ -228,11 +230,12 @@ pub record SearchesFiles (holds : Holding) (s : Search) (text : Vec ℕ) : Type 
   pub pairs : ℕ
   pub line : text.items ≡ codes "no leak in " ++ decimal pairs ++ codes " pairs of runs\n"
 
--- The request that the interface in a file makes.
+-- The request that the interface in a file makes, whose lattice file, if there is one, isn't outside its folder.
 pub record IsAskedAt (holds : Holding) (path : List ℕ) (asked : Asked) : Type 0 where
   pub bytes : List ℕ
   pub read : IsReadAt holds path bytes
   pub is : IsReadAs bytes asked
+  pub inside : IsInside asked.policy
 
 -- The path of a file that an interface names, as it is opened.
 abbrev pub named_path : List ℕ → Vec ℕ → List ℕ
@@ -295,7 +298,7 @@ pub record BoundsImage (Kind : Image → Type 0) (told : BoundAnswer) : Type 0 w
 abbrev pub BoundsFile : Holding → Bounding → BoundAnswer → Type 0
 BoundsFile holds asked = BoundsImage (IsEmittedFrom holds asked.lattice asked.file)
 
--- The request of an interface, its lattice and a source text, as the files hold them.
+-- The request of an interface, its lattice and a source text or an image, as the files hold them.
 pub record AreAsked (holds : Holding) (c : Conformance) (asked : Asked) (l : Lattice) (source : List ℕ) : Type 0 where
   pub interface : IsAskedAt holds c.interface.now asked
   pub lattice : IsPolicyAt holds c.interface.now asked.policy l
@@ -322,14 +325,20 @@ pub record TellsConforming (is_json conforms : Bool) (l : Lattice) (source : Lis
   pub is : IsVerdict conforms answer.unbounded l source i
   pub written : IsWrittenAs is_json l source i answer text
 
--- The text written for the files of a conformance, whose source text conforms to the interface under its lattice or
--- doesn't.
+-- What is said of the bytes of a file: of an image, if they begin as one, and otherwise of a source text.
+abbrev pub TellsBytes : Bool → Bool → Bool → Lattice → List ℕ → Interface → List ℕ → Type 0
+TellsBytes true = TellsSupplied
+TellsBytes false = TellsConforming
+
+-- The text written for the files of a conformance, whose source text or image conforms to the interface under its
+-- lattice or doesn't. The runs of the interface take together no more instructions than the budget has.
 pub record ConformsFiles (holds : Holding) (c : Conformance) (conforms : Bool) (text : Vec ℕ) : Type 0 where
   pub asked : Asked
   pub lattice : Lattice
   pub source : List ℕ
   pub files : AreAsked holds c asked lattice source
-  pub tells : TellsConforming c.is_json conforms lattice source asked.interface text.items
+  pub within : total_of asked.interface ≤ c.budget
+  pub tells : TellsBytes (begins_image source) c.is_json conforms lattice source asked.interface text.items
 
 -- The document that answers a request, and that says of its files that all is well or that something is wrong.
 abbrev pub DocumentOf : Holding → Document → Bool → Vec ℕ → Type 0

@@ -34,7 +34,7 @@ use Rattle.vsi_conform.specs.declared.reader.Policy.TheVariants.{File, Tables}
 use Rattle.vsi_conform.specs.Checking.{TellsRefused}
 use Rattle.vsi_answers.specs.Answers.{Because}
 use Rattle.vsi_answers.specs.Judged.{Declares, IsViewFault, TellsFault, TellsStartFault}
-use Rattle.vsi_answers.specs.Requests.{BuildsTo, ComparesTo, ListsTo, ReadsLattice, ViewsTo}
+use Rattle.vsi_answers.specs.Requests.{BuildsTo, ComparesTo, ListsTo, ReadsImage, ReadsLattice, ViewsTo}
 use Rattle.vsi_answers.specs.declared.unanswered.Unanswered.{Unanswered}
 use Rattle.vsi_answers.specs.declared.unanswered.Unanswered.TheVariants as unanswered
 use Rattle.vsi_answers.specs.declared.bounds.BoundAnswer.{BoundAnswer}
@@ -65,6 +65,7 @@ use Rattle.vsi.specs.Laying.{OtherLayout}
 use Rattle.vsi.specs.Raises.{ToldUnserved}
 use Rattle.vsi.specs.Input.{two_classes}
 use Rattle.vsi.specs.Served.{Serves, unended_line}
+use Rattle.vsi.specs.Supplied.{begins_image}
 use Rattle.vsi.specs.Tried.{AreTried, BeginsSet, IsMade, IsTriedUnder, RunsMade, policy_path}
 use Rattle.vsi.specs.Files.{BeginsAt, IsBudgetOf, LooksAt, OfFiles, Writes}
 use Rattle.vsi.specs.Performed.{BoundsFile, ComparesFiles, ConformsFiles, DocumentOf, IsAskedAt, LooksFor, compilation_of, control_of, judgement_of, named_path, profile_of, wanted_of}
@@ -113,7 +114,23 @@ abbrev pub IsUnusable : Stop → Type 0
 IsUnusable (stops.Interface text error) = text.items ≡ interface_line error
 IsUnusable stop = ⊥
 
--- `conform`: the interface is refused, or the text doesn't conform to it and the difference has been written.
+-- The bytes begin as those of an image, and the image is refused.
+abbrev pub RefusesBytes : List ℕ → Unanswered → Type 0
+RefusesBytes bytes reason = (begins_image bytes ≡ true) × ReadsImage bytes (Err reason)
+
+-- `conform`: the image of a file is refused.
+pub record RefusesSupplied (holds : Holding) (path : List ℕ) (reason : Unanswered) : Type 0 where
+  pub bytes : List ℕ
+  pub read : IsReadAt holds path bytes
+  pub is : RefusesBytes bytes reason
+
+-- `conform`: the lattice of the interface is refused, or the image.
+abbrev pub RefusesConform : Holding → Conformance → Unanswered → Type 0
+RefusesConform holds c reason =
+    RefusesAsked holds c.interface.now reason ⊎ RefusesSupplied holds c.source.now reason
+
+-- `conform`: the interface is refused, or the text or the image doesn't conform to it and the difference has been
+-- written.
 abbrev pub DiffersConform : Holding → Conformance → Option (List ℕ) → Option (List ℕ) → Stop → Type 0
 DiffersConform holds c old new stop =
     IsUnusable stop ⊎ IsDifference (Writes (ConformsFiles holds c false) old new) stop
@@ -406,7 +423,7 @@ Why holds (request.Check asked) old new = WhyCheck asked.is_json holds asked old
 Why holds (request.Document asked) old new =
     StopsBy (WhyDocument holds asked) (IsDifference (Writes (DocumentOf holds asked false) old new))
 Why holds (request.Conform asked) old new =
-    StopsBy (RefusesAsked holds asked.interface.now) (DiffersConform holds asked old new)
+    StopsBy (RefusesConform holds asked) (DiffersConform holds asked old new)
 Why holds (request.Classes c) old new = StopsBy (RefusesFiles holds c (AsksClasses c.is_strict)) NoOther
 Why holds (request.Flows c has_walks) old new = StopsBy (RefusesFiles holds c (AsksFlows has_walks c.is_strict)) NoOther
 Why holds (request.Mend asked) old new = WhyMend asked.is_json holds asked old new

@@ -1,30 +1,37 @@
-//! A source text beside an interface that is fixed from outside.
+//! A source text, or an image, beside an interface that is fixed from outside.
 
-ghost use Rattle.std.specs.Prelude.{◌≡◌, ◌<◌, Bool, true, IfErr, IfOk, OnOk};
+ghost use Rattle.std.specs.Prelude.{◌≡◌, ◌<◌, ◌≤◌, Bool, Err, true, IfErr, IfOk, OnOk};
 ghost use Rattle.std.specs.Str.Lossy.{utf8_lossy};
 ghost use Rattle.vsi.specs.Holding.{IsReadAt};
 ghost use Rattle.vsi.specs.Files.{Writes};
-ghost use Rattle.vsi.specs.Performed.{ConformsFiles, IsAskedAt, IsPolicyAt, IsWrittenAs, TellsConforming};
+ghost use Rattle.vsi.specs.Performed.{ConformsFiles, IsAskedAt, IsPolicyAt, IsWrittenAs, TellsBytes, TellsConforming};
 ghost use Rattle.vsi.specs.Partly.{BytesOf, Leaves};
 ghost use Rattle.vsi.specs.Stops.{TellsFault};
 ghost use Rattle.vsi_conform.specs.Beside.{beside};
+ghost use Rattle.vsi_conform.specs.Totals.{total_of};
 ghost use Rattle.vsi_devices.specs.Counted.{device_of, faults_of};
 ghost use Rattle.vsi.specs.Refusals.{NoOther, StopsBy};
-ghost use Rattle.vsi.specs.Reasons.{DiffersConform, IsUnusable, RefusesAsked, RefusesPolicy};
+ghost use Rattle.vsi.specs.Reasons.{DiffersConform, IsUnusable, RefusesBytes, RefusesConform, RefusesPolicy};
 ghost use Rattle.vsi.specs.Stops.{status_of};
+ghost use Rattle.vsi.specs.Supplied.{IsSuppliedAs, TellsSupplied};
+ghost use Rattle.vsi.specs.Supplied as supplied;
+ghost use Rattle.vsi_answers.specs.Requests.{ReadsImage};
 
 use crate::desk::{Desk, Kind};
 use crate::files::Files;
-use crate::reading::{bytes_in, declared_lattice};
+use crate::reading::{bytes_in, declared_lattice, whole_in};
 use crate::stop::{Stop, write_answer};
 use std::alloc::{AllocError, Global};
 use std::io::Write;
+use vsi_answers::judged_image;
 use vsi_arguments::Conformance;
 use vsi_conform::{
-    Answer, Asked, Interface, InterfaceError, Policy, interface_text, path_beside, points_json,
-    points_text, read_interface, unknown_class,
+    Answer, Asked, Interface, InterfaceError, Policy, interface_text, is_within, path_beside,
+    points_json, points_text, read_interface, unknown_class,
 };
+use vsi_conform_image::conform_image;
 use vsi_devices::Counted;
+use vsi_image::Image;
 use vsi_lattice::Lattice;
 
 /// The stop for a refused interface file.
@@ -40,7 +47,7 @@ fn unusable<'a>(alloc: Global, error: InterfaceError) -> Stop<'a>
     }
 }
 
-/// The bytes of a lattice file that an interface or a source text names.
+/// The bytes of a lattice file that an interface or a source text names. It must be a regular file.
 pub(crate) fn named_bytes<'a, F: Files>(
     desk: &mut Desk,
     interface: &str,
@@ -53,6 +60,9 @@ pub(crate) fn named_bytes<'a, F: Files>(
     ensures stopped { IfErr result (λ stop. 3 < status_of stop) }
 {
     let beside = path_beside(desk.alloc, interface, path)?;
+    if files.may_wait(beside.as_str()) {
+        return Err(Stop::LostFile(beside));
+    }
     match bytes_in(desk, Kind::Lattice, beside.as_str(), files) {
         Ok(bytes) => return Ok(bytes),
         Err(Stop::FileFault(_)) => {}
@@ -113,6 +123,17 @@ fn know_classes<'a>(alloc: Global, lattice: &Lattice, interface: &Interface) -> 
     Err(unusable(alloc, InterfaceError::UnknownClass(name)))
 }
 
+/// Judges the budgets of an interface's runs.
+fn know_budgets<'a>(alloc: Global, interface: &Interface, budget: u64) -> Result<(), Stop<'a>>
+    ensures within { OnOk result (total_of interface.now ≤ budget) }
+    ensures stopped { IfErr result (StopsBy (λ reason. ⊥) IsUnusable) }
+{
+    if is_within(interface, budget) {
+        return Ok(());
+    }
+    Err(unusable(alloc, InterfaceError::AboveBudget(budget)))
+}
+
 /// An answer as it is written.
 fn answer_text(
     alloc: Global,
@@ -149,7 +170,102 @@ fn answer_of<'a>(
     Ok((answer.conforms(), written))
 }
 
-/// Judges the source text by the interface.
+/// Whether bytes begin as those of an image do, with its magic bytes and a version. No source text
+/// does, since a version is a control byte that texts don't have.
+fn begins_image(bytes: &[u8]) -> bool
+    ensures { result ≡ supplied.begins_image bytes.now }
+{
+    matches!(bytes, [b'V', b'S', b'I', version, ..] if *version < 9)
+}
+
+/// The bytes of a file that is an image, by its first bytes, or else a source text.
+fn operand_in<'a, F: Files>(
+    desk: &mut Desk,
+    path: &'a str,
+    files: &mut F,
+) -> Result<Vec<u8>, Stop<'a>>
+    ensures kept { F.holds files.new ≡ F.holds files.old }
+    ensures read { IfOk result
+        (λ bytes. IsReadAt (F.holds files.old) path.now bytes.items) }
+    ensures stopped { IfErr result (λ stop. 3 < status_of stop) }
+{
+    let bytes = whole_in(desk.alloc, path, files)?;
+    let kind = if begins_image(bytes.as_slice()) {
+        Kind::Image
+    } else {
+        Kind::Source
+    };
+    desk.keep(kind, path, bytes.as_slice())?;
+    Ok(bytes)
+}
+
+/// An answer about an image as it is written.
+fn image_text(
+    alloc: Global,
+    is_json: bool,
+    lattice: &Lattice,
+    image: &Image,
+    interface: &Interface,
+    answer: &vsi_conform_image::Answer,
+) -> Result<Vec<u8>, AllocError>
+    ensures { IfOk result (λ out.
+        IsSuppliedAs is_json lattice.now image.now interface.now answer.now out.items) }
+{
+    if !is_json {
+        return vsi_conform_image::points_text(alloc, lattice, image, interface, answer);
+    }
+    vsi_conform_image::points_json(alloc, lattice, image, interface, answer)
+}
+
+/// The answer of an image as it is written, and whether it conforms.
+fn image_answer<'a>(
+    alloc: Global,
+    is_json: bool,
+    lattice: &Lattice,
+    bytes: &[u8],
+    interface: &Interface,
+) -> Result<(bool, Vec<u8>), Stop<'a>>
+    ensures told { IfOk result (λ pair.
+        TellsSupplied is_json pair.0 lattice.now bytes.now interface.now pair.1.items) }
+    ensures stopped { IfErr result
+        (StopsBy (λ reason. ReadsImage bytes.now (Err reason)) NoOther) }
+{
+    let verified = judged_image(alloc, bytes)?;
+    let answer = conform_image(alloc, lattice, &verified, interface)?;
+    let written = image_text(
+        alloc,
+        is_json,
+        lattice,
+        verified.image(),
+        interface,
+        &answer,
+    )?;
+    let conforms = answer.conforms();
+    Ok((conforms, written))
+}
+
+/// The answer of the bytes of a file as it is written, and whether they conform: those of an image,
+/// if they begin as one, and otherwise of a source text.
+fn bytes_answer<'a>(
+    alloc: Global,
+    is_json: bool,
+    lattice: &Lattice,
+    bytes: &[u8],
+    interface: &Interface,
+) -> Result<(bool, Vec<u8>), Stop<'a>>
+    ensures told { IfOk result (λ pair. TellsBytes (supplied.begins_image bytes.now) is_json
+        pair.0 lattice.now bytes.now interface.now pair.1.items) }
+    ensures stopped { IfErr result (StopsBy (RefusesBytes bytes.now) NoOther) }
+{
+    let is_image = begins_image(bytes);
+    if is_image {
+        image_answer(alloc, is_json, lattice, bytes, interface)
+    } else {
+        answer_of(alloc, is_json, lattice, bytes, interface)
+    }
+}
+
+/// Judges the source text or the image by the interface.
 fn judged<'a, F: Files>(
     desk: &mut Desk,
     asked: Conformance<'a>,
@@ -159,16 +275,23 @@ fn judged<'a, F: Files>(
     ensures told { IfOk result
         (λ pair. ConformsFiles (F.holds files.old) asked.entry pair.0 pair.1) }
     ensures stopped { IfErr result
-        (StopsBy (RefusesAsked (F.holds files.old) asked.entry.interface.now) IsUnusable) }
+        (StopsBy (RefusesConform (F.holds files.old) asked.entry) IsUnusable) }
 {
     let found = interface_in(desk, asked.interface, files)?;
     let lattice = lattice_of(desk, asked.interface, &found.policy, files)?;
     know_classes(desk.alloc, &lattice, &found.interface)?;
-    let text = bytes_in(desk, Kind::Source, asked.source, files)?;
-    answer_of(desk.alloc, asked.is_json, &lattice, &text, &found.interface)
+    know_budgets(desk.alloc, &found.interface, asked.budget)?;
+    let bytes = operand_in(desk, asked.source, files)?;
+    bytes_answer(
+        desk.alloc,
+        asked.is_json,
+        &lattice,
+        &bytes,
+        &found.interface,
+    )
 }
 
-/// Writes whether the source text conforms to the interface, and where it differs.
+/// Writes whether the source text or the image conforms to the interface, and where it differs.
 pub(crate) fn conform<'a, F: Files, W: Write>(
     desk: &mut Desk,
     asked: Conformance<'a>,
@@ -184,7 +307,7 @@ pub(crate) fn conform<'a, F: Files, W: Write>(
     ensures performed { OnOk result (Writes (ConformsFiles (F.holds files.old) asked.entry true)
         (W.contents (device_of output.old)) (W.contents (device_of output.new))) }
     ensures stopped { IfErr result
-        (StopsBy (RefusesAsked (F.holds files.old) asked.entry.interface.now)
+        (StopsBy (RefusesConform (F.holds files.old) asked.entry)
         (DiffersConform (F.holds files.old) asked.entry
         (W.contents (device_of output.old)) (W.contents (device_of output.new)))) }
 {

@@ -38,6 +38,14 @@ pub trait Files {
         None
     }
 
+    /// Whether the file at the path may be one that isn't a regular file, such as a pipe, whose
+    /// reader would wait.
+    fn may_wait(&mut self, _path: &str) -> bool
+        ensures kept { holds self.new ≡ holds self.old }
+    {
+        false
+    }
+
     /// Why the file at the path can't be used, in a sentence, if that is known.
     fn trouble(&mut self, _path: &str) -> Option<&'static str>
         ensures kept { holds self.new ≡ holds self.old }

@@ -215,6 +215,10 @@ impl<F: Files> Files for Loaded<F> {
         self.system.replace_file(path, fresh, bytes)
     }
 
+    fn may_wait(&mut self, path: &str) -> bool {
+        self.system.may_wait(path)
+    }
+
     fn trouble(&mut self, path: &str) -> Option<&'static str> {
         if self.is_spared {
             return Some(SPARED);

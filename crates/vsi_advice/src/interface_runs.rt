@@ -142,6 +142,17 @@ impl Page<'_> {
         Ok(run_key_place(self.bytes, number, b"budget"))
     }
 
+    /// Explains budgets that add up to more than the budget of all runs.
+    fn budgets(&mut self, most: u64) -> Result<Option<Span>, AllocError> {
+        self.put("The budgets of the runs add up to more than ")?;
+        self.count(most as usize)?;
+        self.put(
+            " instructions. Hint: give more with `--budget`, if you want to wait for that many, \
+            or give each run a smaller budget.\n",
+        )?;
+        Ok(run_key_place(self.bytes, 1, b"budget"))
+    }
+
     /// Explains a run that expects nothing, or two things.
     fn expect(&mut self, number: usize) -> Result<Option<Span>, AllocError> {
         let has_halts = run_value(self.table, number, "halts").is_some();
@@ -205,6 +216,7 @@ pub(crate) fn of_run(page: &mut Page, error: &InterfaceError) -> Result<Option<S
         InterfaceError::NoBudget(number) => page.budget(*number),
         InterfaceError::NothingExpected(number) => page.expect(*number),
         InterfaceError::UnknownGlobal(number, name) => page.global(*number, name),
+        InterfaceError::AboveBudget(most) => page.budgets(*most),
         _ => Ok(None),
     }
 }

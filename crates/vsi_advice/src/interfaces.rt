@@ -3,7 +3,7 @@
 use crate::interface_places::{pair_in, pair_named, pair_place, pairs_in, text_in};
 use crate::interface_runs::of_run;
 use std::alloc::{AllocError, Global};
-use toml::Table;
+use toml::{Table, Value};
 use vsi_conform::InterfaceError;
 use vsi_lattice::Lattice;
 use vsi_syntax::{Span, put_number};
@@ -39,6 +39,17 @@ const PROFILES: [&[u8]; 3] = [b"base", b"strict", b"steady"];
 
 /// The orders.
 const ORDERS: [&[u8]; 2] = [b"exact", b"set"];
+
+/// The most globals of a program.
+const MOST_GLOBALS: usize = 256;
+
+/// Whether a value is an array of more globals than a program has.
+fn is_long(value: &Value) -> bool {
+    match value.as_array() {
+        Some(array) => array.len() > MOST_GLOBALS,
+        None => false,
+    }
+}
 
 /// A refused interface file, and its explanation so far.
 #[derive(Drop)]
@@ -123,7 +134,20 @@ impl Page<'_> {
         Ok(key_place(self.bytes, key))
     }
 
-    /// Explains a lattice that is missing, named twice or not a text.
+    /// Whether the interface has a key of a lattice file.
+    fn has_tables(&self) -> bool {
+        self.table.get("classes").is_some() || self.table.get("below").is_some()
+    }
+
+    /// Whether the interface has a text at `lattice`.
+    fn names_file(&self) -> bool {
+        match self.table.get("lattice") {
+            Some(value) => value.as_str().is_some(),
+            None => false,
+        }
+    }
+
+    /// Explains a lattice that is missing, named twice, not a text or outside the folder.
     fn lattice(&mut self) -> Result<Option<Span>, AllocError> {
         if self.table.get("lattice").is_none() {
             self.put(
@@ -133,7 +157,13 @@ impl Page<'_> {
             self.words.extend_from_slice(SHAPE)?;
             return Ok(None);
         }
-        if self.table.get("classes").is_some() || self.table.get("below").is_some() {
+        if self.names_file() && !self.has_tables() {
+            self.put(
+                "The path of the lattice file leads out of the folder of the interface. Hint: put \
+                the lattice file into that folder, or into one in it, and write its path without \
+                `..` and without `/` at the beginning.\n",
+            )?;
+        } else if self.has_tables() {
             self.put(
                 "The interface names a lattice file and also has classes of its own. Hint: leave \
                 out `lattice`, or leave out `classes` and `below`.\n",
@@ -196,7 +226,7 @@ impl Page<'_> {
         Ok(key_place(self.bytes, b"bounded"))
     }
 
-    /// Explains `globals` that aren't an array of pairs of texts.
+    /// Explains `globals` that aren't an array of at most 256 pairs of texts.
     fn globals(&mut self) -> Result<Option<Span>, AllocError> {
         let Some(value) = self.table.get("globals") else {
             self.put(
@@ -206,6 +236,10 @@ impl Page<'_> {
             self.words.extend_from_slice(SHAPE)?;
             return Ok(None);
         };
+        if is_long(value) {
+            self.put("`globals` has more than 256 entries. Hint: no program has more globals.\n")?;
+            return Ok(key_place(self.bytes, b"globals"));
+        }
         let is_array = value.as_array().is_some();
         if is_array {
             self.put("Entry ")?;

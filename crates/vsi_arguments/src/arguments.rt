@@ -80,6 +80,13 @@ pub(crate) const INTERFACE: Argument = Argument {
     whole: word_help::INTERFACE,
 };
 
+pub(crate) const JUDGED: Argument = Argument {
+    name: "SOURCE",
+    form: Form::Place,
+    line: "The source text, or the image file",
+    whole: word_help::JUDGED,
+};
+
 pub(crate) const IMAGE: Argument = Argument {
     name: "IMAGE",
     form: Form::Place,
@@ -309,6 +316,13 @@ pub(crate) const DRIVE_BUDGET: Argument = Argument {
     form: Form::Number("N"),
     line: "The maximum number of instructions; default: auto",
     whole: word_help::DRIVE_BUDGET,
+};
+
+pub(crate) const RUNS_BUDGET: Argument = Argument {
+    name: "budget",
+    form: Form::Number("N"),
+    line: "The maximum number of instructions of all runs; default: 1000000000",
+    whole: word_help::RUNS_BUDGET,
 };
 
 pub(crate) const UNBOUNDED: Argument = Argument {

@@ -62,13 +62,15 @@ Example:
 
 /// The long help of `conform`.
 pub(crate) const CONFORM: &str = "\
-Says whether a source text conforms to an interface.
+Says whether a source text or an image conforms to an interface.
 
-Reads and judges the interface file and its lattice, then reads the source text.
-Prints `conforms` if the text has the globals of the interface, is accepted
-under the interface's profile, and halts in each run of the interface within the
-budget and with the expected values. Otherwise prints a line for each point that
-differs, the lines of a refusal first.
+Reads and judges the interface file and its lattice, then reads the source text,
+or an image in its place. Prints `conforms` if the text has the globals of the
+interface, is accepted under the interface's profile, and halts in each run of
+the interface within the budget and with the expected values. Otherwise prints a
+line for each point that differs, the lines of a refusal first. An image is
+judged in the same way, as by `audit` under the interface's lattice; its lines
+have no positions.
 
 Statuses: 0 conforms, 1 refused, or it doesn't conform, 2 usage, 4 file fault,
 5 out of memory.";
@@ -88,6 +90,10 @@ Example:
   var key : L; var out : L; out := 4
   $ vsi conform lock.toml lock.vsi
   1:11 class key : L, expected H
+  run 1 out = 4, expected 3
+  $ vsi build two.toml lock.vsi lock.image
+  $ vsi conform lock.toml lock.image
+  class key : L, expected H
   run 1 out = 4, expected 3";
 
 /// The long help of `classes`.

@@ -19,5 +19,5 @@ pub use reader::request_of;
 pub use request::{
     Asked, Attempt, Audit, Bounding, Budget, Colour, Comparison, Compilation, Conformance,
     Document, Drawing, Driving, EVERY, Emission, Execution, Judging, Layout, Looking, Manner,
-    Mending, NameLists, Outset, Request, SEARCH, Search, Serving, TRY_BUDGET,
+    Mending, NameLists, Outset, RUNS_BUDGET, Request, SEARCH, Search, Serving, TRY_BUDGET,
 };

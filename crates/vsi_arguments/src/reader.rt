@@ -239,6 +239,7 @@ fn conformance_in<'a>(matches: &ArgMatches<'a>) -> Conformance<'a> {
     Conformance {
         interface: text(matches, "INTERFACE"),
         source: text(matches, "SOURCE"),
+        budget: number_of(matches, "budget").unwrap_or(RUNS_BUDGET),
         is_json: matches.get_flag("json"),
     }
 }

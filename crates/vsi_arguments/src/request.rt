@@ -97,12 +97,13 @@ pub struct Audit<'a> {
     pub is_steady: bool,
 }
 
-/// A judgement by an interface: the paths of the interface file and of a source text, and whether
-/// the answer is written as JSON.
+/// A judgement by an interface: the paths of the interface file and of a source text or an image,
+/// the budget of all its runs together, and whether the answer is written as JSON.
 #[derive(Clone, Copy)]
 pub struct Conformance<'a> {
     pub interface: &'a str,
     pub source: &'a str,
+    pub budget: u64,
     pub is_json: bool,
 }
 
@@ -274,6 +275,9 @@ pub const SEARCH: u64 = 10_000;
 
 /// The default number of lines after which a drive saves its store.
 pub const EVERY: u64 = 1;
+
+/// The default budget of all runs of an interface together.
+pub const RUNS_BUDGET: u64 = 1_000_000_000;
 
 /// The default budget of an attempt.
 pub const TRY_BUDGET: u64 = 1_000_000;

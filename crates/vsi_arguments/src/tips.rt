@@ -7,7 +7,10 @@ use std::alloc::{AllocError, Global};
 const OWNERS: [(&str, &str); 35] = [
     ("'--apply'", "mend"),
     ("'--bounded'", "emit-c"),
-    ("'--budget'", "try, run, view, drive, compare and leak"),
+    (
+        "'--budget'",
+        "try, conform, run, view, drive, compare and leak",
+    ),
     ("'--check'", "fmt"),
     ("'--class'", "try, view, drive, compare and leak"),
     (

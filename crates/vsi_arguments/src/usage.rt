@@ -44,10 +44,10 @@ const SUBCOMMANDS: [Subcommand; 21] = [
     },
     Subcommand {
         name: "conform",
-        line: "Says whether a source text conforms to an interface",
+        line: "Says whether a text or an image conforms to an interface",
         whole: help::CONFORM,
         example: help::CONFORM_EXAMPLE,
-        arguments: &[INTERFACE, SOURCE, JSON],
+        arguments: &[INTERFACE, JUDGED, RUNS_BUDGET, JSON],
     },
     Subcommand {
         name: "classes",

@@ -277,6 +277,18 @@ of a name and a class; `order`, \"exact\" or \"set\"; `bounded`, true if
 the image must have a bound; and `runs`, each with a `budget`, a
 `store`, and `expect` or `halts = true`.";
 
+/// The file that an interface judges.
+pub(crate) const JUDGED: &str = "\
+The path of the source text, or of an image: a file that begins as an
+image does, with the bytes 56 53 49 and one below 09.";
+
+/// The budget of all runs of an interface.
+pub(crate) const RUNS_BUDGET: &str = "\
+The maximum number of instructions of all runs of the interface
+together, the halts included: a whole number from 0 to
+18446744073709551615, in digits alone. An interface whose budgets add
+up to more is refused before anything runs. Default: 1000000000.";
+
 /// `--count`.
 pub(crate) const COUNT: &str = "\
 If the run halts, prints on standard error how many instructions were

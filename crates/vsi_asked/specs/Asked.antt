@@ -18,7 +18,7 @@ use Rattle.vsi_arguments.specs.declared.request.NameLists.{NameLists}
 use Rattle.vsi_arguments.specs.declared.request.Outset.{Outset}
 use Rattle.vsi_arguments.specs.declared.request.Request.{Request}
 use Rattle.vsi_arguments.specs.declared.request.Request.TheVariants.{Try, Lsp, Check, Document as Documented, Conform, Classes, Flows, Mend, Build, List as Listing, Audit, Source, EmitC, Bound, Run, View, Drive, Compare, Leak, Report, Draw, Policy, Format, Layout, Lattice as Shaped, Explain}
-use Rattle.vsi_arguments.specs.declared.request.TheConstants.{EVERY, SEARCH, TRY_BUDGET}
+use Rattle.vsi_arguments.specs.declared.request.TheConstants.{EVERY, RUNS_BUDGET, SEARCH, TRY_BUDGET}
 use Rattle.vsi_explain.specs.Pages.{page_of}
 use Rattle.vsi_explain.specs.Subjects.{subject_page}
 use Rattle.vsi_asked.specs.Numbers.{GivesBudget, number_in}
@@ -186,6 +186,7 @@ budgeted budget = (codes "--budget", None, budget) ∷ []
 -- budgets are `auto` instead.
 abbrev pub numbers_of : Request → List (List ℕ × Option Budget × Budget)
 numbers_of (Try attempt) = (codes "--budget", Some (Number TRY_BUDGET), Number attempt.budget) ∷ []
+numbers_of (Conform conformance) = (codes "--budget", Some (Number RUNS_BUDGET), Number conformance.budget) ∷ []
 numbers_of (Run execution outset has_trace has_count) = budgeted execution.budget
 numbers_of (View lattice class execution outset) = budgeted execution.budget
 numbers_of (Drive driving) =

@@ -10,8 +10,8 @@ use crate::own::has_own_alone;
 use crate::reading::{has_flag, has_operands, has_values};
 use vsi_arguments::{
     Attempt, Audit, Bounding, Comparison, Compilation, Conformance, Document, Drawing, Driving,
-    EVERY, Emission, Execution, Judging, Layout, Looking, Mending, NameLists, Outset, Request,
-    SEARCH, Search, Serving, TRY_BUDGET,
+    EVERY, Emission, Execution, Judging, Layout, Looking, Mending, NameLists, Outset, RUNS_BUDGET,
+    Request, SEARCH, Search, Serving, TRY_BUDGET,
 };
 use vsi_explain::{page, subject_page};
 
@@ -307,7 +307,10 @@ fn asks_conform(words: &[String], conformance: &Conformance<'_>) -> bool
         conformance.source.as_bytes(),
     ];
     let flags = [("--json", conformance.is_json)];
-    asks(words, "conform", operands.as_slice(), flags.as_slice())
+    let Some(rest) = behind(words, "conform", operands.as_slice(), flags.as_slice()) else {
+        return false;
+    };
+    has_number(rest, "--budget", Some(RUNS_BUDGET), conformance.budget)
 }
 
 /// Whether the arguments request a text's flows.

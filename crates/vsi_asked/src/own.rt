@@ -34,6 +34,9 @@ const CHECK: [&[u8]; 6] = [
 /// The flags of `conform`.
 const CONFORM: [&[u8]; 2] = [b"--json", b"--explain"];
 
+/// The options of `conform`.
+const CONFORM_OPTIONS: [&[u8]; 2] = [b"--budget", b"--color"];
+
 /// The flags of `flows`.
 const FLOWS: [&[u8]; 3] = [b"--strict", b"--walks", b"--explain"];
 
@@ -176,7 +179,7 @@ pub(crate) fn has_own_alone(words: &[String], request: &Request<'_>) -> bool
     match request {
         Request::Check(_) => are_own(words, CHECK.as_slice(), NO_OPTIONS.as_slice()),
         Request::Document(document) => has_own_document(words, document),
-        Request::Conform(_) => are_own(words, CONFORM.as_slice(), NO_OPTIONS.as_slice()),
+        Request::Conform(_) => are_own(words, CONFORM.as_slice(), CONFORM_OPTIONS.as_slice()),
         Request::Classes(_) => are_own(words, STRICT.as_slice(), NO_OPTIONS.as_slice()),
         Request::Build(_, _) => are_own(words, STRICT.as_slice(), NO_OPTIONS.as_slice()),
         Request::Report(_) => are_own(words, STRICT.as_slice(), NO_OPTIONS.as_slice()),

@@ -37,14 +37,14 @@ shown_plain s ms e =
     (text_plain (codes "class") s.class named (text_plain (codes "name") s.name ms e)))
 
 -- A global that the text lacks has none.
-missing_plain : (g : Global) → members_have_float (json.missing g) ≡ false
+pub missing_plain : (g : Global) → members_have_float (json.missing g) ≡ false
 missing_plain g =
     let kind = json.kind (codes "missing") in
     text_plain (codes "class") g.1 (with_text (codes "name") g.0 kind)
     (text_plain (codes "name") g.0 kind refl)
 
 -- A run that doesn't halt has none.
-budget_plain : (run : ℕ) (t : Option Trial) → members_have_float (json.out_of_budget run t) ≡ false
+pub budget_plain : (run : ℕ) (t : Option Trial) → members_have_float (json.out_of_budget run t) ≡ false
 budget_plain run None = natural_plain (codes "run") (run_number run) (json.kind (codes "budget")) refl
 budget_plain run (Some t) =
     let kind = json.kind (codes "budget") in
@@ -52,7 +52,7 @@ budget_plain run (Some t) =
     (natural_plain (codes "run") (run_number run) kind refl)
 
 -- A word that differs from the expected one has none.
-wrong_plain : (run : ℕ) (e : Entry) (word : Option ℤ) → members_have_float (json.wrong_word run e word) ≡ false
+pub wrong_plain : (run : ℕ) (e : Entry) (word : Option ℤ) → members_have_float (json.wrong_word run e word) ≡ false
 wrong_plain run e word =
     let kind = json.kind (codes "word") in
     let begun = json.with_run run kind in

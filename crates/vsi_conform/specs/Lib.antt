@@ -1,4 +1,5 @@
 pub mod Points
+pub mod Totals
 pub mod Asked
 pub mod Bounded
 pub mod Conforms

@@ -18,12 +18,12 @@ use vsi_image::Verified;
 use vsi_lattice::Lattice;
 
 /// The differences between the globals and runs of an image and the required ones.
-fn image_points(
+pub fn image_points(
     alloc: Global,
     verified: &Verified,
     interface: &Interface,
 ) -> Result<Vec<Point>, AllocError>
-    ensures { IfOk result (λ points. points.items ≡ points_of verified.now interface.now) }
+    ensures points { IfOk result (λ points. points.items ≡ points_of verified.now interface.now) }
 {
     let is_ordered = interface.is_ordered;
     let found = &verified.image().globals;

@@ -20,7 +20,7 @@ pub enum InterfaceError {
     #[error("the interface has a key that is none")]
     UnknownKey(Vec<u8>),
     /// The interface has neither a text at `lattice` nor the keys of a lattice file, or it has
-    /// both.
+    /// both; or the path leads out of the folder of the interface.
     #[error("the interface has no lattice, or two")]
     BadLattice,
     /// The value at `profile` is none of `base`, `strict` and `steady`.
@@ -32,7 +32,7 @@ pub enum InterfaceError {
     /// The value at `bounded` is neither `true` nor `false`.
     #[error("whether a bound is required is neither true nor false")]
     BadBounded,
-    /// The value at `globals` isn't an array of pairs of texts.
+    /// The value at `globals` isn't an array of at most 256 pairs of texts.
     #[error("the interface has no array of globals")]
     BadGlobals,
     /// This name of a global isn't a name of the language.
@@ -62,6 +62,9 @@ pub enum InterfaceError {
     /// The run names this global, which the interface doesn't have.
     #[error("run {0} names an unknown global")]
     UnknownGlobal(usize, Vec<u8>),
+    /// The runs may take more instructions together than this number.
+    #[error("the runs may take more than {0} instructions")]
+    AboveBudget(u64),
     /// Memory ran out.
     #[error("out of memory")]
     Memory,
@@ -104,11 +107,12 @@ fn fault_name(error: &InterfaceError) -> &'static [u8]
         InterfaceError::NoBudget(_) => b"NoBudget",
         InterfaceError::NothingExpected(_) => b"NothingExpected",
         InterfaceError::UnknownGlobal(_, _) => b"UnknownGlobal",
+        InterfaceError::AboveBudget(_) => b"AboveBudget",
         InterfaceError::Memory => b"Memory",
     }
 }
 
-/// The fields after the name of a fault: the number of a run, and a name or a key.
+/// The fields after the name of a fault: the number of a run or a budget, and a name or a key.
 fn fault_fields(error: &InterfaceError) -> (Option<usize>, Option<&[u8]>)
     ensures run { result.0 ≡ spec.run_of error.now }
     ensures word { option_copied result.1 ≡ spec.word_of error.now }
@@ -123,6 +127,7 @@ fn fault_fields(error: &InterfaceError) -> (Option<usize>, Option<&[u8]>)
         | InterfaceError::NoBudget(run)
         | InterfaceError::NothingExpected(run) => (Some(*run), None),
         InterfaceError::UnknownGlobal(run, word) => (Some(*run), Some(word.as_slice())),
+        InterfaceError::AboveBudget(budget) => (Some(*budget as usize), None),
         _ => (None, None),
     }
 }

@@ -17,7 +17,7 @@ use vsi_lattice::Lattice;
 use vsi_steady::UnsteadyError;
 
 /// An object for this kind of point.
-fn object(alloc: Global, point: &str) -> Result<Map<String, Value>, AllocError>
+pub fn object(alloc: Global, point: &str) -> Result<Map<String, Value>, AllocError>
     ensures { IfOk result (λ map. members_view map.entries ≡ spec.kind point.now) }
 {
     let mut map = Map::new(alloc);
@@ -46,12 +46,16 @@ fn put_shown(
 }
 
 /// A global that the text lacks.
-fn missing(alloc: Global, pages: &Pages, number: usize) -> Result<Map<String, Value>, AllocError>
-    ensures { IfOk result (λ map. members_view map.entries
-        ≡ spec.missing (told.asked pages.now.interface.now number)) }
+pub fn missing(
+    alloc: Global,
+    interface: &Interface,
+    number: usize,
+) -> Result<Map<String, Value>, AllocError>
+    ensures object { IfOk result (λ map. members_view map.entries
+        ≡ spec.missing (told.asked interface.now number)) }
 {
     let mut map = object(alloc, "missing")?;
-    let (name, class) = asked(pages.interface, number);
+    let (name, class) = asked(interface, number);
     put_text(alloc, &mut map, "name", name)?;
     put_text(alloc, &mut map, "class", class)?;
     Ok(map)
@@ -99,35 +103,35 @@ fn wrong_order(alloc: Global, pages: &Pages, place: usize) -> Result<Map<String,
 }
 
 /// A run that doesn't halt.
-fn out_of_budget(
+pub fn out_of_budget(
     alloc: Global,
-    pages: &Pages,
+    interface: &Interface,
     trial: usize,
 ) -> Result<Map<String, Value>, AllocError>
-    ensures { IfOk result (λ map. members_view map.entries
-        ≡ spec.out_of_budget trial (slice_get pages.now.interface.now.trials.items trial)) }
+    ensures object { IfOk result (λ map. members_view map.entries
+        ≡ spec.out_of_budget trial (slice_get interface.now.trials.items trial)) }
 {
     let mut map = object(alloc, "budget")?;
     put_natural(alloc, &mut map, "run", trial.saturating_add(1))?;
-    if let Some(trial) = pages.interface.trials.get(trial) {
+    if let Some(trial) = interface.trials.get(trial) {
         put(&mut map, alloc, "budget", Value::from(trial.budget))?;
     }
     Ok(map)
 }
 
 /// A word that differs from the expected one; `word` is `None` if the text has no such global.
-fn wrong_word(
+pub fn wrong_word(
     alloc: Global,
-    pages: &Pages,
+    interface: &Interface,
     trial: usize,
     wanted: usize,
     word: Option<i64>,
 ) -> Result<Map<String, Value>, AllocError>
-    ensures { IfOk result (λ map. members_view map.entries
-        ≡ spec.wrong_word trial (told.expected pages.now.interface.now trial wanted) word) }
+    ensures object { IfOk result (λ map. members_view map.entries
+        ≡ spec.wrong_word trial (told.expected interface.now trial wanted) word) }
 {
     let mut map = object(alloc, "word")?;
-    let (name, want) = expected(pages.interface, trial, wanted);
+    let (name, want) = expected(interface, trial, wanted);
     put_natural(alloc, &mut map, "run", trial.saturating_add(1))?;
     put_text(alloc, &mut map, "name", name)?;
     put(&mut map, alloc, "expected", Value::from(want))?;
@@ -149,22 +153,24 @@ fn point_object(
         ≡ spec.members_of_point (told.page pages.now) point) }
 {
     match point {
-        Point::Missing(number) => missing(alloc, pages, number),
+        Point::Missing(number) => missing(alloc, pages.interface, number),
         Point::Unexpected(place) => unexpected(alloc, pages, place),
         Point::WrongClass { place, wanted } => wrong_class(alloc, pages, place, wanted),
         Point::WrongOrder(place) => wrong_order(alloc, pages, place),
-        Point::OutOfBudget(trial) => out_of_budget(alloc, pages, trial),
+        Point::OutOfBudget(trial) => out_of_budget(alloc, pages.interface, trial),
         Point::WrongWord {
             trial,
             wanted,
             word,
-        } => wrong_word(alloc, pages, trial, wanted, Some(word)),
-        Point::NoWord { trial, wanted } => wrong_word(alloc, pages, trial, wanted, None),
+        } => wrong_word(alloc, pages.interface, trial, wanted, Some(word)),
+        Point::NoWord { trial, wanted } => {
+            wrong_word(alloc, pages.interface, trial, wanted, None)
+        }
     }
 }
 
 /// The object of a refusal.
-fn refused(alloc: Global, lines: &[u8]) -> Result<Map<String, Value>, AllocError>
+pub fn refused(alloc: Global, lines: &[u8]) -> Result<Map<String, Value>, AllocError>
     ensures { IfOk result
         (λ map. members_view map.entries ≡ spec.members_of_refusal lines.now) }
 {
@@ -222,7 +228,7 @@ fn no_bound(alloc: Global, line: &[u8]) -> Result<Map<String, Value>, AllocError
 }
 
 /// Adds the object of a missing bound, if there is a line about it.
-fn push_bound(
+pub fn push_bound(
     alloc: Global,
     found: &mut Vec<Value>,
     unbounded: &Option<Vec<u8>>,
@@ -241,7 +247,11 @@ fn push_bound(
 }
 
 /// The line of an answer with these objects.
-fn answer_line(alloc: Global, conforms: bool, objects: Vec<Value>) -> Result<Vec<u8>, AllocError>
+pub fn answer_line(
+    alloc: Global,
+    conforms: bool,
+    objects: Vec<Value>,
+) -> Result<Vec<u8>, AllocError>
     ensures { IfOk result (λ line. items_have_float (items_view objects.items) ≡ false
         → line.items ≡ spec.answer_line conforms (map view objects.items)) }
 {

@@ -4,7 +4,8 @@
 //! (`specs/Checking`). `read_interface` reads an interface file: the lattice, the judgement, the
 //! globals with their classes, and the required runs. `conform` reports each point in which a text
 //! differs from an interface; if there is none, the text conforms to it (`specs/Conforms`).
-//! `points_text` and `points_json` write an answer (`specs/Lines`, `specs/Json`), and
+//! `image_points` reports it of an image alone. `parts` has the lines and objects of points that
+//! name no position in a text. `points_text` and `points_json` write an answer (`specs/Lines`, `specs/Json`), and
 //! `interface_text` writes why an interface is refused (`specs/Faulty`).
 //!
 //! To be believed: all files of `specs/`.
@@ -19,17 +20,21 @@ mod globals;
 mod interface;
 mod json;
 mod keys;
+mod outside;
+pub mod parts;
 mod point;
 mod reader;
 mod texts;
+mod totals;
 mod trials;
 
 pub use accepting::judged;
 pub use checking::{Checked, check_json, steady_diagnostic, unsteady_diagnostic};
-pub use conforming::conform;
+pub use conforming::{conform, image_points};
 pub use error::{InterfaceError, interface_text};
 pub use interface::{Interface, Judgement, Trial};
 pub use json::points_json;
 pub use point::{Answer, Point};
 pub use reader::{Asked, Policy, path_beside, read_interface, unknown_class};
 pub use texts::{points_text, refusal_lines};
+pub use totals::is_within;

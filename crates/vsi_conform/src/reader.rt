@@ -10,7 +10,7 @@ ghost use Rattle.toml.specs.View.{items_view, table_view, view};
 ghost use Rattle.vsi_image.specs.Fields as image;
 ghost use Rattle.vsi_image.specs.Fields.{global, globals};
 ghost use Rattle.vsi_lattice.specs.Shape as shape;
-ghost use Rattle.vsi_conform.specs.Beside.{beside, folder};
+ghost use Rattle.vsi_conform.specs.Beside.{IsInside, beside, folder};
 ghost use Rattle.vsi_conform.specs.Points.{entries};
 ghost use Rattle.vsi_conform.specs.Reading as spec;
 ghost use Rattle.vsi_conform.specs.Tables.{IsTablesText, with_copy};
@@ -21,6 +21,7 @@ use crate::error::InterfaceError;
 use crate::globals::is_named;
 use crate::interface::{Interface, Judgement, Trial};
 use crate::keys::{entries_of, other_key, table_in, text_at, value_at};
+use crate::outside::leads_out;
 use std::alloc::{AllocError, Global};
 use toml::{Table, Value};
 use vsi_lattice::Lattice;
@@ -34,10 +35,14 @@ const KEYS: [&str; 8] = [
 /// The keys of a run.
 const RUN_KEYS: [&str; 4] = ["store", "budget", "expect", "halts"];
 
+/// The most globals of a program.
+const MOST_GLOBALS: usize = 256;
+
 /// The place of an interface's lattice.
 #[derive(Debug, Drop)]
 pub enum Policy {
-    /// The lattice file at this path, which is relative to the folder of the interface.
+    /// The lattice file at this path, which is relative to the folder of the interface and doesn't
+    /// lead out of it.
     File(Vec<u8>),
     /// The interface itself: the text of a lattice file with its tables.
     Tables(Vec<u8>),
@@ -122,7 +127,8 @@ fn has_tables(table: &Table) -> bool
 
 /// The path of the lattice file.
 fn file_in(alloc: Global, table: &Table) -> Result<Policy, InterfaceError>
-    ensures { IfOk result (spec.IsPolicy (table_view table.now)) }
+    ensures policy { IfOk result (spec.IsPolicy (table_view table.now)) }
+    ensures inside { IfOk result IsInside }
 {
     if has_tables(table) {
         return Err(InterfaceError::BadLattice);
@@ -130,13 +136,17 @@ fn file_in(alloc: Global, table: &Table) -> Result<Policy, InterfaceError>
     let Some(path) = text_at(table, "lattice") else {
         return Err(InterfaceError::BadLattice);
     };
+    if leads_out(path.as_bytes()) {
+        return Err(InterfaceError::BadLattice);
+    }
     let path = Vec::from_slice(alloc, path.as_bytes())?;
     Ok(Policy::File(path))
 }
 
 /// The place of the lattice.
 fn policy_in(alloc: Global, table: &Table) -> Result<Policy, InterfaceError>
-    ensures { IfOk result (spec.IsPolicy (table_view table.now)) }
+    ensures policy { IfOk result (spec.IsPolicy (table_view table.now)) }
+    ensures inside { IfOk result IsInside }
 {
     if value_at(table, "lattice").is_some() {
         return file_in(alloc, table);
@@ -278,6 +288,9 @@ fn globals_in(alloc: Global, table: &Table) -> Result<Vec<(Vec<u8>, Vec<u8>)>, I
     let Some(array) = value.as_array() else {
         return Err(InterfaceError::BadGlobals);
     };
+    if array.len() > MOST_GLOBALS {
+        return Err(InterfaceError::BadGlobals);
+    }
     globals_of(alloc, array.as_slice())
 }
 
@@ -525,6 +538,7 @@ fn interface_in(alloc: Global, table: &Table) -> Result<Interface, InterfaceErro
 /// the first fault in the order keys, lattice, profile, order, bound, globals, runs.
 pub fn read_interface(alloc: Global, text: &[u8]) -> Result<Asked, InterfaceError>
     ensures read { IfOk result (spec.IsReadAs text.now) }
+    ensures inside { IfOk result (λ asked. IsInside asked.policy) }
 {
     let table = table_in(alloc, text)?;
     if let Some(key) = other_key(&table, &KEYS) {

@@ -26,7 +26,7 @@ pub(crate) struct Pages<'a> {
 }
 
 /// Adds some texts.
-pub(crate) fn push_parts(text: &mut Vec<u8>, parts: &[&[u8]]) -> Result<(), AllocError>
+pub fn push_parts(text: &mut Vec<u8>, parts: &[&[u8]]) -> Result<(), AllocError>
     ensures { OnOk result (text.new.items ≡ text.old.items ++ flat_map (λ p. p.now) parts.now) }
 {
     for part in parts {
@@ -132,7 +132,7 @@ fn push_run(text: &mut Vec<u8>, trial: usize) -> Result<(), AllocError>
 }
 
 /// The required global with this number.
-pub(crate) fn asked<'a>(interface: &'a Interface, number: usize) -> (&'a [u8], &'a [u8])
+pub fn asked<'a>(interface: &'a Interface, number: usize) -> (&'a [u8], &'a [u8])
     ensures { (result.0.now, result.1.now) ≡ told.asked interface.now number }
 {
     match interface.globals.get(number) {
@@ -142,7 +142,7 @@ pub(crate) fn asked<'a>(interface: &'a Interface, number: usize) -> (&'a [u8], &
 }
 
 /// The name and the word that a run expects, by number.
-pub(crate) fn expected(interface: &Interface, trial: usize, wanted: usize) -> (&[u8], i64)
+pub fn expected(interface: &Interface, trial: usize, wanted: usize) -> (&[u8], i64)
     ensures { (result.0.now, result.1) ≡ told.expected interface.now trial wanted }
 {
     let Some(trial) = interface.trials.get(trial) else {
@@ -162,7 +162,7 @@ fn expected_of(trial: &Trial, wanted: usize) -> (&[u8], i64)
 }
 
 /// Adds the line of a global that the text lacks.
-fn push_missing(text: &mut Vec<u8>, global: (&[u8], &[u8])) -> Result<(), AllocError>
+pub fn push_missing(text: &mut Vec<u8>, global: (&[u8], &[u8])) -> Result<(), AllocError>
     ensures { OnOk result (text.new.items
         ≡ text.old.items ++ spec.missing_line (global.entry.0.now, global.entry.1.now)) }
 {
@@ -225,7 +225,7 @@ fn push_found(text: &mut Vec<u8>, name: &[u8], word: Option<i64>) -> Result<(), 
 }
 
 /// Adds the line of a word that differs from the expected one.
-fn push_wrong(
+pub fn push_wrong(
     text: &mut Vec<u8>,
     trial: usize,
     wanted: (&[u8], i64),
@@ -253,7 +253,11 @@ fn push_budget(text: &mut Vec<u8>, trial: Option<&Trial>) -> Result<(), AllocErr
 }
 
 /// Adds the line of a run that doesn't halt.
-fn push_endless(text: &mut Vec<u8>, number: usize, trial: Option<&Trial>) -> Result<(), AllocError>
+pub fn push_endless(
+    text: &mut Vec<u8>,
+    number: usize,
+    trial: Option<&Trial>,
+) -> Result<(), AllocError>
     ensures { OnOk result (text.new.items
         ≡ text.old.items ++ spec.budget_line number (option_copied trial.entry)) }
 {
@@ -326,7 +330,7 @@ fn first_lines(
 }
 
 /// Adds the line about the bound, if there is one.
-fn push_bound(text: &mut Vec<u8>, unbounded: &Option<Vec<u8>>) -> Result<(), AllocError>
+pub fn push_bound(text: &mut Vec<u8>, unbounded: &Option<Vec<u8>>) -> Result<(), AllocError>
     ensures { OnOk result
         (text.new.items ≡ text.old.items ++ spec.bound_lines unbounded.now) }
 {

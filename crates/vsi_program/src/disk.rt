@@ -207,6 +207,13 @@ impl Files for Disk<'_> {
         self.replace_by_new(path, fresh, OWNER_ALONE, bytes).ok()
     }
 
+    fn may_wait(&mut self, path: &str) -> bool {
+        match fs::metadata(self.rt, path) {
+            Ok(found) => !found.is_file(),
+            Err(_) => false,
+        }
+    }
+
     fn trouble(&mut self, path: &str) -> Option<&'static str> {
         match fs::metadata(self.rt, path) {
             Ok(found) if found.is_dir() => Some("this is a folder."),

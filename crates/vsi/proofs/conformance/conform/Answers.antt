@@ -5,7 +5,7 @@ use Rattle.vsi_devices.specs.Counted.{device_of}
 use Rattle.vsi.specs.Partly.{BytesOf}
 use Rattle.vsi.specs.Performed.{ConformsFiles}
 use Rattle.vsi.specs.Refusals.{StopsBy}
-use Rattle.vsi.specs.Reasons.{DiffersConform, IsUnusable, RefusesAsked}
+use Rattle.vsi.specs.Reasons.{DiffersConform, IsUnusable, RefusesConform}
 use Rattle.vsi.proofs.Partly.{answer_leaves, kept_leaves}
 use Rattle.vsi.proofs.Reasons.{StopsBy-weaker, handed}
 use Rattle.vsi.proofs.Unrun.{answer_stopped}
@@ -29,7 +29,7 @@ returns-clause-stopped g c =
     let holds = g.F.Files.holds c.args.files.now in
     let old = g.W.Write.contents (device_of c.args.output.now) in
     let new = g.W.Write.contents (device_of c.write_answer.new.output) in
-    answer_stopped (RefusesAsked holds c.args.asked.interface.now) (DiffersConform holds c.args.asked old new)
+    answer_stopped (RefusesConform holds c.args.asked) (DiffersConform holds c.args.asked old new)
     ((c.in_ok-conforms.conforms ≡ false) × Appends old new c.deref.result.now) c.write_answer.result
     c.write_answer.ensures.stopped
     (λ told. inr (
@@ -44,7 +44,7 @@ returns-clause-stopped g c =
 
 pub returns-in_err-conforms-clause-stopped : goal.returns-in_err-conforms-clause-stopped
 returns-in_err-conforms-clause-stopped g c =
-    let why = RefusesAsked (g.F.Files.holds c.args.files.now) c.args.asked.interface.now in
+    let why = RefusesConform (g.F.Files.holds c.args.files.now) c.args.asked in
     let other = DiffersConform (g.F.Files.holds c.args.files.now) c.args.asked
     (g.W.Write.contents (device_of c.args.output.now)) (g.W.Write.contents (device_of c.args.output.now)) in
     handed (StopsBy why other) c.in_err-conforms.field-0.0 c.from_residual.result c.from_residual.ensures.1

@@ -11,6 +11,7 @@ returns-in-Ok-clause-asked g c =
       bytes = c.in_ok-bytes.bytes.items;
       read = c.in_ok-bytes.ensures.read;
       is = subst (λ b. IsReadAs b c.in-Ok.asked) c.deref.ensures.value c.in-Ok.ensures.read;
+      inside = c.in-Ok.ensures.inside;
     }
 
 pub returns-in_err-bytes-clause-stopped : goal.returns-in_err-bytes-clause-stopped

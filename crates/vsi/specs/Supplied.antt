@@ -1,0 +1,34 @@
+-- An image where a source text may be given, and what is said of it beside an interface.
+use Rattle.std.specs.Prelude.{◌≡◌, ℕ, ◌==◌, nat_lt, Bool, true, false, ◌&&◌, List, [], ◌∷◌}
+use Rattle.vsi_lattice.specs.declared.lattice.Lattice.{Lattice}
+use Rattle.vsi_image.specs.declared.instr.Image.{Image}
+use Rattle.vsi_answers.specs.Judged.{AreImage}
+use Rattle.vsi_conform.specs.declared.interface.Interface.{Interface}
+use Rattle.vsi_conform_image.specs.Conforms.{Conforms, Tells, is_conforming}
+use Rattle.vsi_conform_image.specs.Json.{IsConformJson}
+use Rattle.vsi_conform_image.specs.Lines.{IsConformText}
+use Rattle.vsi_conform_image.specs.declared.answer.Answer.{Answer}
+
+-- The bytes begin as those of an image: with its three first bytes and a version below 9, which no source text has.
+abbrev pub begins_image : List ℕ → Bool
+begins_image (v ∷ s ∷ i ∷ version ∷ rest) = v == 86 && s == 83 && i == 73 && nat_lt version 9
+begins_image _ = false
+
+-- How an answer about an image is written, as a line of JSON or as lines.
+abbrev pub IsSuppliedAs : Bool → Lattice → Image → Interface → Answer → List ℕ → Type 0
+IsSuppliedAs true = IsConformJson
+IsSuppliedAs false = IsConformText
+
+-- A text that says whether an image conforms to an interface, and where it differs.
+pub record TellsImage (is_json conforms : Bool) (l : Lattice) (image : Image) (i : Interface) (text : List ℕ)
+    : Type 0 where
+  pub answer : Answer
+  pub tells : Tells l image i answer
+  pub verdict : is_conforming answer ≡ conforms
+  pub is : conforms ≡ true → Conforms l image i
+  pub written : IsSuppliedAs is_json l image i answer text
+
+-- The same of the image with these bytes.
+abbrev pub TellsSupplied : Bool → Bool → Lattice → List ℕ → Interface → List ℕ → Type 0
+TellsSupplied is_json conforms l bytes i text =
+    (image : Image) × AreImage bytes image × TellsImage is_json conforms l image i text

@@ -1,0 +1,14 @@
+use Rattle.std.proofs.Common.{map}
+use Rattle.serde_json.specs.View.{view}
+use Rattle.vsi_conform_image.proofs.Told.{json_so}
+use Rattle.vsi_conform_image.proofs.json.points_json.Goals as goal
+
+pub returns : goal.returns
+returns c =
+    record {
+      json = json_so c.args.lattice.now c.args.image.now c.args.interface.now c.args.answer.now
+          (map view c.in_ok-objects.objects.items) (map view c.push_objects.new.found.items)
+          (map view c.push_bound.new.found.items) c.in_ok-line.line.items c.in_ok-objects.ensures
+          (rw c.deref.ensures.value at c.in_ok-push_objects.ensures) c.in_ok-push_bound.ensures
+          (rw c.conforms.ensures at c.in_ok-line.ensures);
+    }

@@ -1,0 +1,3 @@
+pub mod Conforms
+pub mod Lines
+pub mod Json
