@@ -342,6 +342,26 @@ fn of_fault<F: Files>(alloc: Global, files: &mut F, path: &str) -> Result<Vec<u8
     Ok(lines)
 }
 
+/// The line that says why a file of another kind wasn't replaced, if this is the stop.
+pub(crate) fn objection<F: Files>(
+    alloc: Global,
+    files: &mut F,
+    stop: &Stop<'_>,
+) -> Result<Vec<u8>, AllocError>
+    ensures { F.holds files.new ≡ F.holds files.old }
+{
+    let mut line = Vec::new(alloc);
+    if let Stop::FileFault(path) = stop {
+        if let Some(sentence) = files.objection() {
+            put_safe(&mut line, path.as_bytes())?;
+            line.extend_from_slice(b": ")?;
+            line.extend_from_slice(sentence.as_bytes())?;
+            line.extend_from_slice(b"\n")?;
+        }
+    }
+    Ok(line)
+}
+
 /// The lattice that was read, or `L` below `H` if none was.
 fn policy(desk: &Desk) -> Option<Lattice> {
     let text = match desk.last(Kind::Lattice) {

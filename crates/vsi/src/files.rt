@@ -5,6 +5,27 @@ ghost use Rattle.vsi.specs.Holding.{HoldsAt, KeepsOthers};
 
 use std::io::Read;
 
+/// The kind of the file that a request writes.
+#[derive(Clone, Copy, Debug, PartialEq, Eq)]
+pub enum Written {
+    Image,
+    Store,
+    Source,
+}
+
+/// What a request may write over.
+#[derive(Clone, Copy, Debug)]
+pub struct Writing<'a> {
+    pub kind: Written,
+    /// The path of a file that it reads and may replace: the store that a run begins with, or the
+    /// source text that is laid out.
+    pub replaced: Option<&'a str>,
+    /// Whether it reads standard input, which may be a file.
+    pub reads_input: bool,
+    /// Whether a file of another kind may be replaced.
+    pub is_forced: bool,
+}
+
 /// The files of a system. It counts as a device: `None` is a file fault, even if an implementation
 /// ran out of memory.
 pub trait Files {
@@ -44,6 +65,18 @@ pub trait Files {
         ensures kept { holds self.new ≡ holds self.old }
     {
         false
+    }
+
+    /// Takes note of what a request may write over, before its files are read.
+    fn expect(&mut self, _writing: Writing<'_>)
+        ensures kept { holds self.new ≡ holds self.old }
+    {}
+
+    /// Why a file wasn't replaced, in a sentence, if that is because it is of another kind.
+    fn objection(&mut self) -> Option<&'static str>
+        ensures kept { holds self.new ≡ holds self.old }
+    {
+        None
     }
 
     /// Why the file at the path can't be used, in a sentence, if that is known.

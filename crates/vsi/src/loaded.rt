@@ -6,8 +6,8 @@ ghost use Rattle.std.specs.Io.KnownBytes.{ReadConsumes};
 ghost use Rattle.std.specs.Rc.{rc_slice_items};
 ghost use Rattle.vsi.specs.Loading.{AreRead, held, left_of};
 
-use crate::files::Files;
-use crate::paths::{is_state, paths_of};
+use crate::files::{Files, Writing};
+use crate::paths::{is_state, paths_of, writing_of};
 use crate::reading::whole_in;
 use crate::stop::Stop;
 use std::alloc::{AllocError, Global};
@@ -172,6 +172,7 @@ pub fn load<F: Files + Drop>(
         Err(ArgumentsError::Memory) => return Err(AllocError),
         Err(ArgumentsError::Help(_) | ArgumentsError::Mistake(_)) => return Ok(loaded),
     };
+    loaded.system.expect(writing_of(&asked));
     for path in &paths_of(&asked.request) {
         let Some(path) = *path else {
             continue;
@@ -217,6 +218,14 @@ impl<F: Files> Files for Loaded<F> {
 
     fn may_wait(&mut self, path: &str) -> bool {
         self.system.may_wait(path)
+    }
+
+    fn expect(&mut self, writing: Writing<'_>) {
+        self.system.expect(writing)
+    }
+
+    fn objection(&mut self) -> Option<&'static str> {
+        self.system.objection()
     }
 
     fn trouble(&mut self, path: &str) -> Option<&'static str> {

@@ -12,7 +12,7 @@ ghost use Rattle.vsi_asked.specs.Help.{AsksHelp};
 ghost use Rattle.vsi_devices.specs.Counted.{device_of, faults_of};
 
 use crate::desk::Desk;
-use crate::explaining::{Explaining, explained};
+use crate::explaining::{Explaining, explained, objection};
 use crate::files::Files;
 use crate::performing::perform;
 use crate::stop::{Stop, write};
@@ -110,7 +110,8 @@ fn explaining_of<F: Files>(asked: &Asked<'_>, files: &mut F) -> Option<Explainin
     }
 }
 
-/// The stop of a request, once its explanation has been added to the note, if one is requested.
+/// The stop of a request, once its explanation has been added to the note, if one is requested, or
+/// else why its file wasn't replaced, if that is known.
 fn explain_stop<'a, F: Files>(
     desk: &Desk,
     explaining: Option<Explaining>,
@@ -122,13 +123,11 @@ fn explain_stop<'a, F: Files>(
     ensures fault { status_of stop.entry ≡ 4 → status_of result ≡ 4 }
     ensures same { (result ≡ stop.entry) ⊎ (result ≡ Memory) }
 {
-    match explaining {
-        Some(explaining) => {
-            let lines = explained(desk, explaining, files, &stop);
-            stop.after(told.put(lines))
-        }
-        None => stop,
-    }
+    let lines = match explaining {
+        Some(explaining) => explained(desk, explaining, files, &stop),
+        None => objection(desk.alloc, files, &stop),
+    };
+    stop.after(told.put(lines))
 }
 
 /// The stop for arguments that don't spell the request that was read from them.

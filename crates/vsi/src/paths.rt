@@ -1,6 +1,7 @@
 //! The paths of the files that a request reads.
 
-use vsi_arguments::{Document, Request};
+use crate::files::{Writing, Written};
+use vsi_arguments::{Asked, Document, Request};
 
 /// The most files that a request names to read.
 pub(crate) const MOST_READ: usize = 4;
@@ -67,6 +68,24 @@ pub(crate) fn is_state(request: &Request<'_>, path: &str) -> bool {
         Request::Drive(asked) => asked.execution.store == Some(path) && asked.save == Some(path),
         Request::Layout(asked) => asked.is_written && asked.source == path,
         _ => false,
+    }
+}
+
+/// What a request may write over.
+pub(crate) fn writing_of<'a>(asked: &Asked<'a>) -> Writing<'a> {
+    let (kind, replaced) = match &asked.request {
+        Request::Run { execution, .. } | Request::View { execution, .. } => {
+            (Written::Store, execution.store)
+        }
+        Request::Drive(asked) => (Written::Store, asked.execution.store),
+        Request::Layout(asked) => (Written::Source, Some(asked.source)),
+        _ => (Written::Image, None),
+    };
+    Writing {
+        kind,
+        replaced,
+        reads_input: matches!(asked.request, Request::Drive(_)),
+        is_forced: asked.is_forced,
     }
 }
 

@@ -409,6 +409,13 @@ pub(crate) const SAVE: Argument = Argument {
     whole: word_help::SAVE,
 };
 
+pub(crate) const FORCE: Argument = Argument {
+    name: "force",
+    form: Form::Flag,
+    line: "Replaces a file of another kind too",
+    whole: word_help::FORCE,
+};
+
 pub(crate) const INPUTS: Argument = Argument {
     name: "inputs",
     form: Form::Value("NAMES"),

@@ -145,7 +145,11 @@ fn judged<'a>(
     }
     let manner = manner_in(inner);
     match named(alloc, name, inner)? {
-        Ok(request) => Ok(Ok(Asked { request, manner })),
+        Ok(request) => Ok(Ok(Asked {
+            request,
+            manner,
+            is_forced: inner.get_flag("force"),
+        })),
         Err(mistake) => Ok(Err(mistake)),
     }
 }

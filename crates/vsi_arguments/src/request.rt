@@ -217,11 +217,13 @@ pub enum Manner {
     Explained(Colour),
 }
 
-/// The request of a command line, and how its refusal is reported.
+/// The request of a command line, how its refusal is reported, and whether its file replaces one of
+/// another kind.
 #[derive(Drop)]
 pub struct Asked<'a> {
     pub request: Request<'a>,
     pub manner: Manner,
+    pub is_forced: bool,
 }
 
 /// A subcommand with its arguments.

@@ -4,7 +4,7 @@ use std::alloc::{AllocError, Global};
 
 /// The options that only some subcommands have, as a mistake quotes them, and the subcommands that
 /// have each.
-const OWNERS: [(&str, &str); 35] = [
+const OWNERS: [(&str, &str); 36] = [
     ("'--apply'", "mend"),
     ("'--bounded'", "emit-c"),
     (
@@ -25,6 +25,7 @@ const OWNERS: [(&str, &str); 35] = [
         `vsi try a.vsi --explain`",
     ),
     ("'--flows'", "draw"),
+    ("'--force'", "build, run, view and drive"),
     ("'--full-store'", "run, view and drive"),
     ("'--header'", "emit-c"),
     ("'--inputs'", "drive"),

@@ -75,7 +75,7 @@ const SUBCOMMANDS: [Subcommand; 21] = [
         line: "Compiles a source text to an image",
         whole: help::BUILD,
         example: help::BUILD_EXAMPLE,
-        arguments: &[LATTICE, SOURCE, STRICT, NEW_IMAGE],
+        arguments: &[LATTICE, SOURCE, STRICT, NEW_IMAGE, FORCE],
     },
     Subcommand {
         name: "list",
@@ -117,14 +117,18 @@ const SUBCOMMANDS: [Subcommand; 21] = [
         line: "Runs an image and prints its final store",
         whole: run_help::RUN,
         example: run_help::RUN_EXAMPLE,
-        arguments: &[IMAGE, BUDGET, STORE, SET, FULL_STORE, OUT, TRACE, COUNT],
+        arguments: &[
+            IMAGE, BUDGET, STORE, SET, FULL_STORE, OUT, FORCE, TRACE, COUNT,
+        ],
     },
     Subcommand {
         name: "view",
         line: "Runs an image and prints what a class may see",
         whole: run_help::VIEW,
         example: run_help::VIEW_EXAMPLE,
-        arguments: &[LATTICE, CLASS, IMAGE, BUDGET, STORE, SET, FULL_STORE, OUT],
+        arguments: &[
+            LATTICE, CLASS, IMAGE, BUDGET, STORE, SET, FULL_STORE, OUT, FORCE,
+        ],
     },
     Subcommand {
         name: "drive",
@@ -141,6 +145,7 @@ const SUBCOMMANDS: [Subcommand; 21] = [
             DRIVE_FULL_STORE,
             SAVE,
             SAVE_EVERY,
+            FORCE,
             INPUTS,
             OUTPUTS,
             RELEASE,

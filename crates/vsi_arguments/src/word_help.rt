@@ -355,6 +355,13 @@ Puts the layout into the file, with comments kept, if the text isn't
 laid out so already: first into a new file beside it, which then takes
 its place. Nothing is printed, and a refused text stays as it is.";
 
+/// `--force`.
+pub(crate) const FORCE: &str = "\
+Replaces the file whatever it is. Without this option a file that isn't
+empty is replaced only if it is of the kind that is written, an image
+or a store. A file that is read is never replaced, except for a store
+by the store that follows it.";
+
 /// `--inputs`.
 pub(crate) const INPUTS: &str = "\
 Names of globals with commas between them, as in `typed,code`. A line

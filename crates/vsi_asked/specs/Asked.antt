@@ -259,12 +259,21 @@ Spells words (Explain page) = AsksPage words page.now
 Spells words request =
     Asks words (name_of request) (operands_of request) (flags_of request) (options_of request) (numbers_of request)
 
--- The flag and the option that say how a refusal is explained, for each subcommand that one can end.
+-- The flags of a subcommand that no part of its request depends on: the one that asks for an explanation, and, where a
+-- file is written, the one that lets it replace a file of another kind.
+abbrev pub free_flags : Request → List (List ℕ)
+free_flags (Build compilation image) = codes "--explain" ∷ codes "--force" ∷ []
+free_flags (Run execution outset has_trace has_count) = codes "--explain" ∷ codes "--force" ∷ []
+free_flags (View lattice class execution outset) = codes "--explain" ∷ codes "--force" ∷ []
+free_flags (Drive driving) = codes "--explain" ∷ codes "--force" ∷ []
+free_flags request = codes "--explain" ∷ []
+
+-- These flags, and the option that says how a refusal is explained, for each subcommand that one can end.
 abbrev pub manner_of : Request → List (List ℕ) × List (List ℕ)
 manner_of (Shaped arguments) = ([], [])
 manner_of (Lsp serving) = ([], [])
 manner_of (Explain page) = ([], [])
-manner_of request = (codes "--explain" ∷ [], codes "--color" ∷ [])
+manner_of request = (free_flags request, codes "--color" ∷ [])
 
 -- The flags that the request's subcommand has.
 abbrev pub own_flags : Request → List (List ℕ)

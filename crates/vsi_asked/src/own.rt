@@ -21,6 +21,9 @@ const TRY_OPTIONS: [&[u8]; 5] = [b"--lattice", b"--class", b"--set", b"--budget"
 /// The flags of a subcommand that judges by a profile.
 const STRICT: [&[u8]; 2] = [b"--strict", b"--explain"];
 
+/// The flags of `build`.
+const BUILD: [&[u8]; 3] = [b"--strict", b"--explain", b"--force"];
+
 /// The flags of `check`.
 const CHECK: [&[u8]; 6] = [
     b"--strict",
@@ -59,13 +62,19 @@ const EMIT_C: [&[u8]; 3] = [b"--header", b"--bounded", b"--explain"];
 const EMIT_C_OPTIONS: [&[u8]; 3] = [b"--lattice", b"--name", b"--color"];
 
 /// The flags of `run`.
-const RUN: [&[u8]; 4] = [b"--full-store", b"--trace", b"--count", b"--explain"];
+const RUN: [&[u8]; 5] = [
+    b"--full-store",
+    b"--trace",
+    b"--count",
+    b"--explain",
+    b"--force",
+];
 
 /// The options of `run`.
 const RUN_OPTIONS: [&[u8]; 5] = [b"--store", b"--out", b"--set", b"--budget", b"--color"];
 
 /// The flags of `view`.
-const VIEW: [&[u8]; 2] = [b"--full-store", b"--explain"];
+const VIEW: [&[u8]; 3] = [b"--full-store", b"--explain", b"--force"];
 
 /// The options of `view`.
 const VIEW_OPTIONS: [&[u8]; 6] = [
@@ -78,7 +87,7 @@ const VIEW_OPTIONS: [&[u8]; 6] = [
 ];
 
 /// The flags of `drive`.
-const DRIVE: [&[u8]; 3] = [b"--full-store", b"--unbounded", b"--explain"];
+const DRIVE: [&[u8]; 4] = [b"--full-store", b"--unbounded", b"--explain", b"--force"];
 
 /// The options of `drive`.
 const DRIVE_OPTIONS: [&[u8]; 9] = [
@@ -181,7 +190,7 @@ pub(crate) fn has_own_alone(words: &[String], request: &Request<'_>) -> bool
         Request::Document(document) => has_own_document(words, document),
         Request::Conform(_) => are_own(words, CONFORM.as_slice(), CONFORM_OPTIONS.as_slice()),
         Request::Classes(_) => are_own(words, STRICT.as_slice(), NO_OPTIONS.as_slice()),
-        Request::Build(_, _) => are_own(words, STRICT.as_slice(), NO_OPTIONS.as_slice()),
+        Request::Build(_, _) => are_own(words, BUILD.as_slice(), NO_OPTIONS.as_slice()),
         Request::Report(_) => are_own(words, STRICT.as_slice(), NO_OPTIONS.as_slice()),
         Request::Draw(_) => are_own(words, DRAW.as_slice(), NO_OPTIONS.as_slice()),
         Request::Flows { .. } => are_own(words, FLOWS.as_slice(), NO_OPTIONS.as_slice()),

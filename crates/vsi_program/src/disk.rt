@@ -1,13 +1,26 @@
 //! The files of the system: what is read is opened, and what is replaced is replaced as a whole.
 
+use crate::kinds::is_of_kind;
 use std::fs::{File, OpenOptions, Permissions};
 use std::io::{ErrorKind, Write};
 use std::os::unix::fs::{MetadataExt, OpenOptionsExt, PermissionsExt, fchown};
 use std::{env, fs, io};
-use vsi::Files;
+use vsi::{Files, Writing, Written};
 
 /// From how many bytes on a lattice file, a store file or an interface is too long.
 const LIMIT: u64 = 1_048_577;
+
+/// The path of the file that is standard input, if it is one.
+const INPUT: &str = "/proc/self/fd/0";
+
+/// Why a file that the request reads isn't replaced.
+const IS_READ: &str = "this request reads the file, so it doesn't write over it.";
+
+/// Why a file that is no image isn't replaced by one.
+const NO_IMAGE: &str = "this file is no image; only --force replaces it.";
+
+/// Why a file that is no store isn't replaced by one.
+const NO_STORE: &str = "this file is no store; only --force replaces it.";
 
 /// The mode of a store file where there was none: a store may hold secrets, so its owner alone may
 /// read it.
@@ -39,8 +52,18 @@ pub(crate) struct Disk<'a> {
     rt: &'a HostRuntime,
     /// The files that this request has opened to read, the first ones if there are more.
     read: [Option<Identity>; MOST_READ],
+    /// The kind of the file that this request writes.
+    kind: Written,
+    /// The file that this request reads and may replace, if it is there.
+    replaced: Option<Identity>,
+    /// Whether the request replaces a file of another kind.
+    is_forced: bool,
+    /// Whether the request has filled its file, which is its own from then on.
+    has_filled: bool,
     /// Whether a file wasn't written because this request has read it.
     is_spared: bool,
+    /// Why a file wasn't written that is of another kind.
+    objection: Option<&'static str>,
 }
 
 impl<'a> Disk<'a> {
@@ -49,7 +72,12 @@ impl<'a> Disk<'a> {
         Disk {
             rt,
             read: [None; MOST_READ],
+            kind: Written::Image,
+            replaced: None,
+            is_forced: false,
+            has_filled: false,
             is_spared: false,
+            objection: None,
         }
     }
 
@@ -63,12 +91,52 @@ impl<'a> Disk<'a> {
         }
     }
 
-    /// Whether this request has read the file at the path, under whatever name.
-    fn has_read(&self, path: &str) -> bool {
-        match fs::metadata(self.rt, path) {
-            Ok(found) => self
-                .read
-                .contains(&Some(identity_of(found.dev(), found.ino()))),
+    /// The identity of the file at the path, whatever its name, if there is one.
+    fn identity_at(&self, path: &str) -> Option<Identity> {
+        let found = fs::metadata(self.rt, path).ok()?;
+        Some(identity_of(found.dev(), found.ino()))
+    }
+
+    /// Whether the file at the path is left as it is: because this request has read it, under whatever
+    /// name, and may not replace it, or because it is of another kind. A file that the request has
+    /// filled itself never is.
+    fn spares(&mut self, path: &str) -> bool {
+        let found = self.identity_at(path);
+        if self.has_filled || found.is_none() || found == self.replaced {
+            return false;
+        }
+        if self.read.contains(&found) {
+            self.is_spared = true;
+            return true;
+        }
+        !self.is_forced && self.keeps(path)
+    }
+
+    /// Whether the file at the path has bytes and isn't known to be of the kind that is written. If it
+    /// is known to be of another one, there is an objection.
+    fn keeps(&mut self, path: &str) -> bool {
+        if !self.has_bytes(path) {
+            return false;
+        }
+        let Ok(file) = File::open(self.rt, path) else {
+            return true;
+        };
+        if is_of_kind(file, self.kind) {
+            return false;
+        }
+        self.objection = Some(objection_of(self.kind));
+        true
+    }
+
+    /// Whether the path is that of a file with bytes. A link to one is one only for an image, since no
+    /// other file is written through a link.
+    fn has_bytes(&self, path: &str) -> bool {
+        let found = match self.kind {
+            Written::Image => fs::metadata(self.rt, path),
+            Written::Store | Written::Source => fs::symlink_metadata(self.rt, path),
+        };
+        match found {
+            Ok(found) => found.is_file() && found.len() > 0,
             Err(_) => false,
         }
     }
@@ -180,6 +248,14 @@ impl<'a> Disk<'a> {
     }
 }
 
+/// Why a file of another kind isn't replaced by one of this kind.
+fn objection_of(kind: Written) -> &'static str {
+    match kind {
+        Written::Image => NO_IMAGE,
+        Written::Store | Written::Source => NO_STORE,
+    }
+}
+
 /// The identity with these two numbers.
 fn identity_of(device: u64, number: u64) -> Identity {
     Identity { device, number }
@@ -196,15 +272,37 @@ impl Files for Disk<'_> {
     }
 
     fn fill_file(&mut self, path: &str, bytes: &[u8]) -> Option<()> {
-        if self.has_read(path) {
-            self.is_spared = true;
+        if self.spares(path) {
             return None;
         }
         self.fill_whole(path, bytes).ok()
     }
 
     fn replace_file(&mut self, path: &str, fresh: &str, bytes: &[u8]) -> Option<()> {
-        self.replace_by_new(path, fresh, OWNER_ALONE, bytes).ok()
+        if self.spares(path) {
+            return None;
+        }
+        self.replace_by_new(path, fresh, OWNER_ALONE, bytes).ok()?;
+        self.has_filled = true;
+        Some(())
+    }
+
+    fn expect(&mut self, writing: Writing<'_>) {
+        self.kind = writing.kind;
+        self.is_forced = writing.is_forced;
+        self.replaced = match writing.replaced {
+            Some(path) => self.identity_at(path),
+            None => None,
+        };
+        if writing.reads_input
+            && let Some(identity) = self.identity_at(INPUT)
+        {
+            self.note(identity);
+        }
+    }
+
+    fn objection(&mut self) -> Option<&'static str> {
+        self.objection
     }
 
     fn may_wait(&mut self, path: &str) -> bool {
@@ -215,14 +313,15 @@ impl Files for Disk<'_> {
     }
 
     fn trouble(&mut self, path: &str) -> Option<&'static str> {
+        if self.objection.is_some() {
+            return self.objection;
+        }
         match fs::metadata(self.rt, path) {
             Ok(found) if found.is_dir() => Some("this is a folder."),
             Ok(found) if found.len() >= LIMIT => {
                 Some("the file has more than 1048576 bytes, or may not be read or written.")
             }
-            Ok(_) if self.is_spared => {
-                Some("this request reads the file, so it doesn't write over it.")
-            }
+            Ok(_) if self.is_spared => Some(IS_READ),
             Ok(_) => Some("the file may not be read or written."),
             Err(error) if error.kind() == ErrorKind::NotFound => {
                 Some("there is no file at this path.")

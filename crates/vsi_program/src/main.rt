@@ -2,6 +2,7 @@
 #![tactic(auto)]
 
 mod disk;
+mod kinds;
 
 use crate::disk::Disk;
 use std::io::{ErrorKind, Write};
