@@ -67,6 +67,18 @@ one_build words c i asks (Build d j) asked =
 one_build words c i asks (Document (document.Sarif judging)) asked =
     absurd (other_name (texts words) (codes "build") (codes "check") asks.spelled.rest asked.spelled.rest
     asks.spelled.named asked.spelled.named refl refl)
+one_build words c i asks (Document (document.Classes compilation)) asked =
+    absurd (other_name (texts words) (codes "build") (codes "classes") asks.spelled.rest asked.spelled.rest
+    asks.spelled.named asked.spelled.named refl refl)
+one_build words c i asks (Document (document.Flows compilation)) asked =
+    absurd (other_name (texts words) (codes "build") (codes "flows") asks.spelled.rest asked.spelled.rest
+    asks.spelled.named asked.spelled.named refl refl)
+one_build words c i asks (Document (document.Audit audit)) asked =
+    absurd (other_name (texts words) (codes "build") (codes "audit") asks.spelled.rest asked.spelled.rest
+    asks.spelled.named asked.spelled.named refl refl)
+one_build words c i asks (Document (document.Bound bounding)) asked =
+    absurd (other_name (texts words) (codes "build") (codes "bound") asks.spelled.rest asked.spelled.rest
+    asks.spelled.named asked.spelled.named refl refl)
 one_build words c i asks (Explain page) asked =
     absurd (other_name (texts words) (codes "build") (codes "explain") asks.spelled.rest asked.spelled.asks.rest
     asks.spelled.named asked.spelled.asks.named refl refl)
@@ -133,6 +145,18 @@ one_view words l x e o asks (View m y f p) asked =
     }
 one_view words l x e o asks (Document (document.Sarif judging)) asked =
     absurd (other_name (texts words) (codes "view") (codes "check") asks.spelled.rest asked.spelled.rest
+    asks.spelled.named asked.spelled.named refl refl)
+one_view words l x e o asks (Document (document.Classes compilation)) asked =
+    absurd (other_name (texts words) (codes "view") (codes "classes") asks.spelled.rest asked.spelled.rest
+    asks.spelled.named asked.spelled.named refl refl)
+one_view words l x e o asks (Document (document.Flows compilation)) asked =
+    absurd (other_name (texts words) (codes "view") (codes "flows") asks.spelled.rest asked.spelled.rest
+    asks.spelled.named asked.spelled.named refl refl)
+one_view words l x e o asks (Document (document.Audit audit)) asked =
+    absurd (other_name (texts words) (codes "view") (codes "audit") asks.spelled.rest asked.spelled.rest
+    asks.spelled.named asked.spelled.named refl refl)
+one_view words l x e o asks (Document (document.Bound bounding)) asked =
+    absurd (other_name (texts words) (codes "view") (codes "bound") asks.spelled.rest asked.spelled.rest
     asks.spelled.named asked.spelled.named refl refl)
 one_view words l x e o asks (Explain page) asked =
     absurd (other_name (texts words) (codes "view") (codes "explain") asks.spelled.rest asked.spelled.asks.rest

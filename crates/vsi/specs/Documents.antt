@@ -1,10 +1,45 @@
 -- Documents, which programs read.
-use Rattle.std.specs.Prelude.{ℕ, Bool, List}
+use Rattle.std.specs.Prelude.{ℕ, Bool, true, false, List}
 use Rattle.std.specs.Global.{Vec}
 use Rattle.vsi_lattice.specs.declared.lattice.Lattice.{Lattice}
+use Rattle.vsi_types.specs.declared.rules.Profile.{Profile}
+use Rattle.vsi_image.specs.declared.instr.Image.{Image}
 use Rattle.vsi_conform.specs.declared.interface.Judgement.{Judgement}
 use Rattle.vsi_sarif.specs.Checking.{TellsDocument}
+use Rattle.vsi_documents.specs.Audits.{TellsAudit, TellsSteadiness}
+use Rattle.vsi_documents.specs.Bounds.{IsBoundJson}
+use Rattle.vsi_documents.specs.Classes.{TellsClasses}
+use Rattle.vsi_documents.specs.Flows.{TellsFlows}
+use Rattle.vsi_arguments.specs.declared.request.Audit.{Audit}
+use Rattle.vsi.specs.Holding.{Holding, IsImageAt, IsLatticeAt}
 
 -- The document of SARIF for the text of the file at a path, which is accepted or refused.
 abbrev pub ToldSarif : Judgement → List ℕ → Bool → Lattice → List ℕ → Vec ℕ → Type 0
 ToldSarif j path accepted l source text = TellsDocument l j path source accepted text.items
+
+-- The line of JSON for a text with its classes, or for a refused one.
+abbrev pub ToldClassesJson : Profile → Bool → Lattice → List ℕ → Vec ℕ → Type 0
+ToldClassesJson P good l source text = TellsClasses l P source good text.items
+
+-- The line of JSON for a text with its flows, or for one that has no program.
+abbrev pub ToldFlowsJson : Profile → Bool → Lattice → List ℕ → Vec ℕ → Type 0
+ToldFlowsJson P good l source text = TellsFlows l P source good text.items
+
+-- The line of JSON for an image that is judged by a profile or, with `--steady`, by its jumps.
+abbrev pub ToldAuditJson : Bool → Profile → Lattice → Image → Bool → Vec ℕ → Type 0
+ToldAuditJson true P l image good text = TellsSteadiness l image good text.items
+ToldAuditJson false P l image good text = TellsAudit l P image good text.items
+
+-- The line of JSON for the files of an audit.
+pub record AuditsJson (holds : Holding) (a : Audit) (P : Profile) (good : Bool) (text : Vec ℕ) : Type 0 where
+  pub lattice : Lattice
+  pub declared : IsLatticeAt holds a.lattice.now lattice
+  pub image : Image
+  pub held : IsImageAt holds a.image.now image
+  pub is : ToldAuditJson a.is_steady P lattice image good text
+
+-- The line of JSON about the bound of an image of this kind.
+pub record BoundsJson (Kind : Image → Type 0) (good : Bool) (text : Vec ℕ) : Type 0 where
+  pub image : Image
+  pub held : Kind image
+  pub is : IsBoundJson image good text.items

@@ -66,7 +66,7 @@ use Rattle.vsi_arguments.specs.declared.request.Request.{Request}
 use Rattle.vsi_arguments.specs.declared.request.Request.TheVariants as request
 use Rattle.vsi.specs.Admitted.{IsAdmitted}
 use Rattle.vsi.specs.Boundaries.{requested}
-use Rattle.vsi.specs.Documents.{ToldSarif}
+use Rattle.vsi.specs.Documents.{AuditsJson, BoundsJson, ToldClassesJson, ToldFlowsJson, ToldSarif}
 use Rattle.vsi.specs.Driven.{DrivesInput}
 use Rattle.vsi.specs.Holding.{Delivers, Fills, Holding, IsImageAt, IsLatticeAt, IsReadAt}
 use Rattle.vsi.specs.Laying.{PerformsLayout, ToldCanonical}
@@ -344,6 +344,10 @@ pub record ConformsFiles (holds : Holding) (c : Conformance) (conforms : Bool) (
 abbrev pub DocumentOf : Holding → Document → Bool → Vec ℕ → Type 0
 DocumentOf holds (document.Sarif asked) accepted =
     OfFiles holds asked.compilation (ToldSarif (judgement_of asked) asked.compilation.source.now accepted)
+DocumentOf holds (document.Classes asked) good = OfFiles holds asked (ToldClassesJson (profile_of asked.is_strict) good)
+DocumentOf holds (document.Flows asked) good = OfFiles holds asked (ToldFlowsJson (profile_of asked.is_strict) good)
+DocumentOf holds (document.Audit asked) good = AuditsJson holds asked (profile_of asked.is_strict) good
+DocumentOf holds (document.Bound asked) good = BoundsJson (IsEmittedFrom holds asked.lattice asked.file) good
 
 -- ---- what each subcommand has done.
 

@@ -94,10 +94,6 @@ WhyMend true holds asked old new =
 WhyMend false holds asked old new =
     StopsBy (RefusesFiles holds asked.compilation (AsksMend asked.is_applied asked.compilation.is_strict)) NoOther
 
--- A request for a document has none: the lattice is refused.
-abbrev pub WhyDocument : Holding → Document → Unanswered → Type 0
-WhyDocument holds (document.Sarif asked) = RefusesLattice holds asked.compilation.lattice.now
-
 -- The lattice of an interface is refused: that of the file that it names, or its own tables.
 abbrev pub RefusesPolicy : Holding → List ℕ → Policy → Unanswered → Type 0
 RefusesPolicy holds interface (File path) reason = RefusesLattice holds (named_path interface path) reason
@@ -268,6 +264,15 @@ OtherLeak holds s stop =
 abbrev pub WhyEmit : Holding → Option (Bor (List ℕ)) → Bor (List ℕ) → Unanswered → Type 0
 WhyEmit holds None file = RefusesImage holds file.now
 WhyEmit holds (Some lattice) file = RefusesFiles holds (compilation_of lattice file) (AsksImage false)
+
+-- A request for a document has none: a lattice is refused, or an image, or the text from which an image is made.
+abbrev pub WhyDocument : Holding → Document → Unanswered → Type 0
+WhyDocument holds (document.Sarif asked) reason = RefusesLattice holds asked.compilation.lattice.now reason
+WhyDocument holds (document.Classes asked) reason = RefusesLattice holds asked.lattice.now reason
+WhyDocument holds (document.Flows asked) reason = RefusesLattice holds asked.lattice.now reason
+WhyDocument holds (document.Audit asked) reason =
+    RefusesLattice holds asked.lattice.now reason ⊎ RefusesImage holds asked.image.now reason
+WhyDocument holds (document.Bound asked) reason = WhyEmit holds asked.lattice asked.file reason
 
 -- The stop is a refusal with this line.
 abbrev pub SaysLine : List ℕ → Stop → Type 0

@@ -1,22 +1,31 @@
 //! The answers that are documents, which programs read.
 
-ghost use Rattle.std.specs.Prelude.{◌≡◌, ◌<◌, Bool, false, true, IfErr, IfOk, OnOk};
-ghost use Rattle.vsi.specs.Documents.{ToldSarif};
+ghost use Rattle.std.specs.Prelude.{◌≡◌, ◌<◌, ◌⊎◌, Bool, false, true, IfErr, IfOk, OnOk};
+ghost use Rattle.vsi.specs.Documents.{AuditsJson, BoundsJson, ToldAuditJson, ToldClassesJson, ToldFlowsJson, ToldSarif};
 ghost use Rattle.vsi.specs.Files.{OfFiles, Writes};
+ghost use Rattle.vsi.specs.Holding.{IsImageAt};
 ghost use Rattle.vsi.specs.Partly.{BytesOf, Leaves};
-ghost use Rattle.vsi.specs.Performed.{DocumentOf, judgement_of};
-ghost use Rattle.vsi.specs.Reasons.{WhyDocument};
-ghost use Rattle.vsi.specs.Refusals.{IsDifference, NoOther, RefusesLattice, StopsBy};
+ghost use Rattle.vsi.specs.Performed.{DocumentOf, IsBuiltAt, IsEmittedFrom, compilation_of, judgement_of, profile_of};
+ghost use Rattle.vsi.specs.Reasons.{WhyDocument, WhyEmit};
+ghost use Rattle.vsi.specs.Refusals.{AsksImage, IsDifference, NoOther, RefusesFiles, RefusesImage, RefusesLattice, StopsBy};
 ghost use Rattle.vsi.specs.Stops.{TellsFault};
 ghost use Rattle.vsi_devices.specs.Counted.{device_of, faults_of};
 
 use crate::desk::Desk;
 use crate::files::Files;
+use crate::reading::{image_in, lattice_in};
 use crate::stop::{Stop, write_answer};
-use crate::subcommands::{judgement, policy_and_text};
+use crate::subcommands::{judgement, policy_and_text, profile};
+use crate::trying::made_image;
+use std::alloc::{AllocError, Global};
 use std::io::Write;
-use vsi_arguments::{Document, Judging};
+use vsi_arguments::{Audit, Bounding, Compilation, Document, Judging};
 use vsi_devices::Counted;
+use vsi_documents::{
+    Documented, audit_json, bound_json, bound_json_in, classes_json, flows_json, steady_json,
+};
+use vsi_image::Verified;
+use vsi_lattice::Lattice;
 use vsi_sarif::check_sarif;
 
 /// Whether the source text is accepted, and the document of SARIF that says so.
@@ -43,6 +52,136 @@ fn checked_sarif<'a, F: Files>(
     Ok((told.is_accepted, told.line))
 }
 
+/// The line of JSON for a source text with its classes, and whether it is accepted.
+fn classes_line<'a, F: Files>(
+    desk: &mut Desk,
+    compilation: Compilation<'a>,
+    files: &mut F,
+) -> Result<(bool, Vec<u8>), Stop<'a>>
+    ensures kept { F.holds files.new ≡ F.holds files.old }
+    ensures told { IfOk result (λ pair. OfFiles (F.holds files.old) compilation.entry
+        (ToldClassesJson (profile_of compilation.entry.is_strict) pair.0) pair.1) }
+    ensures stopped { IfErr result (StopsBy
+        (RefusesLattice (F.holds files.old) compilation.entry.lattice.now) NoOther) }
+{
+    let (classes, text) = policy_and_text(desk, compilation, files)?;
+    let profile = profile(compilation.is_strict);
+    let told = classes_json(desk.alloc, profile, &classes, text.as_slice())?;
+    Ok((told.is_good, told.line))
+}
+
+/// The line of JSON for a source text with its flows, and whether it has a program.
+fn flows_line<'a, F: Files>(
+    desk: &mut Desk,
+    compilation: Compilation<'a>,
+    files: &mut F,
+) -> Result<(bool, Vec<u8>), Stop<'a>>
+    ensures kept { F.holds files.new ≡ F.holds files.old }
+    ensures told { IfOk result (λ pair. OfFiles (F.holds files.old) compilation.entry
+        (ToldFlowsJson (profile_of compilation.entry.is_strict) pair.0) pair.1) }
+    ensures stopped { IfErr result (StopsBy
+        (RefusesLattice (F.holds files.old) compilation.entry.lattice.now) NoOther) }
+{
+    let (classes, text) = policy_and_text(desk, compilation, files)?;
+    let profile = profile(compilation.is_strict);
+    let told = flows_json(desk.alloc, profile, &classes, text.as_slice())?;
+    Ok((told.is_good, told.line))
+}
+
+/// The line of JSON for an image that is judged as requested.
+fn judged_line(
+    alloc: Global,
+    asked: Audit<'_>,
+    classes: &Lattice,
+    verified: &Verified,
+) -> Result<Documented, AllocError>
+    ensures { IfOk result (λ told. ToldAuditJson asked.entry.is_steady
+        (profile_of asked.entry.is_strict) classes.now verified.now told.is_good told.line) }
+{
+    if asked.is_steady {
+        return steady_json(alloc, classes, verified);
+    }
+    audit_json(alloc, profile(asked.is_strict), classes, verified)
+}
+
+/// The line of JSON for an image, and whether it is accepted.
+fn audit_line<'a, F: Files>(
+    desk: &mut Desk,
+    asked: Audit<'a>,
+    files: &mut F,
+) -> Result<(bool, Vec<u8>), Stop<'a>>
+    ensures kept { F.holds files.new ≡ F.holds files.old }
+    ensures told { IfOk result (λ pair. AuditsJson (F.holds files.old) asked.entry
+        (profile_of asked.entry.is_strict) pair.0 pair.1) }
+    ensures stopped { IfErr result (StopsBy (λ reason.
+        RefusesLattice (F.holds files.old) asked.entry.lattice.now reason
+        ⊎ RefusesImage (F.holds files.old) asked.entry.image.now reason) NoOther) }
+{
+    let classes = lattice_in(desk, asked.lattice, files)?;
+    let verified = image_in(desk, asked.image, files)?;
+    let told = judged_line(desk.alloc, asked, &classes, &verified)?;
+    Ok((told.is_good, told.line))
+}
+
+/// The line of JSON about the bound of an image file, and whether there is one.
+fn image_bound_line<'a, F: Files>(
+    desk: &mut Desk,
+    image: &'a str,
+    files: &mut F,
+) -> Result<(bool, Vec<u8>), Stop<'a>>
+    ensures kept { F.holds files.new ≡ F.holds files.old }
+    ensures told { IfOk result
+        (λ pair. BoundsJson (IsImageAt (F.holds files.old) image.now) pair.0 pair.1) }
+    ensures stopped { IfErr result
+        (StopsBy (RefusesImage (F.holds files.old) image.now) NoOther) }
+{
+    let verified = image_in(desk, image, files)?;
+    let told = bound_json(desk.alloc, &verified)?;
+    Ok((told.is_good, told.line))
+}
+
+/// The line of JSON about the bound of the image of a source text, and whether there is one.
+fn text_bound_line<'a, F: Files>(
+    desk: &mut Desk,
+    lattice: &'a str,
+    source: &'a str,
+    files: &mut F,
+) -> Result<(bool, Vec<u8>), Stop<'a>>
+    ensures kept { F.holds files.new ≡ F.holds files.old }
+    ensures told { IfOk result (λ pair. BoundsJson (IsBuiltAt (F.holds files.old)
+        (compilation_of lattice.entry source.entry)) pair.0 pair.1) }
+    ensures stopped { IfErr result (StopsBy (RefusesFiles (F.holds files.old)
+        (compilation_of lattice.entry source.entry) (AsksImage false)) NoOther) }
+{
+    let compilation = Compilation {
+        lattice,
+        source,
+        is_strict: false,
+    };
+    let (classes, text) = policy_and_text(desk, compilation, files)?;
+    let verified = made_image(desk, &classes, source, text.as_slice())?;
+    let told = bound_json_in(desk.alloc, &classes, text.as_slice(), &verified)?;
+    Ok((told.is_good, told.line))
+}
+
+/// The line of JSON about the bound of the requested image, and whether there is one.
+fn bound_line<'a, F: Files>(
+    desk: &mut Desk,
+    asked: Bounding<'a>,
+    files: &mut F,
+) -> Result<(bool, Vec<u8>), Stop<'a>>
+    ensures kept { F.holds files.new ≡ F.holds files.old }
+    ensures told { IfOk result (λ pair. BoundsJson (IsEmittedFrom (F.holds files.old)
+        asked.entry.lattice asked.entry.file) pair.0 pair.1) }
+    ensures stopped { IfErr result (StopsBy
+        (WhyEmit (F.holds files.old) asked.entry.lattice asked.entry.file) NoOther) }
+{
+    match asked.lattice {
+        Some(lattice) => text_bound_line(desk, lattice, asked.file, files),
+        None => image_bound_line(desk, asked.file, files),
+    }
+}
+
 /// The document that answers a request, and whether it says that all is well.
 fn document<'a, F: Files>(
     desk: &mut Desk,
@@ -57,6 +196,10 @@ fn document<'a, F: Files>(
 {
     match asked {
         Document::Sarif(judging) => checked_sarif(desk, judging, files),
+        Document::Classes(compilation) => classes_line(desk, compilation, files),
+        Document::Flows(compilation) => flows_line(desk, compilation, files),
+        Document::Audit(audit) => audit_line(desk, audit, files),
+        Document::Bound(bounding) => bound_line(desk, bounding, files),
     }
 }
 

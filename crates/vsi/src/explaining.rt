@@ -82,6 +82,8 @@ fn is_strict(request: &Request<'_>) -> bool {
             asked.compilation.is_strict || asked.is_steady
         }
         Request::Classes(compilation)
+        | Request::Document(Document::Classes(compilation))
+        | Request::Document(Document::Flows(compilation))
         | Request::Build(compilation, _)
         | Request::Report(compilation)
         | Request::Flows { compilation, .. } => compilation.is_strict,

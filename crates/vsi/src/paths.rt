@@ -14,6 +14,8 @@ pub(crate) fn paths_of<'a>(request: &Request<'a>) -> [Option<&'a str>; MOST_READ
             two(judging.compilation.lattice, judging.compilation.source)
         }
         Request::Classes(compilation)
+        | Request::Document(Document::Classes(compilation))
+        | Request::Document(Document::Flows(compilation))
         | Request::Report(compilation)
         | Request::Build(compilation, _)
         | Request::Flows { compilation, .. } => two(compilation.lattice, compilation.source),
@@ -22,9 +24,13 @@ pub(crate) fn paths_of<'a>(request: &Request<'a>) -> [Option<&'a str>; MOST_READ
         Request::List(image) | Request::Source(image) => one(image),
         Request::Format(source) => one(source),
         Request::Layout(asked) => one(asked.source),
-        Request::Audit(asked) => two(asked.lattice, asked.image),
+        Request::Audit(asked) | Request::Document(Document::Audit(asked)) => {
+            two(asked.lattice, asked.image)
+        }
         Request::EmitC(asked) => [asked.lattice, Some(asked.file), None, None],
-        Request::Bound(asked) => [asked.lattice, Some(asked.file), None, None],
+        Request::Bound(asked) | Request::Document(Document::Bound(asked)) => {
+            [asked.lattice, Some(asked.file), None, None]
+        }
         Request::Run { execution, .. } => [execution.store, Some(execution.image), None, None],
         Request::View {
             lattice,

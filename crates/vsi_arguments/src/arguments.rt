@@ -220,6 +220,34 @@ pub(crate) const MEND_JSON: Argument = Argument {
     whole: word_help::MEND_JSON,
 };
 
+pub(crate) const CLASSES_JSON: Argument = Argument {
+    name: "json",
+    form: Form::Flag,
+    line: "Writes the answer as JSON",
+    whole: word_help::CLASSES_JSON,
+};
+
+pub(crate) const FLOWS_JSON: Argument = Argument {
+    name: "json",
+    form: Form::Flag,
+    line: "Writes the answer as JSON",
+    whole: word_help::FLOWS_JSON,
+};
+
+pub(crate) const AUDIT_JSON: Argument = Argument {
+    name: "json",
+    form: Form::Flag,
+    line: "Writes the answer as JSON",
+    whole: word_help::AUDIT_JSON,
+};
+
+pub(crate) const BOUND_JSON: Argument = Argument {
+    name: "json",
+    form: Form::Flag,
+    line: "Writes the answer as JSON",
+    whole: word_help::BOUND_JSON,
+};
+
 pub(crate) const FLOWS_ALONE: Argument = Argument {
     name: "flows",
     form: Form::Flag,

@@ -4,6 +4,7 @@
 
 mod argument;
 mod arguments;
+mod documents;
 mod error;
 mod help;
 mod numbers;

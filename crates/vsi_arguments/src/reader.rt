@@ -1,5 +1,6 @@
 //! Reads a request from the arguments of a command line.
 
+use crate::documents::{audit_request, bound_request, classes_request, listed_flows};
 use crate::error::ArgumentsError;
 use crate::numbers::{Limit, budget_of, number_of, wrong_number};
 use crate::request::*;
@@ -60,6 +61,8 @@ enum Mistake {
     FlowsOfNothing,
     /// The answer is to be written both as JSON of its own and as SARIF.
     JsonAndSarif,
+    /// The steps of flows are to be written as JSON.
+    WalksAndJson,
     /// It is said how often the store is saved, but not where.
     EveryAlone,
     NoSubcommand,
@@ -73,9 +76,10 @@ impl Mistake {
             | Mistake::NoSubject
             | Mistake::ImageIsRead
             | Mistake::NoName => ErrorKind::ValueValidation,
-            Mistake::CheckAndWrite | Mistake::ApplyAndJson | Mistake::JsonAndSarif => {
-                ErrorKind::ArgumentConflict
-            }
+            Mistake::CheckAndWrite
+            | Mistake::ApplyAndJson
+            | Mistake::JsonAndSarif
+            | Mistake::WalksAndJson => ErrorKind::ArgumentConflict,
             Mistake::FlowsOfNothing => ErrorKind::MissingRequiredArgument,
             Mistake::NoTwoStores => ErrorKind::WrongNumberOfValues,
             Mistake::EveryAlone => ErrorKind::MissingRequiredArgument,
@@ -98,6 +102,7 @@ impl Mistake {
             Mistake::ApplyAndJson => "`--apply` prints a text, so it doesn't go with `--json`",
             Mistake::FlowsOfNothing => "`--flows` needs a SOURCE, whose flows it draws",
             Mistake::JsonAndSarif => "`--json` and `--sarif` don't go together",
+            Mistake::WalksAndJson => "`--walks` and `--json` don't go together",
             Mistake::EveryAlone => "`--save-every` needs `--save`, which says where",
             Mistake::NoSubcommand => "a subcommand is needed",
         }
@@ -186,6 +191,7 @@ fn named<'a>(
         "emit-c" => Ok(emission_request(inner)),
         "fmt" => Ok(format_request(inner)),
         "draw" => Ok(draw_request(inner)),
+        "flows" => Ok(flows_request(inner)),
         _ => Ok(Ok(requested(name, inner))),
     }
 }
@@ -194,12 +200,11 @@ fn named<'a>(
 fn requested<'a>(name: &str, inner: &ArgMatches<'a>) -> Request<'a> {
     match name {
         "conform" => Request::Conform(conformance_in(inner)),
-        "classes" => Request::Classes(compilation_in(inner)),
-        "flows" => flows_request(inner),
+        "classes" => classes_request(compilation_in(inner), inner.get_flag("json")),
         "list" => Request::List(text(inner, "IMAGE")),
-        "audit" => Request::Audit(audit_in(inner)),
+        "audit" => audit_request(audit_in(inner), inner.get_flag("json")),
         "source" => Request::Source(text(inner, "IMAGE")),
-        "bound" => Request::Bound(bounding_in(inner)),
+        "bound" => bound_request(bounding_in(inner), inner.get_flag("json")),
         "leak" => Request::Leak(search_in(inner)),
         "lsp" => Request::Lsp(serving_in(inner)),
         "report" => Request::Report(compilation_in(inner)),
@@ -248,11 +253,12 @@ fn conformance_in<'a>(matches: &ArgMatches<'a>) -> Conformance<'a> {
     }
 }
 
-fn flows_request<'a>(matches: &ArgMatches<'a>) -> Request<'a> {
-    Request::Flows {
-        compilation: compilation_in(matches),
-        has_walks: matches.get_flag("walks"),
+fn flows_request<'a>(matches: &ArgMatches<'a>) -> Result<Request<'a>, Mistake> {
+    let (has_walks, is_json) = (matches.get_flag("walks"), matches.get_flag("json"));
+    if has_walks && is_json {
+        return Err(Mistake::WalksAndJson);
     }
+    Ok(listed_flows(compilation_in(matches), has_walks, is_json))
 }
 
 fn mend_request<'a>(matches: &ArgMatches<'a>) -> Result<Request<'a>, Mistake> {

@@ -197,6 +197,14 @@ pub struct Layout<'a> {
 pub enum Document<'a> {
     /// The answer of `check` as SARIF.
     Sarif(Judging<'a>),
+    /// The answer of `classes` as JSON.
+    Classes(Compilation<'a>),
+    /// The answer of `flows` as JSON.
+    Flows(Compilation<'a>),
+    /// The answer of `audit` as JSON.
+    Audit(Audit<'a>),
+    /// The answer of `bound` as JSON.
+    Bound(Bounding<'a>),
 }
 
 /// Whether an explanation is coloured.

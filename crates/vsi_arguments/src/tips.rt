@@ -29,7 +29,10 @@ const OWNERS: [(&str, &str); 36] = [
     ("'--full-store'", "run, view and drive"),
     ("'--header'", "emit-c"),
     ("'--inputs'", "drive"),
-    ("'--json'", "check, conform and mend"),
+    (
+        "'--json'",
+        "check, conform, classes, flows, mend, audit and bound",
+    ),
     ("'--keep-comments'", "fmt"),
     ("'--lattice'", "try, emit-c and lsp"),
     ("'--name'", "emit-c"),

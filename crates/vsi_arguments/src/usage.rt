@@ -54,14 +54,14 @@ const SUBCOMMANDS: [Subcommand; 21] = [
         line: "Prints the class of each declaration, declared or inferred",
         whole: help::CLASSES,
         example: help::CLASSES_EXAMPLE,
-        arguments: &[LATTICE, SOURCE, STRICT],
+        arguments: &[LATTICE, SOURCE, STRICT, CLASSES_JSON],
     },
     Subcommand {
         name: "flows",
         line: "Lists every pair of declared variables joined by a chain of flows",
         whole: help::FLOWS,
         example: help::FLOWS_EXAMPLE,
-        arguments: &[LATTICE, SOURCE, STRICT, WALKS],
+        arguments: &[LATTICE, SOURCE, STRICT, WALKS, FLOWS_JSON],
     },
     Subcommand {
         name: "mend",
@@ -89,7 +89,7 @@ const SUBCOMMANDS: [Subcommand; 21] = [
         line: "Says whether an image is accepted, whoever made it",
         whole: help::AUDIT,
         example: help::AUDIT_EXAMPLE,
-        arguments: &[LATTICE, IMAGE, STRICT, STEADY],
+        arguments: &[LATTICE, IMAGE, STRICT, STEADY, AUDIT_JSON],
     },
     Subcommand {
         name: "source",
@@ -110,7 +110,7 @@ const SUBCOMMANDS: [Subcommand; 21] = [
         line: "Prints a number of instructions within which every run halts",
         whole: help::BOUND,
         example: help::BOUND_EXAMPLE,
-        arguments: &[BOUNDED_FILE, BOUNDED_SOURCE],
+        arguments: &[BOUNDED_FILE, BOUNDED_SOURCE, BOUND_JSON],
     },
     Subcommand {
         name: "run",

@@ -337,6 +337,29 @@ pub(crate) const MEND_JSON: &str = "\
 Writes the answer as a line of JSON: an object with `accepted` and
 `raises`, or the line of `check --json` if no classes help.";
 
+/// The answer of `classes` as JSON.
+pub(crate) const CLASSES_JSON: &str = "\
+Writes the answer as a line of JSON: an object with `accepted` and
+`classes`, or for a refused text the line of `check --json`, as in
+{\"accepted\":true,\"classes\":[{\"class\":\"L\",\"column\":5,\"line\":1,\"name\":\"x\"}]}";
+
+/// The answer of `flows` as JSON.
+pub(crate) const FLOWS_JSON: &str = "\
+Writes the answer as a line of JSON: an object with `accepted` and
+`flows`, an array with an object for each pair. If the text has no
+program, it is the line of `check --json`.";
+
+/// The answer of `audit` as JSON.
+pub(crate) const AUDIT_JSON: &str = "\
+Writes the answer as a line of JSON: an object with `accepted`, and for
+a refusal its number, its name and its text.";
+
+/// The answer of `bound` as JSON.
+pub(crate) const BOUND_JSON: &str = "\
+Writes the answer as a line of JSON: an object with `bounded`, `text`,
+and the two numbers between which the number of instructions of every
+run lies, or the instruction for which there is no bound.";
+
 /// `--keep-comments`.
 pub(crate) const KEEP_COMMENTS: &str = "\
 Keeps each comment, between the same two tokens as before. One at the

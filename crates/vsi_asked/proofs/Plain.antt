@@ -10,7 +10,7 @@ use Rattle.vsi_arguments.specs.declared.request.Request.{Request}
 use Rattle.vsi_arguments.specs.declared.request.Document.{Document}
 use Rattle.vsi_arguments.specs.declared.request.Document.TheVariants as document
 use Rattle.vsi_arguments.specs.declared.request.Request.TheVariants.{Check, Document as Documented, Explain, Layout, Mend}
-use Rattle.vsi_asked.specs.Asked.{AsksFor, Spells, name_of, own_flags}
+use Rattle.vsi_asked.specs.Asked.{AsksFor, Spells, name_of}
 use Rattle.vsi_asked.specs.Help.{front_of, is_first, is_help, is_short}
 use Rattle.vsi_asked.specs.Laws.{ArePlainCheck, CheckIsAsked, IsPlainCheck}
 use Rattle.vsi_asked.specs.Words.{VALUED, has_flag, is_among, is_dashed, operands_in, texts}
@@ -109,12 +109,6 @@ plain_check judging words lattice source plain asks =
       plain = sym flags.1.1.0 ∙ none (codes "--json") refl;
     }
 
--- The flags of the subcommand whose answer a document is.
-pub document_flags_are : (asked : Document) →
-    own_flags (Documented asked)
-    ≡ codes "--strict" ∷ codes "--steady" ∷ codes "--json" ∷ codes "--sarif" ∷ codes "--warnings" ∷ codes "--explain" ∷ []
-document_flags_are (document.Sarif judging) = refl
-
 -- `check` and two arguments that don't look like options request no document.
 no_document : (asked : Document) (words : List (String Global)) (lattice source : List ℕ) →
     ArePlainCheck words lattice source → Spells words (Documented asked) → ⊥
@@ -123,6 +117,14 @@ no_document (document.Sarif judging) words lattice source plain asks =
     let flags = rw rest_is at asks.has_flags in
     let unset = no_flag (codes "--sarif") lattice source refl plain.plain_lattice plain.plain_source in
     let turned : true ≡ false = sym flags.1.1.1.0 ∙ unset in absurd cc
+no_document (document.Classes compilation) words lattice source plain asks =
+    unnamed (texts words) _ asks.rest (codes "classes") plain.are asks.named refl
+no_document (document.Flows compilation) words lattice source plain asks =
+    unnamed (texts words) _ asks.rest (codes "flows") plain.are asks.named refl
+no_document (document.Audit audit) words lattice source plain asks =
+    unnamed (texts words) _ asks.rest (codes "audit") plain.are asks.named refl
+no_document (document.Bound bounding) words lattice source plain asks =
+    unnamed (texts words) _ asks.rest (codes "bound") plain.are asks.named refl
 
 -- Every request that such arguments make is a judgement of the two files.
 pub one_request : (words : List (String Global)) (lattice source : List ℕ) → ArePlainCheck words lattice source →

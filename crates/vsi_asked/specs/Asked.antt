@@ -5,6 +5,8 @@ use Rattle.std.specs.Option.{option_and_then, option_or}
 use Rattle.std.specs.declared.alloc.Global.{Global}
 use Rattle.std.specs.Borrow.{Bor}
 use Rattle.vsi_arguments.specs.declared.request.Attempt.{Attempt}
+use Rattle.vsi_arguments.specs.declared.request.Audit.{Audit as Auditing}
+use Rattle.vsi_arguments.specs.declared.request.Bounding.{Bounding}
 use Rattle.vsi_arguments.specs.declared.request.Budget.{Budget}
 use Rattle.vsi_arguments.specs.declared.request.Budget.TheVariants.{Number, Auto}
 use Rattle.vsi_arguments.specs.declared.request.Compilation.{Compilation}
@@ -27,6 +29,10 @@ use Rattle.vsi_asked.specs.Words.{dashed_in, has_flag, is_own, operands_in, show
 -- The name of the subcommand of a request for a document.
 abbrev pub document_name : Document → List ℕ
 document_name (document.Sarif judging) = codes "check"
+document_name (document.Classes compilation) = codes "classes"
+document_name (document.Flows compilation) = codes "flows"
+document_name (document.Audit audit) = codes "audit"
+document_name (document.Bound bounding) = codes "bound"
 
 -- The name of the request's subcommand.
 abbrev pub name_of : Request → List ℕ
@@ -65,9 +71,21 @@ given path = option_to_list (option_map (λ p. p.now) path)
 abbrev pub compiled : Compilation → List (List ℕ)
 compiled compilation = compilation.lattice.now ∷ compilation.source.now ∷ []
 
+-- The lattice file and the image of an audit.
+abbrev pub audited : Auditing → List (List ℕ)
+audited audit = audit.lattice.now ∷ audit.image.now ∷ []
+
+-- The files of a search for a bound.
+abbrev pub searched : Bounding → List (List ℕ)
+searched bounding = given bounding.lattice ++ bounding.file.now ∷ []
+
 -- The operands of a request for a document.
 abbrev pub document_operands : Document → List (List ℕ)
 document_operands (document.Sarif judging) = compiled judging.compilation
+document_operands (document.Classes compilation) = compiled compilation
+document_operands (document.Flows compilation) = compiled compilation
+document_operands (document.Audit audit) = audited audit
+document_operands (document.Bound bounding) = searched bounding
 
 -- The operands of a request, in their order: paths or, for `lattice`, a shape and names. `AsksPage` covers the operand
 -- of `explain`.
@@ -81,10 +99,10 @@ operands_of (Flows compilation has_walks) = compiled compilation
 operands_of (Mend mending) = compiled mending.compilation
 operands_of (Build compilation image) = compilation.lattice.now ∷ compilation.source.now ∷ image.now ∷ []
 operands_of (Listing image) = image.now ∷ []
-operands_of (Audit audit) = audit.lattice.now ∷ audit.image.now ∷ []
+operands_of (Audit audit) = audited audit
 operands_of (Source image) = image.now ∷ []
 operands_of (EmitC emission) = emission.file.now ∷ []
-operands_of (Bound bounding) = given bounding.lattice ++ bounding.file.now ∷ []
+operands_of (Bound bounding) = searched bounding
 operands_of (Run execution outset has_trace has_count) = execution.image.now ∷ []
 operands_of (View lattice class execution outset) = lattice.now ∷ execution.image.now ∷ []
 operands_of (Drive driving) = driving.lattice.now ∷ driving.execution.image.now ∷ []
@@ -106,9 +124,31 @@ check_flags judging is_sarif =
     ∷ (codes "--json", judging.is_json) ∷ (codes "--sarif", is_sarif)
     ∷ (codes "--warnings", judging.has_warnings) ∷ []
 
+-- The flags of `classes`, each with whether it is set.
+abbrev pub classes_flags : Compilation → Bool → List (List ℕ × Bool)
+classes_flags compilation is_json = (codes "--strict", compilation.is_strict) ∷ (codes "--json", is_json) ∷ []
+
+-- The flags of `flows`, each with whether it is set.
+abbrev pub flows_flags : Compilation → Bool → Bool → List (List ℕ × Bool)
+flows_flags compilation has_walks is_json =
+    (codes "--strict", compilation.is_strict) ∷ (codes "--walks", has_walks) ∷ (codes "--json", is_json) ∷ []
+
+-- The flags of `audit`, each with whether it is set.
+abbrev pub audit_flags : Auditing → Bool → List (List ℕ × Bool)
+audit_flags audit is_json =
+    (codes "--strict", audit.is_strict) ∷ (codes "--steady", audit.is_steady) ∷ (codes "--json", is_json) ∷ []
+
+-- The flag of `bound`, with whether it is set.
+abbrev pub bound_flags : Bool → List (List ℕ × Bool)
+bound_flags is_json = (codes "--json", is_json) ∷ []
+
 -- The flags of a request for a document, each with whether it is set.
 abbrev pub document_flags : Document → List (List ℕ × Bool)
 document_flags (document.Sarif judging) = check_flags judging true
+document_flags (document.Classes compilation) = classes_flags compilation true
+document_flags (document.Flows compilation) = flows_flags compilation false true
+document_flags (document.Audit audit) = audit_flags audit true
+document_flags (document.Bound bounding) = bound_flags true
 
 -- The flags of a request, each with whether it is set.
 abbrev pub flags_of : Request → List (List ℕ × Bool)
@@ -116,19 +156,18 @@ flags_of (Try attempt) = []
 flags_of (Check judging) = check_flags judging false
 flags_of (Documented asked) = document_flags asked
 flags_of (Conform conformance) = (codes "--json", conformance.is_json) ∷ []
-flags_of (Classes compilation) = (codes "--strict", compilation.is_strict) ∷ []
-flags_of (Flows compilation has_walks) =
-    (codes "--strict", compilation.is_strict) ∷ (codes "--walks", has_walks) ∷ []
+flags_of (Classes compilation) = classes_flags compilation false
+flags_of (Flows compilation has_walks) = flows_flags compilation has_walks false
 flags_of (Mend mending) =
     (codes "--strict", mending.compilation.is_strict) ∷ (codes "--apply", mending.is_applied)
     ∷ (codes "--json", mending.is_json) ∷ []
 flags_of (Build compilation image) = (codes "--strict", compilation.is_strict) ∷ []
 flags_of (Listing image) = []
-flags_of (Audit audit) = (codes "--strict", audit.is_strict) ∷ (codes "--steady", audit.is_steady) ∷ []
+flags_of (Audit audit) = audit_flags audit false
 flags_of (Source image) = []
 flags_of (EmitC emission) =
     (codes "--header", emission.is_header) ∷ (codes "--bounded", emission.is_bounded) ∷ []
-flags_of (Bound bounding) = []
+flags_of (Bound bounding) = bound_flags false
 flags_of (Run execution outset has_trace has_count) =
     (codes "--full-store", outset.is_full) ∷ (codes "--trace", has_trace) ∷ (codes "--count", has_count) ∷ []
 flags_of (View lattice class execution outset) = (codes "--full-store", outset.is_full) ∷ []

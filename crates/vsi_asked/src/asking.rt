@@ -5,6 +5,7 @@ ghost use Rattle.vsi_arguments.specs.declared.request.Request.TheVariants as req
 ghost use Rattle.vsi_asked.specs.Asked as spec;
 ghost use Rattle.vsi_asked.specs.Words.{operands_in, shown, texts, values_in};
 
+use crate::documents::{asks_audit, asks_bound, asks_classes, asks_document, asks_flows};
 use crate::numbers::{has_budget, has_budget_or_auto, has_number, number_in, only_operand};
 use crate::own::has_own_alone;
 use crate::reading::{has_flag, has_operands, has_values};
@@ -75,7 +76,7 @@ fn behind<'a>(
 
 /// Whether the arguments request a subcommand with these operands and flags, and without options of
 /// its own.
-fn asks(words: &[String], name: &str, operands: &[&[u8]], flags: &[(&str, bool)]) -> bool
+pub(crate) fn asks(words: &[String], name: &str, operands: &[&[u8]], flags: &[(&str, bool)]) -> bool
     ensures { result ≡ true → spec.Asks words.now name.now (shown operands.now)
         (map (λ f. (f.0.now, f.1)) flags.now) [] [] }
 {
@@ -83,7 +84,7 @@ fn asks(words: &[String], name: &str, operands: &[&[u8]], flags: &[(&str, bool)]
 }
 
 /// Whether the arguments request a subcommand that compiles these files.
-fn asks_compilation(
+pub(crate) fn asks_compilation(
     words: &[String],
     name: &str,
     compilation: &Compilation<'_>,
@@ -284,7 +285,7 @@ fn asks_policy(words: &[String], looking: &Looking<'_>) -> bool
 }
 
 /// Whether the arguments request a judgement of a source text, as SARIF or not.
-fn asks_check(words: &[String], judging: &Judging<'_>, is_sarif: bool) -> bool
+pub(crate) fn asks_check(words: &[String], judging: &Judging<'_>, is_sarif: bool) -> bool
     ensures { result ≡ true → spec.Asks words.now (codes "check")
         (spec.compiled judging.now.compilation) (spec.check_flags judging.now is_sarif) [] [] }
 {
@@ -311,14 +312,6 @@ fn asks_conform(words: &[String], conformance: &Conformance<'_>) -> bool
         return false;
     };
     has_number(rest, "--budget", Some(RUNS_BUDGET), conformance.budget)
-}
-
-/// Whether the arguments request a text's flows.
-fn asks_flows(words: &[String], compilation: &Compilation<'_>, has_walks: bool) -> bool
-    ensures { result ≡ true → spec.Spells words.now (request.Flows compilation.now has_walks) }
-{
-    let flags = [("--strict", compilation.is_strict), ("--walks", has_walks)];
-    asks_compilation(words, "flows", compilation, flags.as_slice())
 }
 
 /// Whether the arguments request raises.
@@ -376,15 +369,6 @@ fn asks_layout(words: &[String], layout: &Layout<'_>) -> bool
     asks(words, "fmt", operands.as_slice(), flags.as_slice())
 }
 
-/// Whether the arguments request an audit.
-fn asks_audit(words: &[String], audit: &Audit<'_>) -> bool
-    ensures { result ≡ true → spec.Spells words.now (request.Audit audit.now) }
-{
-    let operands = [audit.lattice.as_bytes(), audit.image.as_bytes()];
-    let flags = [("--strict", audit.is_strict), ("--steady", audit.is_steady)];
-    asks(words, "audit", operands.as_slice(), flags.as_slice())
-}
-
 /// Whether the arguments request an image as C.
 fn asks_emission(words: &[String], emission: &Emission<'_>) -> bool
     ensures { result ≡ true → spec.Spells words.now (request.EmitC emission.now) }
@@ -398,19 +382,6 @@ fn asks_emission(words: &[String], emission: &Emission<'_>) -> bool
         return false;
     };
     has_value(rest, "--lattice", emission.lattice) && has_value(rest, "--name", emission.name)
-}
-
-/// Whether the arguments request a bound.
-fn asks_bound(words: &[String], bounding: &Bounding<'_>) -> bool
-    ensures { result ≡ true → spec.Spells words.now (request.Bound bounding.now) }
-{
-    match bounding.lattice {
-        Some(lattice) => {
-            let operands = [lattice.as_bytes(), bounding.file.as_bytes()];
-            asks(words, "bound", operands.as_slice(), &[])
-        }
-        None => asks(words, "bound", [bounding.file.as_bytes()].as_slice(), &[]),
-    }
 }
 
 /// Whether the arguments request a subcommand whose only flag of its own is `--strict`.
@@ -455,15 +426,6 @@ fn asks_page(words: &[String], text: &str) -> bool
     }
 }
 
-/// Whether the arguments request a document.
-fn asks_document(words: &[String], document: &Document<'_>) -> bool
-    ensures { result ≡ true → spec.Spells words.now (request.Document document.now) }
-{
-    match document {
-        Document::Sarif(judging) => asks_check(words, judging, true),
-    }
-}
-
 /// Whether the arguments spell a request.
 fn spells(words: &[String], request: &Request<'_>) -> bool
     ensures { result ≡ true → spec.Spells words.now request.now }
@@ -473,18 +435,18 @@ fn spells(words: &[String], request: &Request<'_>) -> bool
         Request::Check(judging) => asks_check(words, judging, false),
         Request::Document(document) => asks_document(words, document),
         Request::Conform(conformance) => asks_conform(words, conformance),
-        Request::Classes(compilation) => asks_judged(words, "classes", compilation),
+        Request::Classes(compilation) => asks_classes(words, compilation, false),
         Request::Flows {
             compilation,
             has_walks,
-        } => asks_flows(words, compilation, *has_walks),
+        } => asks_flows(words, compilation, *has_walks, false),
         Request::Mend(mending) => asks_mend(words, mending),
         Request::Build(compilation, image) => asks_build(words, compilation, image),
         Request::List(image) => asks_file(words, "list", image),
-        Request::Audit(audit) => asks_audit(words, audit),
+        Request::Audit(audit) => asks_audit(words, audit, false),
         Request::Source(image) => asks_file(words, "source", image),
         Request::EmitC(emission) => asks_emission(words, emission),
-        Request::Bound(bounding) => asks_bound(words, bounding),
+        Request::Bound(bounding) => asks_bound(words, bounding, false),
         Request::Run {
             execution,
             outset,

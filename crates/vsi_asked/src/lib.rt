@@ -9,6 +9,7 @@
 #![tactic(auto)]
 
 mod asking;
+mod documents;
 mod help;
 pub mod laws;
 mod numbers;

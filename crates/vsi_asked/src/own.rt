@@ -40,8 +40,14 @@ const CONFORM: [&[u8]; 2] = [b"--json", b"--explain"];
 /// The options of `conform`.
 const CONFORM_OPTIONS: [&[u8]; 2] = [b"--budget", b"--color"];
 
+/// The flags of `classes`.
+const CLASSES: [&[u8]; 3] = [b"--strict", b"--json", b"--explain"];
+
 /// The flags of `flows`.
-const FLOWS: [&[u8]; 3] = [b"--strict", b"--walks", b"--explain"];
+const FLOWS: [&[u8]; 4] = [b"--strict", b"--walks", b"--json", b"--explain"];
+
+/// The flags of `bound`.
+const BOUND: [&[u8]; 2] = [b"--json", b"--explain"];
 
 /// The flags of `draw`.
 const DRAW: [&[u8]; 3] = [b"--strict", b"--flows", b"--explain"];
@@ -53,7 +59,7 @@ const MEND: [&[u8]; 4] = [b"--strict", b"--apply", b"--json", b"--explain"];
 const LAYOUT: [&[u8]; 4] = [b"--keep-comments", b"--check", b"--write", b"--explain"];
 
 /// The flags of `audit`.
-const AUDIT: [&[u8]; 3] = [b"--strict", b"--steady", b"--explain"];
+const AUDIT: [&[u8]; 4] = [b"--strict", b"--steady", b"--json", b"--explain"];
 
 /// The flags of `emit-c`.
 const EMIT_C: [&[u8]; 3] = [b"--header", b"--bounded", b"--explain"];
@@ -176,6 +182,10 @@ fn has_own_document(words: &[String], document: &Document<'_>) -> bool
 {
     match document {
         Document::Sarif(_) => are_own(words, CHECK.as_slice(), NO_OPTIONS.as_slice()),
+        Document::Classes(_) => are_own(words, CLASSES.as_slice(), NO_OPTIONS.as_slice()),
+        Document::Flows(_) => are_own(words, FLOWS.as_slice(), NO_OPTIONS.as_slice()),
+        Document::Audit(_) => are_own(words, AUDIT.as_slice(), NO_OPTIONS.as_slice()),
+        Document::Bound(_) => are_own(words, BOUND.as_slice(), NO_OPTIONS.as_slice()),
     }
 }
 
@@ -189,7 +199,7 @@ pub(crate) fn has_own_alone(words: &[String], request: &Request<'_>) -> bool
         Request::Check(_) => are_own(words, CHECK.as_slice(), NO_OPTIONS.as_slice()),
         Request::Document(document) => has_own_document(words, document),
         Request::Conform(_) => are_own(words, CONFORM.as_slice(), CONFORM_OPTIONS.as_slice()),
-        Request::Classes(_) => are_own(words, STRICT.as_slice(), NO_OPTIONS.as_slice()),
+        Request::Classes(_) => are_own(words, CLASSES.as_slice(), NO_OPTIONS.as_slice()),
         Request::Build(_, _) => are_own(words, BUILD.as_slice(), NO_OPTIONS.as_slice()),
         Request::Report(_) => are_own(words, STRICT.as_slice(), NO_OPTIONS.as_slice()),
         Request::Draw(_) => are_own(words, DRAW.as_slice(), NO_OPTIONS.as_slice()),
@@ -202,7 +212,7 @@ pub(crate) fn has_own_alone(words: &[String], request: &Request<'_>) -> bool
         Request::Policy(_) => are_own(words, NO_FLAGS.as_slice(), NO_OPTIONS.as_slice()),
         Request::Layout(_) => are_own(words, LAYOUT.as_slice(), NO_OPTIONS.as_slice()),
         Request::EmitC(_) => are_own(words, EMIT_C.as_slice(), EMIT_C_OPTIONS.as_slice()),
-        Request::Bound(_) => are_own(words, NO_FLAGS.as_slice(), NO_OPTIONS.as_slice()),
+        Request::Bound(_) => are_own(words, BOUND.as_slice(), NO_OPTIONS.as_slice()),
         Request::Run { .. } => are_own(words, RUN.as_slice(), RUN_OPTIONS.as_slice()),
         Request::View { .. } => are_own(words, VIEW.as_slice(), VIEW_OPTIONS.as_slice()),
         Request::Drive(_) => are_own(words, DRIVE.as_slice(), DRIVE_OPTIONS.as_slice()),

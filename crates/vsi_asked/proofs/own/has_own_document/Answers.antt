@@ -1,6 +1,21 @@
-use Rattle.vsi_asked.proofs.Plain.{document_flags_are}
 use Rattle.vsi_asked.proofs.own.has_own_document.Goals as goal
 
-pub returns : goal.returns
-returns c =
-    rw (document_flags_are c.args.document.now) (rw (c.as_slice.ensures, c.as_slice-2.ensures) at c.are_own.ensures)
+pub returns-in-Sarif : goal.returns-in-Sarif
+returns-in-Sarif c =
+    rw c.in-Sarif.is (rw (c.as_slice.ensures, c.as_slice-in-Sarif.ensures) at c.are_own.ensures)
+
+pub returns-in-Classes : goal.returns-in-Classes
+returns-in-Classes c =
+    rw c.in-Classes.is (rw (c.as_slice-in-Classes.ensures, c.as_slice-in-Classes-2.ensures) at c.are_own-in-Classes.ensures)
+
+pub returns-in-Flows : goal.returns-in-Flows
+returns-in-Flows c =
+    rw c.in-Flows.is (rw (c.as_slice-in-Flows.ensures, c.as_slice-in-Flows-2.ensures) at c.are_own-in-Flows.ensures)
+
+pub returns-in-Audit : goal.returns-in-Audit
+returns-in-Audit c =
+    rw c.in-Audit.is (rw (c.as_slice-in-Audit.ensures, c.as_slice-in-Audit-2.ensures) at c.are_own-in-Audit.ensures)
+
+pub returns-in-Bound : goal.returns-in-Bound
+returns-in-Bound c =
+    rw c.in-Bound.is (rw (c.as_slice-in-Bound.ensures, c.as_slice-in-Bound-2.ensures) at c.are_own-in-Bound.ensures)

@@ -1,0 +1,42 @@
+//! The requests whose answers are written as lines or as a document.
+
+use crate::request::{Audit, Bounding, Compilation, Document, Request};
+
+/// The request of `classes`.
+pub(crate) fn classes_request<'a>(compilation: Compilation<'a>, is_json: bool) -> Request<'a> {
+    if is_json {
+        return Request::Document(Document::Classes(compilation));
+    }
+    Request::Classes(compilation)
+}
+
+/// The request of `flows`. Steps are written as lines alone.
+pub(crate) fn listed_flows<'a>(
+    compilation: Compilation<'a>,
+    has_walks: bool,
+    is_json: bool,
+) -> Request<'a> {
+    if is_json {
+        return Request::Document(Document::Flows(compilation));
+    }
+    Request::Flows {
+        compilation,
+        has_walks,
+    }
+}
+
+/// The request of `audit`.
+pub(crate) fn audit_request<'a>(audit: Audit<'a>, is_json: bool) -> Request<'a> {
+    if is_json {
+        return Request::Document(Document::Audit(audit));
+    }
+    Request::Audit(audit)
+}
+
+/// The request of `bound`.
+pub(crate) fn bound_request<'a>(bounding: Bounding<'a>, is_json: bool) -> Request<'a> {
+    if is_json {
+        return Request::Document(Document::Bound(bounding));
+    }
+    Request::Bound(bounding)
+}

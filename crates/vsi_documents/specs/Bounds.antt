@@ -1,0 +1,34 @@
+-- The answer about a bound as a line of JSON, with keys in byte order.
+use Rattle.std.specs.Prelude.{◌≡◌, ℕ, Bool, List, codes}
+use Rattle.serde_json.specs.Data.{boolean, Members, no_members, put}
+use Rattle.vsi_image.specs.declared.instr.Image.{Image}
+use Rattle.vsi_bound.specs.Bound.{Answers}
+use Rattle.vsi_bound.specs.declared.bound.Bound.{Bound}
+use Rattle.vsi_bound.specs.declared.bound.Bound.TheVariants.{Halts, Endless, Unstructured, TooLarge}
+use Rattle.vsi_answers.specs.Bounds.{TellsBound, is_bounded}
+use Rattle.vsi_answers.specs.declared.bounds.BoundAnswer.{BoundAnswer}
+use Rattle.vsi_diagnostics.specs.Json.{without_end}
+use Rattle.vsi_diagnostics.specs.Members.{with_text, with_natural}
+use Rattle.vsi_documents.specs.Lines.{object_line}
+
+-- The numbers of a bound: the least and the most instructions of a run, or the instruction for which there is none.
+abbrev pub with_bound : Bound → Members → Members
+with_bound (Halts least most) ms = with_natural (codes "most") most (with_natural (codes "least") least ms)
+with_bound (Endless test reason) ms = with_natural (codes "instruction") test ms
+with_bound (Unstructured at) ms = with_natural (codes "instruction") at ms
+with_bound TooLarge ms = ms
+
+-- The members of the object of an answer with this text.
+abbrev pub bound_members : Bound → List ℕ → Members
+bound_members answer text =
+    with_text (codes "text") (without_end text) (with_bound answer
+    (put (codes "bounded") (boolean (is_bounded answer)) no_members))
+
+-- The line has the numbers of an answer that is right for the image, and the line of `bound` about the image.
+pub record IsBoundJson (image : Image) (bounded : Bool) (out : List ℕ) : Type 0 where
+  pub answer : Bound
+  pub is : Answers image answer
+  pub says : bounded ≡ is_bounded answer
+  pub told : BoundAnswer
+  pub tells : TellsBound image told
+  pub line : out ≡ object_line (bound_members answer told.text.items)

@@ -1,0 +1,5 @@
+pub mod Lines
+pub mod Classes
+pub mod Flows
+pub mod Bounds
+pub mod Audits

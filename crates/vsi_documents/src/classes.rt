@@ -1,0 +1,184 @@
+//! The classes of declarations as a line of JSON.
+
+ghost use Rattle.std.specs.Prelude.{◌≡◌, ◌++◌, false, length, map, IfOk, IfSome, OnOk};
+ghost use Rattle.std.specs.List.{All};
+ghost use Rattle.serde_json.specs.View.{items_view, members_view, view};
+ghost use Rattle.serde_json.specs.Written.{items_have_float};
+ghost use Rattle.vsi_lattice.specs.LatticeView.{names, order};
+ghost use Rattle.vsi_lattice.specs.Order.{IsClass};
+ghost use Rattle.vsi_scope.specs.Resolving.{variable};
+ghost use Rattle.vsi_syntax.specs.CommandView.{declared};
+ghost use Rattle.vsi_syntax.specs.Tree.{Whole};
+ghost use Rattle.vsi_compiler.specs.Source.{Reads};
+ghost use Rattle.vsi_documents.specs.Classes as spec;
+
+use crate::answer::{Documented, judgement, refused, wants_memory};
+use serde_json::{Map, Value, put};
+use std::alloc::{AllocError, Global};
+use vsi_compiler::{Source, judge, read_source};
+use vsi_conform::check_json;
+use vsi_diagnostics::members::{put_natural, put_text};
+use vsi_lattice::{Class, Lattice};
+use vsi_scope::Entry;
+use vsi_syntax::{Declaration, Span, line_column};
+use vsi_types::Profile;
+
+/// The object of a declaration.
+fn class_object(
+    alloc: Global,
+    text: &[u8],
+    span: Span,
+    name: &[u8],
+    class: &[u8],
+) -> Result<Map<String, Value>, AllocError>
+    ensures { IfOk result (λ members. members_view members.entries
+        ≡ spec.class_members text.now span name.now class.now) }
+{
+    let mut members = Map::new(alloc);
+    let (line, column) = line_column(text, span.start);
+    put_natural(alloc, &mut members, "line", line)?;
+    put_natural(alloc, &mut members, "column", column)?;
+    put_text(alloc, &mut members, "name", name)?;
+    put_text(alloc, &mut members, "class", class)?;
+    Ok(members)
+}
+
+/// Adds the objects of the globals.
+fn push_globals(
+    alloc: Global,
+    found: &mut Vec<Value>,
+    text: &[u8],
+    globals: &[Declaration],
+) -> Result<(), AllocError>
+    ensures { OnOk result (map view found.new.items
+        ≡ map view found.old.items ++ spec.global_objects text.now (map declared globals.now)) }
+{
+    for global in globals {
+        let (span, name) = (global.name.span, global.name.text);
+        let members = class_object(alloc, text, span, name, global.class.text)?;
+        found.push(Value::Object(members))?;
+    }
+    Ok(())
+}
+
+/// Adds the objects of the letvars, with the classes chosen for them.
+fn push_letvars(
+    alloc: Global,
+    found: &mut Vec<Value>,
+    text: &[u8],
+    lattice: &Lattice,
+    letvars: &[Entry],
+    classes: &[Class],
+) -> Result<(), AllocError>
+    requires each { length letvars.now ≡ length classes.now }
+    requires within { All (IsClass (order lattice.now)) classes.now }
+    ensures { OnOk result (map view found.new.items ≡ map view found.old.items
+        ++ spec.letvar_objects text.now (names lattice.now) (map variable letvars.now)
+        classes.now) }
+{
+    for (i, entry) in letvars.iter().enumerate() {
+        let class = lattice.name(classes[i]);
+        let members = class_object(alloc, text, entry.span, entry.name, class)?;
+        found.push(Value::Object(members))?;
+    }
+    Ok(())
+}
+
+/// The line of an accepted text with the objects of its declarations.
+fn classes_line(alloc: Global, objects: Vec<Value>) -> Result<Vec<u8>, AllocError>
+    ensures { IfOk result (λ line. items_have_float (items_view objects.items) ≡ false
+        → line.items ≡ spec.classes_line (map view objects.items)) }
+{
+    let mut members = Map::new(alloc);
+    put(&mut members, alloc, "accepted", Value::Bool(true))?;
+    put(&mut members, alloc, "classes", Value::Array(objects))?;
+    let mut line = Value::Object(members).to_vec(alloc)?;
+    line.extend_from_slice(b"\n")?;
+    Ok(line)
+}
+
+/// The line of an accepted source text with these classes for its letvars.
+fn line_of(alloc: Global, source: &Source<'_>, classes: &[Class]) -> Result<Vec<u8>, AllocError>
+    requires each { length source.now.resolved.letvars ≡ length classes.now }
+    requires within { All (IsClass (order source.now.lattice)) classes.now }
+    ensures { (tree : Whole) → Reads source.now.text tree → IfOk result (λ out.
+        out.items ≡ spec.classes_line (spec.global_objects source.now.text tree.globals
+        ++ spec.letvar_objects source.now.text (names source.now.lattice)
+        (map variable source.now.resolved.letvars) classes.now)) }
+{
+    let text = source.text();
+    let mut found = Vec::new(alloc);
+    push_globals(alloc, &mut found, text, source.globals())?;
+    let letvars = source.resolved().letvars();
+    push_letvars(alloc, &mut found, text, source.lattice(), letvars, classes)?;
+    let line = classes_line(alloc, found)?;
+    Ok(line)
+}
+
+/// The line of an accepted source text, or none if a flow is refused.
+fn accepted_line(
+    alloc: Global,
+    profile: Profile,
+    source: &Source<'_>,
+) -> Result<Option<Vec<u8>>, AllocError>
+    ensures { IfOk result (λ found. IfSome found
+        (λ out. spec.IsClassesJson source.now.lattice profile source.now.text out.items)) }
+{
+    // The contract of `resolved` says that the source is one; the proofs need that.
+    let _program = source.resolved();
+    match judge(alloc, profile, source) {
+        Ok(classes) => {
+            let line = line_of(alloc, source, &classes)?;
+            Ok(Some(line))
+        }
+        Err(error) => {
+            if wants_memory(&error) {
+                return Err(AllocError);
+            }
+            Ok(None)
+        }
+    }
+}
+
+/// The same for a text, which may have no program.
+fn line_in(
+    alloc: Global,
+    profile: Profile,
+    lattice: &Lattice,
+    text: &[u8],
+) -> Result<Option<Vec<u8>>, AllocError>
+    ensures { IfOk result (λ found. IfSome found
+        (λ out. spec.IsClassesJson lattice.now profile text.now out.items)) }
+{
+    match read_source(alloc, lattice, text) {
+        Ok(source) => accepted_line(alloc, profile, &source),
+        Err(error) => {
+            if wants_memory(&error) {
+                return Err(AllocError);
+            }
+            Ok(None)
+        }
+    }
+}
+
+/// The answer of `vsi classes` to a text as a line of JSON: an object with `accepted`, which is
+/// true, and `classes`, an array with an object for each declaration, in the order of the lines of
+/// `classes_text_in`. For a refused text it is the line of `check_json`. An error means that
+/// memory ran out.
+pub fn classes_json(
+    alloc: Global,
+    profile: Profile,
+    lattice: &Lattice,
+    text: &[u8],
+) -> Result<Documented, AllocError>
+    ensures answer { IfOk result (λ answer. spec.TellsClasses lattice.now profile text.now
+        answer.is_good answer.line.items) }
+{
+    match line_in(alloc, profile, lattice, text)? {
+        Some(line) => Ok(Documented {
+            is_good: true,
+            line,
+        }),
+        None => refused(check_json(alloc, judgement(profile), lattice, text)?),
+    }
+}
