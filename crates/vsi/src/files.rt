@@ -61,9 +61,7 @@ pub trait Files {
 
     /// Whether the file at the path may be one that isn't a regular file, such as a pipe, whose
     /// reader would wait.
-    fn may_wait(&mut self, _path: &str) -> bool
-        ensures kept { holds self.new ≡ holds self.old }
-    {
+    fn may_wait(&self, _path: &str) -> bool {
         false
     }
 

@@ -216,7 +216,7 @@ impl<F: Files> Files for Loaded<F> {
         self.system.replace_file(path, fresh, bytes)
     }
 
-    fn may_wait(&mut self, path: &str) -> bool {
+    fn may_wait(&self, path: &str) -> bool {
         self.system.may_wait(path)
     }
 

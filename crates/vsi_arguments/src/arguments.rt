@@ -349,7 +349,7 @@ pub(crate) const DRIVE_BUDGET: Argument = Argument {
 pub(crate) const RUNS_BUDGET: Argument = Argument {
     name: "budget",
     form: Form::Number("N"),
-    line: "The maximum number of instructions of all runs; default: 1000000000",
+    line: "The most instructions of all runs; default: 1000000000",
     whole: word_help::RUNS_BUDGET,
 };
 

@@ -284,7 +284,7 @@ image does, with the bytes 56 53 49 and one below 09.";
 
 /// The budget of all runs of an interface.
 pub(crate) const RUNS_BUDGET: &str = "\
-The maximum number of instructions of all runs of the interface
+The most instructions of all runs of the interface
 together, the halts included: a whole number from 0 to
 18446744073709551615, in digits alone. An interface whose budgets add
 up to more is refused before anything runs. Default: 1000000000.";

@@ -305,7 +305,7 @@ impl Files for Disk<'_> {
         self.objection
     }
 
-    fn may_wait(&mut self, path: &str) -> bool {
+    fn may_wait(&self, path: &str) -> bool {
         match fs::metadata(self.rt, path) {
             Ok(found) => !found.is_file(),
             Err(_) => false,
