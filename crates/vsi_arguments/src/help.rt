@@ -311,6 +311,8 @@ Example:
   var n : L; letvar i := 0 in while i < 3 do { n := n + i; i := i + 1 }
   $ vsi bound two.toml count.vsi
   halts within 46 instructions
+  $ vsi bound two.toml count.vsi --json
+  {\"bounded\":true,\"least\":46,\"most\":46,\"text\":\"halts within 46 instructions\"}
   $ cat wait.vsi
   var n : L; while n < 3 do n := n + 1
   $ vsi bound two.toml wait.vsi

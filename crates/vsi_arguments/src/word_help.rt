@@ -340,8 +340,8 @@ Writes the answer as a line of JSON: an object with `accepted` and
 /// The answer of `classes` as JSON.
 pub(crate) const CLASSES_JSON: &str = "\
 Writes the answer as a line of JSON: an object with `accepted` and
-`classes`, or for a refused text the line of `check --json`, as in
-{\"accepted\":true,\"classes\":[{\"class\":\"L\",\"column\":5,\"line\":1,\"name\":\"x\"}]}";
+`classes`, an array with an object for each declaration. For a refused
+text it is the line of `check --json`.";
 
 /// The answer of `flows` as JSON.
 pub(crate) const FLOWS_JSON: &str = "\
@@ -351,8 +351,8 @@ program, it is the line of `check --json`.";
 
 /// The answer of `audit` as JSON.
 pub(crate) const AUDIT_JSON: &str = "\
-Writes the answer as a line of JSON: an object with `accepted`, and for
-a refusal its number, its name and its text.";
+Writes the answer as a line of JSON: an object with `accepted`, and
+for a refusal its number, its name and its text.";
 
 /// The answer of `bound` as JSON.
 pub(crate) const BOUND_JSON: &str = "\

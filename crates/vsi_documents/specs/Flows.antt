@@ -1,5 +1,5 @@
 -- Flows as a line of JSON, with keys in byte order.
-use Rattle.std.specs.Prelude.{◌≡◌, ℕ, ◌↔◌, Bool, true, false, List, map, codes}
+use Rattle.std.specs.Prelude.{◌≡◌, ℕ, Bool, true, false, List, map, codes}
 use Rattle.std.specs.List.{list_all}
 use Rattle.serde_json.specs.Data.{Data, boolean, array, object, Members, no_members, put}
 use Rattle.serde_json.specs.View.{items_of}

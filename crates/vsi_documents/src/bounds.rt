@@ -83,7 +83,11 @@ fn bound_line(alloc: Global, found: Bound, text: &[u8]) -> Result<Vec<u8>, Alloc
 }
 
 /// The answer about an image that has this line.
-fn answer(alloc: Global, verified: &Verified, told: &BoundAnswer) -> Result<Documented, AllocError>
+fn document_of(
+    alloc: Global,
+    verified: &Verified,
+    told: &BoundAnswer,
+) -> Result<Documented, AllocError>
     requires { TellsBound verified.now told.now }
     ensures { IfOk result
         (λ answer. spec.IsBoundJson verified.now answer.is_good answer.line.items) }
@@ -105,7 +109,7 @@ pub fn bound_json(alloc: Global, verified: &Verified) -> Result<Documented, Allo
         (λ answer. spec.IsBoundJson verified.now answer.is_good answer.line.items) }
 {
     let told = vsi_answers::bound(alloc, verified)?;
-    answer(alloc, verified, &told)
+    document_of(alloc, verified, &told)
 }
 
 /// The same for the image of a source text, whose line has the position of a loop.
@@ -119,5 +123,5 @@ pub fn bound_json_in(
         (λ answer. spec.IsBoundJson verified.now answer.is_good answer.line.items) }
 {
     let told = vsi_answers::bound_in(alloc, lattice, source, verified)?;
-    answer(alloc, verified, &told)
+    document_of(alloc, verified, &told)
 }

@@ -22,7 +22,7 @@ line_of-requires-clause-within c =
 pub returns-in_ok-line-in-Ok : goal.returns-in_ok-line-in-Ok
 returns-in_ok-line-in-Ok c =
     let s = c.args.source.now in
-    let stands = c.resolved-_program.ensures.kept.stands in
+    let stands = c.resolved-program.ensures.kept.stands in
     let classes = c.in-Ok.classes.items in
     record {
       accepted = c.in-Ok.ensures.accepted;

@@ -4,3 +4,6 @@ pub returns-in-Err : goal.returns-in-Err
 returns-in-Err c = λ program.
     c.wants_memory.ensures c.if-wants_memory.false
     (c.in-Err.ensures.exact program.tree program.commands program.reads program.resolution)
+
+pub returns-in_ok-line-in-Ok : goal.returns-in_ok-line-in-Ok
+returns-in_ok-line-in-Ok c = rw (← c.in-Ok.ensures.lattice, ← c.in-Ok.ensures.text) c.in_ok-line-in-Ok.ensures
