@@ -323,6 +323,26 @@ fn put_undeclared(
     put_list(words, b"Also undeclared: ", &names, last)
 }
 
+/// Adds the places of constructs that need advice of their own, as `put_each` chooses them.
+fn put_places(
+    look: &Look,
+    shapes: &[Found],
+    keys: &mut Vec<(u8, usize)>,
+    places: &mut Vec<usize>,
+) -> Result<(), AllocError> {
+    for found in shapes {
+        let own = key(look, found);
+        if keys.contains(&own) || keys.len() > MOST {
+            continue;
+        }
+        keys.push(own)?;
+        if let Some(first) = look.pieces.get(found.first) {
+            places.push(first.at)?;
+        }
+    }
+    Ok(())
+}
+
 /// Adds a line for each further place in a text that is written as in another language, the first
 /// one of each sort. Then adds the names that aren't declared, or aren't classes.
 pub fn put_further(
@@ -354,4 +374,21 @@ pub fn put_further(
     )?;
     put_no_classes(alloc, words, &look, classes)?;
     put_undeclared(alloc, words, &look, &shapes, piece)
+}
+
+/// The places of a text for which `hint_at` and `put_further` have hints, if it is refused at this
+/// byte.
+pub fn listed_places(alloc: Global, source: &[u8], at: usize) -> Result<Vec<usize>, AllocError> {
+    let pieces = pieces_of(alloc, source)?;
+    let look = Look { pieces: &pieces };
+    let shapes = all_shapes(alloc, &look)?;
+    let structures = all_structures(alloc, &look)?;
+    let mut keys = Vec::new(alloc);
+    let mut places = Vec::new(alloc);
+    if let Some(found) = covering(&shapes, piece_number(&look, at)) {
+        keys.push(key(&look, &found))?;
+    }
+    put_places(&look, &shapes, &mut keys, &mut places)?;
+    put_places(&look, &structures, &mut keys, &mut places)?;
+    Ok(places)
 }

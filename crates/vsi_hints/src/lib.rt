@@ -12,5 +12,5 @@ mod choice;
 mod offers;
 mod wording;
 
-pub use advice::{hint_at, put_further};
+pub use advice::{hint_at, listed_places, put_further};
 pub use wording::{Hint, Reason, put_hint};

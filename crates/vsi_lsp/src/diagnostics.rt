@@ -157,6 +157,16 @@ fn line_of(alloc: Global, page: Page<'_>, error: &CompileError) -> Result<Vec<u8
     Ok(line)
 }
 
+/// The object of a refusal that isn't one of a flow.
+pub(crate) fn refusal_object(
+    alloc: Global,
+    page: Page<'_>,
+    error: &CompileError,
+) -> Result<Value, AllocError> {
+    let line = line_of(alloc, page, error)?;
+    refusal(alloc, page, error, &line)
+}
+
 /// The line at a place of a text of several lines.
 fn line_at(lines: &[u8], place: usize) -> &[u8] {
     match lines.split(|byte| *byte == b'\n').nth(place) {

@@ -2,7 +2,7 @@
 
 use crate::diagnostics::{Page, error_object, errors_in, only};
 use crate::replies::notification;
-use crate::warned::put_warnings;
+use crate::warned::put_others;
 use serde_json::{Value, json};
 use std::alloc::{AllocError, Global};
 use vsi_choices::text_value;
@@ -172,7 +172,7 @@ fn source_errors(
                 page.uri,
                 page.text,
             )?;
-            put_warnings(alloc, page, &lattice, &mut objects)?;
+            put_others(alloc, page, &lattice, &mut objects)?;
             Ok(objects)
         }
         Err(error) => {

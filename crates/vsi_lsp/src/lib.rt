@@ -13,6 +13,7 @@ mod asking;
 mod diagnostics;
 mod documents;
 mod frames;
+mod further;
 mod objects;
 mod reading;
 mod replies;

@@ -1,6 +1,7 @@
-//! Warnings about a text, as objects.
+//! What is published about a text after its refusal, as objects.
 
 use crate::diagnostics::{Page, warning_object};
+use crate::further::put_further;
 use serde_json::Value;
 use std::alloc::{AllocError, Global};
 use vsi_compiler::{CompileError, Source, read_source};
@@ -30,8 +31,9 @@ fn put_all(
     Ok(())
 }
 
-/// Adds the warnings about a text that has a program.
-pub(crate) fn put_warnings(
+/// Adds the warnings about a text that has a program, or the faults of one that has none, after its
+/// first one.
+pub(crate) fn put_others(
     alloc: Global,
     page: Page<'_>,
     lattice: &Lattice,
@@ -40,6 +42,6 @@ pub(crate) fn put_warnings(
     match read_source(alloc, lattice, page.text) {
         Ok(source) => put_all(alloc, page, &source, objects),
         Err(CompileError::Memory) => Err(AllocError),
-        Err(_) => Ok(()),
+        Err(_) => put_further(alloc, page, lattice, objects),
     }
 }

@@ -10,6 +10,7 @@ ghost use Rattle.vsi_caret.specs.Safe.{all_plain};
 ghost use Rattle.vsi_telling.specs.Places.{BeginsAt, start_of};
 
 pub mod finding;
+mod further;
 mod hints;
 mod images;
 mod lattices;
@@ -208,6 +209,9 @@ fn of_source(
     if let Some(at) = misread_at(error) {
         let classes = class_names(alloc, lattice)?;
         put_further(alloc, &mut words, source, at, &classes)?;
+    }
+    if let Some(span) = place_of(error) {
+        further::put_faults(alloc, &mut words, lattice, source, error, span.start)?;
     }
     Ok(words)
 }

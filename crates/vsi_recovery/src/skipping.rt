@@ -1,0 +1,97 @@
+//! The tokens at which reading can go on after a part that is skipped.
+
+use vsi_syntax::{Kind, Token};
+
+/// The constructs that begin in a skipped part and haven't ended.
+#[derive(Clone, Copy)]
+pub(crate) struct Nest {
+    braces: usize,
+    rounds: usize,
+    ifs: usize,
+    whiles: usize,
+    letvars: usize,
+}
+
+/// No construct.
+pub(crate) const OUTSIDE: Nest = Nest {
+    braces: 0,
+    rounds: 0,
+    ifs: 0,
+    whiles: 0,
+    letvars: 0,
+};
+
+impl Nest {
+    /// Whether reading can go on at a token of this kind: it doesn't belong to a construct of the
+    /// skipped part.
+    pub(crate) fn serves(&self, kind: Kind) -> bool {
+        if self.braces != 0 {
+            return false;
+        }
+        match kind {
+            Kind::Semicolon | Kind::Var => self.rounds == 0,
+            Kind::CloseBrace => true,
+            Kind::Else => self.ifs == 0,
+            Kind::Do => self.whiles == 0,
+            Kind::In => self.letvars == 0,
+            _ => false,
+        }
+    }
+
+    /// The constructs after one more token outside of blocks.
+    fn noted_outside(&self, kind: Kind) -> Nest {
+        let mut nest = *self;
+        match kind {
+            Kind::Semicolon if self.rounds == 0 => nest = OUTSIDE,
+            Kind::Open => nest.rounds = self.rounds.saturating_add(1),
+            Kind::Close => nest.rounds = self.rounds.saturating_sub(1),
+            Kind::If => nest.ifs = self.ifs.saturating_add(1),
+            Kind::Else => nest.ifs = self.ifs.saturating_sub(1),
+            Kind::While => nest.whiles = self.whiles.saturating_add(1),
+            Kind::Do => nest.whiles = self.whiles.saturating_sub(1),
+            Kind::Letvar => nest.letvars = self.letvars.saturating_add(1),
+            Kind::In => nest.letvars = self.letvars.saturating_sub(1),
+            _ => {}
+        }
+        nest
+    }
+
+    /// The constructs after one more token.
+    pub(crate) fn noted(&self, kind: Kind) -> Nest {
+        let mut nest = *self;
+        match kind {
+            Kind::OpenBrace => {
+                nest.braces = self.braces.saturating_add(1);
+                nest.rounds = 0;
+                nest
+            }
+            Kind::CloseBrace => {
+                nest.braces = self.braces.saturating_sub(1);
+                nest.rounds = 0;
+                nest
+            }
+            _ if self.braces == 0 => self.noted_outside(kind),
+            _ => nest,
+        }
+    }
+}
+
+/// The number of the `else` from a token on that belongs to an `if` before it, if it has one.
+pub(crate) fn lone_else(list: &[Token<'_>], place: usize) -> Option<usize> {
+    let mut number = place;
+    let mut braces = 0usize;
+    let mut ifs = 0usize;
+    for token in list.get(place..).unwrap_or(&[]) {
+        match token.kind {
+            Kind::OpenBrace => braces = braces.saturating_add(1),
+            Kind::CloseBrace if braces == 0 => return None,
+            Kind::CloseBrace => braces = braces.saturating_sub(1),
+            Kind::If if braces == 0 => ifs = ifs.saturating_add(1),
+            Kind::Else if braces == 0 && ifs == 0 => return Some(number),
+            Kind::Else if braces == 0 => ifs = ifs.saturating_sub(1),
+            _ => {}
+        }
+        number = number.saturating_add(1);
+    }
+    None
+}

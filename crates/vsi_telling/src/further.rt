@@ -1,0 +1,89 @@
+//! The faults of a text after its first one.
+
+use std::alloc::{AllocError, Global};
+use vsi_compiler::CompileError;
+use vsi_diagnostics::refusal_diagnostic;
+use vsi_hints::listed_places;
+use vsi_lattice::Lattice;
+use vsi_recovery::{Cause, Fault, further_faults};
+use vsi_scope::ScopeError;
+use vsi_syntax::{ParseError, put_number, put_place};
+
+/// Whether the explanation of a fault lists all undeclared names and unknown classes.
+fn lists_names(error: &CompileError) -> bool {
+    matches!(
+        error,
+        CompileError::Lex(_) | CompileError::Parse(_) | CompileError::Scope(ScopeError::Unbound(_))
+    )
+}
+
+/// Whether a fault is an undeclared name or an unknown class.
+fn is_of_name(cause: Cause) -> bool {
+    matches!(
+        cause,
+        Cause::Scope(ScopeError::Unbound(_) | ScopeError::UnknownClass(_))
+    )
+}
+
+/// Whether two bytes are on the same line.
+fn are_on_line(source: &[u8], first: usize, second: usize) -> bool {
+    let start = first.min(second);
+    let stop = first.max(second);
+    match source.get(start..stop) {
+        Some(between) => !between.contains(&b'\n'),
+        None => false,
+    }
+}
+
+/// Whether a line has one of these places.
+fn is_listed(source: &[u8], places: &[usize], at: usize) -> bool {
+    for place in places {
+        if are_on_line(source, *place, at) {
+            return true;
+        }
+    }
+    false
+}
+
+/// The refusal of a fault.
+fn refusal_of(fault: Fault) -> CompileError {
+    match fault.cause {
+        Cause::Lex(error) => CompileError::Lex(error),
+        Cause::Tree => CompileError::Parse(ParseError::Unexpected(fault.span)),
+        Cause::Scope(error) => CompileError::Scope(error),
+    }
+}
+
+/// Adds the line of a further fault: its place, its number and its name.
+fn put_fault(words: &mut Vec<u8>, source: &[u8], fault: Fault) -> Result<(), AllocError> {
+    let Some(diagnostic) = refusal_diagnostic(source, &refusal_of(fault)) else {
+        return Ok(());
+    };
+    words.extend_from_slice(b"Also at ")?;
+    put_place(words, source, fault.span.start)?;
+    words.extend_from_slice(b": ")?;
+    put_number(words, diagnostic.code)?;
+    words.extend_from_slice(b" ")?;
+    words.extend_from_slice(diagnostic.name)?;
+    words.extend_from_slice(b".\n")
+}
+
+/// Adds the faults of a refused text after its first one, but none on a line for which a hint is
+/// listed, and no names that are listed.
+pub(crate) fn put_faults(
+    alloc: Global,
+    words: &mut Vec<u8>,
+    lattice: &Lattice,
+    source: &[u8],
+    error: &CompileError,
+    at: usize,
+) -> Result<(), AllocError> {
+    let places = listed_places(alloc, source, at)?;
+    for fault in &further_faults(alloc, lattice, source)? {
+        let is_name = lists_names(error) && is_of_name(fault.cause);
+        if !is_name && !is_listed(source, &places, fault.span.start) {
+            put_fault(words, source, *fault)?;
+        }
+    }
+    Ok(())
+}
