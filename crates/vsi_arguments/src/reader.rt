@@ -419,6 +419,7 @@ fn audit_in<'a>(matches: &ArgMatches<'a>) -> Audit<'a> {
         image: text(matches, "IMAGE"),
         is_strict: matches.get_flag("strict"),
         is_steady: matches.get_flag("steady"),
+        has_evidence: matches.get_flag("evidence"),
     }
 }
 

@@ -124,7 +124,9 @@ flags_of (Mend mending) =
     ∷ (codes "--json", mending.is_json) ∷ []
 flags_of (Build compilation image) = (codes "--strict", compilation.is_strict) ∷ []
 flags_of (Listing image) = []
-flags_of (Audit audit) = (codes "--strict", audit.is_strict) ∷ (codes "--steady", audit.is_steady) ∷ []
+flags_of (Audit audit) =
+    (codes "--strict", audit.is_strict) ∷ (codes "--steady", audit.is_steady)
+    ∷ (codes "--evidence", audit.has_evidence) ∷ []
 flags_of (Source image) = []
 flags_of (EmitC emission) =
     (codes "--header", emission.is_header) ∷ (codes "--bounded", emission.is_bounded) ∷ []

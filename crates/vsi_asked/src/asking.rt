@@ -378,7 +378,11 @@ fn asks_audit(words: &[String], audit: &Audit<'_>) -> bool
     ensures { result ≡ true → spec.Spells words.now (request.Audit audit.now) }
 {
     let operands = [audit.lattice.as_bytes(), audit.image.as_bytes()];
-    let flags = [("--strict", audit.is_strict), ("--steady", audit.is_steady)];
+    let flags = [
+        ("--strict", audit.is_strict),
+        ("--steady", audit.is_steady),
+        ("--evidence", audit.has_evidence),
+    ];
     asks(words, "audit", operands.as_slice(), flags.as_slice())
 }
 
