@@ -5,6 +5,7 @@
 mod argument;
 mod arguments;
 mod error;
+mod escaped;
 mod help;
 mod numbers;
 mod reader;

@@ -1,6 +1,7 @@
 //! Reads a request from the arguments of a command line.
 
 use crate::error::ArgumentsError;
+use crate::escaped::escaped;
 use crate::numbers::{Limit, budget_of, number_of, wrong_number};
 use crate::request::*;
 use crate::tips::retold;
@@ -34,10 +35,16 @@ fn told(alloc: Global, error: &Error) -> ArgumentsError {
     if !error.use_stderr() {
         return ArgumentsError::Help(text);
     }
-    match retold(alloc, text.as_str()) {
+    match message(alloc, text.as_str()) {
         Ok(text) => ArgumentsError::Mistake(text),
         Err(_) => ArgumentsError::Memory,
     }
+}
+
+/// The message for a mistake, in which no argument controls a terminal.
+fn message(alloc: Global, text: &str) -> Result<String, AllocError> {
+    let told = retold(alloc, text)?;
+    escaped(alloc, told.as_str())
 }
 
 /// A mistake in arguments that the command-line parser accepts.
