@@ -61,7 +61,7 @@ pub(crate) struct Screen<W> {
     is_doubtful: bool,
 }
 
-/// What follows a sequence for colours at the beginning of bytes, and the sequence.
+/// The sequence for colours at the beginning of bytes, and the bytes after it.
 fn colour(bytes: &[u8]) -> Option<(&'static [u8], &[u8])> {
     match bytes {
         [27, b'[', b'1', b';', b'3', b'1', b'm', rest @ ..] => Some((b"\x1b[1;31m", rest)),
@@ -119,7 +119,7 @@ impl<W> Screen<W> {
         self.left > 0 || byte == b'\n' || byte == b'\t' || (byte >= b' ' && byte <= b'~')
     }
 
-    /// What is shown of the first bytes, and the others.
+    /// The bytes that are written for the first ones, and the other ones.
     fn shown<'b>(&mut self, bytes: &'b [u8]) -> (Piece, &'b [u8]) {
         let mut piece = Piece {
             bytes: [0; ROOM],
