@@ -38,8 +38,8 @@ impl Piece {
     /// Adds `\x` and the two digits of a byte.
     fn put_code(&mut self, byte: u8) {
         self.put_all(b"\\x");
-        self.put(DIGITS[(byte / 16) as usize % 16]);
-        self.put(DIGITS[(byte % 16) as usize]);
+        self.put(DIGITS[byte as usize / 16 % 16]);
+        self.put(DIGITS[byte as usize % 16]);
     }
 
     /// Whether there may be no room for another step.
