@@ -119,19 +119,6 @@ put_leaves Kind old new (Ok text) (Err stop) is (inr (four, part)) =
     late_leaf (BytesOf Kind) old new stop (omega (arith, four)) (inr (text.items, (text, is, refl), part))
 put_leaves Kind old new (Err other) (Err stop) is (inr (four, part)) = absurd part
 
--- The same for one text, which is written under a condition.
-pub accept_leaves : {T U : Type 0} (A : Type 0) (word : List ℕ) (old new : Option (List ℕ)) (answer : Result U Stop)
-    (result : Result T Stop) → OnOk answer A →
-    IfErr result (λ stop. Keeps old new
-    ⊎ ((status_of stop ≡ 4) × IsOkAnd answer (λ x. WritesPart word old new))) →
-    IfErr result (Leaves (λ bytes. A × (bytes ≡ word)) 4 old new)
-accept_leaves A word old new answer (Ok x) is left = tt
-accept_leaves A word old new answer (Err stop) is (inl kept) =
-    record { partly = inl kept; silent = λ other below. kept }
-accept_leaves A word old new (Ok y) (Err stop) is (inr (four, part)) =
-    late_leaf (λ bytes. A × (bytes ≡ word)) old new stop (omega (arith, four)) (inr (word, (is, refl), part))
-accept_leaves A word old new (Err other) (Err stop) is (inr (four, part)) = absurd part
-
 -- Where the writing of an answer has failed, a part of it has been written.
 pub put_left : {T U : Type 0} (answer : Result U Stop) (part : U → Type 0) (kept : Type 0) (x : U)
     (result : Result T Stop) → answer ≡ Ok x → IfErr result (λ stop. status_of stop ≡ 4) → part x →

@@ -1,6 +1,6 @@
 -- The output of an answer, and the files that it leaves as they were.
 use Rattle.std.proofs.Common.{◌≡◌, ℕ, ◌<◌, List, Result, Ok, Err, ◌∙◌, sym, subst, inl, inr, arith}
-use Rattle.std.specs.Prelude.{Bool, true, false, Option, IfOk, IfErr, MatchResult, OnOk, IsOkAnd, codes}
+use Rattle.std.specs.Prelude.{Bool, true, false, Option, IfOk, IfErr, MatchResult, OnOk, IsOkAnd}
 use Rattle.std.specs.Global.{Vec}
 use Rattle.std.specs.Io.KnownBytes.{Appends}
 use Rattle.std.proofs.KnownBytes.{Keeps-refl}
@@ -10,12 +10,11 @@ use Rattle.vsi_conform.specs.declared.interface.Judgement.{Judgement}
 use Rattle.vsi_types.specs.declared.rules.Profile.{Profile}
 use Rattle.vsi_answers.specs.declared.unanswered.Unanswered.{Unanswered}
 use Rattle.vsi_conform.specs.Checking.{TellsAnswer}
-use Rattle.vsi_arguments.specs.declared.request.Audit.{Audit}
 use Rattle.vsi_arguments.specs.declared.request.Compilation.{Compilation}
 use Rattle.vsi.specs.declared.stop.Stop.{Stop}
 use Rattle.vsi.specs.Holding.{Holding}
 use Rattle.vsi.specs.Files.{AreFiles, OfFiles, Writes}
-use Rattle.vsi.specs.Performed.{AuditsFiles, BuildsFile, PerformsAudit, PerformsBuild, ToldAccepted, ToldFlows, ToldRaises, profile_of}
+use Rattle.vsi.specs.Performed.{BuildsFile, PerformsBuild, ToldAccepted, ToldFlows, ToldRaises, profile_of}
 use Rattle.vsi.specs.Refusals.{AsksCheck, AsksFlows, AsksMend}
 use Rattle.vsi.specs.Stops.{status_of, stop_of}
 use Rattle.vsi.proofs.Answered.{answered_told}
@@ -39,22 +38,6 @@ pub put_alone : {T : Type 0} (Kind : Vec ℕ → Type 0) (old new : Option (List
     OnOk result ((left ≡ holds) × Writes Kind old new)
 put_alone Kind old new left holds answer result kept is done =
     on_ok_weaker result (λ written. (kept, writes_of Kind old new answer is written)) done
-
--- A property that holds if an answer is given holds if it is given and written.
-pub told_of : {T A W : Type 0} (answer : Result T Stop) → OnOk answer A → IsOkAnd answer (λ x. W) → A × W
-told_of (Ok x) holds told = (holds, told)
-told_of (Err stop) holds told = absurd told
-
--- `accepted` is written for an image that passes its audit.
-pub accept_performs : {T U : Type 0} (holds : Holding) (asked : Audit) (old new : Option (List ℕ))
-    (answer : Result U Stop) (result : Result T Stop) → OnOk answer (AuditsFiles holds asked) →
-    OnOk result (IsOkAnd answer (λ x. Appends old new (codes "accepted\n"))) →
-    OnOk result (PerformsAudit holds asked old new)
-accept_performs holds asked old new answer result passes done =
-    on_ok_weaker result
-    (λ told. let both : AuditsFiles holds asked × Appends old new (codes "accepted\n") = told_of answer passes told in
-    record { audits = both.0; written = both.1 })
-    done
 
 -- A build writes nothing to the output.
 pub build_performs : {T : Type 0} (holds : Holding) (c : Compilation) (image : List ℕ) (left : Holding)

@@ -1,5 +1,5 @@
 -- The output that a stopped request leaves: nothing new, or the beginning of one of its answers.
-use Rattle.std.specs.Prelude.{◌≡◌, ◌≢◌, ◌<◌, ◌⊎◌, ℕ, ◌++◌, ℤ, Bool, true, false, List, Option, IfSome, codes, take}
+use Rattle.std.specs.Prelude.{◌≡◌, ◌≢◌, ◌<◌, ◌⊎◌, ℕ, ◌++◌, ℤ, Bool, true, false, List, Option, IfSome, take}
 use Rattle.std.specs.Global.{Vec}
 use Rattle.std.specs.Io.KnownBytes.{Appends, Keeps}
 use Rattle.vsi_lattice.specs.declared.lattice.Lattice.{Lattice}
@@ -27,7 +27,7 @@ use Rattle.vsi.specs.Driven.{lines_of}
 use Rattle.vsi.specs.Holding.{Holding, IsImageAt}
 use Rattle.vsi.specs.Laying.{AnswersLayout, ToldCanonical}
 use Rattle.vsi.specs.Files.{BeginsAt, IsBudgetOf, IsStoredAt, LooksAt, OfFile, OfFiles, shown}
-use Rattle.vsi.specs.Performed.{AuditsFiles, BoundsFile, ComparesFiles, ConformsFiles, DocumentOf, DrawsFiles, EmitsFile, RunsFiles, SearchesFiles, SourceOfFile, ToldAccepted, ToldClasses, ToldFlows, ToldJson, ToldListing, ToldPage, ToldRaises, ViewsFiles, control_of, judgement_of, profile_of}
+use Rattle.vsi.specs.Performed.{AuditsTo, BoundsFile, ComparesFiles, ConformsFiles, DocumentOf, DrawsFiles, EmitsFile, RunsFiles, SearchesFiles, SourceOfFile, ToldAccepted, ToldClasses, ToldFlows, ToldJson, ToldListing, ToldPage, ToldRaises, ViewsFiles, control_of, judgement_of, profile_of}
 use Rattle.vsi.specs.Raises.{ToldUnserved}
 use Rattle.vsi.specs.Reasons.{ToldRefusal}
 use Rattle.vsi.specs.Seeing.{SeesFiles}
@@ -132,7 +132,7 @@ Answers holds given (request.Flows c has_walks) = BytesOf (OfFiles holds c (Told
 Answers holds given (request.Mend asked) = BytesOf (AnswersMend asked.is_json holds asked)
 Answers holds given (request.Build c image) = λ bytes. ⊥
 Answers holds given (request.List image) = BytesOf (OfFile holds image.now ToldListing)
-Answers holds given (request.Audit asked) = λ bytes. AuditsFiles holds asked × (bytes ≡ codes "accepted\n")
+Answers holds given (request.Audit asked) = BytesOf (AuditsTo holds asked)
 Answers holds given (request.Source image) = BytesOf (SourceOfFile holds image.now)
 Answers holds given (request.EmitC asked) = BytesOf (EmitsFile holds asked)
 Answers holds given (request.Bound asked) = AnswersBound holds asked

@@ -1,5 +1,5 @@
 -- The output of each subcommand that ends well, given the contents of its files.
-use Rattle.std.specs.Prelude.{◌≡◌, ◌≤◌, ℕ, ◌++◌, ℤ, Bool, true, false, List, [], Option, Some, None, Ok, codes, decimal, if◌then◌else◌, IsSomeAnd}
+use Rattle.std.specs.Prelude.{◌≡◌, ◌≤◌, ℕ, ◌++◌, ◌∷◌, ℤ, Bool, true, false, List, [], Option, Some, None, Ok, codes, decimal, if◌then◌else◌, IsSomeAnd}
 use Rattle.std.specs.Borrow.{Bor}
 use Rattle.std.specs.Global.{Vec}
 use Rattle.std.specs.Io.KnownBytes.{Appends, Keeps}
@@ -24,6 +24,9 @@ use Rattle.vsi_devices.specs.Running.{RunsApart}
 use Rattle.vsi_leak.specs.declared.whole.Wanted.{Wanted}
 use Rattle.vsi_audit.specs.Standing.{HasKnownClasses}
 use Rattle.vsi_audit.specs.Text.{IsSourceText}
+use Rattle.vsi_evidence.specs.Evidence.{evidence_text}
+use Rattle.vsi_evidence.specs.declared.Manner.{Manner}
+use Rattle.vsi_evidence.specs.declared.Manner.TheVariants as manner
 use Rattle.vsi_report.specs.FlowsGraph.{IsFlowsGraph, IsPolicyGraph}
 use Rattle.vsi_report.specs.Graph.{IsLatticeGraph}
 use Rattle.vsi_report.specs.Page.{HasPanel}
@@ -188,6 +191,26 @@ pub record AuditsFiles (holds : Holding) (a : Audit) : Type 0 where
   pub image : Image
   pub held : IsImageAt holds a.image.now image
   pub passes : Passes a.is_steady a.is_strict lattice image
+
+-- The version of the program.
+abbrev pub program_version : List ℕ
+program_version = codes "0.1.0"
+
+-- How an audit judges.
+abbrev pub manner_of : Audit → Manner
+manner_of a =
+    if a.is_steady then manner.Steady else if a.is_strict then manner.Strict else manner.Base
+
+-- The lines about the files of an audit, if evidence is requested.
+abbrev pub filed_text : Audit → List ℕ → List ℕ → List ℕ
+filed_text a lattice image =
+    if a.has_evidence
+    then evidence_text program_version (manner_of a) ((a.lattice.now, lattice) ∷ (a.image.now, image) ∷ []) else []
+
+-- The output of an audit that accepts an image: `accepted`, and the evidence for the bytes that were read.
+pub record AuditsTo (holds : Holding) (a : Audit) (text : Vec ℕ) : Type 0 where
+  pub audits : AuditsFiles holds a
+  pub is : text.items ≡ codes "accepted\n" ++ filed_text a audits.declared.policy audits.held.bytes
 
 -- The graph of the flows of a source text under a lattice, alone or beside that of the lattice.
 abbrev pub GraphOf : Bool → Profile → Lattice → List ℕ → List ℕ → Type 0
@@ -374,11 +397,6 @@ pub record PerformsBuild (holds : Holding) (c : Compilation) (image : List ℕ) 
   pub builds : BuildsFile holds c image left
   pub kept : Keeps old new
 
--- `audit`: the image passes, and `accepted` has been written.
-pub record PerformsAudit (holds : Holding) (a : Audit) (old new : Option (List ℕ)) : Type 0 where
-  pub audits : AuditsFiles holds a
-  pub written : Appends old new (codes "accepted\n")
-
 -- `bound`: the image has a bound, and the line that says so has been written.
 pub record PerformsBound (holds : Holding) (asked : Bounding) (old new : Option (List ℕ)) : Type 0 where
   pub told : BoundAnswer
@@ -452,7 +470,7 @@ Performs holds given (request.Flows c has_walks) left =
 Performs holds given (request.Mend asked) left = Alone (PerformsMend asked.is_json holds asked) holds left
 Performs holds given (request.Build c image) left = PerformsBuild holds c image.now left
 Performs holds given (request.List image) left = Alone (Writes (OfFile holds image.now ToldListing)) holds left
-Performs holds given (request.Audit asked) left = Alone (PerformsAudit holds asked) holds left
+Performs holds given (request.Audit asked) left = Alone (Writes (AuditsTo holds asked)) holds left
 Performs holds given (request.Source image) left = Alone (Writes (SourceOfFile holds image.now)) holds left
 Performs holds given (request.EmitC asked) left = Alone (Writes (EmitsFile holds asked)) holds left
 Performs holds given (request.Bound asked) left = Alone (PerformsBound holds asked) holds left

@@ -3,12 +3,13 @@ use Rattle.std.specs.Prelude.{◌≡◌, ◌≢◌, ◌++◌, ℕ, ℤ, List, Op
 use Rattle.std.specs.Borrow.{Bor}
 use Rattle.vsi_image.specs.Fields.{globals}
 use Rattle.vsi_image.specs.declared.instr.Image.{Image}
+use Rattle.vsi_state.specs.Seal.{sealed}
 use Rattle.vsi_store.specs.Text.{store_text_of}
 use Rattle.vsi.specs.Holding.{Holding, HoldsAt}
 
--- The text that is saved of a store.
+-- The text that is saved of a store, after the line with its checksum.
 abbrev pub state_text : Image → List ℤ → List ℕ
-state_text image words = store_text_of (globals image.globals.items) words
+state_text image words = sealed (store_text_of (globals image.globals.items) words)
 
 -- The requested file holds the text, if its contents are known.
 abbrev pub HoldsState : Option (Bor (List ℕ)) → List ℕ → Holding → Type 0

@@ -1,22 +1,28 @@
 //! The answers of the subcommands that judge an image without its source.
 
-ghost use Rattle.std.specs.Prelude.{◌≡◌, ◌⊎◌, ℕ, IfErr, IfOk, OnOk};
+ghost use Rattle.std.specs.Prelude.{◌≡◌, ◌⊎◌, ◌++◌, ◌∷◌, ℕ, [], IfErr, IfOk, OnOk, codes};
 ghost use Rattle.vsi_audit.specs.Telling.{IsAuditText};
 ghost use Rattle.vsi_steady.specs.Telling.{IsUnsteadyText};
-ghost use Rattle.vsi.specs.Performed.{AuditsFiles, Passes, SourceOfFile};
-ghost use Rattle.vsi.specs.Refusals.{RefusesImage, RefusesLattice, StopsBy};
+ghost use Rattle.vsi.specs.Holding.{IsReadAt};
+ghost use Rattle.vsi.specs.Performed as spec;
+ghost use Rattle.vsi.specs.Performed.{AuditsTo, Passes, SourceOfFile, program_version};
+ghost use Rattle.vsi_answers.specs.Judged.{AreImage, Declares};
+ghost use Rattle.vsi_evidence.specs.Evidence.{evidence_text};
+ghost use Rattle.vsi.specs.Refusals.{NoOther, RefusesImage, RefusesLattice, StopsBy};
 ghost use Rattle.vsi.specs.Reasons.{HasNoText, IsRefusedImage, RefusesAudit};
 ghost use Rattle.vsi.specs.declared.stop.Stop.TheVariants as stops;
 ghost use Rattle.std.specs.Global.{Vec};
 
-use crate::desk::Desk;
+use crate::desk::{Desk, Kind};
 use crate::files::Files;
-use crate::reading::{image_in, lattice_in, two_classes};
+use crate::reading::{bytes_in, declared_lattice, image_in, two_classes};
 use crate::stop::Stop;
 use crate::subcommands::profile;
-use std::alloc::Global;
+use std::alloc::{AllocError, Global};
+use vsi_answers::judged_image;
 use vsi_arguments::Audit;
 use vsi_audit::{AuditError, audit_in, audit_text, source_text};
+use vsi_evidence::{Filed, Manner, evidence};
 use vsi_image::{Image, Verified};
 use vsi_lattice::Lattice;
 use vsi_steady::{SteadyError, steady_in, steady_text};
@@ -80,22 +86,122 @@ fn judge<'a>(
     }
 }
 
-/// Whether the image is accepted.
+/// The version of the program.
+fn version() -> &'static [u8]
+    ensures { result.now ≡ program_version }
+{
+    b"0.1.0"
+}
+
+/// How an audit judges.
+fn manner_of(asked: Audit<'_>) -> Manner
+    ensures { result ≡ spec.manner_of asked.entry }
+{
+    if asked.is_steady {
+        Manner::Steady
+    } else if asked.is_strict {
+        Manner::Strict
+    } else {
+        Manner::Base
+    }
+}
+
+/// The evidence for the bytes of a lattice file and of an image.
+fn filed_files(
+    alloc: Global,
+    asked: Audit<'_>,
+    lattice: &[u8],
+    image: &[u8],
+) -> Result<Vec<u8>, AllocError>
+    ensures { IfOk result (λ text. text.items ≡ evidence_text program_version
+        (spec.manner_of asked.entry) ((asked.entry.lattice.now, lattice.now)
+        ∷ (asked.entry.image.now, image.now) ∷ [])) }
+{
+    let files = [
+        Filed {
+            path: asked.lattice.as_bytes(),
+            bytes: lattice,
+        },
+        Filed {
+            path: asked.image.as_bytes(),
+            bytes: image,
+        },
+    ];
+    evidence(alloc, version(), manner_of(asked), &files)
+}
+
+/// The output of an audit that accepts an image, of the bytes that were read.
+fn accepted_text(
+    alloc: Global,
+    asked: Audit<'_>,
+    lattice: &[u8],
+    image: &[u8],
+) -> Result<Vec<u8>, AllocError>
+    ensures { IfOk result (λ text. text.items ≡ codes "accepted\n"
+        ++ spec.filed_text asked.entry lattice.now image.now) }
+{
+    let mut text = Vec::from_slice(alloc, b"accepted\n")?;
+    if asked.has_evidence {
+        let filed = filed_files(alloc, asked, lattice, image)?;
+        text.extend_from_slice(&filed)?;
+    }
+    Ok(text)
+}
+
+/// The bytes of a lattice file, and its lattice.
+fn policy_in<'a, F: Files>(
+    desk: &mut Desk,
+    path: &'a str,
+    files: &mut F,
+) -> Result<(Vec<u8>, Lattice), Stop<'a>>
+    ensures kept { F.holds files.new ≡ F.holds files.old }
+    ensures read { IfOk result
+        (λ pair. IsReadAt (F.holds files.old) path.now pair.0.items) }
+    ensures declared { IfOk result (λ pair. Declares pair.0.items pair.1) }
+    ensures stopped { IfErr result
+        (StopsBy (RefusesLattice (F.holds files.old) path.now) NoOther) }
+{
+    let bytes = bytes_in(desk, Kind::Lattice, path, files)?;
+    let lattice = declared_lattice(desk.alloc, bytes.as_slice())?;
+    Ok((bytes, lattice))
+}
+
+/// The bytes of an image, and the verified image.
+fn verified_in<'a, F: Files>(
+    desk: &mut Desk,
+    path: &'a str,
+    files: &mut F,
+) -> Result<(Vec<u8>, Verified), Stop<'a>>
+    ensures kept { F.holds files.new ≡ F.holds files.old }
+    ensures read { IfOk result
+        (λ pair. IsReadAt (F.holds files.old) path.now pair.0.items) }
+    ensures are { IfOk result (λ pair. AreImage pair.0.items pair.1) }
+    ensures stopped { IfErr result
+        (StopsBy (RefusesImage (F.holds files.old) path.now) NoOther) }
+{
+    let bytes = bytes_in(desk, Kind::Image, path, files)?;
+    let verified = judged_image(desk.alloc, bytes.as_slice())?;
+    Ok((bytes, verified))
+}
+
+/// The output for an image that is accepted.
 pub(crate) fn audit<'a, F: Files>(
     desk: &mut Desk,
     asked: Audit<'a>,
     files: &mut F,
-) -> Result<(), Stop<'a>>
+) -> Result<Vec<u8>, Stop<'a>>
     ensures kept { F.holds files.new ≡ F.holds files.old }
-    ensures told { OnOk result (AuditsFiles (F.holds files.old) asked.entry) }
+    ensures told { IfOk result (AuditsTo (F.holds files.old) asked.entry) }
     ensures stopped { IfErr result (StopsBy (λ reason.
         RefusesLattice (F.holds files.old) asked.entry.lattice.now reason
         ⊎ RefusesImage (F.holds files.old) asked.entry.image.now reason)
         (RefusesAudit (F.holds files.old) asked.entry)) }
 {
-    let classes = lattice_in(desk, asked.lattice, files)?;
-    let verified = image_in(desk, asked.image, files)?;
-    judge(desk.alloc, asked, &classes, &verified)
+    let (policy, classes) = policy_in(desk, asked.lattice, files)?;
+    let (bytes, verified) = verified_in(desk, asked.image, files)?;
+    judge(desk.alloc, asked, &classes, &verified)?;
+    let text = accepted_text(desk.alloc, asked, &policy, &bytes)?;
+    Ok(text)
 }
 
 /// The source text that is equivalent to the image.

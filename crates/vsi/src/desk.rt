@@ -37,6 +37,8 @@ pub(crate) struct Desk {
     pub(crate) alloc: Global,
     /// Whether a refusal is explained.
     pub(crate) is_explained: bool,
+    /// Whether a store file was read whose checksum isn't that of the rest.
+    pub(crate) is_broken: bool,
     kept: Vec<Kept>,
 }
 
@@ -46,6 +48,7 @@ impl Desk {
         Desk {
             alloc,
             is_explained,
+            is_broken: false,
             kept: Vec::new(alloc),
         }
     }

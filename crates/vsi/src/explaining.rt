@@ -47,6 +47,10 @@ have the least class. Compute both results and select one by arithmetic, as in
 `out := g * a + (1 - g) * b` for a guard g that is 0 or 1.
 ";
 
+/// The sentence about a store file with a wrong checksum.
+const BROKEN: &str = "the file was changed or cut short: its first line isn't the checksum of the \
+rest. To use it all the same, delete that line.";
+
 /// The settings of an explanation: its colours, and the profile that judges a source text.
 #[derive(Clone, Copy)]
 pub(crate) struct Explaining {
@@ -132,8 +136,8 @@ impl Explaining {
             Stop::Interface(_, error) => self.of_interface(desk, error),
             Stop::Audit(_, error) => self.of_audit(desk, error),
             Stop::Unsteady(text, error) => self.of_unsteady(desk, text, error),
-            Stop::FileFault(path) => of_fault(desk.alloc, files, path),
-            Stop::LostFile(path) => of_fault(desk.alloc, files, path.as_str()),
+            Stop::FileFault(path) => of_fault(desk, files, path),
+            Stop::LostFile(path) => of_fault(desk, files, path.as_str()),
             Stop::OutOfBudget => Vec::from_slice(desk.alloc, SPENT),
             Stop::NoClass(_) => of_class(desk),
             Stop::Refused(_, None) | Stop::Differs | Stop::Usage(_) | Stop::Memory => {
@@ -324,42 +328,60 @@ fn push_page(lines: &mut Vec<u8>, diagnostic: &Diagnostic) -> Result<(), AllocEr
 }
 
 /// The reason why a file can't be used.
-fn of_fault<F: Files>(alloc: Global, files: &mut F, path: &str) -> Result<Vec<u8>, AllocError>
+fn of_fault<F: Files>(desk: &Desk, files: &mut F, path: &str) -> Result<Vec<u8>, AllocError>
     ensures { F.holds files.new ≡ F.holds files.old }
 {
-    let mut lines = Vec::new(alloc);
+    let mut lines = Vec::new(desk.alloc);
     if path == STREAM {
         lines.extend_from_slice(b"A standard stream can't be read or written.\n")?;
         return Ok(lines);
     }
-    put_safe(&mut lines, path.as_bytes())?;
-    match files.trouble(path) {
-        Some(sentence) => {
-            lines.extend_from_slice(b": ")?;
-            lines.extend_from_slice(sentence.as_bytes())?;
-            lines.extend_from_slice(b"\n")?;
+    let found = match objection_to(desk, files) {
+        Some(sentence) => Some(sentence),
+        None => files.trouble(path),
+    };
+    match found {
+        Some(sentence) => put_sentence(&mut lines, path, sentence)?,
+        None => {
+            put_safe(&mut lines, path.as_bytes())?;
+            lines.extend_from_slice(b" can't be opened, read or written.\n")?;
         }
-        None => lines.extend_from_slice(b" can't be opened, read or written.\n")?,
     }
     Ok(lines)
 }
 
-/// The line that says why a file of another kind wasn't replaced, if this is the stop.
+/// Appends the path, and a sentence about its file.
+fn put_sentence(lines: &mut Vec<u8>, path: &str, sentence: &str) -> Result<(), AllocError> {
+    put_safe(lines, path.as_bytes())?;
+    lines.extend_from_slice(b": ")?;
+    lines.extend_from_slice(sentence.as_bytes())?;
+    lines.extend_from_slice(b"\n")
+}
+
+/// Why a file isn't used, where each user has to know: its checksum is wrong, or it would be replaced
+/// and is of another kind.
+fn objection_to<F: Files>(desk: &Desk, files: &mut F) -> Option<&'static str>
+    ensures { F.holds files.new ≡ F.holds files.old }
+{
+    if desk.is_broken {
+        return Some(BROKEN);
+    }
+    files.objection()
+}
+
+/// The line about such a file, if it is the reason for the stop.
 pub(crate) fn objection<F: Files>(
-    alloc: Global,
+    desk: &Desk,
     files: &mut F,
     stop: &Stop<'_>,
 ) -> Result<Vec<u8>, AllocError>
     ensures { F.holds files.new ≡ F.holds files.old }
 {
-    let mut line = Vec::new(alloc);
-    if let Stop::FileFault(path) = stop {
-        if let Some(sentence) = files.objection() {
-            put_safe(&mut line, path.as_bytes())?;
-            line.extend_from_slice(b": ")?;
-            line.extend_from_slice(sentence.as_bytes())?;
-            line.extend_from_slice(b"\n")?;
-        }
+    let mut line = Vec::new(desk.alloc);
+    if let Stop::FileFault(path) = stop
+        && let Some(sentence) = objection_to(desk, files)
+    {
+        put_sentence(&mut line, path, sentence)?;
     }
     Ok(line)
 }

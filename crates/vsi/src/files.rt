@@ -13,7 +13,7 @@ pub enum Written {
     Source,
 }
 
-/// What a request may write over.
+/// The output of a request, and the files that it may replace.
 #[derive(Clone, Copy, Debug)]
 pub struct Writing<'a> {
     pub kind: Written,
@@ -65,7 +65,7 @@ pub trait Files {
         false
     }
 
-    /// Takes note of what a request may write over, before its files are read.
+    /// Takes note of the output of a request, before its files are read.
     fn expect(&mut self, _writing: Writing<'_>)
         ensures kept { holds self.new ≡ holds self.old }
     {}

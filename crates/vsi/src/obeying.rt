@@ -111,7 +111,7 @@ fn explaining_of<F: Files>(asked: &Asked<'_>, files: &mut F) -> Option<Explainin
 }
 
 /// The stop of a request, once its explanation has been added to the note, if one is requested, or
-/// else why its file wasn't replaced, if that is known.
+/// else why its file isn't used, where each user has to know.
 fn explain_stop<'a, F: Files>(
     desk: &Desk,
     explaining: Option<Explaining>,
@@ -125,7 +125,7 @@ fn explain_stop<'a, F: Files>(
 {
     let lines = match explaining {
         Some(explaining) => explained(desk, explaining, files, &stop),
-        None => objection(desk.alloc, files, &stop),
+        None => objection(desk, files, &stop),
     };
     stop.after(told.put(lines))
 }

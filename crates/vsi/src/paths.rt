@@ -77,7 +77,7 @@ pub(crate) fn is_state(request: &Request<'_>, path: &str) -> bool {
     }
 }
 
-/// What a request may write over.
+/// The output of a request, and the files that it may replace.
 pub(crate) fn writing_of<'a>(asked: &Asked<'a>) -> Writing<'a> {
     let (kind, replaced) = match &asked.request {
         Request::Run { execution, .. } | Request::View { execution, .. } => {

@@ -1,6 +1,6 @@
 //! Does one subcommand.
 
-ghost use Rattle.std.specs.Prelude.{◌≡◌, ◌<◌, ◌⊎◌, [], Err, IfErr, IsOkAnd, OnOk, codes};
+ghost use Rattle.std.specs.Prelude.{◌≡◌, ◌<◌, ◌⊎◌, [], Err, IfErr, IsOkAnd, OnOk};
 ghost use Rattle.std.specs.Io.KnownBytes.{Appends, Keeps};
 ghost use Rattle.vsi.specs.Noted.{Notes, noting};
 ghost use Rattle.vsi.specs.Performed.{Performs, PerformsCheck, PerformsMend};
@@ -36,26 +36,6 @@ use std::alloc::Global;
 use std::io::{Read, Write};
 use vsi_arguments::{Judging, Mending, Request};
 use vsi_devices::Counted;
-
-/// Writes `accepted` if nothing is wrong.
-fn accept<'a, W: Write>(
-    answer: Result<(), Stop<'a>>,
-    output: &mut Counted<W>,
-) -> Result<(), Stop<'a>>
-    requires { faults_of output.old < u64.MAX }
-    ensures fault { TellsFault (faults_of output.old) (faults_of output.new) result }
-    ensures left { IfErr result (λ stop.
-        Keeps (W.contents (device_of output.old)) (W.contents (device_of output.new))
-        ⊎ ((status_of stop ≡ 4) × IsOkAnd answer.entry (λ _. WritesPart (codes "accepted\n")
-        (W.contents (device_of output.old)) (W.contents (device_of output.new))))) }
-    ensures done { OnOk result (IsOkAnd answer.entry (λ _.
-        Appends (W.contents (device_of output.old)) (W.contents (device_of output.new))
-        (codes "accepted\n"))) }
-    ensures stopped { IfErr result (λ stop. (answer.entry ≡ Err stop) ⊎ (3 < status_of stop)) }
-{
-    answer?;
-    write(b"accepted\n", output)
-}
 
 /// Writes the text of an answer.
 fn put<'a, W: Write>(
@@ -173,7 +153,7 @@ pub(crate) fn perform<'a, F: Files, R: Read, W: Write>(
         Request::Mend(asked) => put_mend(desk, asked, files, output),
         Request::Build(compilation, image) => build(desk, compilation, image, files),
         Request::List(image) => put(list(desk, image, files), output),
-        Request::Audit(asked) => accept(audit(desk, asked, files), output),
+        Request::Audit(asked) => put(audit(desk, asked, files), output),
         Request::Source(image) => put(source(desk, image, files), output),
         Request::EmitC(asked) => put(emit(desk, asked, files), output),
         Request::Bound(asked) => bound(desk, asked, files, output),

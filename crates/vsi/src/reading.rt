@@ -24,6 +24,7 @@ use vsi_devices::{Counted, EngineError, READ_LIMIT, read_all};
 use vsi_diagnostics::Fault;
 use vsi_image::{DecodeError, Verified};
 use vsi_lattice::{Class, Lattice, LatticeError};
+use vsi_state::is_whole;
 use vsi_store::{StoreError, ViewError};
 
 /// The lattice of a run without arguments.
@@ -133,7 +134,8 @@ pub(crate) fn bytes_in<'a, F: Files>(
     Ok(bytes)
 }
 
-/// The bytes of a store file; without one there are none.
+/// The bytes of a store file; without one there are none. A file that begins with another checksum
+/// than that of the rest is a file fault.
 pub(crate) fn store_in<'a, F: Files>(
     desk: &mut Desk,
     path: Option<&'a str>,
@@ -144,10 +146,15 @@ pub(crate) fn store_in<'a, F: Files>(
         (λ bytes. IsStoreAt (F.holds files.old) path.entry bytes.items) }
     ensures stopped { IfErr result (λ stop. 3 < status_of stop) }
 {
-    match path {
-        Some(path) => bytes_in(desk, Kind::Store, path, files),
-        None => Ok(Vec::new(desk.alloc)),
+    let Some(path) = path else {
+        return Ok(Vec::new(desk.alloc));
+    };
+    let bytes = bytes_in(desk, Kind::Store, path, files)?;
+    if !is_whole(desk.alloc, &bytes)? {
+        desk.is_broken = true;
+        return Err(Stop::FileFault(path));
     }
+    Ok(bytes)
 }
 
 /// The lattice that a text declares.

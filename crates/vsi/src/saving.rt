@@ -18,6 +18,7 @@ use std::alloc::Global;
 use vsi_answers::start_words;
 use vsi_drive::Controller;
 use vsi_image::Verified;
+use vsi_state::sealed;
 use vsi_store::store_text;
 
 /// A controller that is driven, and the file that receives its store.
@@ -55,7 +56,7 @@ pub(crate) fn first_store<'a, F: Files>(
     Ok(start_words(desk.alloc, verified, &bytes, &[], is_full)?)
 }
 
-/// Writes a store to the requested file, if there is one.
+/// Writes a store to the requested file, if there is one, after the line with its checksum.
 pub(crate) fn save<'a, F: Files>(
     alloc: Global,
     verified: &Verified,
@@ -73,7 +74,8 @@ pub(crate) fn save<'a, F: Files>(
     match path {
         Some(path) => {
             let text = store_text(alloc, verified.image(), words)?;
-            replace(alloc, &text, path, files)
+            let whole = sealed(alloc, &text)?;
+            replace(alloc, &whole, path, files)
         }
         None => Ok(()),
     }

@@ -185,6 +185,13 @@ pub(crate) const STEADY_SOURCE: Argument = Argument {
     whole: word_help::STEADY_SOURCE,
 };
 
+pub(crate) const EVIDENCE: Argument = Argument {
+    name: "evidence",
+    form: Form::Flag,
+    line: "Adds the verdict and the files' checksums, to be filed",
+    whole: word_help::EVIDENCE,
+};
+
 pub(crate) const JSON: Argument = Argument {
     name: "json",
     form: Form::Flag,

@@ -175,7 +175,8 @@ Compiles a source text to an image.
 
 Reads the lattice file and the source text as `check` does, compiles the text,
 and writes the image file. A file that is already at the path of the image isn't
-touched until all bytes of the image are known. Nothing is printed.
+touched until all bytes of the image are known. A file that is read stays, and
+so does one that is no image, without --force. Nothing is printed.
 
 Statuses: 0 written, 1 refused, 2 usage, 4 file fault, 5 out of memory.";
 
@@ -231,7 +232,11 @@ Example:
   $ vsi audit two.toml leak.image
   refused: 25 Refused
   0 h flows to l by ASSIGN at 1
-  h : H may not flow to l : L";
+  h : H may not flow to l : L
+  $ vsi audit two.toml sum.image --evidence > evidence
+  $ sed 1d evidence | sha256sum -c
+  two.toml: OK
+  sum.image: OK";
 
 /// The long help of `source`.
 pub(crate) const IMAGE_SOURCE: &str = "\

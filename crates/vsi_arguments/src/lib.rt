@@ -6,6 +6,7 @@ mod argument;
 mod arguments;
 mod documents;
 mod error;
+mod escaped;
 mod help;
 mod numbers;
 mod reader;

@@ -2,6 +2,7 @@
 
 use crate::documents::{audit_request, bound_request, classes_request, listed_flows};
 use crate::error::ArgumentsError;
+use crate::escaped::escaped;
 use crate::numbers::{Limit, budget_of, number_of, wrong_number};
 use crate::request::*;
 use crate::tips::retold;
@@ -35,10 +36,16 @@ fn told(alloc: Global, error: &Error) -> ArgumentsError {
     if !error.use_stderr() {
         return ArgumentsError::Help(text);
     }
-    match retold(alloc, text.as_str()) {
+    match message(alloc, text.as_str()) {
         Ok(text) => ArgumentsError::Mistake(text),
         Err(_) => ArgumentsError::Memory,
     }
+}
+
+/// The message for a mistake, in which no argument controls a terminal.
+fn message(alloc: Global, text: &str) -> Result<String, AllocError> {
+    let told = retold(alloc, text)?;
+    escaped(alloc, told.as_str())
 }
 
 /// A mistake in arguments that the command-line parser accepts.
@@ -63,6 +70,8 @@ enum Mistake {
     JsonAndSarif,
     /// The steps of flows are to be written as JSON.
     WalksAndJson,
+    /// Evidence is to be written as JSON.
+    EvidenceAndJson,
     /// It is said how often the store is saved, but not where.
     EveryAlone,
     NoSubcommand,
@@ -79,7 +88,8 @@ impl Mistake {
             Mistake::CheckAndWrite
             | Mistake::ApplyAndJson
             | Mistake::JsonAndSarif
-            | Mistake::WalksAndJson => ErrorKind::ArgumentConflict,
+            | Mistake::WalksAndJson
+            | Mistake::EvidenceAndJson => ErrorKind::ArgumentConflict,
             Mistake::FlowsOfNothing => ErrorKind::MissingRequiredArgument,
             Mistake::NoTwoStores => ErrorKind::WrongNumberOfValues,
             Mistake::EveryAlone => ErrorKind::MissingRequiredArgument,
@@ -103,6 +113,7 @@ impl Mistake {
             Mistake::FlowsOfNothing => "`--flows` needs a SOURCE, whose flows it draws",
             Mistake::JsonAndSarif => "`--json` and `--sarif` don't go together",
             Mistake::WalksAndJson => "`--walks` and `--json` don't go together",
+            Mistake::EvidenceAndJson => "`--evidence` and `--json` don't go together",
             Mistake::EveryAlone => "`--save-every` needs `--save`, which says where",
             Mistake::NoSubcommand => "a subcommand is needed",
         }
@@ -192,6 +203,7 @@ fn named<'a>(
         "fmt" => Ok(format_request(inner)),
         "draw" => Ok(draw_request(inner)),
         "flows" => Ok(flows_request(inner)),
+        "audit" => Ok(judged_image(inner)),
         _ => Ok(Ok(requested(name, inner))),
     }
 }
@@ -202,7 +214,6 @@ fn requested<'a>(name: &str, inner: &ArgMatches<'a>) -> Request<'a> {
         "conform" => Request::Conform(conformance_in(inner)),
         "classes" => classes_request(compilation_in(inner), inner.get_flag("json")),
         "list" => Request::List(text(inner, "IMAGE")),
-        "audit" => audit_request(audit_in(inner), inner.get_flag("json")),
         "source" => Request::Source(text(inner, "IMAGE")),
         "bound" => bound_request(bounding_in(inner), inner.get_flag("json")),
         "leak" => Request::Leak(search_in(inner)),
@@ -420,12 +431,22 @@ fn serving_in<'a>(matches: &ArgMatches<'a>) -> Serving<'a> {
     }
 }
 
+/// The request of `audit`.
+fn judged_image<'a>(matches: &ArgMatches<'a>) -> Result<Request<'a>, Mistake> {
+    let (audit, is_json) = (audit_in(matches), matches.get_flag("json"));
+    if audit.has_evidence && is_json {
+        return Err(Mistake::EvidenceAndJson);
+    }
+    Ok(audit_request(audit, is_json))
+}
+
 fn audit_in<'a>(matches: &ArgMatches<'a>) -> Audit<'a> {
     Audit {
         lattice: text(matches, "LATTICE"),
         image: text(matches, "IMAGE"),
         is_strict: matches.get_flag("strict"),
         is_steady: matches.get_flag("steady"),
+        has_evidence: matches.get_flag("evidence"),
     }
 }
 

@@ -87,14 +87,15 @@ pub struct Search<'a> {
     pub has_steps: bool,
 }
 
-/// An audit: the paths of a lattice file and of an image, whether the strict profile is used, and
-/// whether the image's jumps are judged instead.
+/// An audit: the paths of a lattice file and of an image, whether the strict profile is used, whether
+/// the image's jumps are judged instead, and whether evidence is written.
 #[derive(Clone, Copy)]
 pub struct Audit<'a> {
     pub lattice: &'a str,
     pub image: &'a str,
     pub is_strict: bool,
     pub is_steady: bool,
+    pub has_evidence: bool,
 }
 
 /// A judgement by an interface: the paths of the interface file and of a source text or an image,

@@ -4,7 +4,7 @@ use std::alloc::{AllocError, Global};
 
 /// The options that only some subcommands have, as a mistake quotes them, and the subcommands that
 /// have each.
-const OWNERS: [(&str, &str); 36] = [
+const OWNERS: [(&str, &str); 37] = [
     ("'--apply'", "mend"),
     ("'--bounded'", "emit-c"),
     (
@@ -19,6 +19,7 @@ const OWNERS: [(&str, &str); 36] = [
     ),
     ("'--count'", "run"),
     ("'--endings'", "leak"),
+    ("'--evidence'", "audit"),
     (
         "'--explain'",
         "every subcommand except lattice, lsp and explain, and comes after the subcommand, as in \

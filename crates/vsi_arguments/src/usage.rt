@@ -89,7 +89,7 @@ const SUBCOMMANDS: [Subcommand; 21] = [
         line: "Says whether an image is accepted, whoever made it",
         whole: help::AUDIT,
         example: help::AUDIT_EXAMPLE,
-        arguments: &[LATTICE, IMAGE, STRICT, STEADY, AUDIT_JSON],
+        arguments: &[LATTICE, IMAGE, STRICT, STEADY, AUDIT_JSON, EVIDENCE],
     },
     Subcommand {
         name: "source",

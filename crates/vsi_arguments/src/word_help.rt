@@ -378,12 +378,19 @@ Puts the layout into the file, with comments kept, if the text isn't
 laid out so already: first into a new file beside it, which then takes
 its place. Nothing is printed, and a refused text stays as it is.";
 
+/// `--evidence`.
+pub(crate) const EVIDENCE: &str = "\
+Prints after `accepted` the version of the program, the profile and
+the verdict, as comments, and a line with the SHA-256 of each file
+that was read. `sha256sum -c` takes the output from the second line
+on, and says later whether a file has changed.";
+
 /// `--force`.
 pub(crate) const FORCE: &str = "\
-Replaces the file whatever it is. Without this option a file that isn't
+Replaces a file of any kind. Without this option a file that isn't
 empty is replaced only if it is of the kind that is written, an image
 or a store. A file that is read is never replaced, except for a store
-by the store that follows it.";
+by the one that follows it.";
 
 /// `--inputs`.
 pub(crate) const INPUTS: &str = "\

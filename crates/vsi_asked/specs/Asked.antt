@@ -136,7 +136,8 @@ flows_flags compilation has_walks is_json =
 -- The flags of `audit`, each with whether it is set.
 abbrev pub audit_flags : Auditing → Bool → List (List ℕ × Bool)
 audit_flags audit is_json =
-    (codes "--strict", audit.is_strict) ∷ (codes "--steady", audit.is_steady) ∷ (codes "--json", is_json) ∷ []
+    (codes "--strict", audit.is_strict) ∷ (codes "--steady", audit.is_steady)
+    ∷ (codes "--evidence", audit.has_evidence) ∷ (codes "--json", is_json) ∷ []
 
 -- The flag of `bound`, with whether it is set.
 abbrev pub bound_flags : Bool → List (List ℕ × Bool)

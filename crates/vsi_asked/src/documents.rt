@@ -43,6 +43,7 @@ pub(crate) fn asks_audit(words: &[String], audit: &Audit<'_>, is_json: bool) -> 
     let flags = [
         ("--strict", audit.is_strict),
         ("--steady", audit.is_steady),
+        ("--evidence", audit.has_evidence),
         ("--json", is_json),
     ];
     asks(words, "audit", operands.as_slice(), flags.as_slice())

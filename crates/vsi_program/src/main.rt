@@ -3,8 +3,10 @@
 
 mod disk;
 mod kinds;
+mod screen;
 
 use crate::disk::Disk;
+use crate::screen::Screen;
 use std::io::{ErrorKind, Write};
 use std::process::ExitCode;
 use std::{env, io};
@@ -42,8 +44,8 @@ fn main(rt: HostRuntime) -> ExitCode {
         return ExitCode::from(OUT_OF_MEMORY);
     };
     let mut input = Counted::new(rt.stdin());
-    let mut output = Counted::new(rt.stdout());
-    let mut error = Counted::new(rt.stderr());
+    let mut output = Counted::new(Screen::new(rt.stdout()));
+    let mut error = Counted::new(Screen::new(rt.stderr()));
     let status = command(
         rt.alloc(),
         arguments.as_slice(),

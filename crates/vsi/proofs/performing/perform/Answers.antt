@@ -9,8 +9,8 @@ use Rattle.vsi.specs.Reasons.{HasNoText, LacksEmitBound, LacksTried, OtherLeak, 
 use Rattle.vsi.proofs.Filled.{alone}
 use Rattle.vsi.proofs.Obeyed.{put_stops}
 use Rattle.vsi.proofs.Unrun.{Unseen, fault_stopped}
-use Rattle.vsi.proofs.Partly.{accept_leaves, any_stop, cut_leaves, fault_leaves, kept_leaves, put_leaves}
-use Rattle.vsi.proofs.Written.{accept_performs, build_performs, put_alone}
+use Rattle.vsi.proofs.Partly.{any_stop, cut_leaves, fault_leaves, kept_leaves, put_leaves}
+use Rattle.vsi.proofs.Written.{build_performs, put_alone}
 use Rattle.vsi.proofs.performing.perform.Goals as goal
 
 -- ---- what has been done.
@@ -71,8 +71,8 @@ returns-in-Format-clause-performed g c = rw c.in-Format.is
 
 pub returns-in-Audit-clause-performed : goal.returns-in-Audit-clause-performed
 returns-in-Audit-clause-performed g c = rw c.in-Audit.is
-    (alone _ c.accept.result _ _ c.audit.ensures.kept
-    (accept_performs _ _ _ _ c.audit.result c.accept.result c.audit.ensures.told c.accept.ensures.done))
+    (put_alone _ _ _ _ _ c.audit.result c.put-in-Audit.result c.audit.ensures.kept c.audit.ensures.told
+    c.put-in-Audit.ensures.done)
 
 pub returns-in-Build-clause-performed : goal.returns-in-Build-clause-performed
 returns-in-Build-clause-performed g c = rw c.in-Build.is
@@ -191,7 +191,7 @@ returns-in-Lattice-clause-left g c = rw c.in-Lattice.is
 
 pub returns-in-Audit-clause-left : goal.returns-in-Audit-clause-left
 returns-in-Audit-clause-left g c = rw c.in-Audit.is
-    (accept_leaves _ _ _ _ c.audit.result c.accept.result c.audit.ensures.told c.accept.ensures.left)
+    (put_leaves _ _ _ c.audit.result c.put-in-Audit.result c.audit.ensures.told c.put-in-Audit.ensures.left)
 
 pub returns-in-Build-clause-left : goal.returns-in-Build-clause-left
 returns-in-Build-clause-left g c = rw c.in-Build.is (kept_leaves _ 4 _ c.build.result)
@@ -379,7 +379,7 @@ pub returns-in-Audit-clause-stopped : goal.returns-in-Audit-clause-stopped
 returns-in-Audit-clause-stopped g c = rw c.in-Audit.is
     (put_stops (Unseen (g.F.Files.holds c.args.files.now) c.in-Audit.asked.lattice.now c.in-Audit.asked.image.now)
     (RefusesAudit (g.F.Files.holds c.args.files.now) c.in-Audit.asked)
-    c.audit.result c.accept.result c.audit.ensures.stopped c.accept.ensures.stopped)
+    c.audit.result c.put-in-Audit.result c.audit.ensures.stopped c.put-in-Audit.ensures.stopped)
 
 pub returns-in-Try-clause-stopped : goal.returns-in-Try-clause-stopped
 returns-in-Try-clause-stopped g c = rw c.in-Try.is

@@ -1,0 +1,46 @@
+-- The evidence of an audit that has accepted an image.
+use Rattle.std.specs.Prelude.{ℕ, ◌==◌, Bool, ◌||◌, if◌then◌else◌, List, [], ◌∷◌, ◌++◌, codes}
+use Rattle.std.specs.List.{flat_map, list_any}
+use Rattle.hex.specs.Hex.{encode_lower}
+use Rattle.sha2.specs.Sha256.{sha256}
+use Rattle.vsi_evidence.specs.declared.Filed as code
+use Rattle.vsi_evidence.specs.declared.Manner.{Manner}
+use Rattle.vsi_evidence.specs.declared.Manner.TheVariants.{Base, Strict, Steady}
+
+-- A path and the bytes of the file.
+abbrev pub Filed : Type 0
+Filed = List ℕ × List ℕ
+
+-- A file of the code.
+abbrev pub filed : code.Filed → Filed
+filed f = (f.path.now, f.bytes.now)
+
+-- The name of a manner.
+abbrev pub manner_name : Manner → List ℕ
+manner_name Base = codes "base"
+manner_name Strict = codes "strict"
+manner_name Steady = codes "steady"
+
+-- A backslash, a line feed or a carriage return.
+abbrev pub is_special : ℕ → Bool
+is_special b = b == 92 || b == 10 || b == 13
+
+-- A byte of a path: a backslash, a line feed and a carriage return are written as two bytes.
+abbrev pub escaped_byte : ℕ → List ℕ
+escaped_byte b =
+    if b == 92 then codes "\\\\" else if b == 10 then codes "\\n" else if b == 13 then codes "\\r" else b ∷ []
+
+-- A line begins with a backslash if a byte of its path is written as two.
+abbrev pub mark : List ℕ → List ℕ
+mark path = if list_any is_special path then codes "\\" else []
+
+-- The line of a file: its SHA-256 in hexadecimal, two blanks and its path.
+abbrev pub sum_line : Filed → List ℕ
+sum_line f =
+    mark f.0 ++ encode_lower (sha256 f.1) ++ codes "  " ++ flat_map escaped_byte f.0 ++ codes "\n"
+
+-- The version of the program, the manner of the audit, and the lines of the files.
+abbrev pub evidence_text : List ℕ → Manner → List Filed → List ℕ
+evidence_text version manner files =
+    codes "# vsi " ++ version ++ codes "\n# audit " ++ manner_name manner ++ codes ": accepted\n"
+    ++ flat_map sum_line files

@@ -1,0 +1,142 @@
+//! Evidence of an audit that can be filed.
+//!
+//! `evidence` writes the version of the program, how the audit judged, and the SHA-256 of each file
+//! that it read, as lines that `sha256sum -c` takes (`specs/Evidence`).
+//!
+//! To be believed: `specs/Evidence`.
+#![tactic(auto)]
+
+ghost use Rattle.std.specs.Prelude.{◌≡◌, ◌++◌, IfOk, OnOk, map};
+ghost use Rattle.std.specs.List.{flat_map, list_any};
+ghost use Rattle.hex.specs.Hex.{encode_lower};
+ghost use Rattle.sha2.specs.Sha256.{sha256};
+ghost use Rattle.vsi_evidence.specs.Evidence as spec;
+
+use sha2::{Digest, Sha256};
+use std::alloc::{AllocError, Global};
+
+/// How an audit judges an image.
+#[derive(Clone, Copy, PartialEq, Eq, Debug)]
+pub enum Manner {
+    /// Under the base profile.
+    Base,
+    /// Under the strict profile.
+    Strict,
+    /// By its jumps.
+    Steady,
+}
+
+/// A file that an audit read: its path and its bytes.
+#[derive(Clone, Copy)]
+pub struct Filed<'a> {
+    pub path: &'a [u8],
+    pub bytes: &'a [u8],
+}
+
+/// The name of a manner.
+fn manner_name(manner: Manner) -> &'static [u8]
+    ensures { result.now ≡ spec.manner_name manner }
+{
+    match manner {
+        Manner::Base => b"base",
+        Manner::Strict => b"strict",
+        Manner::Steady => b"steady",
+    }
+}
+
+/// Whether a byte of a path has to be written as two.
+fn is_special(byte: u8) -> bool
+    ensures { result ≡ spec.is_special byte }
+{
+    byte == b'\\' || byte == b'\n' || byte == b'\r'
+}
+
+/// Whether a byte of a path has to be written as two.
+fn has_special(path: &[u8]) -> bool
+    ensures { result ≡ list_any spec.is_special path.now }
+{
+    for byte in path {
+        if is_special(*byte) {
+            return true;
+        }
+    }
+    false
+}
+
+/// Adds a byte of a path.
+fn put_byte(text: &mut Vec<u8>, byte: u8) -> Result<(), AllocError>
+    ensures { OnOk result (text.new.items ≡ text.old.items ++ spec.escaped_byte byte) }
+{
+    match byte {
+        b'\\' => text.extend_from_slice(b"\\\\"),
+        b'\n' => text.extend_from_slice(b"\\n"),
+        b'\r' => text.extend_from_slice(b"\\r"),
+        _ => text.extend_from_slice(&[byte]),
+    }
+}
+
+/// Adds a path.
+fn put_path(text: &mut Vec<u8>, path: &[u8]) -> Result<(), AllocError>
+    ensures { OnOk result
+        (text.new.items ≡ text.old.items ++ flat_map spec.escaped_byte path.now) }
+{
+    for byte in path {
+        put_byte(text, *byte)?;
+    }
+    Ok(())
+}
+
+/// Adds the SHA-256 of a file.
+fn put_sum(alloc: Global, text: &mut Vec<u8>, bytes: &[u8]) -> Result<(), AllocError>
+    ensures { OnOk result
+        (text.new.items ≡ text.old.items ++ encode_lower (sha256 bytes.now)) }
+{
+    let digest = Sha256::digest(bytes);
+    let digits = hex::encode(alloc, digest)?;
+    text.extend_from_slice(digits.as_bytes())
+}
+
+/// Adds the line of a file.
+fn put_file(alloc: Global, text: &mut Vec<u8>, file: Filed<'_>) -> Result<(), AllocError>
+    ensures { OnOk result (text.new.items
+        ≡ text.old.items ++ spec.sum_line (file.entry.path.now, file.entry.bytes.now)) }
+{
+    if has_special(file.path) {
+        text.extend_from_slice(b"\\")?;
+    }
+    put_sum(alloc, text, file.bytes)?;
+    text.extend_from_slice(b"  ")?;
+    put_path(text, file.path)?;
+    text.extend_from_slice(b"\n")
+}
+
+/// Adds the lines of files.
+fn put_files(alloc: Global, text: &mut Vec<u8>, files: &[Filed<'_>]) -> Result<(), AllocError>
+    ensures { OnOk result (text.new.items
+        ≡ text.old.items ++ flat_map spec.sum_line (map spec.filed files.now)) }
+{
+    for file in files {
+        put_file(alloc, text, *file)?;
+    }
+    Ok(())
+}
+
+/// The evidence of an audit that has accepted an image: comments with the version of the program and
+/// the manner of the audit, and a line with the SHA-256 of each file.
+pub fn evidence(
+    alloc: Global,
+    version: &[u8],
+    manner: Manner,
+    files: &[Filed<'_>],
+) -> Result<Vec<u8>, AllocError>
+    ensures text { IfOk result (λ text. text.items
+        ≡ spec.evidence_text version.now manner (map spec.filed files.now)) }
+{
+    let mut text = Vec::from_slice(alloc, b"# vsi ")?;
+    text.extend_from_slice(version)?;
+    text.extend_from_slice(b"\n# audit ")?;
+    text.extend_from_slice(manner_name(manner))?;
+    text.extend_from_slice(b": accepted\n")?;
+    put_files(alloc, &mut text, files)?;
+    Ok(text)
+}
