@@ -8,6 +8,7 @@ mod documents;
 mod error;
 mod escaped;
 mod help;
+mod mistake;
 mod numbers;
 mod reader;
 mod request;

@@ -3,7 +3,8 @@
 use crate::documents::{audit_request, bound_request, classes_request, listed_flows};
 use crate::error::ArgumentsError;
 use crate::escaped::escaped;
-use crate::numbers::{Limit, budget_of, number_of, wrong_number};
+use crate::mistake::Mistake;
+use crate::numbers::{budget_of, number_of, wrong_number};
 use crate::request::*;
 use crate::tips::retold;
 use crate::usage::program;
@@ -46,78 +47,6 @@ fn told(alloc: Global, error: &Error) -> ArgumentsError {
 fn message(alloc: Global, text: &str) -> Result<String, AllocError> {
     let told = retold(alloc, text)?;
     escaped(alloc, told.as_str())
-}
-
-/// A mistake in arguments that the command-line parser accepts.
-#[derive(Clone, Copy)]
-enum Mistake {
-    /// The value of an option should be a number and isn't one.
-    NoNumber(Limit),
-    NoTwoStores,
-    NoRefusal,
-    NoSubject,
-    /// The image would overwrite an input file.
-    ImageIsRead,
-    /// The name given can't begin names in C.
-    NoName,
-    /// A text is to be both compared with its layout and replaced by it.
-    CheckAndWrite,
-    /// The text with the raised classes is to be printed as JSON.
-    ApplyAndJson,
-    /// The flows of no text are to be drawn.
-    FlowsOfNothing,
-    /// The answer is to be written both as JSON of its own and as SARIF.
-    JsonAndSarif,
-    /// The steps of flows are to be written as JSON.
-    WalksAndJson,
-    /// Evidence is to be written as JSON.
-    EvidenceAndJson,
-    /// It is said how often the store is saved, but not where.
-    EveryAlone,
-    NoSubcommand,
-}
-
-impl Mistake {
-    fn kind(self) -> ErrorKind {
-        match self {
-            Mistake::NoNumber(_)
-            | Mistake::NoRefusal
-            | Mistake::NoSubject
-            | Mistake::ImageIsRead
-            | Mistake::NoName => ErrorKind::ValueValidation,
-            Mistake::CheckAndWrite
-            | Mistake::ApplyAndJson
-            | Mistake::JsonAndSarif
-            | Mistake::WalksAndJson
-            | Mistake::EvidenceAndJson => ErrorKind::ArgumentConflict,
-            Mistake::FlowsOfNothing => ErrorKind::MissingRequiredArgument,
-            Mistake::NoTwoStores => ErrorKind::WrongNumberOfValues,
-            Mistake::EveryAlone => ErrorKind::MissingRequiredArgument,
-            Mistake::NoSubcommand => ErrorKind::MissingSubcommand,
-        }
-    }
-
-    fn text(self) -> &'static str {
-        match self {
-            Mistake::NoNumber(limit) => limit.text(),
-            Mistake::NoTwoStores => "`compare` needs two stores",
-            Mistake::NoRefusal => "no refusal has this number",
-            Mistake::NoSubject => {
-                "`explain` takes the number of a refusal, as in 25, or one of language, lattice, \
-                store, interface, classes and profiles"
-            }
-            Mistake::ImageIsRead => "the image would replace a file that is read",
-            Mistake::NoName => "the name isn't an identifier of C, or it is a keyword",
-            Mistake::CheckAndWrite => "`--check` writes nothing, so it doesn't go with `--write`",
-            Mistake::ApplyAndJson => "`--apply` prints a text, so it doesn't go with `--json`",
-            Mistake::FlowsOfNothing => "`--flows` needs a SOURCE, whose flows it draws",
-            Mistake::JsonAndSarif => "`--json` and `--sarif` don't go together",
-            Mistake::WalksAndJson => "`--walks` and `--json` don't go together",
-            Mistake::EvidenceAndJson => "`--evidence` and `--json` don't go together",
-            Mistake::EveryAlone => "`--save-every` needs `--save`, which says where",
-            Mistake::NoSubcommand => "a subcommand is needed",
-        }
-    }
 }
 
 /// Parses the arguments.
