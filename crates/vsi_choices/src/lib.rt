@@ -14,6 +14,7 @@ mod folding;
 mod laying;
 mod objects;
 mod repairing;
+mod rewriting;
 mod scope;
 
 pub use completing::completion;

@@ -5,6 +5,7 @@ ghost use Rattle.vsi_lattice.specs.LatticeView.{class_named, order};
 ghost use Rattle.vsi_compiler.specs.Acceptance.{IsAccepted};
 
 use crate::objects::{document_edits, text_value, whole_edits};
+use crate::rewriting::{Asked, put_rewrites};
 use serde_json::{Value, json};
 use std::alloc::{AllocError, Global};
 use vsi_client::Encoding;
@@ -135,7 +136,7 @@ fn fixes_of(
 }
 
 /// The repairs for a request: one that writes the text of `repaired`, if the request is about a
-/// refused flow.
+/// refused flow, and the rewrites of the parts that its errors are about.
 pub fn fixes(
     alloc: Global,
     encoding: Encoding,
@@ -145,8 +146,15 @@ pub fn fixes(
     text: &[u8],
     value: &Value,
 ) -> Result<Value, AllocError> {
-    if !is_of_flow(value) {
-        return Ok(Value::Array(Vec::new(alloc)));
+    let mut list = Vec::new(alloc);
+    if is_of_flow(value) {
+        list = fixes_of(alloc, encoding, profile, lattice, uri, text)?;
     }
-    Ok(Value::Array(fixes_of(alloc, encoding, profile, lattice, uri, text)?))
+    let asked = Asked {
+        encoding,
+        uri,
+        text,
+    };
+    put_rewrites(alloc, asked, value, &mut list)?;
+    Ok(Value::Array(list))
 }

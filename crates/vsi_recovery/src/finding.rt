@@ -9,11 +9,11 @@ use crate::holes::tokens_of;
 use crate::listing::listed;
 use crate::naming::put_names;
 use crate::search::{Choice, Search};
-use crate::stock::Stock;
+use crate::stock::{Part, Stock};
 use crate::tokens::{Reading, Stretch, Tokens, byte_at, is_put, landmark_from, put_numbered, read};
 use std::alloc::{AllocError, Global};
 use vsi_lattice::Lattice;
-use vsi_syntax::{Span, Token};
+use vsi_syntax::{Kind, Span, Token};
 
 /// The most faults of a text that are reported after its first one.
 pub const MAX_FURTHER: usize = 19;
@@ -27,15 +27,18 @@ const MAX_FAULTS: usize = 20;
 /// Adds a fault of the tree, unless it may come from a repair.
 fn put_fault(tokens: &Tokens<'_>, place: usize, faults: &mut Vec<Fault>) -> Result<(), AllocError> {
     let at = byte_at(&tokens.list, place);
-    let span = match tokens.list.get(place) {
+    let (span, is_end) = match tokens.list.get(place) {
         Some(token) if is_put(token) => return Ok(()),
-        Some(token) => token.span,
-        None => Span {
-            start: at,
-            stop: at,
-        },
+        Some(token) => (token.span, token.kind == Kind::CloseBrace),
+        None => (
+            Span {
+                start: at,
+                stop: at,
+            },
+            true,
+        ),
     };
-    if tokens.is_near(at) {
+    if tokens.is_near(at) || is_end && tokens.is_unclear {
         return Ok(());
     }
     let cause = Cause::Tree;
@@ -56,8 +59,24 @@ fn stretch_of(tokens: &Tokens<'_>, place: usize, command: usize, choice: Choice)
     Stretch {
         first: byte_at(list, command.min(choice.from)),
         from: stop_before(list, place),
-        stop: byte_at(list, landmark_from(list, choice.stop)),
+        stop: byte_at(list, landmark_from(list, choice.stop.max(place))),
     }
+}
+
+/// Whether a repair changes which braces match, or may do so: it leaves some out, or puts a `;`
+/// before one.
+fn is_of_braces(tokens: &Tokens<'_>, choice: Choice) -> bool {
+    let stop = if choice.put == [Part::Semicolon].as_slice() {
+        choice.stop.saturating_add(1)
+    } else {
+        choice.stop
+    };
+    for token in tokens.list.get(choice.from..stop).unwrap_or(&[]) {
+        if token.kind == Kind::OpenBrace || token.kind == Kind::CloseBrace {
+            return true;
+        }
+    }
+    choice.put == [Part::CloseBrace].as_slice()
 }
 
 /// Makes a repair.
@@ -84,6 +103,42 @@ fn repair<'a>(
     Ok(())
 }
 
+/// What a search has found: a repair, where the innermost command around it begins, and how many
+/// more tokens may be read.
+#[derive(Clone, Copy)]
+struct Outcome {
+    best: Option<Choice>,
+    command: usize,
+    left: usize,
+}
+
+/// Looks for a repair of a fault at a token.
+fn chosen<'a>(
+    alloc: Global,
+    stock: &Stock<'a>,
+    list: &[Token<'a>],
+    place: usize,
+    left: usize,
+) -> Result<Outcome, AllocError> {
+    let open = open_at(alloc, stock, list, place)?;
+    let mut search = Search {
+        alloc,
+        stock,
+        list,
+        open: &open,
+        left,
+        best: None,
+        is_found: false,
+        landmarks: 1,
+    };
+    search.run(place)?;
+    Ok(Outcome {
+        best: search.best,
+        command: open.command().place,
+        left: search.left,
+    })
+}
+
 /// Adds the first fault of the tree, and repairs it. The answer is no if it can't be repaired.
 fn put_tree<'a>(
     alloc: Global,
@@ -93,23 +148,13 @@ fn put_tree<'a>(
     faults: &mut Vec<Fault>,
 ) -> Result<bool, AllocError> {
     put_fault(tokens, place, faults)?;
-    let open = open_at(alloc, stock, &tokens.list, place)?;
-    let mut search = Search {
-        alloc,
-        stock,
-        list: &tokens.list,
-        open: &open,
-        left: tokens.left,
-        best: None,
-        is_found: false,
-    };
-    search.run(place)?;
-    let left = search.left;
-    let Some(choice) = search.best else {
+    let chosen = chosen(alloc, stock, &tokens.list, place, tokens.left)?;
+    tokens.left = chosen.left;
+    let Some(choice) = chosen.best else {
         return Ok(false);
     };
-    let stretch = stretch_of(tokens, place, open.command().place, choice);
-    tokens.left = left;
+    let stretch = stretch_of(tokens, place, chosen.command, choice);
+    tokens.is_unclear = tokens.is_unclear || is_of_braces(tokens, choice);
     tokens.stretches.push(stretch)?;
     repair(alloc, stock, tokens, choice)?;
     Ok(true)
@@ -122,6 +167,23 @@ fn reading<'a>(alloc: Global, tokens: &mut Tokens<'a>) -> Result<Reading, AllocE
     read(alloc, &numbered, &mut tokens.left)
 }
 
+/// Adds the first fault of the tree, if there is one and there may be more. The answer is yes if
+/// the tokens are to be read again.
+fn put_next<'a>(
+    alloc: Global,
+    stock: &Stock<'a>,
+    tokens: &mut Tokens<'a>,
+    reading: Reading,
+    faults: &mut Vec<Fault>,
+) -> Result<bool, AllocError> {
+    match reading {
+        Reading::Unexpected(place) if faults.len() < MAX_FAULTS => {
+            put_tree(alloc, stock, tokens, place, faults)
+        }
+        _ => Ok(false),
+    }
+}
+
 /// Adds the faults of the tree. The answer is yes if the repaired tokens are a program.
 fn put_trees<'a>(
     alloc: Global,
@@ -130,14 +192,12 @@ fn put_trees<'a>(
     faults: &mut Vec<Fault>,
 ) -> Result<bool, AllocError> {
     for _repair in 0..MAX_REPAIRS {
-        match reading(alloc, tokens)? {
-            Reading::Whole => return Ok(true),
-            Reading::Stopped => return Ok(false),
-            Reading::Unexpected(place) => {
-                if MAX_FAULTS <= faults.len() || !put_tree(alloc, stock, tokens, place, faults)? {
-                    return Ok(false);
-                }
-            }
+        let reading = reading(alloc, tokens)?;
+        if let Reading::Whole = reading {
+            return Ok(true);
+        }
+        if !put_next(alloc, stock, tokens, reading, faults)? {
+            return Ok(false);
         }
     }
     Ok(false)

@@ -261,6 +261,7 @@ pub(crate) fn tokens_of<'a>(
         list,
         stretches,
         is_mended: false,
+        is_unclear: false,
         left: MAX_READ,
     }))
 }

@@ -86,7 +86,7 @@ fn fault_of(
     lattice: &Lattice,
     tokens: &mut Tokens<'_>,
 ) -> Result<Option<(usize, ScopeError)>, AllocError> {
-    if tokens.left < tokens.list.len() {
+    if tokens.left == 0 {
         return Ok(None);
     }
     tokens.left = tokens.left.saturating_sub(tokens.list.len());

@@ -28,7 +28,7 @@ const ASSIGNED: &[Part] = &[Part::Assign, Part::Number];
 const CLASS: &[Part] = &[Part::Colon, Part::Name];
 
 /// The repairs of one token that are tried at each fault, in this order.
-pub(crate) const SMALL: [Repair; 25] = [
+pub(crate) const SMALL: [Repair; 26] = [
     Repair {
         out: 0,
         put: &[Part::Semicolon],
@@ -101,6 +101,10 @@ pub(crate) const SMALL: [Repair; 25] = [
     Repair {
         out: 1,
         put: &[Part::Number],
+    },
+    Repair {
+        out: 1,
+        put: &[Part::Var],
     },
     Repair {
         out: 0,

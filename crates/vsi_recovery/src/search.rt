@@ -2,7 +2,7 @@
 
 use crate::context::{Open, Start};
 use crate::repairs::{ENDINGS, FILLINGS, Repair, SMALL};
-use crate::skipping::{OUTSIDE, lone_else};
+use crate::skipping::{OUTSIDE, lone_close, lone_else};
 use crate::stock::{COMMAND, Part, Stock};
 use crate::tokens::{Reading, landmark_from, put_numbered, read};
 use std::alloc::{AllocError, Global};
@@ -31,6 +31,8 @@ pub(crate) struct Search<'s, 'a> {
     pub(crate) left: usize,
     pub(crate) best: Option<Choice>,
     pub(crate) is_found: bool,
+    /// How many landmarks are read after a repair.
+    pub(crate) landmarks: usize,
 }
 
 /// Whether a kind of token begins a construct that ends with another one.
@@ -64,10 +66,13 @@ impl Search<'_, '_> {
         self.is_found = is_enough;
     }
 
-    /// The end of what is read after a repair: after the next landmark, and after a `var` behind it
-    /// where declarations may come.
+    /// The end of what is read after a repair: after the next landmarks, and after a `var` behind
+    /// them where declarations may come.
     fn window_end(&self, stop: usize) -> usize {
-        let end = landmark_from(self.list, stop).saturating_add(1);
+        let mut end = stop;
+        for _landmark in 0..self.landmarks {
+            end = landmark_from(self.list, end).saturating_add(1);
+        }
         match self.list.get(end) {
             Some(token) if token.kind == Kind::Var && self.open.is_at_head() => {
                 end.saturating_add(1)
@@ -109,10 +114,12 @@ impl Search<'_, '_> {
         Ok(())
     }
 
-    /// Tries a repair of one token.
+    /// Tries a repair of one token. A token that begins a construct is left out only if reading
+    /// goes on over two landmarks.
     fn try_one(&mut self, here: Start, repair: Repair) -> Result<(), AllocError> {
         let stop = here.place.saturating_add(repair.out);
-        if has_opening(self.list.get(here.place..stop).unwrap_or(&[])) {
+        let out = self.list.get(here.place..stop).unwrap_or(&[]);
+        if self.landmarks < 2 && has_opening(out) {
             return Ok(());
         }
         self.attempt(here, stop, repair.put)
@@ -123,6 +130,33 @@ impl Search<'_, '_> {
         for repair in SMALL.as_slice() {
             self.try_one(here, *repair)?;
         }
+        Ok(())
+    }
+
+    /// Tries to leave out the token before, and to put in the beginning of a construct.
+    fn try_before(&mut self, here: Start) -> Result<(), AllocError> {
+        let before = Start {
+            place: here.place.saturating_sub(1),
+            kept: here.kept.saturating_sub(1),
+        };
+        if before.kept < here.kept {
+            self.attempt(before, here.place, &[])?;
+        }
+        let start = self.open.command();
+        self.attempt(start, start.place, &[Part::If])?;
+        self.attempt(start, start.place, &[Part::While])
+    }
+
+    /// Tries repairs with which reading goes on over two landmarks.
+    fn try_sure(&mut self, here: Start) -> Result<(), AllocError> {
+        self.landmarks = 2;
+        if let Some(number) = lone_close(self.list, here.place) {
+            self.attempt(here, number, &[])?;
+            self.attempt(here, number, &[Part::Number])?;
+        }
+        self.try_small(here)?;
+        self.try_before(here)?;
+        self.landmarks = 1;
         Ok(())
     }
 
@@ -194,6 +228,7 @@ impl Search<'_, '_> {
         if let Some(number) = lone_else(self.list, place) {
             self.attempt(here, number, &[])?;
         }
+        self.try_sure(here)?;
         self.try_small(here)?;
         self.try_landmarks(here)
     }

@@ -95,3 +95,22 @@ pub(crate) fn lone_else(list: &[Token<'_>], place: usize) -> Option<usize> {
     }
     None
 }
+
+/// The number of the `)` from a token on that belongs to a bracket before it, if it has one: there
+/// is none after a keyword or a brace.
+pub(crate) fn lone_close(list: &[Token<'_>], place: usize) -> Option<usize> {
+    let mut number = place;
+    let mut rounds = 0usize;
+    for token in list.get(place..).unwrap_or(&[]) {
+        match token.kind {
+            Kind::Open => rounds = rounds.saturating_add(1),
+            Kind::Close if rounds == 0 => return Some(number),
+            Kind::Close => rounds = rounds.saturating_sub(1),
+            Kind::OpenBrace | Kind::CloseBrace => return None,
+            Kind::Then | Kind::Do | Kind::Else | Kind::In | Kind::Var => return None,
+            _ => {}
+        }
+        number = number.saturating_add(1);
+    }
+    None
+}

@@ -4,7 +4,7 @@ use std::alloc::{AllocError, Global};
 use vsi_syntax::{Kind, Span, Token, lex};
 
 /// A text with a token of each kind that a repair needs.
-const STOCK: &[u8] = b"; := do then in else ( ) { } 0 put_in_by_a_repair < : var letvar";
+const STOCK: &[u8] = b"; := do then in else ( ) { } 0 put_in_by_a_repair < : var if while";
 
 /// A token that a repair puts in.
 #[derive(Clone, Copy, Debug, PartialEq, Eq)]
@@ -24,7 +24,8 @@ pub(crate) enum Part {
     Less,
     Colon,
     Var,
-    Letvar,
+    If,
+    While,
 }
 
 /// A command.
@@ -48,7 +49,8 @@ fn is_part(kind: Kind, part: Part) -> bool {
         Kind::Less => part == Part::Less,
         Kind::Colon => part == Part::Colon,
         Kind::Var => part == Part::Var,
-        Kind::Letvar => part == Part::Letvar,
+        Kind::If => part == Part::If,
+        Kind::While => part == Part::While,
         _ => false,
     }
 }

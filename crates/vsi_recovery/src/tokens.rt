@@ -19,6 +19,8 @@ pub(crate) struct Tokens<'a> {
     pub(crate) stretches: Vec<Stretch>,
     /// Whether the tree was repaired.
     pub(crate) is_mended: bool,
+    /// Whether a repair may have changed which braces match.
+    pub(crate) is_unclear: bool,
     /// How many more tokens may be read, in all readings together.
     pub(crate) left: usize,
 }
@@ -65,22 +67,27 @@ pub(crate) fn number_of(span: Span) -> usize {
     span.start.saturating_add(1) / 2
 }
 
-/// Reads a list whose spans are numbers.
+/// Reads a list whose spans are numbers, and counts the tokens up to its first fault.
 pub(crate) fn read<'a>(
     alloc: Global,
     list: &[Token<'a>],
     left: &mut usize,
 ) -> Result<Reading, AllocError> {
-    if *left < list.len() {
+    if *left == 0 {
         return Ok(Reading::Stopped);
     }
-    *left = left.saturating_sub(list.len());
-    match parse(alloc, list) {
-        Ok(_) => Ok(Reading::Whole),
-        Err(ParseError::Memory) => Err(AllocError),
-        Err(ParseError::Unexpected(span)) => Ok(Reading::Unexpected(number_of(span))),
-        Err(ParseError::TooDeep(_)) => Ok(Reading::Stopped),
-    }
+    let reading = match parse(alloc, list) {
+        Ok(_) => Reading::Whole,
+        Err(ParseError::Memory) => return Err(AllocError),
+        Err(ParseError::Unexpected(span)) => Reading::Unexpected(number_of(span)),
+        Err(ParseError::TooDeep(_)) => Reading::Stopped,
+    };
+    let count = match reading {
+        Reading::Unexpected(place) => place.saturating_add(1),
+        _ => list.len(),
+    };
+    *left = left.saturating_sub(count);
+    Ok(reading)
 }
 
 /// The byte at which a token begins, or the end of the last one if there is no such token.

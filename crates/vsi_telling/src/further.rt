@@ -56,7 +56,8 @@ fn refusal_of(fault: Fault) -> CompileError {
 
 /// Adds the line of a further fault: its place, its number and its name.
 fn put_fault(words: &mut Vec<u8>, source: &[u8], fault: Fault) -> Result<(), AllocError> {
-    let Some(diagnostic) = refusal_diagnostic(source, &refusal_of(fault)) else {
+    let error = refusal_of(fault);
+    let Some(diagnostic) = refusal_diagnostic(source, &error) else {
         return Ok(());
     };
     words.extend_from_slice(b"Also at ")?;
