@@ -132,7 +132,8 @@ fn is_in_doubt(stock: &Stock<'_>, source: &[Token<'_>], tokens: &Tokens<'_>, nam
     }
     let mut is_declaring = false;
     for token in &tokens.list {
-        if is_declaring && token.text == stock.name() {
+        // Declarations that were put in front end at 0.
+        if is_declaring && token.text == stock.name() && token.span.stop != 0 {
             return true;
         }
         if is_declaring && tokens.is_mended && token.text == name {
