@@ -1,4 +1,4 @@
-//! What is published about a text after its refusal, as objects.
+//! The warnings about a text, or its faults after the first one, as objects.
 
 use crate::diagnostics::{Page, warning_object};
 use crate::further::put_further;

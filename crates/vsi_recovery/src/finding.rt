@@ -60,6 +60,7 @@ fn stretch_of(tokens: &Tokens<'_>, place: usize, command: usize, choice: Choice)
         first: byte_at(list, command.min(choice.from)),
         from: stop_before(list, place),
         stop: byte_at(list, landmark_from(list, choice.stop.max(place))),
+        is_out: choice.from < choice.stop,
     }
 }
 

@@ -206,6 +206,16 @@ fn put_next<'a>(
     }
 }
 
+/// A part of which something is left out.
+fn cut(first: usize, from: usize, stop: usize) -> Stretch {
+    Stretch {
+        first,
+        from,
+        stop,
+        is_out: true,
+    }
+}
+
 /// The part of a text around a hole whose tokens aren't judged: from the token after the landmark
 /// before it to the landmark after it, or to the next token after a comment.
 fn stretch_of(list: &[Token<'_>], gap: Gap) -> Stretch {
@@ -216,7 +226,7 @@ fn stretch_of(list: &[Token<'_>], gap: Gap) -> Stretch {
         let is_after = hole.stop <= token.span.start;
         if is_after && (gap.is_comment || is_landmark(token.kind)) {
             let stop = token.span.start;
-            return Stretch { first, from, stop };
+            return cut(first, from, stop);
         }
         if !is_after {
             from = token.span.stop.min(hole.start);
@@ -226,7 +236,7 @@ fn stretch_of(list: &[Token<'_>], gap: Gap) -> Stretch {
         }
     }
     let stop = byte_at(list, list.len()).max(hole.stop);
-    Stretch { first, from, stop }
+    cut(first, from, stop)
 }
 
 /// The tokens of a text without those that are none, unless it has more such faults than this.

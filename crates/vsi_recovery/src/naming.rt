@@ -119,16 +119,24 @@ fn placed(error: ScopeError, span: Span) -> Fault {
     Fault { cause, span }
 }
 
-/// Whether a part with a repair has a name, or a repair has put in the name of a declaration.
+/// Whether a part with a repair has a name, or some declaration has lost a part.
 fn is_in_doubt(stock: &Stock<'_>, source: &[Token<'_>], tokens: &Tokens<'_>, name: &[u8]) -> bool {
     for token in source {
+        let is_declaring = token.kind == Kind::Var || token.kind == Kind::Letvar;
+        if is_declaring && tokens.is_cut(token.span.start) {
+            return true;
+        }
         if token.text == name && tokens.is_within(token.span.start) {
             return true;
         }
     }
     let mut is_declaring = false;
     for token in &tokens.list {
-        if is_declaring && tokens.is_mended && (token.text == name || token.text == stock.name()) {
+        // Declarations that were put in front end at 0.
+        if is_declaring && token.text == stock.name() && token.span.stop != 0 {
+            return true;
+        }
+        if is_declaring && tokens.is_mended && token.text == name {
             return true;
         }
         is_declaring = token.kind == Kind::Var || token.kind == Kind::Letvar;

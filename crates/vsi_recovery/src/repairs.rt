@@ -126,7 +126,7 @@ pub(crate) const SMALL: [Repair; 26] = [
     Repair { out: 2, put: &[] },
 ];
 
-/// What takes the place of all tokens up to one at which reading can go on.
+/// The replacements of all tokens up to one at which reading can go on.
 pub(crate) const FILLINGS: [&[Part]; 7] = [
     &[],
     &[Part::Number],

@@ -66,8 +66,8 @@ impl Search<'_, '_> {
         self.is_found = is_enough;
     }
 
-    /// The end of what is read after a repair: after the next landmarks, and after a `var` behind
-    /// them where declarations may come.
+    /// The end of what is read after a repair: after the next landmarks, and after a `var` that
+    /// follows them where declarations may come.
     fn window_end(&self, stop: usize) -> usize {
         let mut end = stop;
         for _landmark in 0..self.landmarks {

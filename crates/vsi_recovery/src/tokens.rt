@@ -10,6 +10,8 @@ pub(crate) struct Stretch {
     pub(crate) first: usize,
     pub(crate) from: usize,
     pub(crate) stop: usize,
+    /// Whether something is left out.
+    pub(crate) is_out: bool,
 }
 
 /// The tokens of a text, with repairs.
@@ -25,7 +27,7 @@ pub(crate) struct Tokens<'a> {
     pub(crate) left: usize,
 }
 
-/// What became of reading a list of tokens.
+/// The result of reading a list of tokens.
 #[derive(Clone, Copy)]
 pub(crate) enum Reading {
     /// The list is a program.
@@ -124,6 +126,16 @@ impl Tokens<'_> {
     pub(crate) fn is_near(&self, at: usize) -> bool {
         for stretch in &self.stretches {
             if stretch.from <= at && at <= stretch.stop {
+                return true;
+            }
+        }
+        false
+    }
+
+    /// Whether something is left out of the part to which a byte belongs.
+    pub(crate) fn is_cut(&self, at: usize) -> bool {
+        for stretch in &self.stretches {
+            if stretch.is_out && stretch.first <= at && at < stretch.stop {
                 return true;
             }
         }

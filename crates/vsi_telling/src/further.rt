@@ -35,10 +35,18 @@ fn are_on_line(source: &[u8], first: usize, second: usize) -> bool {
     }
 }
 
-/// Whether a line has one of these places.
+/// Whether a byte is the first one after another that isn't blank.
+fn is_next(source: &[u8], first: usize, second: usize) -> bool {
+    match source.get(first.saturating_add(1)..second) {
+        Some(between) => between.trim_ascii().is_empty(),
+        None => false,
+    }
+}
+
+/// Whether a line has one of these places, or a byte is the next one after such a place.
 fn is_listed(source: &[u8], places: &[usize], at: usize) -> bool {
     for place in places {
-        if are_on_line(source, *place, at) {
+        if are_on_line(source, *place, at) || is_next(source, *place, at) {
             return true;
         }
     }
