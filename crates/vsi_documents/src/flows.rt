@@ -35,7 +35,8 @@ fn put_variable(
     requires globals { All (IsClass (order lattice.now)) (program_of program.now).globals }
     requires declared { AreClasses (order lattice.now) (program_of program.now).declared }
     ensures { OnOk result (members_view members.new.entries ≡ spec.with_variable
-        keys.entry.0.now keys.entry.1.now lattice.now program.now variable (members_view members.old.entries)) }
+        keys.entry.0.now keys.entry.1.now lattice.now program.now variable
+        (members_view members.old.entries)) }
 {
     put_text(alloc, members, keys.0, name(program, variable))?;
     let class = declared_class(lattice, program, variable);
