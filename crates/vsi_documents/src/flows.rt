@@ -34,8 +34,9 @@ fn put_variable(
 ) -> Result<(), AllocError>
     requires globals { All (IsClass (order lattice.now)) (program_of program.now).globals }
     requires declared { AreClasses (order lattice.now) (program_of program.now).declared }
-    ensures { OnOk result (members_view members.new.entries ≡ spec.with_variable keys.0.now
-        keys.1.now lattice.now program.now variable (members_view members.old.entries)) }
+    ensures { OnOk result (members_view members.new.entries ≡ spec.with_variable
+        keys.entry.0.now keys.entry.1.now lattice.now program.now variable
+        (members_view members.old.entries)) }
 {
     put_text(alloc, members, keys.0, name(program, variable))?;
     let class = declared_class(lattice, program, variable);

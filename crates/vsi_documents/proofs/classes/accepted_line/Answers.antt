@@ -3,6 +3,7 @@ use Rattle.std.proofs.lemmas.List.{length-map}
 use Rattle.vsi_lattice.specs.LatticeView.{class_named, names, order}
 use Rattle.vsi_lattice.specs.Order.{IsClass}
 use Rattle.vsi_scope.specs.declared.resolved.Entry.{Entry}
+use Rattle.vsi_scope.specs.Resolving.{variable}
 use Rattle.vsi_scope.specs.View.{command}
 use Rattle.vsi_types.specs.Security.{Keeps}
 use Rattle.vsi_compiler.proofs.Compiled.{least_tree}
@@ -35,7 +36,7 @@ returns-in_ok-line-in-Ok c =
           c.in-Ok.ensures.least;
       line = c.in_ok-line-in-Ok.ensures stands.tree stands.reads
           ∙ ap (λ cs. classes_line (global_objects s.text stands.tree.globals
-          ++ letvar_objects s.text (names s.lattice) _ cs)) c.deref.ensures.value
+          ++ letvar_objects s.text (names s.lattice) (map variable s.resolved.letvars) cs)) c.deref.ensures.value
           ∙ ap (λ vs. classes_line (global_objects s.text stands.tree.globals
           ++ letvar_objects s.text (names s.lattice) vs classes)) stands.resolves.letvars;
     }
