@@ -9,7 +9,7 @@ use Rattle.vsi_syntax.specs.declared.tree.Declaration.{Declaration}
 use Rattle.vsi_lattice.specs.LatticeView.{names}
 use Rattle.vsi_lattice.specs.declared.lattice.Lattice.{Lattice}
 use Rattle.vsi_scope.specs.declared.resolved.Entry.{Entry}
-use Rattle.vsi_scope.specs.Resolving.{Variable, variable}
+use Rattle.vsi_scope.specs.Resolving.{variable}
 use Rattle.vsi_compiler.specs.Source.{Reads}
 use Rattle.vsi_compiler.specs.SourceView.{Source}
 use Rattle.vsi_documents.specs.Classes.{classes_line, global_objects, letvar_objects}
