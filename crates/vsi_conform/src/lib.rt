@@ -4,8 +4,9 @@
 //! (`specs/Checking`). `read_interface` reads an interface file: the lattice, the judgement, the
 //! globals with their classes, and the required runs. `conform` reports each point in which a text
 //! differs from an interface; if there is none, the text conforms to it (`specs/Conforms`).
-//! `image_points` reports it of an image alone. `parts` has the lines and objects of points that
-//! name no position in a text. `points_text` and `points_json` write an answer (`specs/Lines`, `specs/Json`), and
+//! `image_points` reports the points of an image. `is_within` compares the budgets of all runs with
+//! one budget (`specs/Totals`). `parts` has the lines and objects of points that name no position
+//! in a text. `points_text` and `points_json` write an answer (`specs/Lines`, `specs/Json`), and
 //! `interface_text` writes why an interface is refused (`specs/Faulty`).
 //!
 //! To be believed: all files of `specs/`.

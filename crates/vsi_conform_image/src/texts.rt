@@ -124,8 +124,8 @@ pub(crate) fn first_lines(
     }
 }
 
-/// The lines of an answer: `conforms`, or those of the refusal, one for each point and one about the
-/// bound. The lattice, the image and the interface must be those of the answer.
+/// The lines of an answer: `conforms`, or those of the refusal, one for each point and one about
+/// the bound. The lattice, the image and the interface must be those of the answer.
 pub fn points_text(
     alloc: Global,
     lattice: &Lattice,
