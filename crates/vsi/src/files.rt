@@ -7,7 +7,7 @@ use std::io::Read;
 
 /// The kind of the file that a request writes.
 #[derive(Clone, Copy, Debug, PartialEq, Eq)]
-pub enum Written {
+pub enum OutputKind {
     Image,
     Store,
     Source,
@@ -16,7 +16,7 @@ pub enum Written {
 /// The output of a request, and the files that it may replace.
 #[derive(Clone, Copy, Debug)]
 pub struct Writing<'a> {
-    pub kind: Written,
+    pub kind: OutputKind,
     /// The path of a file that it reads and may replace: the store that a run begins with, or the
     /// source text that is laid out.
     pub replaced: Option<&'a str>,

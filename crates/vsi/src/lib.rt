@@ -56,8 +56,8 @@ mod warning;
 
 pub use command_line::command;
 pub use files::Files;
+pub use files::OutputKind;
 pub use files::Writing;
-pub use files::Written;
 pub use loaded::Loaded;
 pub use loaded::Opened;
 pub use loaded::Shared;

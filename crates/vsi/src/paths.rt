@@ -1,6 +1,6 @@
 //! The paths of the files that a request reads.
 
-use crate::files::{Writing, Written};
+use crate::files::{OutputKind, Writing};
 use vsi_arguments::{Asked, Document, Request};
 
 /// The most files that a request names to read.
@@ -81,11 +81,11 @@ pub(crate) fn is_state(request: &Request<'_>, path: &str) -> bool {
 pub(crate) fn writing_of<'a>(asked: &Asked<'a>) -> Writing<'a> {
     let (kind, replaced) = match &asked.request {
         Request::Run { execution, .. } | Request::View { execution, .. } => {
-            (Written::Store, execution.store)
+            (OutputKind::Store, execution.store)
         }
-        Request::Drive(asked) => (Written::Store, asked.execution.store),
-        Request::Layout(asked) => (Written::Source, Some(asked.source)),
-        _ => (Written::Image, None),
+        Request::Drive(asked) => (OutputKind::Store, asked.execution.store),
+        Request::Layout(asked) => (OutputKind::Source, Some(asked.source)),
+        _ => (OutputKind::Image, None),
     };
     Writing {
         kind,

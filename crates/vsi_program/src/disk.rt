@@ -5,7 +5,7 @@ use std::fs::{File, OpenOptions, Permissions};
 use std::io::{ErrorKind, Write};
 use std::os::unix::fs::{MetadataExt, OpenOptionsExt, PermissionsExt, fchown};
 use std::{env, fs, io};
-use vsi::{Files, Writing, Written};
+use vsi::{Files, OutputKind, Writing};
 
 /// From how many bytes on a lattice file, a store file or an interface is too long.
 const LIMIT: u64 = 1_048_577;
@@ -53,7 +53,7 @@ pub(crate) struct Disk<'a> {
     /// The files that this request has opened to read, the first ones if there are more.
     read: [Option<Identity>; MOST_READ],
     /// The kind of the file that this request writes.
-    kind: Written,
+    kind: OutputKind,
     /// The file that this request reads and may replace, if it is there.
     replaced: Option<Identity>,
     /// Whether the request replaces a file of another kind.
@@ -72,7 +72,7 @@ impl<'a> Disk<'a> {
         Disk {
             rt,
             read: [None; MOST_READ],
-            kind: Written::Image,
+            kind: OutputKind::Image,
             replaced: None,
             is_forced: false,
             has_filled: false,
@@ -132,8 +132,8 @@ impl<'a> Disk<'a> {
     /// other file is written through a link.
     fn has_bytes(&self, path: &str) -> bool {
         let found = match self.kind {
-            Written::Image => fs::metadata(self.rt, path),
-            Written::Store | Written::Source => fs::symlink_metadata(self.rt, path),
+            OutputKind::Image => fs::metadata(self.rt, path),
+            OutputKind::Store | OutputKind::Source => fs::symlink_metadata(self.rt, path),
         };
         match found {
             Ok(found) => found.is_file() && found.len() > 0,
@@ -249,10 +249,10 @@ impl<'a> Disk<'a> {
 }
 
 /// Why a file of another kind isn't replaced by one of this kind.
-fn objection_of(kind: Written) -> &'static str {
+fn objection_of(kind: OutputKind) -> &'static str {
     match kind {
-        Written::Image => NO_IMAGE,
-        Written::Store | Written::Source => NO_STORE,
+        OutputKind::Image => NO_IMAGE,
+        OutputKind::Store | OutputKind::Source => NO_STORE,
     }
 }
 

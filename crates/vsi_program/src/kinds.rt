@@ -2,7 +2,7 @@
 
 use std::fs::File;
 use std::io::Read;
-use vsi::Written;
+use vsi::OutputKind;
 
 /// The bytes that every image begins with; the version follows, which is below `FIRST_PRINTABLE`.
 const IMAGE: &[u8] = b"VSI";
@@ -123,10 +123,10 @@ fn begins_as_image(mut file: File) -> bool {
 }
 
 /// Whether a file is of the kind that is written; for a source text any file is.
-pub(crate) fn is_of_kind(file: File, kind: Written) -> bool {
+pub(crate) fn is_of_kind(file: File, kind: OutputKind) -> bool {
     match kind {
-        Written::Image => begins_as_image(file),
-        Written::Store => is_store(file),
-        Written::Source => true,
+        OutputKind::Image => begins_as_image(file),
+        OutputKind::Store => is_store(file),
+        OutputKind::Source => true,
     }
 }
