@@ -119,34 +119,43 @@ impl<W> Screen<W> {
         self.left > 0 || byte == b'\n' || byte == b'\t' || (byte >= b' ' && byte <= b'~')
     }
 
+    /// Adds what is written for the first character or sequence, and returns the bytes after it.
+    fn step<'b>(&mut self, bytes: &'b [u8], piece: &mut Piece) -> &'b [u8] {
+        if let Some((sequence, after)) = colour(bytes) {
+            piece.put_all(sequence);
+            return after;
+        }
+        if let Some((codes, after)) = control(bytes) {
+            piece.put_code(codes[0]);
+            piece.put_code(codes[1]);
+            return after;
+        }
+        match bytes {
+            [byte, after @ ..] => {
+                if self.shows(*byte) {
+                    piece.put(*byte);
+                } else {
+                    piece.put_code(*byte);
+                }
+                after
+            }
+            _ => bytes,
+        }
+    }
+
     /// The bytes that are written for the first ones, and the other ones.
     fn shown<'b>(&mut self, bytes: &'b [u8]) -> (Piece, &'b [u8]) {
+        let room = [0; ROOM];
         let mut piece = Piece {
-            bytes: [0; ROOM],
+            bytes: room,
             length: 0,
         };
         let mut rest = bytes;
-        while let [byte, behind @ ..] = rest {
+        for _step in 0..bytes.len() {
             if piece.is_full() {
                 break;
             }
-            if let Some((sequence, after)) = colour(rest) {
-                piece.put_all(sequence);
-                rest = after;
-                continue;
-            }
-            if let Some((codes, after)) = control(rest) {
-                piece.put_code(codes[0]);
-                piece.put_code(codes[1]);
-                rest = after;
-                continue;
-            }
-            if self.shows(*byte) {
-                piece.put(*byte);
-            } else {
-                piece.put_code(*byte);
-            }
-            rest = behind;
+            rest = self.step(rest, &mut piece);
         }
         (piece, rest)
     }
