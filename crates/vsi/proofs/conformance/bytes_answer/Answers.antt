@@ -15,14 +15,14 @@ returns-then-is_image-clause-told c =
     subst
     (λ b. IfOk c.image_answer.result (λ pair. TellsBytes b c.args.is_json pair.0 c.args.lattice.now c.args.bytes.now
     c.args.interface.now pair.1.items))
-    (sym c.if-is_image.true ∙ c.begins_image.ensures) c.image_answer.ensures.told
+    (sym c.if-is_image.true ∙ c.begins_image-is_image.ensures) c.image_answer.ensures.told
 
 pub returns-then-is_image-clause-stopped : goal.returns-then-is_image-clause-stopped
 returns-then-is_image-clause-stopped c =
     IfErr-weaker c.image_answer.result (StopsBy (λ reason. ReadsImage c.args.bytes.now (Err reason)) NoOther)
     (StopsBy (RefusesBytes c.args.bytes.now) NoOther)
     (stops_by (λ reason. ReadsImage c.args.bytes.now (Err reason)) (RefusesBytes c.args.bytes.now) NoOther
-    (λ reason is. (sym c.begins_image.ensures ∙ c.if-is_image.true, is)))
+    (λ reason is. (sym c.begins_image-is_image.ensures ∙ c.if-is_image.true, is)))
     c.image_answer.ensures.stopped
 
 pub returns-else-is_image-clause-told : goal.returns-else-is_image-clause-told
@@ -30,7 +30,7 @@ returns-else-is_image-clause-told c =
     subst
     (λ b. IfOk c.answer_of.result (λ pair. TellsBytes b c.args.is_json pair.0 c.args.lattice.now c.args.bytes.now
     c.args.interface.now pair.1.items))
-    (sym c.if-is_image.false ∙ c.begins_image.ensures) c.answer_of.ensures.told
+    (sym c.if-is_image.false ∙ c.begins_image-is_image.ensures) c.answer_of.ensures.told
 
 pub returns-else-is_image-clause-stopped : goal.returns-else-is_image-clause-stopped
 returns-else-is_image-clause-stopped c =
