@@ -9,6 +9,9 @@ const ROOM: usize = 1024;
 /// The most bytes that are written for one step.
 const STEP: usize = 8;
 
+/// The first byte of the control characters beyond ASCII.
+const LEAD: u8 = 0xC2;
+
 /// The digits of a hexadecimal number.
 const DIGITS: &[u8; 16] = b"0123456789ABCDEF";
 
@@ -70,12 +73,10 @@ fn colour(bytes: &[u8]) -> Option<(&'static [u8], &[u8])> {
     }
 }
 
-/// The two bytes of a control character beyond ASCII at the beginning of bytes, and what follows.
-fn control(bytes: &[u8]) -> Option<([u8; 2], &[u8])> {
+/// The second byte of a control character beyond ASCII at the beginning of bytes, and what follows.
+fn control(bytes: &[u8]) -> Option<(u8, &[u8])> {
     match bytes {
-        [0xC2, second, rest @ ..] if *second >= 0x80 && *second < 0xA0 => {
-            Some(([0xC2, *second], rest))
-        }
+        [LEAD, second, rest @ ..] if *second >= 0x80 && *second < 0xA0 => Some((*second, rest)),
         _ => None,
     }
 }
@@ -110,7 +111,7 @@ impl<W> Screen<W> {
     /// Whether the next byte is shown as it is.
     fn shows(&mut self, byte: u8) -> bool {
         let was_doubtful = self.is_doubtful;
-        self.is_doubtful = byte == 0xC2;
+        self.is_doubtful = byte == LEAD;
         if byte >= 0x80 && byte < 0xC0 && self.left > 0 {
             self.left -= 1;
             return !(was_doubtful && byte < 0xA0);
@@ -125,9 +126,9 @@ impl<W> Screen<W> {
             piece.put_all(sequence);
             return after;
         }
-        if let Some((codes, after)) = control(bytes) {
-            piece.put_code(codes[0]);
-            piece.put_code(codes[1]);
+        if let Some((second, after)) = control(bytes) {
+            piece.put_code(LEAD);
+            piece.put_code(second);
             return after;
         }
         match bytes {
